@@ -1,0 +1,4 @@
+pub mod PatternLemmas
+pub mod PieceLemmas
+pub mod PolicyLemmas
+pub mod ReadingLemmas

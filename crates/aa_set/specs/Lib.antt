@@ -1,0 +1,12 @@
+pub mod Access
+pub mod Bytes
+pub mod FileReading
+pub mod Machine
+pub mod Pattern
+pub mod Pieces
+pub mod PolicySet
+pub mod Question
+pub mod Refusal
+pub mod Reply
+pub mod Verdict
+pub mod Words

@@ -1,0 +1,22 @@
+-- Policy sets: lists of entries in the order in which they were loaded, no two of one name.
+use Rattle.std.specs.Prelude.{ℕ, Bool, true, false, not, ◌&&◌, List, [], ◌∷◌, ◌++◌, Option, find}
+use Rattle.std.specs.List.{list_any}
+use Rattle.std.specs.Str.{bytes_eq}
+use Rattle.aa_set.specs.declared.policy.Entry.{Entry}
+
+-- an entry's profile has the name
+abbrev pub is_named : List ℕ → Entry → Bool
+is_named name entry = bytes_eq entry.profile.name name
+
+-- some entry's profile has the name
+abbrev pub has_name : List ℕ → List Entry → Bool
+has_name name entries = list_any (is_named name) entries
+
+-- the entry of a name
+abbrev pub entry_named : List ℕ → List Entry → Option Entry
+entry_named name entries = find (is_named name) entries
+
+-- no two entries have one name
+abbrev pub have_distinct_names : List Entry → Bool
+have_distinct_names [] = true
+have_distinct_names (entry ∷ entries) = not (has_name entry.profile.name entries) && have_distinct_names entries

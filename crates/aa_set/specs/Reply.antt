@@ -1,0 +1,35 @@
+-- The texts of replies.
+use Rattle.std.specs.Prelude.{ℕ, List, [], ◌∷◌, ◌++◌, codes}
+use Rattle.std.specs.Fmt.{decimal}
+use Rattle.aa_set.specs.Refusal.{number_of, name_of}
+use Rattle.aa_set.specs.declared.refusal.Refusal.{Refusal}
+use Rattle.aa_set.specs.declared.verdict.Answer.{Answer}
+use Rattle.aa_set.specs.declared.verdict.Answer.TheVariants.{Unconfined, Allow, Deny, Refuse, Complained}
+
+-- a line: a text, and a line feed
+abbrev pub line_with : List ℕ → List ℕ
+line_with text = text ++ 10 ∷ []
+
+-- the word of an answer
+abbrev pub answer_word : Answer → List ℕ
+answer_word Unconfined = codes "unconfined"
+answer_word Allow = codes "allow"
+answer_word Deny = codes "deny"
+answer_word Refuse = codes "refuse"
+answer_word Complained = codes "complain"
+
+-- what a line is answered: nothing to a blank one
+pub data Reply : Type 0 where
+  Silent : Reply
+  Done : Reply
+  Refused : (refusal : Refusal) → Reply
+  Told : (answer : Answer) → Reply
+
+abbrev pub refusal_text : Refusal → List ℕ
+refusal_text refusal = line_with (codes "refused " ++ decimal (number_of refusal) ++ codes " " ++ name_of refusal)
+
+abbrev pub reply_text : Reply → List ℕ
+reply_text Silent = []
+reply_text Done = line_with (codes "ok")
+reply_text (Refused refusal) = refusal_text refusal
+reply_text (Told answer) = line_with (answer_word answer)

@@ -1,0 +1,27 @@
+-- The words of a command line. A word stands between blanks, or between two quotes with nothing escaped in it and a
+-- blank or the line's end behind it.
+use Rattle.std.specs.Prelude.{ℕ, Bool, ◌==◌, if◌then◌else◌, List, [], ◌∷◌, Option, None, Some}
+use Rattle.std.specs.Option.{option_map}
+use Rattle.aa_set.specs.Bytes.{is_command_blank}
+use Rattle.aa_set.specs.Pieces.{onto_first}
+
+abbrev mutual
+  -- the words of a line from a place where a word may begin; none where a quote isn't closed, or is followed directly
+  pub words_of : List ℕ → Option (List (List ℕ))
+  words_of [] = Some []
+  words_of (b ∷ bs) = if is_command_blank b then words_of bs else (if b == 34 then words_in_quotes bs else option_map (onto_first b) (words_in_word bs))
+
+  -- from within a word: the first is what is left of it
+  pub words_in_word : List ℕ → Option (List (List ℕ))
+  words_in_word [] = Some ([] ∷ [])
+  words_in_word (b ∷ bs) = if is_command_blank b then option_map (λ words. [] ∷ words) (words_of bs) else option_map (onto_first b) (words_in_word bs)
+
+  -- from within quotes, likewise
+  pub words_in_quotes : List ℕ → Option (List (List ℕ))
+  words_in_quotes [] = None
+  words_in_quotes (b ∷ bs) = if b == 34 then words_after_quotes bs else option_map (onto_first b) (words_in_quotes bs)
+
+  -- directly after the closing quote, likewise
+  pub words_after_quotes : List ℕ → Option (List (List ℕ))
+  words_after_quotes [] = Some ([] ∷ [])
+  words_after_quotes (b ∷ bs) = if is_command_blank b then option_map (λ words. [] ∷ words) (words_of bs) else None
