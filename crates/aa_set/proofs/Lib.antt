@@ -1,4 +1,6 @@
+pub mod FilesLemmas
 pub mod PatternLemmas
 pub mod PieceLemmas
 pub mod PolicyLemmas
 pub mod ReadingLemmas
+pub mod StreamLemmas

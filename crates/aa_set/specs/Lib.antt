@@ -1,12 +1,15 @@
 pub mod Access
 pub mod Bytes
 pub mod FileReading
+pub mod Files
 pub mod Machine
+pub mod Manager
 pub mod Pattern
 pub mod Pieces
 pub mod PolicySet
 pub mod Question
 pub mod Refusal
 pub mod Reply
+pub mod Streams
 pub mod Verdict
 pub mod Words

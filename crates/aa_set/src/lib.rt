@@ -2,17 +2,25 @@
 #![tactic(auto)]
 
 mod access;
+mod files;
+mod manager;
 mod pattern;
 mod policy;
 mod question;
 mod reading;
 mod refusal;
 mod sequence;
+mod stream;
 mod verdict;
+mod waiting;
 
 pub use access::Perms;
+pub use files::{Files, FilesError};
+pub use manager::Manager;
+pub use pattern::{matching_is_by_splits, no_star_crosses_a_slash, plain_pattern_matches_itself};
 pub use policy::{Entry, FileRule, Mode, PolicySet, Profile};
 pub use question::Question;
 pub use refusal::Refusal;
 pub use sequence::Sequence;
+pub use stream::{Failed, FromRead, Sink, Source, ToWrite};
 pub use verdict::{Answer, FileRequest, decide};

@@ -1,0 +1,45 @@
+-- The manager: the machine over policy sets, and what each command makes of it.
+use Rattle.std.specs.Prelude.{ℕ, Bool, nat_le, if◌then◌else◌, List, [], ◌∷◌, ◌++◌, length, Option, None, Some, Result, Ok, Err}
+use Rattle.aa_set.specs.Files.{bytes_of}
+use Rattle.aa_set.specs.FileReading.{file_profile}
+use Rattle.aa_set.specs.Machine.{Machine, started, accepted, gone_back}
+use Rattle.aa_set.specs.PolicySet.{has_name}
+use Rattle.aa_set.specs.declared.policy.Entry.{Entry}
+use Rattle.aa_set.specs.declared.policy.Profile.{Profile}
+use Rattle.aa_set.specs.declared.policy.Mode.TheVariants.{Enforce}
+use Rattle.aa_set.specs.declared.refusal.Refusal.{Refusal}
+use Rattle.aa_set.specs.declared.refusal.Refusal.TheVariants.{NoFile, BadToken, Exists, NothingToUndo}
+
+-- a manager, as contracts see it: whether profiles are loaded in complain mode, and the machine
+pub record Managed : Type 0 where
+  pub force_complain : Bool
+  pub machine : Machine (List Entry)
+
+-- a manager of the empty policy set
+abbrev pub new_manager : Bool → Managed
+new_manager force_complain = record { force_complain = force_complain; machine = started [] }
+
+abbrev pub read_profile : Option (List ℕ) → Result Profile Refusal
+read_profile None = Err NoFile
+read_profile (Some bytes) = elim (file_profile bytes) [ None ↦ Err BadToken | Some profile ↦ Ok profile ]
+
+-- the policy set with a profile that was read at its end, if its name isn't there yet
+abbrev pub with_profile : List Entry → Result Profile Refusal → Result (List Entry) Refusal
+with_profile entries (Err refusal) = Err refusal
+with_profile entries (Ok profile) = if has_name profile.name entries then Err Exists else Ok (entries ++ record { profile = profile; mode = Enforce } ∷ [])
+
+-- the policy set after `add FILE`, or its refusal
+abbrev pub changed_by_add : List (List ℕ × List ℕ) → List Entry → List ℕ → Result (List Entry) Refusal
+changed_by_add files entries name = with_profile entries (read_profile (bytes_of files name))
+
+abbrev pub after_change : Managed → Result (List Entry) Refusal → Result Managed Refusal
+after_change managed (Ok entries) = Ok (record { force_complain = managed.force_complain; machine = accepted managed.machine entries })
+after_change managed (Err refusal) = Err refusal
+
+-- the manager after `add FILE`, or the refusal
+abbrev pub added : List (List ℕ × List ℕ) → Managed → List ℕ → Result Managed Refusal
+added files managed name = after_change managed (changed_by_add files managed.machine.now name)
+
+-- the manager after `undo N`, or the refusal
+abbrev pub undone : ℕ → Managed → Result Managed Refusal
+undone n managed = if nat_le n (length managed.machine.earlier) then Ok (record { force_complain = managed.force_complain; machine = gone_back n managed.machine }) else Err NothingToUndo
