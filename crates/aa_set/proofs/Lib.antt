@@ -1,4 +1,5 @@
 pub mod FilesLemmas
+pub mod MachineLemmas
 pub mod PatternLemmas
 pub mod PieceLemmas
 pub mod PolicyLemmas

@@ -32,14 +32,22 @@ with_profile entries (Ok profile) = if has_name profile.name entries then Err Ex
 abbrev pub changed_by_add : List (List ℕ × List ℕ) → List Entry → List ℕ → Result (List Entry) Refusal
 changed_by_add files entries name = with_profile entries (read_profile (bytes_of files name))
 
+-- after an accepted change to a policy set
+abbrev pub after_commit : Managed → List Entry → Managed
+after_commit managed entries = record { force_complain = managed.force_complain; machine = accepted managed.machine entries }
+
 abbrev pub after_change : Managed → Result (List Entry) Refusal → Result Managed Refusal
-after_change managed (Ok entries) = Ok (record { force_complain = managed.force_complain; machine = accepted managed.machine entries })
+after_change managed (Ok entries) = Ok (after_commit managed entries)
 after_change managed (Err refusal) = Err refusal
 
 -- the manager after `add FILE`, or the refusal
 abbrev pub added : List (List ℕ × List ℕ) → Managed → List ℕ → Result Managed Refusal
 added files managed name = after_change managed (changed_by_add files managed.machine.now name)
 
+-- n changes back
+abbrev pub gone_back_by : ℕ → Managed → Managed
+gone_back_by n managed = record { force_complain = managed.force_complain; machine = gone_back n managed.machine }
+
 -- the manager after `undo N`, or the refusal
 abbrev pub undone : ℕ → Managed → Result Managed Refusal
-undone n managed = if nat_le n (length managed.machine.earlier) then Ok (record { force_complain = managed.force_complain; machine = gone_back n managed.machine }) else Err NothingToUndo
+undone n managed = if nat_le n (length managed.machine.earlier) then Ok (gone_back_by n managed) else Err NothingToUndo

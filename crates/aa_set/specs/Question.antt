@@ -52,3 +52,8 @@ entry_answer (Some entry) request = Ok (verdict entry.mode entry.profile.rules r
 -- the answer of a policy set
 abbrev pub answer_of : List Entry → Asked → Result Answer Refusal
 answer_of entries (OfFile who request) = if bytes_eq who (codes "unconfined") then Ok Unconfined else entry_answer (entry_named who entries) request
+
+-- no profile of the name is there
+abbrev pub is_absent : Result Answer Refusal → Bool
+is_absent (Err Absent) = true
+is_absent _ = false

@@ -1,5 +1,5 @@
 -- The texts of replies.
-use Rattle.std.specs.Prelude.{ℕ, List, [], ◌∷◌, ◌++◌, codes}
+use Rattle.std.specs.Prelude.{ℕ, Result, Ok, Err, List, [], ◌∷◌, ◌++◌, codes}
 use Rattle.std.specs.Fmt.{decimal}
 use Rattle.aa_set.specs.Refusal.{number_of, name_of}
 use Rattle.aa_set.specs.declared.refusal.Refusal.{Refusal}
@@ -17,6 +17,11 @@ answer_word Allow = codes "allow"
 answer_word Deny = codes "deny"
 answer_word Refuse = codes "refuse"
 answer_word Complained = codes "complain"
+
+-- the lines that an answer is told in
+abbrev pub told_lines : Result Answer Refusal → Result (List ℕ) Refusal
+told_lines (Ok answer) = Ok (line_with (answer_word answer))
+told_lines (Err refusal) = Err refusal
 
 -- what a line is answered: nothing to a blank one
 pub data Reply : Type 0 where

@@ -1,13 +1,17 @@
 //! The manager: a policy set with its history.
 
-ghost use Rattle.std.specs.Prelude.{◌≡◌, ◌≢◌, Ok, Err, IfOk, IfErr, OnOk, OnErr};
-ghost use Rattle.aa_set.specs.declared.refusal.Refusal.TheVariants.{Memory};
+ghost use Rattle.std.specs.Prelude.{◌≡◌, ◌≢◌, ◌<◌, Ok, Err, IfOk, IfErr, OnOk, OnErr, length, false};
+ghost use Rattle.aa_set.specs.Question.{asked, answer_of, is_absent};
+ghost use Rattle.aa_set.specs.Reply.{answer_word, line_with, told_lines};
+ghost use Rattle.aa_set.specs.declared.refusal.Refusal.TheVariants.{Absent, Memory};
 
 use crate::files::Files;
 use crate::policy::{Entry, Mode, PolicySet};
+use crate::question::Question;
 use crate::reading::{is_unconfined, read_profile};
 use crate::refusal::Refusal;
-use std::alloc::Global;
+use crate::verdict::{Answer, FileRequest, decide};
+use std::alloc::{AllocError, Global};
 use std::marker::Model;
 use std::mem;
 
@@ -18,7 +22,7 @@ use std::mem;
 pub struct Manager {
     alloc: Global,
     force_complain: bool,
-    now: PolicySet,
+    set: PolicySet,
     // The earlier sets and then the later ones.
     others: Vec<PolicySet>,
     // How many of the others are earlier ones.
@@ -31,13 +35,13 @@ impl Model for Manager {
 
     ghost Value = { Managed };
 
-    ghost view = { λ m. record { force_complain = m.force_complain; machine = record { earlier = take m.done m.others.items; now = m.now; later = drop m.done m.others.items } } };
+    ghost view = { λ m. record { force_complain = m.force_complain; machine = record { earlier = take m.done m.others.items; now = m.set; later = drop m.done m.others.items } } };
 
     ghost invariant = { λ m. m.done ≤ length m.others.items };
 }
 
 impl Manager {
-    ghost use Rattle.aa_set.specs.Manager.{new_manager, added, undone};
+    ghost use Rattle.aa_set.specs.Manager.{new_manager, after_commit, gone_back_by, added, undone};
 
     /// A manager of the empty policy set, which no change has made yet. With `force_complain` profiles are to be loaded
     /// in complain mode; no command heeds it yet. It takes no memory.
@@ -47,9 +51,133 @@ impl Manager {
         Manager {
             alloc,
             force_complain,
-            now: PolicySet::new(alloc),
+            set: PolicySet::new(alloc),
             others: Vec::new(alloc),
             done: 0,
         }
     }
+
+    /// Adds the profile of a file at the end of the policy set. At `Ok` that is one change, and the sets that `undo` had
+    /// left can't be gone forward to any more.
+    ///
+    /// # Errors
+    ///
+    /// `NoFile` where no file has the name, `BadToken` where it is no profile, `Exists` where a profile of its name is
+    /// loaded, in this order, and `Memory` where memory ran out. The policy set and its history are then as they were.
+    pub fn add(&mut self, files: &Files, name: &[u8]) -> Result<(), Refusal>
+        ensures ok { OnOk result (added files.now self.old name.now ≡ Ok self.new) }
+        ensures refused { IfErr result (λ refusal. refusal ≢ Memory → added files.now self.old name.now ≡ Err refusal) }
+        ensures unchanged { OnErr result (self.new ≡ self.old) }
+    {
+        let Some(text) = files.bytes(name) else {
+            return Err(Refusal::NoFile);
+        };
+        let profile = read_profile(self.alloc, text)?;
+        if self.set.has(profile.name.as_slice()) {
+            return Err(Refusal::Exists);
+        }
+        let mode = Mode::Enforce;
+        let set = self.set.try_with(self.alloc, Entry { profile, mode })?;
+        self.commit(set)?;
+        Ok(())
+    }
+
+    // Makes a set the one now, and the one now the last of the earlier ones.
+    fn commit(&mut self, set: PolicySet) -> Result<(), AllocError>
+        ensures ok { OnOk result (self.new ≡ after_commit self.old set) }
+        ensures err { OnErr result (self.new ≡ self.old) }
+    {
+        if self.done == self.others.len() {
+            self.others.reserve(1)?;
+        }
+        self.others.truncate(self.done);
+        let old = mem::replace(&mut self.set, set);
+        match self.others.push(old) {
+            Ok(()) => {}
+            Err(_) => unreachable!(),
+        }
+        self.done += 1;
+        Ok(())
+    }
+
+    /// Goes `n` changes back: the policy set is the one from before the last `n` changes, in each entry and its place. It
+    /// takes no memory.
+    ///
+    /// # Errors
+    ///
+    /// `NothingToUndo` where fewer than `n` changes can be undone. Nothing is undone then.
+    pub fn undo(&mut self, n: usize) -> Result<(), Refusal>
+        ensures ok { OnOk result (undone n self.old ≡ Ok self.new) }
+        ensures refused { IfErr result (λ refusal. undone n self.old ≡ Err refusal) }
+        ensures unchanged { OnErr result (self.new ≡ self.old) }
+    {
+        if n > self.done {
+            return Err(Refusal::NothingToUndo);
+        }
+        for _step in 0..n {
+            self.step_back();
+        }
+        Ok(())
+    }
+
+    // One change back.
+    fn step_back(&mut self)
+        requires { 0 < length self.old.machine.earlier }
+        ensures { self.new ≡ gone_back_by 1 self.old }
+    {
+        self.done -= 1;
+        mem::swap(&mut self.set, &mut self.others[self.done]);
+    }
+
+    /// The lines of the reply to a question: so far one line, the word of the answer and a line feed.
+    ///
+    /// # Errors
+    ///
+    /// `Absent` where no profile of the name is loaded, and `Memory` where memory ran out.
+    pub fn ask(&self, question: &Question<'_>) -> Result<Vec<u8>, Refusal>
+        ensures told { IfOk result (λ lines. told_lines (answer_of self.now.machine.now (asked question.entry.now)) ≡ Ok lines.items) }
+        ensures refused { IfErr result (λ refusal. refusal ≢ Memory → answer_of self.now.machine.now (asked question.entry.now) ≡ Err refusal) }
+        // That a profile is absent is found without memory.
+        ensures memory { IfErr result (λ refusal. refusal ≡ Memory → is_absent (answer_of self.now.machine.now (asked question.entry.now)) ≡ false) }
+    {
+        let answer = answer(&self.set, question)?;
+        Ok(answer_line(self.alloc, answer)?)
+    }
+}
+
+// The answer of a policy set.
+fn answer(set: &PolicySet, question: &Question<'_>) -> Result<Answer, Refusal>
+    ensures told { IfOk result (λ answer. answer_of set.now (asked question.entry.now) ≡ Ok answer) }
+    ensures refused { IfErr result (λ refusal. (refusal ≡ Absent) × (answer_of set.now (asked question.entry.now) ≡ Err Absent)) }
+{
+    match question {
+        Question::File {
+            who,
+            needs,
+            owned,
+            path,
+        } => {
+            if is_unconfined(who) {
+                return Ok(Answer::Unconfined);
+            }
+            let Some(entry) = set.find(who) else {
+                return Err(Refusal::Absent);
+            };
+            let request = FileRequest {
+                needs: *needs,
+                owned: *owned,
+                path,
+            };
+            Ok(decide(entry.mode, entry.profile.rules.as_slice(), request))
+        }
+    }
+}
+
+// The line of an answer.
+fn answer_line(alloc: Global, answer: Answer) -> Result<Vec<u8>, AllocError>
+    ensures { IfOk result (λ line. line.items ≡ line_with (answer_word answer)) }
+{
+    let mut line = Vec::from_slice(alloc, answer.word().as_bytes())?;
+    line.push(b'\n')?;
+    Ok(line)
 }

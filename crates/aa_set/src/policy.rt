@@ -114,6 +114,14 @@ fn copied_entries(alloc: Global, entries: &[Entry]) -> Result<Vec<Entry>, AllocE
     Ok(copies)
 }
 
+fn some_has_name(entries: &[Entry], name: &[u8]) -> bool
+    ensures { result ≡ has_name name.now entries.now }
+{
+    entries
+        .iter()
+        .any(|entry| entry.profile.name.as_slice() == name)
+}
+
 /// A policy set: loaded profiles in the order in which they were loaded, no two of one name. Contracts see the list
 /// of its entries.
 #[derive(Debug, Drop)]
@@ -160,6 +168,13 @@ impl PolicySet {
             }
         }
         None
+    }
+
+    /// Whether a profile has the name.
+    pub fn has(&self, name: &[u8]) -> bool
+        ensures { result ≡ has_name name.now self.now }
+    {
+        some_has_name(&self.entries, name)
     }
 
     /// A set of the same entries and one more behind them, whose profile has a name of its own.

@@ -1,6 +1,7 @@
 //! What a profile's rules say of a request.
 
 ghost use Rattle.std.specs.Prelude.{◌≡◌};
+ghost use Rattle.aa_set.specs.Reply.{answer_word};
 ghost use Rattle.aa_set.specs.Verdict.{request_of, applies, denied, granted, verdict};
 
 use crate::access::Perms;
@@ -21,6 +22,21 @@ pub enum Answer {
     Refuse,
     /// The same in complain mode, where it is let through.
     Complained,
+}
+
+impl Answer {
+    /// The word that replies tell, in ASCII letters.
+    pub fn word(self) -> &'static str
+        ensures { result.now ≡ answer_word self }
+    {
+        match self {
+            Answer::Unconfined => "unconfined",
+            Answer::Allow => "allow",
+            Answer::Deny => "deny",
+            Answer::Refuse => "refuse",
+            Answer::Complained => "complain",
+        }
+    }
 }
 
 /// A request for a file, as a profile's rules are asked.
