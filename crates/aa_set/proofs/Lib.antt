@@ -1,7 +1,12 @@
+pub mod AccessLemmas
 pub mod FilesLemmas
+pub mod LineLemmas
 pub mod MachineLemmas
+pub mod NumberLemmas
 pub mod PatternLemmas
 pub mod PieceLemmas
 pub mod PolicyLemmas
 pub mod ReadingLemmas
+pub mod RunLemmas
 pub mod StreamLemmas
+pub mod WordLemmas

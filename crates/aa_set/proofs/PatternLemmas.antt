@@ -47,7 +47,7 @@ matches-star items x s = ap (λ c. matches items (x ∷ s) || c) (some_split-whe
 abbrev pub others : List ℕ → List ℕ
 others s = take (length s - 1) (drop 1 s)
 
-others-cons : (b : ℕ) (bs : List ℕ) → others (b ∷ bs) ≡ bs
+pub others-cons : (b : ℕ) (bs : List ℕ) → others (b ∷ bs) ≡ bs
 others-cons b bs = grind (arith, take_all)
 
 -- a star that is a whole segment of its own takes at least the first byte

@@ -1,10 +1,10 @@
 -- Pieces of a text between separators, from its front.
-use Rattle.std.proofs.Common.{◌≡◌, ℕ, ◌<◌, Bool, true, false, ◌||◌, cond, List, [], ◌∷◌, ◌++◌, length, filter, refl, sym, ap, ◌∙◌, arith, append-nil, ◌≤◌, take, drop, take-append-drop}
-use Rattle.std.proofs.lemmas.List.{length-take-le}
+use Rattle.std.proofs.Common.{◌≡◌, ℕ, ◌<◌, Bool, true, false, not, ◌||◌, cond, zero, suc, ◌+◌, get_or, append_assoc, List, [], ◌∷◌, ◌++◌, length, filter, refl, sym, ap, ◌∙◌, arith, append-nil, ◌≤◌, take, drop, take-append-drop}
+use Rattle.std.proofs.lemmas.List.{length-take-le, drop_more}
 use Rattle.std.specs.List.{list_any}
-use Rattle.std.proofs.lemmas.Bool.{or_parts, cond-true, cond-false}
+use Rattle.std.proofs.lemmas.Bool.{or_parts, or_from, false_from_ne_true, cond-true, cond-false}
 use Rattle.aa_set.specs.Bytes.{is_blank}
-use Rattle.aa_set.specs.Pieces.{onto_first, pieces, file_words, is_empty, IsWordEnd}
+use Rattle.aa_set.specs.Pieces.{onto_first, pieces, file_words, is_empty, without_empty_last, IsWordEnd}
 
 -- a text without separators is its one piece
 pub pieces-whole : (p : ℕ → Bool) (w : List ℕ) → list_any p w ≡ false → pieces p w ≡ w ∷ []
@@ -22,13 +22,13 @@ pieces-front p (b ∷ bs) s rest h e =
 
 -- a blank in front is none of the words
 pub file_words-blank : (b : ℕ) (text : List ℕ) → is_blank b ≡ true → file_words (b ∷ text) ≡ file_words text
-file_words-blank b text h = ap (filter (λ piece. cond (is_empty piece) false true)) (cond-true (is_blank b) ([] ∷ pieces is_blank text) _ h)
+file_words-blank b text h = ap (filter (λ piece. not (is_empty piece))) (cond-true (is_blank b) ([] ∷ pieces is_blank text) _ h)
 
 -- a word, up to a blank or the end, comes before the words behind it
 pub file_words-word : (b : ℕ) (w rest : List ℕ) → list_any is_blank (b ∷ w) ≡ false → IsWordEnd rest → file_words ((b ∷ w) ++ rest) ≡ (b ∷ w) ∷ file_words rest
 file_words-word b w [] h e =
-    ap file_words (append-nil (b ∷ w)) ∙ ap (filter (λ piece. cond (is_empty piece) false true)) (pieces-whole is_blank (b ∷ w) h)
-file_words-word b w (s ∷ rest) h e = ap (filter (λ piece. cond (is_empty piece) false true)) (pieces-front is_blank (b ∷ w) s rest h e) ∙ ap (λ ws. (b ∷ w) ∷ ws) (sym (file_words-blank s rest e))
+    ap file_words (append-nil (b ∷ w)) ∙ ap (filter (λ piece. not (is_empty piece))) (pieces-whole is_blank (b ∷ w) h)
+file_words-word b w (s ∷ rest) h e = ap (filter (λ piece. not (is_empty piece))) (pieces-front is_blank (b ∷ w) s rest h e) ∙ ap (λ ws. (b ∷ w) ∷ ws) (sym (file_words-blank s rest e))
 
 word_then : (w rest : List ℕ) → 0 < length w → list_any is_blank w ≡ false → IsWordEnd rest → file_words (w ++ rest) ≡ w ∷ file_words rest
 word_then [] rest some h e = absurd (omega arith)
@@ -41,3 +41,71 @@ file_words-cut text n some within h e =
     let whole = take-append-drop n text in
     let size = length-take-le n text within in
     ap file_words (sym whole) ∙ word_then (take n text) (drop n text) (omega arith) h e
+
+-- the last of some pieces and the first of others are one
+abbrev pub joined : List (List ℕ) → List (List ℕ) → List (List ℕ)
+joined [] others = others
+joined (x ∷ []) [] = x ∷ []
+joined (x ∷ []) (y ∷ ys) = (x ++ y) ∷ ys
+joined (x ∷ next ∷ xs) others = x ∷ joined (next ∷ xs) others
+
+onto_first-joined : (b : ℕ) (xs : List (List ℕ)) (y : List ℕ) (ys : List (List ℕ)) → onto_first b (joined xs (y ∷ ys)) ≡ joined (onto_first b xs) (y ∷ ys)
+onto_first-joined b [] y ys = refl
+onto_first-joined b (x ∷ []) y ys = refl
+onto_first-joined b (x ∷ next ∷ xs) y ys = refl
+
+-- there is a first piece
+pub first_piece : (p : ℕ → Bool) (a : List ℕ) → (x : List ℕ) × (xs : List (List ℕ)) × (pieces p a ≡ x ∷ xs)
+first_piece p [] = ([], [], refl)
+first_piece p (b ∷ bs) =
+    let rest = first_piece p bs in
+    elim (p b) as (λ t. (x : List ℕ) × (xs : List (List ℕ)) × (cond t ([] ∷ pieces p bs) (onto_first b (pieces p bs)) ≡ x ∷ xs)) [
+      | true ↦ ([], pieces p bs, refl)
+      | false ↦ (b ∷ rest.0, rest.1, ap (onto_first b) rest.2)
+    ]
+
+joined-step : (t : Bool) (c : ℕ) (whole xs ys : List (List ℕ)) (x y : List ℕ) (xs' ys' : List (List ℕ)) → xs ≡ x ∷ xs' → ys ≡ y ∷ ys' → whole ≡ joined xs ys
+    → cond t ([] ∷ whole) (onto_first c whole) ≡ joined (cond t ([] ∷ xs) (onto_first c xs)) ys
+joined-step true c whole xs ys x y xs' ys' p q e =
+    ap (λ zs. [] ∷ zs) (e ∙ ap (λ zs. joined zs ys) p) ∙ sym (ap (λ zs. joined ([] ∷ zs) ys) p)
+joined-step false c whole xs ys x y xs' ys' p q e =
+    ap (onto_first c) (e ∙ ap (joined xs) q) ∙ onto_first-joined c xs y ys' ∙ sym (ap (joined (onto_first c xs)) q)
+
+-- the pieces of two texts, one behind the other
+pub pieces-append : (p : ℕ → Bool) (a b : List ℕ) → pieces p (a ++ b) ≡ joined (pieces p a) (pieces p b)
+pieces-append p [] b = let first = first_piece p b in first.2 ∙ sym (ap (joined ([] ∷ [])) first.2)
+pieces-append p (c ∷ cs) b =
+    let front = first_piece p cs in
+    let back = first_piece p b in
+    joined-step (p c) c (pieces p (cs ++ b)) (pieces p cs) (pieces p b) front.0 back.0 front.1 back.1 front.2 back.2 (pieces-append p cs b)
+
+-- further pieces begin with what goes onto the last
+pub joined-last : (ls : List (List ℕ)) (u y : List ℕ) (ys : List (List ℕ)) → joined (ls ++ u ∷ []) (y ∷ ys) ≡ ls ++ (u ++ y) ∷ ys
+joined-last [] u y ys = refl
+joined-last (l ∷ []) u y ys = refl
+joined-last (l ∷ m ∷ ls) u y ys = ap (λ zs. l ∷ zs) (joined-last (m ∷ ls) u y ys)
+
+-- a last piece that is empty is no line
+pub without_empty_last-empty : (ls : List (List ℕ)) → without_empty_last (ls ++ [] ∷ []) ≡ ls
+without_empty_last-empty [] = refl
+without_empty_last-empty (l ∷ []) = refl
+without_empty_last-empty (l ∷ m ∷ ls) = ap (λ zs. l ∷ zs) (without_empty_last-empty (m ∷ ls))
+
+-- one that isn't is the last line
+pub without_empty_last-filled : (ls : List (List ℕ)) (u : List ℕ) → is_empty u ≡ false → without_empty_last (ls ++ u ∷ []) ≡ ls ++ u ∷ []
+without_empty_last-filled [] u h = cond-false (is_empty u) _ _ h
+without_empty_last-filled (l ∷ []) u h = ap (λ zs. l ∷ zs) (cond-false (is_empty u) _ _ h)
+without_empty_last-filled (l ∷ m ∷ ls) u h = ap (λ zs. l ∷ zs) (without_empty_last-filled (m ∷ ls) u h)
+
+-- a text up to its first separator
+pub cut_at : (p : ℕ → Bool) (text : List ℕ) (n : ℕ) → n < length text → list_any p (take n text) ≡ false → p (get_or text n 0) ≡ true
+    → text ≡ (take n text ++ get_or text n 0 ∷ []) ++ drop (n + 1) text
+cut_at p text n within before at =
+    sym (take-append-drop n text) ∙ ap (λ rest. take n text ++ rest) (drop_more text n 0 within) ∙ sym (append_assoc (take n text) (get_or text n 0 ∷ []) (drop (n + 1) text))
+
+-- no byte of a front passes where none does at its place
+pub none_before : (p : ℕ → Bool) (text : List ℕ) (n : ℕ) → n ≤ length text → ((k : ℕ) → k < n → p (get_or text k 0) ≡ true → ⊥) → list_any p (take n text) ≡ false
+none_before p text zero within h = refl
+none_before p [] (suc n) within h = refl
+none_before p (b ∷ bs) (suc n) within h =
+    or_from (p b) (list_any p (take n bs)) (false_from_ne_true (p b) (h 0 (omega arith))) (none_before p bs n (omega arith) (λ k below. h (suc k) (omega arith)))

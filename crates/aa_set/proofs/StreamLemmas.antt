@@ -71,3 +71,7 @@ pub Consumes-ended : (a b c : Option (List ℕ)) (bs buffer : List ℕ) (n : ℕ
 Consumes-ended a b c bs buffer n none p q =
     let nothing : Consumes b c [] = subst (λ (k : ℕ). Consumes b c (take k buffer)) none q in
     subst (Consumes a c) (append-nil bs) (Consumes-trans a b c bs [] p nothing)
+
+-- equal bytes are told alike
+pub Tells-same : {a b : Option (List ℕ)} {w v bs cs : List ℕ} → Tells a b w v bs → bs ≡ cs → Tells a b w v cs
+Tells-same {a} {b} {w} {v} p e = subst (Tells a b w v) e p

@@ -47,3 +47,8 @@ covered access = if has access WRITE then union access APPEND else access
 abbrev pub letters_onto : ℕ → List ℕ → Option ℕ
 letters_onto set [] = Some set
 letters_onto set (letter ∷ more) = option_and_then (λ bit. if has set bit then None else letters_onto (union set bit) more) (bit_of letter)
+
+-- the set of what a request needs: at least one letter, each known and none twice
+abbrev pub needs_of : List ℕ → Option ℕ
+needs_of [] = None
+needs_of (letter ∷ more) = letters_onto 0 (letter ∷ more)

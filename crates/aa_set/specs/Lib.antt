@@ -1,5 +1,6 @@
 pub mod Access
 pub mod Bytes
+pub mod Command
 pub mod FileReading
 pub mod Files
 pub mod Machine
@@ -10,6 +11,9 @@ pub mod PolicySet
 pub mod Question
 pub mod Refusal
 pub mod Reply
+pub mod Run
+pub mod Session
 pub mod Streams
+pub mod Texts
 pub mod Verdict
 pub mod Words

@@ -1,5 +1,5 @@
 -- Texts cut at separators: the lines of an input and the words of a file.
-use Rattle.std.specs.Prelude.{◌≡◌, ℕ, Bool, true, false, ◌==◌, if◌then◌else◌, List, [], ◌∷◌, filter}
+use Rattle.std.specs.Prelude.{◌≡◌, ℕ, Bool, true, false, not, ◌==◌, if◌then◌else◌, List, [], ◌∷◌, filter}
 use Rattle.aa_set.specs.Bytes.{is_blank}
 
 -- the pieces, with a byte put before the first
@@ -15,24 +15,23 @@ pieces is_separator (b ∷ bs) = if is_separator b then [] ∷ pieces is_separat
 abbrev pub is_line_feed : ℕ → Bool
 is_line_feed b = b == 10
 
+abbrev pub is_empty : List ℕ → Bool
+is_empty [] = true
+is_empty (b ∷ bs) = false
+
 -- the pieces but for a last one that is empty
 abbrev pub without_empty_last : List (List ℕ) → List (List ℕ)
 without_empty_last [] = []
-without_empty_last ([] ∷ []) = []
-without_empty_last ((b ∷ bs) ∷ []) = (b ∷ bs) ∷ []
+without_empty_last (piece ∷ []) = if is_empty piece then [] else piece ∷ []
 without_empty_last (piece ∷ next ∷ pieces) = piece ∷ without_empty_last (next ∷ pieces)
 
 -- the lines of an input: its pieces between line feeds, the last one only where it isn't empty
 abbrev pub lines : List ℕ → List (List ℕ)
 lines input = without_empty_last (pieces is_line_feed input)
 
-abbrev pub is_empty : List ℕ → Bool
-is_empty [] = true
-is_empty (b ∷ bs) = false
-
 -- the words of a file: its pieces between blanks that aren't empty
 abbrev pub file_words : List ℕ → List (List ℕ)
-file_words text = filter (λ piece. if is_empty piece then false else true) (pieces is_blank text)
+file_words text = filter (λ piece. not (is_empty piece)) (pieces is_blank text)
 
 -- a blank comes first
 abbrev pub begins_blank : List ℕ → Bool

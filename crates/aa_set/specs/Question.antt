@@ -1,8 +1,8 @@
 -- Questions: what the words after `ask` ask, and what a policy set answers.
-use Rattle.std.specs.Prelude.{ℕ, Bool, true, false, ◌&&◌, not, ◌==◌, if◌then◌else◌, List, [], ◌∷◌, Option, None, Some, Result, Ok, Err, Contains, codes}
+use Rattle.std.specs.Prelude.{ℕ, ◌<◌, Bool, true, false, ◌&&◌, not, ◌==◌, if◌then◌else◌, List, [], ◌∷◌, Option, None, Some, Result, Ok, Err, codes}
 use Rattle.std.specs.List.{list_any}
 use Rattle.std.specs.Str.{bytes_eq}
-use Rattle.aa_set.specs.Access.{letters_onto}
+use Rattle.aa_set.specs.Access.{needs_of}
 use Rattle.aa_set.specs.Bytes.{begins_with}
 use Rattle.aa_set.specs.PolicySet.{entry_named}
 use Rattle.aa_set.specs.Verdict.{Request, verdict}
@@ -22,10 +22,9 @@ pub data Asked : Type 0 where
 abbrev pub asked : Question → Asked
 asked (File who needs owned path) = OfFile who.now (record { needs = needs.0; owned = owned; path = path.now })
 
--- access letters: at least one, each known, none twice
-abbrev pub needs_of : List ℕ → Option ℕ
-needs_of [] = None
-needs_of (letter ∷ more) = letters_onto 0 (letter ∷ more)
+-- a question's needs are made of the known letters alone
+abbrev pub HasKnownNeeds : Question → Type 0
+HasKnownNeeds (File who needs owned path) = needs.0 < 64
 
 -- whether the file is owned
 abbrev pub owned_of : List ℕ → Option Bool

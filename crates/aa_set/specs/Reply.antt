@@ -1,8 +1,10 @@
 -- The texts of replies.
-use Rattle.std.specs.Prelude.{ℕ, Result, Ok, Err, List, [], ◌∷◌, ◌++◌, codes}
+use Rattle.std.specs.Prelude.{ℕ, Bool, true, false, Result, Ok, Err, List, [], ◌∷◌, ◌++◌, codes}
 use Rattle.std.specs.Fmt.{decimal}
 use Rattle.aa_set.specs.Refusal.{number_of, name_of}
 use Rattle.aa_set.specs.declared.refusal.Refusal.{Refusal}
+use Rattle.aa_set.specs.declared.reply.Reply.{Reply}
+use Rattle.aa_set.specs.declared.reply.Reply.TheVariants.{Silent, Done, Refused, Told}
 use Rattle.aa_set.specs.declared.verdict.Answer.{Answer}
 use Rattle.aa_set.specs.declared.verdict.Answer.TheVariants.{Unconfined, Allow, Deny, Refuse, Complained}
 
@@ -23,18 +25,23 @@ abbrev pub told_lines : Result Answer Refusal → Result (List ℕ) Refusal
 told_lines (Ok answer) = Ok (line_with (answer_word answer))
 told_lines (Err refusal) = Err refusal
 
--- what a line is answered: nothing to a blank one
-pub data Reply : Type 0 where
-  Silent : Reply
-  Done : Reply
-  Refused : (refusal : Refusal) → Reply
-  Told : (answer : Answer) → Reply
-
+-- the one line that tells a refusal
 abbrev pub refusal_text : Refusal → List ℕ
 refusal_text refusal = line_with (codes "refused " ++ decimal (number_of refusal) ++ codes " " ++ name_of refusal)
 
+-- the text of a reply; a blank line has none
 abbrev pub reply_text : Reply → List ℕ
 reply_text Silent = []
 reply_text Done = line_with (codes "ok")
 reply_text (Refused refusal) = refusal_text refusal
-reply_text (Told answer) = line_with (answer_word answer)
+reply_text (Told lines) = lines
+
+abbrev pub is_refusal : Reply → Bool
+is_refusal (Refused refusal) = true
+is_refusal _ = false
+
+-- a reply that is no refusal, and not the silence after a blank line
+abbrev pub is_acceptance : Reply → Bool
+is_acceptance Done = true
+is_acceptance (Told lines) = true
+is_acceptance _ = false

@@ -1,6 +1,6 @@
 -- What a profile's rules say of a file request: cover, applicability, masks and the verdict (apparmor.d(5), "Rule
 -- Qualifiers" and "Access Permission Accumulation"; see docs/policy.md).
-use Rattle.std.specs.Prelude.{ℕ, Bool, true, false, not, ◌&&◌, ◌||◌, ◌==◌, if◌then◌else◌, List, filter, fold}
+use Rattle.std.specs.Prelude.{ℕ, Bool, not, ◌&&◌, ◌||◌, ◌==◌, if◌then◌else◌, List, filter, fold}
 use Rattle.aa_set.specs.Access.{common, union, without, covered}
 use Rattle.aa_set.specs.Pattern.{matches, items_of}
 use Rattle.aa_set.specs.declared.policy.FileRule.{FileRule}

@@ -1,6 +1,6 @@
 -- The words of a command line. A word stands between blanks, or between two quotes with nothing escaped in it and a
 -- blank or the line's end behind it.
-use Rattle.std.specs.Prelude.{ℕ, Bool, ◌==◌, if◌then◌else◌, List, [], ◌∷◌, Option, None, Some}
+use Rattle.std.specs.Prelude.{ℕ, Bool, true, ◌==◌, if◌then◌else◌, List, [], ◌∷◌, Option, None, Some}
 use Rattle.std.specs.Option.{option_map}
 use Rattle.aa_set.specs.Bytes.{is_command_blank}
 use Rattle.aa_set.specs.Pieces.{onto_first}
@@ -25,3 +25,12 @@ abbrev mutual
   pub words_after_quotes : List ℕ → Option (List (List ℕ))
   words_after_quotes [] = Some ([] ∷ [])
   words_after_quotes (b ∷ bs) = if is_command_blank b then option_map (λ words. [] ∷ words) (words_of bs) else None
+
+-- a word that stands directly before this text ends here
+abbrev pub is_word_end : List ℕ → Bool
+is_word_end [] = true
+is_word_end (b ∷ bs) = is_command_blank b
+
+-- a quote
+abbrev pub is_quote : ℕ → Bool
+is_quote b = b == 34

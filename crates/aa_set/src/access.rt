@@ -1,8 +1,8 @@
 //! Sets of access letters.
 
-ghost use Rattle.std.specs.Prelude.{⊤, ◌≡◌, [], ◌∷◌, codes};
+ghost use Rattle.std.specs.Prelude.{⊤, ◌≡◌, ◌<◌, [], ◌∷◌, codes, IfSome};
 ghost use Rattle.std.specs.Option.{option_map};
-ghost use Rattle.aa_set.specs.Access.{bit_of, covered};
+ghost use Rattle.aa_set.specs.Access.{bit_of, covered, needs_of};
 
 use bitflags::{Flag, Flags, bitflag_items};
 
@@ -65,6 +65,25 @@ impl Perms {
             b'm' => Some(Perms::MAP),
             _ => None,
         }
+    }
+
+    /// The set of access letters that a request needs: at least one, each known and none twice. None for other bytes.
+    pub fn of_letters(letters: &[u8]) -> Option<Perms>
+        ensures needs { option_map (λ p. p.0) result ≡ needs_of letters.now }
+        ensures known { IfSome result (λ p. p.0 < 64) }
+    {
+        if letters.is_empty() {
+            return None;
+        }
+        let mut set = Perms::none();
+        for letter in letters {
+            let letter = Perms::of_letter(*letter)?;
+            if set.contains(letter) {
+                return None;
+            }
+            set = set.union(letter);
+        }
+        Some(set)
     }
 
     /// What a rule with these letters covers: each letter itself, and `w` covers `a` too.

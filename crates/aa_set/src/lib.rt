@@ -2,17 +2,23 @@
 #![tactic(auto)]
 
 mod access;
+mod bytes;
+mod command;
 mod files;
+mod line;
 mod manager;
 mod pattern;
 mod policy;
 mod question;
 mod reading;
 mod refusal;
+mod reply;
 mod sequence;
+mod session;
 mod stream;
 mod verdict;
 mod waiting;
+mod words;
 
 pub use access::Perms;
 pub use files::{Files, FilesError};
@@ -22,5 +28,6 @@ pub use policy::{Entry, FileRule, Mode, PolicySet, Profile};
 pub use question::Question;
 pub use refusal::Refusal;
 pub use sequence::Sequence;
+pub use session::{RunFault, Summary, run};
 pub use stream::{Failed, FromRead, Sink, Source, ToWrite};
 pub use verdict::{Answer, FileRequest, decide};

@@ -1,7 +1,7 @@
 //! The manager: a policy set with its history.
 
 ghost use Rattle.std.specs.Prelude.{◌≡◌, ◌≢◌, ◌<◌, Ok, Err, IfOk, IfErr, OnOk, OnErr, length, false};
-ghost use Rattle.aa_set.specs.Question.{asked, answer_of, is_absent};
+ghost use Rattle.aa_set.specs.Question.{HasKnownNeeds, asked, answer_of, is_absent};
 ghost use Rattle.aa_set.specs.Reply.{answer_word, line_with, told_lines};
 ghost use Rattle.aa_set.specs.declared.refusal.Refusal.TheVariants.{Absent, Memory};
 
@@ -129,12 +129,14 @@ impl Manager {
         mem::swap(&mut self.set, &mut self.others[self.done]);
     }
 
-    /// The lines of the reply to a question: so far one line, the word of the answer and a line feed.
+    /// The lines of the reply to a question: so far one line, the word of the answer and a line feed. The caller sees to it
+    /// that the question needs known letters alone, as `Question::read` does.
     ///
     /// # Errors
     ///
     /// `Absent` where no profile of the name is loaded, and `Memory` where memory ran out.
     pub fn ask(&self, question: &Question<'_>) -> Result<Vec<u8>, Refusal>
+        requires { HasKnownNeeds question.now }
         ensures told { IfOk result (λ lines. told_lines (answer_of self.now.machine.now (asked question.entry.now)) ≡ Ok lines.items) }
         ensures refused { IfErr result (λ refusal. refusal ≢ Memory → answer_of self.now.machine.now (asked question.entry.now) ≡ Err refusal) }
         // That a profile is absent is found without memory.

@@ -5,11 +5,12 @@ ghost use Rattle.std.specs.List.{list_all, list_any};
 ghost use Rattle.std.specs.Str.{bytes_eq};
 ghost use Rattle.std.specs.Option.{option_map};
 ghost use Rattle.aa_set.specs.declared.refusal.Refusal.TheVariants.{BadToken, Memory};
-ghost use Rattle.aa_set.specs.Bytes.{begins_with, is_blank, is_name_byte, is_pattern_byte};
+ghost use Rattle.aa_set.specs.Bytes.{is_blank, is_name_byte, is_pattern_byte};
 ghost use Rattle.aa_set.specs.Pieces.{file_words, begins_blank, IsWordEnd};
 ghost use Rattle.aa_set.specs.FileReading.{is_name, is_pattern, has_double, body_patterns, body_rules, file_profile, read_rule};
 
 use crate::access::Perms;
+use crate::bytes::{begins_with, is_text};
 use crate::policy::{FileRule, Profile};
 use crate::refusal::Refusal;
 use crate::sequence::Sequence;
@@ -118,15 +119,6 @@ fn has_double(byte: u8, word: &[u8]) -> bool
     false
 }
 
-fn begins_with(byte: u8, word: &[u8]) -> bool
-    ensures { result ≡ begins_with byte word.now }
-{
-    match word {
-        [first, ..] => *first == byte,
-        [] => false,
-    }
-}
-
 fn are_pattern_bytes(word: &[u8]) -> bool
     ensures { result ≡ list_all is_pattern_byte word.now }
 {
@@ -141,13 +133,6 @@ fn is_pattern(word: &[u8]) -> bool
         && are_pattern_bytes(word)
         && !has_double(b'*', word)
         && !has_double(b'/', word)
-}
-
-// The word, where it is text.
-fn is_text(word: &[u8], text: &[u8]) -> bool
-    ensures { result ≡ bytes_eq word.now text.now }
-{
-    word == text
 }
 
 // The next pattern of a profile's body and what follows its letters, or nothing where the body ends.

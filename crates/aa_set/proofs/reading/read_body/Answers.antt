@@ -1,7 +1,6 @@
-use Rattle.std.proofs.Common.{◌≡◌, ◌≤◌, ◌+◌, ◌∷◌, [], ◌++◌, length, sym, ap, ◌∙◌, arith}
+use Rattle.std.proofs.Common.{sym, ap, ◌∙◌, arith}
 use Rattle.aa_set.specs.Pieces.{file_words}
 use Rattle.aa_set.specs.FileReading.{body_patterns}
-use Rattle.aa_set.specs.declared.reading.TheConstants.{MOST_RULES}
 use Rattle.aa_set.proofs.ReadingLemmas.{with_front, with_front-more}
 use Rattle.aa_set.proofs.reading.read_body.Goals as goal
 

@@ -1,0 +1,13 @@
+use Rattle.std.proofs.Common.{ap, ◌∙◌}
+use Rattle.std.proofs.lemmas.Result.{on_ok_weaker}
+use Rattle.aa_set.proofs.RunLemmas.{IsAfter-more}
+use Rattle.aa_set.proofs.session.answer.Goals as goal
+
+pub returns-clause-ok : goal.returns-clause-ok
+returns-clause-ok g c =
+    let flagged = c.reply_to-reply.ensures in
+    on_ok_weaker c.tell_reply.result (λ told force_complain before lines after. (
+      flagged.0,
+      IsAfter-more c.args.files.now force_complain c.args.line.now flagged.0 c.reply_to-reply.result after flagged.1 told c.count.ensures.accepted c.count.ensures.refused,
+    ))
+    c.tell_reply.ensures.ok

@@ -1,0 +1,39 @@
+use Rattle.std.proofs.Common.{◌≡◌, ℕ, ◌+◌, ◌∷◌, [], ◌++◌, List, length, take, sym, ap, ◌∙◌, subst, refl}
+use Rattle.std.proofs.lemmas.Bool.{eqb-true}
+use Rattle.std.proofs.lemmas.List.{nil_from_length}
+use Rattle.std.proofs.lemmas.Result.{on_ok_weaker}
+use Rattle.aa_set.specs.Run.{answered}
+use Rattle.aa_set.specs.Session.{IsCut}
+use Rattle.aa_set.proofs.LineLemmas.{nothing_held, take-of_front}
+use Rattle.aa_set.proofs.RunLemmas.{IsCut-ended, IsAfter-line, answered-front}
+use Rattle.aa_set.proofs.session.end_line.Goals as goal
+
+pub returns-then-is_empty-clause-ok : goal.returns-then-is_empty-clause-ok
+returns-then-is_empty-clause-ok g c =
+    on_ok_weaker c.answer.result (λ answers force_complain before input follows.
+    let next = answers force_complain before follows.lines follows.after in
+    let none = eqb-true (length c.args.held.now) 0 (sym c.is_empty.ensures ∙ c.if-is_empty.true) in
+    let nothing = nothing_held 65536 follows.cut.unfinished (ap length (sym follows.cut.held) ∙ none) in
+    let line = ap (λ (text : List ℕ). text ++ c.args.last.now) (sym nothing) in
+    let cut = IsCut-ended follows.cut c.args.last.now (c.args.last.now, next.0) c.requires.one_line line in
+    record {
+      lines = follows.lines ++ (c.args.last.now, next.0) ∷ [];
+      after = next.1;
+      cut = subst (λ (buffer : List ℕ). IsCut (input ++ (c.args.last.now ++ 10 ∷ [])) (follows.lines ++ (c.args.last.now, next.0) ∷ []) buffer) (sym (nil_from_length c.args.held.now none)) cut;
+    })
+    c.answer.ensures.ok
+
+pub returns-clause-ok : goal.returns-clause-ok
+returns-clause-ok g c =
+    on_ok_weaker c.answer-told.result (λ answers force_complain before input follows.
+    let next = answers force_complain before follows.lines follows.after in
+    let line = follows.cut.unfinished ++ c.args.last.now in
+    let front = c.as_slice.ensures ∙ c.keep.ensures ∙ ap (λ (text : List ℕ). take 65537 (text ++ c.args.last.now)) follows.cut.held ∙ take-of_front 65537 follows.cut.unfinished c.args.last.now in
+    let cut = IsCut-ended follows.cut c.args.last.now (line, next.0) c.requires.one_line refl in
+    record {
+      lines = follows.lines ++ (line, next.0) ∷ [];
+      after = IsAfter-line c.args.files.now force_complain follows.lines c.as_slice.result.now line next.0
+          (λ m. ap (λ (text : List ℕ). answered c.args.files.now m text next.0) front ∙ answered-front c.args.files.now m line next.0) next.1;
+      cut = subst (λ (buffer : List ℕ). IsCut (input ++ (c.args.last.now ++ 10 ∷ [])) (follows.lines ++ (line, next.0) ∷ []) buffer) (sym c.clear.ensures) cut;
+    })
+    c.answer-told.ensures.ok

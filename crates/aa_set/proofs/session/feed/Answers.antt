@@ -1,0 +1,29 @@
+use Rattle.std.proofs.Common.{◌≡◌, ℕ, ◌+◌, ◌≤◌, ◌∷◌, [], ◌++◌, List, length, sym, ap, ◌∙◌, arith, append_assoc, length-append}
+use Rattle.aa_set.proofs.RunLemmas.{Follows-same, Follows-kept}
+use Rattle.aa_set.proofs.session.feed.Goals as goal
+
+pub loop-last-preserved : goal.loop-last-preserved
+loop-last-preserved g c =
+    let so_far = c.loop-last.invariant in
+    let last = c.in-Some.last.now in
+    let after = c.in-Some.after.now in
+    let line = last ++ 10 ∷ [] in
+    let whole : c.loop-last.rest.now ≡ line ++ after = c.in-Some.ensures.whole in
+    let size : length c.loop-last.rest.now ≡ length last + 1 + length after = ap length whole ∙ length-append line after ∙ ap (λ (n : ℕ). n + length after) (length-append last (10 ∷ [])) in (
+      so_far.0 ++ line,
+      so_far.1 ∙ ap (λ (rest : List ℕ). so_far.0 ++ rest) whole ∙ sym (append_assoc so_far.0 line after),
+      omega (arith, so_far.2, c.in_ok-end_line.ensures.counted),
+      c.in_ok-end_line.ensures.flag ∙ so_far.3,
+      λ force_complain before input follows.
+          Follows-same c.args.files.now force_complain
+          (c.in_ok-end_line.ensures.ok force_complain before (input ++ so_far.0) (so_far.4 force_complain before input follows))
+          (append_assoc input so_far.0 line),
+    )
+
+pub returns-clause-ok : goal.returns-clause-ok
+returns-clause-ok g c = λ force_complain before input follows.
+    let so_far = c.loop-last.invariant in
+    let rest = c.loop-last.rest.now in
+    Follows-same c.args.files.now force_complain
+    (Follows-kept c.args.files.now force_complain (so_far.4 force_complain before input follows) rest c.in_default.ensures.none c.keep.ensures)
+    (append_assoc input so_far.0 rest ∙ ap (λ (fed : List ℕ). input ++ fed) (sym so_far.1))

@@ -1,0 +1,15 @@
+use Rattle.std.proofs.Common.{◌≡◌, [], List, ℕ, refl, sym, subst, ap}
+use Rattle.aa_set.specs.Streams.{Tells}
+use Rattle.aa_set.proofs.StreamLemmas.{Tells-nil}
+use Rattle.aa_set.proofs.session.prepared.Goals as goal
+
+pub returns-clause-session : goal.returns-clause-session
+returns-clause-session c = λ before files. record {
+  lines = [];
+  after = record {
+    managed = c.new.ensures;
+    told = subst (λ (waits : List ℕ). Tells before before [] waits []) (sym c.in_ok-with_capacity.ensures.items) (Tells-nil before []);
+    summed = record { accepted = refl; refused = refl };
+  };
+  cut = record { unfinished = []; cut = refl; held = c.in_ok-held.ensures };
+}

@@ -1,0 +1,18 @@
+use Rattle.std.proofs.Common.{◌≡◌, ℕ, ◌+◌, ◌≤◌, ◌++◌, List, length, take, ◌∙◌, arith}
+use Rattle.std.proofs.KnownBytes.{Consumes-trans}
+use Rattle.aa_set.proofs.session.serve.Goals as goal
+
+pub loop-turn-preserved : goal.loop-turn-preserved
+loop-turn-preserved g c =
+    let so_far = c.loop-turn.invariant in
+    let count = c.in-Ok.count in
+    let piece = take count c.read.new.buffer in
+    let size : length piece ≤ 65536 = omega (arith, c.in-Ok.ensures.within.0, c.in-Ok.ensures.within.1, c.read.auto.buffer, c.loop-turn.auto.piece, c.requires.piece) in (
+      so_far.0 ++ piece,
+      Consumes-trans _ _ _ so_far.0 piece so_far.1 c.in-Ok.ensures.bytes.0,
+      λ force_complain before follows. c.in-Ok-turn.ensures.ok force_complain before so_far.0 (so_far.2 force_complain before follows),
+      omega (arith, c.in-Ok.ensures.counted, so_far.3),
+      omega (arith, c.in-Ok-turn.ensures.counted, so_far.4, size),
+      c.in-Ok.ensures.ok ∙ so_far.5,
+      c.in-Ok-turn.ensures.flag ∙ so_far.6,
+    )

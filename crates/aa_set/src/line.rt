@@ -1,0 +1,71 @@
+//! The line buffer: the unfinished line, as far as it matters.
+
+ghost use Rattle.std.specs.Prelude.{◌≡◌, ◌+◌, ◌++◌, [], IfOk, length, take, ◌==◌};
+ghost use Rattle.aa_set.specs.declared.reply.TheConstants.{LONGEST_LINE};
+
+use crate::reply::LONGEST_LINE;
+use std::alloc::{AllocError, Global};
+use std::marker::Model;
+
+/// The bytes of a line that isn't finished yet, up to one more than a line may have: those behind them change nothing.
+///
+/// Its room is made once, so that no line of whatever length takes memory.
+#[derive(Drop)]
+pub struct LineBuffer {
+    bytes: Vec<u8>,
+}
+
+impl Model for LineBuffer {
+    ghost use Rattle.std.specs.Prelude.{List, ℕ, ◌≤◌, ◌+◌, vec_len, vec_capacity};
+    ghost use Rattle.aa_set.specs.declared.reply.TheConstants.{LONGEST_LINE};
+
+    ghost Value = { List ℕ };
+
+    ghost view = { λ l. l.bytes.items };
+
+    ghost invariant = { λ l. (vec_len l.bytes ≤ LONGEST_LINE + 1) × (LONGEST_LINE + 1 ≤ vec_capacity l.bytes) };
+}
+
+impl LineBuffer {
+    /// An empty buffer, with all the room that it will have.
+    pub fn new(alloc: Global) -> Result<LineBuffer, AllocError>
+        ensures { IfOk result (λ line. line ≡ []) }
+    {
+        Ok(LineBuffer {
+            bytes: Vec::with_capacity(alloc, LONGEST_LINE + 1)?,
+        })
+    }
+
+    /// Whether nothing of a line was kept.
+    pub fn is_empty(&self) -> bool
+        ensures { result ≡ (length self.now == 0) }
+    {
+        self.bytes.is_empty()
+    }
+
+    /// The bytes that were kept.
+    pub fn as_slice(&self) -> &[u8]
+        ensures { result.now ≡ self.now }
+    {
+        self.bytes.as_slice()
+    }
+
+    /// Keeps further bytes of the line, as far as there is room.
+    pub fn keep(&mut self, bytes: &[u8])
+        ensures { self.new ≡ take (LONGEST_LINE + 1) (self.old ++ bytes.now) }
+    {
+        let room = LONGEST_LINE + 1 - self.bytes.len();
+        let kept = room.min(bytes.len());
+        match self.bytes.extend_from_slice(&bytes[..kept]) {
+            Ok(()) => {}
+            Err(_) => unreachable!(),
+        }
+    }
+
+    /// Begins the next line.
+    pub fn clear(&mut self)
+        ensures { self.new ≡ [] }
+    {
+        self.bytes.clear();
+    }
+}

@@ -1,0 +1,292 @@
+//! The run of command lines: lines from a reader, replies to a writer.
+
+ghost use Rattle.std.specs.Prelude.{◌≡◌, ◌+◌, ◌-◌, ◌*◌, ◌^◌, ◌<◌, ◌≤◌, ◌++◌, ◌∷◌, [], ℕ, Bool, Option, List, length, vec_len, count_by, false, true, OnOk, OnErr, IfOk, IfSome, IfNone, IsErrOf, ◌⊎◌};
+ghost use Rattle.std.specs.List.{list_any};
+ghost use Rattle.std.specs.Io.KnownBytes.{Appends, IsAtEnd, Keeps};
+ghost use Rattle.aa_set.specs.Pieces.{is_line_feed};
+ghost use Rattle.aa_set.specs.Reply.{is_acceptance, is_refusal};
+ghost use Rattle.aa_set.specs.declared.session.TheConstants.{MOST_READS, PIECE};
+ghost use Rattle.aa_set.specs.Session.{IsAfter, Follows, IsAnswered};
+
+use crate::files::Files;
+use crate::line::LineBuffer;
+use crate::manager::Manager;
+use crate::reply::{Reply, reply_to, tell_reply};
+use crate::stream::{Failed, Sink, Source};
+use crate::waiting::{flush, tell};
+use memchr::memchr;
+use std::alloc::{AllocError, Global};
+
+/// How many commands were accepted and how many refused. A blank line is neither.
+#[derive(Clone, Copy, Debug, PartialEq, Eq)]
+pub struct Summary {
+    /// The lines that were answered other than by a refusal.
+    pub accepted: u64,
+    /// The lines that were answered by a refusal.
+    pub refused: u64,
+}
+
+/// Why a run stopped before the end of its input.
+#[derive(Clone, Copy, Debug, PartialEq, Eq)]
+pub enum RunFault {
+    /// A read failed, or the input didn't end within 2,147,483,648 reads.
+    Read,
+    /// A write failed.
+    Write,
+    /// No memory was left for the buffers, before anything was read.
+    Memory,
+}
+
+// What a run keeps from line to line.
+#[derive(Drop)]
+pub struct Session {
+    pub manager: Manager,
+    pub waiting: Vec<u8>,
+    pub summary: Summary,
+}
+
+/// How many reads a run makes at most.
+pub const MOST_READS: u32 = 2_147_483_648;
+
+// How many bytes a read asks for, and how many wait at most to be written.
+const PIECE: usize = 65_536;
+
+/// Answers the command lines of a reader, one after another, and writes the replies.
+///
+/// The run begins with the empty policy set. A line ends at a line feed, the last one at the input's end too; one of more
+/// than 65,536 bytes is refused when it ends. The replies to all lines that were read are written before the next read.
+/// Memory for lines and replies is taken once, before the first read: a line that undoes changes takes none.
+///
+/// # Errors
+///
+/// - `Memory`: no memory was left for the buffers. Nothing was read or written.
+/// - `Read`: a read failed, or the input didn't end within 2,147,483,648 reads. An unfinished line has no reply.
+/// - `Write`: a write failed.
+pub fn run<S: Source, W: Sink>(
+    alloc: Global,
+    files: &Files,
+    force_complain: bool,
+    reader: &mut S,
+    writer: &mut W,
+) -> Result<Summary, RunFault>
+    requires whole_reader { S.failed reader.old ≡ false }
+    requires whole_writer { W.failed writer.old ≡ false }
+    requires reads { S.reads reader.old ≤ 2 ^ 63 }
+
+    // The replies are those of the machine that keeps whole policy sets, to all that was read.
+    ensures answered { IfOk result (λ summary. IfSome (S.left reader.old) (λ input.
+        IsAnswered files.now force_complain (W.written writer.old) (W.written writer.new) summary input)) }
+    ensures ended { OnOk result (IsAtEnd (S.left reader.new)) }
+    ensures whole { OnOk result ((S.failed reader.new ≡ false) × (W.failed writer.new ≡ false)) }
+
+    // When each fault comes.
+    ensures read { IsErrOf result RunFault.Read → (S.failed reader.new ≡ true) ⊎ (S.reads reader.new ≡ S.reads reader.old + MOST_READS) }
+    ensures write { IsErrOf result RunFault.Write → W.failed writer.new ≡ true }
+    ensures memory { IsErrOf result RunFault.Memory → (reader.new ≡ reader.old) × (writer.new ≡ writer.old) }
+{
+    let Ok((mut session, mut held, mut piece)) = prepared(alloc, force_complain) else {
+        return Err(RunFault::Memory);
+    };
+    serve(files, &mut session, &mut held, reader, writer, &mut piece)?;
+    Ok(session.summary)
+}
+
+// Reads piece after piece, and answers the lines, until the input ends.
+fn serve<S: Source, W: Sink>(
+    files: &Files,
+    session: &mut Session,
+    held: &mut LineBuffer,
+    reader: &mut S,
+    writer: &mut W,
+    piece: &mut [u8],
+) -> Result<(), RunFault>
+    requires fresh { session.old.summary.accepted + session.old.summary.refused ≡ 0 }
+    requires piece { length piece.old ≡ PIECE }
+    requires whole_reader { S.failed reader.old ≡ false }
+    requires whole_writer { W.failed writer.old ≡ false }
+    requires reads { S.reads reader.old ≤ 2 ^ 63 }
+    ensures answered { OnOk result ((force_complain : Bool) (before : Option (List ℕ))
+        → Follows files.now force_complain before (W.written writer.old) session.old held.old []
+        → IfSome (S.left reader.old) (λ input. IsAnswered files.now force_complain before (W.written writer.new) session.new.summary input)) }
+    ensures ended { OnOk result (IsAtEnd (S.left reader.new)) }
+    ensures whole { OnOk result ((S.failed reader.new ≡ false) × (W.failed writer.new ≡ false)) }
+    ensures read { IsErrOf result RunFault.Read → (S.failed reader.new ≡ true) ⊎ (S.reads reader.new ≡ S.reads reader.old + MOST_READS) }
+    ensures write { IsErrOf result RunFault.Write → W.failed writer.new ≡ true }
+    ensures memory { IsErrOf result RunFault.Memory → ⊥ }
+{
+    for _turn in 0..MOST_READS {
+        let Ok(count) = reader.read(piece) else {
+            return Err(RunFault::Read);
+        };
+        if count == 0 {
+            let Ok(()) = finish(files, session, held, writer) else {
+                return Err(RunFault::Write);
+            };
+            return Ok(());
+        }
+        let Ok(()) = turn(files, session, held, writer, &piece[..count]) else {
+            return Err(RunFault::Write);
+        };
+    }
+    Err(RunFault::Read)
+}
+
+// A session of the empty policy set, an empty line buffer, and a buffer for a piece of the input.
+fn prepared(
+    alloc: Global,
+    force_complain: bool,
+) -> Result<(Session, LineBuffer, Vec<u8>), AllocError>
+    ensures session { IfOk result (λ made. (before : Option (List ℕ)) → (files : List (List ℕ × List ℕ)) → Follows files force_complain before before made.0 made.1 []) }
+    ensures counted { IfOk result (λ made. made.0.summary.accepted + made.0.summary.refused ≡ 0) }
+    ensures piece { IfOk result (λ made. vec_len made.2 ≡ PIECE) }
+{
+    let session = Session {
+        manager: Manager::new(alloc, force_complain),
+        waiting: Vec::with_capacity(alloc, PIECE)?,
+        summary: Summary {
+            accepted: 0,
+            refused: 0,
+        },
+    };
+    let held = LineBuffer::new(alloc)?;
+    Ok((session, held, vec![in alloc; 0; PIECE]?))
+}
+
+// Answers each line that ends in a piece of the input, and writes all that waits.
+fn turn<W: Sink>(
+    files: &Files,
+    session: &mut Session,
+    held: &mut LineBuffer,
+    writer: &mut W,
+    piece: &[u8],
+) -> Result<(), Failed>
+    requires room { session.old.summary.accepted + session.old.summary.refused + length piece.now < 2 ^ 64 }
+    ensures ok { OnOk result ((force_complain : Bool) (before : Option (List ℕ)) (input : List ℕ)
+        → Follows files.now force_complain before (W.written writer.old) session.old held.old input
+        → Follows files.now force_complain before (W.written writer.new) session.new held.new (input ++ piece.now)) }
+    ensures counted { session.new.summary.accepted + session.new.summary.refused ≤ session.old.summary.accepted + session.old.summary.refused + length piece.now }
+    ensures flag { OnOk result (W.failed writer.new ≡ W.failed writer.old) }
+    ensures fault { OnErr result (W.failed writer.new ≡ true) }
+{
+    feed(files, session, held, writer, piece)?;
+    flush(writer, &mut session.waiting)
+}
+
+// Answers a line.
+fn answer<W: Sink>(
+    files: &Files,
+    session: &mut Session,
+    writer: &mut W,
+    line: &[u8],
+) -> Result<(), Failed>
+    requires { session.old.summary.accepted + session.old.summary.refused + 1 < 2 ^ 64 }
+    ensures ok { OnOk result ((force_complain : Bool) (before : Option (List ℕ)) (lines : List (List ℕ × Bool))
+        → IsAfter files.now force_complain before (W.written writer.old) session.old lines
+        → (flag : Bool) × IsAfter files.now force_complain before (W.written writer.new) session.new (lines ++ (line.now, flag) ∷ [])) }
+    ensures counted { session.new.summary.accepted + session.new.summary.refused ≤ session.old.summary.accepted + session.old.summary.refused + 1 }
+    ensures flag { OnOk result (W.failed writer.new ≡ W.failed writer.old) }
+    ensures fault { OnErr result (W.failed writer.new ≡ true) }
+{
+    let reply = reply_to(files, &mut session.manager, line);
+    count(&mut session.summary, &reply);
+    tell_reply(writer, &mut session.waiting, &reply)
+}
+
+// Counts a reply.
+fn count(summary: &mut Summary, reply: &Reply)
+    requires { summary.old.accepted + summary.old.refused + 1 < 2 ^ 64 }
+    ensures accepted { summary.new.accepted ≡ summary.old.accepted + count_by is_acceptance (reply.now ∷ []) }
+    ensures refused { summary.new.refused ≡ summary.old.refused + count_by is_refusal (reply.now ∷ []) }
+    ensures bound { summary.new.accepted + summary.new.refused ≤ summary.old.accepted + summary.old.refused + 1 }
+{
+    match reply {
+        Reply::Silent => {}
+        Reply::Done => summary.accepted += 1,
+        Reply::Told(_) => summary.accepted += 1,
+        Reply::Refused(_) => summary.refused += 1,
+    }
+}
+
+// Answers the line that ends here: what the line buffer holds of it, and its last bytes.
+fn end_line<W: Sink>(
+    files: &Files,
+    session: &mut Session,
+    held: &mut LineBuffer,
+    writer: &mut W,
+    last: &[u8],
+) -> Result<(), Failed>
+    requires room { session.old.summary.accepted + session.old.summary.refused + 1 < 2 ^ 64 }
+    requires one_line { list_any is_line_feed last.now ≡ false }
+    ensures ok { OnOk result ((force_complain : Bool) (before : Option (List ℕ)) (input : List ℕ)
+        → Follows files.now force_complain before (W.written writer.old) session.old held.old input
+        → Follows files.now force_complain before (W.written writer.new) session.new held.new (input ++ (last.now ++ 10 ∷ []))) }
+    ensures counted { session.new.summary.accepted + session.new.summary.refused ≤ session.old.summary.accepted + session.old.summary.refused + 1 }
+    ensures flag { OnOk result (W.failed writer.new ≡ W.failed writer.old) }
+    ensures fault { OnErr result (W.failed writer.new ≡ true) }
+{
+    if held.is_empty() {
+        return answer(files, session, writer, last);
+    }
+    held.keep(last);
+    let told = answer(files, session, writer, held.as_slice());
+    held.clear();
+    told
+}
+
+// Answers each line that ends in a piece of the input, and holds what stands behind the last one.
+fn feed<W: Sink>(
+    files: &Files,
+    session: &mut Session,
+    held: &mut LineBuffer,
+    writer: &mut W,
+    piece: &[u8],
+) -> Result<(), Failed>
+    requires room { session.old.summary.accepted + session.old.summary.refused + length piece.now < 2 ^ 64 }
+    ensures ok { OnOk result ((force_complain : Bool) (before : Option (List ℕ)) (input : List ℕ)
+        → Follows files.now force_complain before (W.written writer.old) session.old held.old input
+        → Follows files.now force_complain before (W.written writer.new) session.new held.new (input ++ piece.now)) }
+    ensures counted { session.new.summary.accepted + session.new.summary.refused ≤ session.old.summary.accepted + session.old.summary.refused + length piece.now }
+    ensures flag { OnOk result (W.failed writer.new ≡ W.failed writer.old) }
+    ensures fault { OnErr result (W.failed writer.new ≡ true) }
+{
+    let mut rest = piece;
+    while let Some((last, after)) = first_line(rest) {
+        end_line(files, session, held, writer, last)?;
+        rest = after;
+    }
+    held.keep(rest);
+    Ok(())
+}
+
+// What stands before the first line feed, and what stands behind it.
+fn first_line(bytes: &[u8]) -> Option<(&[u8], &[u8])>
+    ensures line { IfSome result (λ found. list_any is_line_feed found.0.now ≡ false) }
+    ensures whole { IfSome result (λ found. bytes.now ≡ (found.0.now ++ 10 ∷ []) ++ found.1.now) }
+    ensures none { IfNone result (list_any is_line_feed bytes.now ≡ false) }
+{
+    match memchr(b'\n', bytes) {
+        Some(end) => Some((&bytes[..end], &bytes[end + 1..])),
+        None => None,
+    }
+}
+
+// Answers a line that the input's end leaves unfinished, and writes all that waits.
+fn finish<W: Sink>(
+    files: &Files,
+    session: &mut Session,
+    held: &LineBuffer,
+    writer: &mut W,
+) -> Result<(), Failed>
+    requires { session.old.summary.accepted + session.old.summary.refused + 1 < 2 ^ 64 }
+    ensures ok { OnOk result ((force_complain : Bool) (before : Option (List ℕ)) (input : List ℕ)
+        → Follows files.now force_complain before (W.written writer.old) session.old held.now input
+        → IsAnswered files.now force_complain before (W.written writer.new) session.new.summary input) }
+    ensures flag { OnOk result (W.failed writer.new ≡ W.failed writer.old) }
+    ensures fault { OnErr result (W.failed writer.new ≡ true) }
+{
+    if held.is_empty() {
+        return flush(writer, &mut session.waiting);
+    }
+    answer(files, session, writer, held.as_slice())?;
+    flush(writer, &mut session.waiting)
+}
