@@ -3,6 +3,7 @@ pub mod Bytes
 pub mod Command
 pub mod FileReading
 pub mod Files
+pub mod Laws
 pub mod Machine
 pub mod Manager
 pub mod Pattern

@@ -5,6 +5,7 @@ mod access;
 mod bytes;
 mod command;
 mod files;
+mod laws;
 mod line;
 mod manager;
 mod pattern;
@@ -22,6 +23,7 @@ mod words;
 
 pub use access::Perms;
 pub use files::{Files, FilesError};
+pub use laws::the_way_back;
 pub use manager::Manager;
 pub use pattern::{matching_is_by_splits, no_star_crosses_a_slash, plain_pattern_matches_itself};
 pub use policy::{Entry, FileRule, Mode, PolicySet, Profile};

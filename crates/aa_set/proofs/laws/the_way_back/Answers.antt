@@ -1,0 +1,5 @@
+use Rattle.aa_set.proofs.LawLemmas.{restored}
+use Rattle.aa_set.proofs.laws.the_way_back.Goals as goal
+
+pub returns-clause-restored : goal.returns-clause-restored
+returns-clause-restored c = restored
