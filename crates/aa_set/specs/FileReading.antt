@@ -31,7 +31,7 @@ body_patterns (word ∷ letters ∷ words) = if is_pattern word && bytes_eq lett
 
 -- the rule that lets a file be read
 abbrev pub read_rule : List ℕ → FileRule
-read_rule pattern = record { pattern = pattern; access = record { 0 = READ }; owner = false; deny = false; audit = false }
+read_rule pattern = record { pattern = pattern; access = record { 0 = READ }; owner = false; deny = false }
 
 -- the rules of patterns, if they aren't too many
 abbrev pub rules_with : List (List ℕ) → Option (List FileRule)

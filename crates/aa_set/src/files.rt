@@ -63,16 +63,6 @@ impl FilesError {
     }
 }
 
-// Whether a name declares a folder.
-fn is_folder(name: &[u8]) -> bool
-    ensures { result ≡ is_folder_name name.now }
-{
-    match name.last() {
-        Some(last) => *last == b'/',
-        None => false,
-    }
-}
-
 // Whether a name holds a byte below the space.
 fn has_control(name: &[u8]) -> bool
     ensures { result ≡ has_control_byte name.now }
@@ -84,7 +74,7 @@ fn has_control(name: &[u8]) -> bool
 fn is_bad(name: &[u8], bytes: &[u8]) -> bool
     ensures { result ≡ is_bad_file name.now bytes.now }
 {
-    name.is_empty() || has_control(name) || (is_folder(name) && !bytes.is_empty())
+    name.is_empty() || has_control(name) || (Files::is_folder(name) && !bytes.is_empty())
 }
 
 impl Files {
@@ -94,6 +84,16 @@ impl Files {
     {
         Files {
             by_name: IndexMap::new(alloc),
+        }
+    }
+
+    /// Whether a name declares a folder: its last byte is `/`.
+    pub fn is_folder(name: &[u8]) -> bool
+        ensures { result ≡ is_folder_name name.now }
+    {
+        match name.last() {
+            Some(last) => *last == b'/',
+            None => false,
         }
     }
 
@@ -127,7 +127,7 @@ impl Files {
     pub fn bytes(&self, name: &[u8]) -> Option<&[u8]>
         ensures { option_map (λ b. b.now) result ≡ bytes_of self.now name.now }
     {
-        if is_folder(name) {
+        if Files::is_folder(name) {
             return None;
         }
         match self.by_name.get(name) {

@@ -29,8 +29,6 @@ pub struct FileRule {
     pub owner: bool,
     /// Whether it denies what it covers.
     pub deny: bool,
-    /// Whether what it covers is logged.
-    pub audit: bool,
 }
 
 /// A profile: a name and rules, in the order of its file.
@@ -61,7 +59,6 @@ impl FileRule {
             access: self.access,
             owner: self.owner,
             deny: self.deny,
-            audit: self.audit,
         })
     }
 }

@@ -169,7 +169,6 @@ fn read_rule(alloc: Global, pattern: &[u8]) -> Result<FileRule, AllocError>
         access: Perms::READ,
         owner: false,
         deny: false,
-        audit: false,
     })
 }
 

@@ -1,0 +1,7 @@
+pub mod Arguments
+pub mod CommandLine
+pub mod Gather
+pub mod Plan
+pub mod ReadFault
+pub mod Stop
+pub mod Texts

@@ -1,0 +1,194 @@
+//! The files that the arguments name, read from the file system.
+ghost use Rattle.std.specs.Prelude.{◌≡◌, ◌<◌, ◌≤◌, ◌++◌, ◌∷◌, [], ℕ, List, IsFalse, IsTrue, IfOk, IfErr, IfSome, OnOk, IsOkAnd, length, vec_len};
+ghost use Rattle.std.specs.List.{All};
+ghost use Rattle.std.specs.Io.KnownBytes.{IsAtEnd};
+ghost use Rattle.aa_set.specs.Files.{is_folder_name};
+ghost use Rattle.aaset.specs.declared.gather.GatherFault.TheVariants.{Memory};
+ghost use Rattle.aaset.specs.declared.gather.ReadFault.TheVariants as read;
+ghost use Rattle.std.specs.IoError.{error_kind};
+ghost use Rattle.aaset.specs.ReadFault.{read_fault_of};
+ghost use Rattle.aaset.specs.Texts.{texts};
+ghost use Rattle.aaset.specs.Gather.{names_of, IsTakable, IsFaultOf, ReadsBehind};
+
+use crate::arguments::Plan;
+use aa_set::{Files, FilesError};
+use std::alloc::{AllocError, Global};
+use std::io::{ErrorKind, Read};
+use std::{fs, io, rt};
+
+/// Why the files that a plan names couldn't be taken.
+#[derive(Debug, Drop)]
+pub enum GatherFault {
+    /// The first NAME that can't be taken: its file can't be read or is too long, it comes twice, or it is no name
+    /// for a file.
+    Untaken(String),
+    /// Memory ran out.
+    Memory,
+}
+
+impl From<AllocError> for GatherFault {
+    ghost from_gives = { λ _ fault. fault ≡ Memory };
+
+    fn from(_error: AllocError) -> GatherFault {
+        GatherFault::Memory
+    }
+}
+
+// Why the bytes of a file aren't there.
+#[derive(Clone, Copy, Debug, PartialEq, Eq)]
+enum ReadFault {
+    // it can't be opened or read, or it is too long
+    Unreadable,
+    Memory,
+}
+
+impl From<AllocError> for ReadFault {
+    ghost from_gives = { λ _ fault. fault ≡ read.Memory };
+
+    fn from(_error: AllocError) -> ReadFault {
+        ReadFault::Memory
+    }
+}
+
+impl From<io::Error> for ReadFault {
+    ghost from_gives = { λ error fault. fault ≡ read_fault_of (error_kind error) };
+
+    fn from(error: io::Error) -> ReadFault {
+        match error.kind() {
+            ErrorKind::OutOfMemory => ReadFault::Memory,
+            _ => ReadFault::Unreadable,
+        }
+    }
+}
+
+// The longest file that is taken, in bytes.
+const LONGEST: usize = 16_777_216;
+
+// How many bytes a read asks for.
+const PIECE: usize = 65_536;
+
+// Reads a piece behind the bytes that are there, and says whether the reader is at its end.
+fn is_read_to_end<F: Read>(
+    file: &mut F,
+    piece: &mut [u8],
+    bytes: &mut Vec<u8>,
+) -> Result<bool, ReadFault>
+    requires room { 0 < length piece.old }
+    requires within { vec_len bytes.old ≤ 16777216 }
+    ensures within { OnOk result (vec_len bytes.new ≤ 16777216) }
+    ensures read { OnOk result (ReadsBehind (F.remaining file.old) bytes.old.items (F.remaining file.new) bytes.new.items) }
+    ensures grows { IfOk result (λ at_end. IsFalse at_end → vec_len bytes.old < vec_len bytes.new) }
+    ensures end { IfOk result (λ at_end. IsTrue at_end → IsAtEnd (F.remaining file.new)) }
+{
+    let count = file.read(piece)?;
+    if count > LONGEST - bytes.len() {
+        return Err(ReadFault::Unreadable);
+    }
+    bytes.extend_from_slice(&piece[..count])?;
+    Ok(count == 0)
+}
+
+// Room for a piece.
+fn piece_room(alloc: Global) -> Result<Vec<u8>, AllocError>
+    ensures { IfOk result (λ piece. 0 < vec_len piece) }
+{
+    vec![in alloc; 0; PIECE]
+}
+
+// All the bytes that a reader has left, where they are at most LONGEST.
+fn read_whole<F: Read>(alloc: Global, file: &mut F) -> Result<Vec<u8>, ReadFault>
+    ensures within { IfOk result (λ bytes. vec_len bytes ≤ 16777216) }
+    ensures whole { IfOk result (λ bytes. IfSome (F.remaining file.old) (λ left. bytes.items ≡ left)) }
+{
+    let mut piece = piece_room(alloc)?;
+    let mut bytes = Vec::new(alloc);
+    // Even a reader that gives a byte at a time has then come to the end of a file that isn't too long.
+    for _ in 0..16_777_217u64 {
+        if is_read_to_end(file, piece.as_mut_slice(), &mut bytes)? {
+            return Ok(bytes);
+        }
+    }
+    Err(ReadFault::Unreadable)
+}
+
+// The bytes of the file that a NAME stands for. A folder isn't read.
+fn bytes_of<R: rt::Files>(
+    rt: &R,
+    alloc: Global,
+    base: &str,
+    name: &str,
+) -> Result<Vec<u8>, ReadFault>
+    ensures folder { IsTrue (is_folder_name name.now) → IsOkAnd result (λ bytes. bytes.items ≡ []) }
+    ensures within { IfOk result (λ bytes. vec_len bytes ≤ 16777216) }
+{
+    if Files::is_folder(name.as_bytes()) {
+        return Ok(Vec::new(alloc));
+    }
+    let mut file = if name.starts_with('/') {
+        fs::open(rt, name)?
+    } else {
+        let path = format!(in alloc; "{base}/{name}")?;
+        fs::open(rt, path.as_str())?
+    };
+    read_whole(alloc, &mut file)
+}
+
+// A fault at a NAME.
+fn untaken(alloc: Global, name: &str) -> GatherFault
+    ensures { IsFaultOf (name.now ∷ []) result }
+{
+    match String::from_str(alloc, name) {
+        Ok(name) => GatherFault::Untaken(name),
+        Err(_) => GatherFault::Memory,
+    }
+}
+
+// Takes the file that a NAME stands for, after those that were taken before.
+fn take<R: rt::Files>(
+    rt: &R,
+    alloc: Global,
+    base: &str,
+    name: &str,
+    files: &mut Files,
+) -> Result<(), GatherFault>
+    ensures ok { OnOk result ((bytes : List ℕ) × (files.new ≡ files.old ++ (name.now, bytes) ∷ []) × IsTakable (name.now, bytes)) }
+    ensures err { IfErr result (IsFaultOf (name.now ∷ [])) }
+{
+    let bytes = match bytes_of(rt, alloc, base, name) {
+        Ok(bytes) => bytes,
+        Err(ReadFault::Unreadable) => return Err(untaken(alloc, name)),
+        Err(ReadFault::Memory) => return Err(GatherFault::Memory),
+    };
+    let key = Vec::from_slice(alloc, name.as_bytes())?;
+    match files.insert(key, bytes) {
+        Ok(()) => Ok(()),
+        Err(FilesError::BadFile | FilesError::Twice) => Err(untaken(alloc, name)),
+        Err(FilesError::Memory) => Err(GatherFault::Memory),
+    }
+}
+
+/// Takes the files that a plan names, in its order and under the names that it gives.
+///
+/// A NAME that ends in `/` declares a folder, which isn't read and has no bytes. Any other NAME is a path where it
+/// begins with `/`, and else one below the plan's base. Its file is read whole.
+///
+/// # Errors
+///
+/// - `Untaken`, with the first NAME that can't be taken: its file can't be read, is longer than 16,777,216 bytes or
+///   hasn't ended after 16,777,217 reads, or the NAME comes twice, is empty, or holds a byte below the space.
+/// - `Memory` where memory ran out.
+pub fn gather<R: rt::Files>(rt: &R, alloc: Global, plan: &Plan) -> Result<Files, GatherFault>
+    ensures names { IfOk result (λ files. names_of files ≡ texts plan.now.names) }
+    ensures takable { IfOk result (All IsTakable) }
+    ensures err { IfErr result (IsFaultOf (texts plan.now.names)) }
+{
+    let mut files = Files::new(alloc);
+    let base = plan.base.as_str();
+    for name in &plan.names {
+        take(rt, alloc, base, name.as_str(), &mut files)?;
+    }
+    Ok(files)
+}
+
+#[cfg(test)]
+mod tests;
