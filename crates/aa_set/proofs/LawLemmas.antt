@@ -15,7 +15,7 @@ use Rattle.aa_set.specs.declared.refusal.Refusal.{Refusal}
 use Rattle.aa_set.specs.declared.refusal.Refusal.TheVariants.{Memory, LineTooLong}
 use Rattle.aa_set.specs.declared.reply.Reply.{Reply}
 use Rattle.aa_set.specs.declared.reply.Reply.TheVariants.{Silent, Done, Refused, Told}
-use Rattle.aa_set.specs.declared.reply.TheConstants.{LONGEST_LINE}
+use Rattle.aa_set.specs.Limits.{longest_line}
 
 abbrev Files : Type 0
 Files = List (List ℕ × List ℕ)
@@ -56,7 +56,7 @@ order_grows files m flag (Ok (Some (Ask question))) h =
 
 line_grows : (files : Files) (m : Managed) (line : List ℕ) (flag : Bool) → is_undo (line_order (words_of line)) ≡ false → Grows m (answered files m line flag)
 line_grows files m line flag h =
-    either_grows (leb (length line) LONGEST_LINE) m (order_answered files m flag (line_order (words_of line))) (refused m LineTooLong)
+    either_grows (leb (length line) longest_line) m (order_answered files m flag (line_order (words_of line))) (refused m LineTooLong)
     (order_grows files m flag (line_order (words_of line)) h) (stays m (Refused LineTooLong) refl)
 
 -- lines of which none goes back put as many sets behind the others as they made changes

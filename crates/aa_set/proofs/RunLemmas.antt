@@ -9,11 +9,11 @@ use Rattle.std.specs.Io.KnownBytes.{Appends}
 use Rattle.aa_set.specs.Manager.{Managed, new_manager}
 use Rattle.aa_set.specs.Pieces.{pieces, is_line_feed, is_empty, lines, without_empty_last}
 use Rattle.aa_set.specs.Reply.{reply_text, is_refusal, is_acceptance}
-use Rattle.aa_set.specs.Run.{Answered, answered, replies_to, after_lines, flagged, replies, output}
-use Rattle.aa_set.specs.Session.{SumsUp, IsAfter, IsCut, Follows, IsAnswered}
+use Rattle.aa_set.specs.Run.{Answered, answered, replies_to, after_lines, flagged, replies, output, SumsUp, IsAnswered}
+use Rattle.aa_set.specs.Session.{IsAfter, IsCut, Follows}
 use Rattle.aa_set.specs.Streams.{Tells}
 use Rattle.aa_set.specs.declared.reply.Reply.{Reply}
-use Rattle.aa_set.specs.declared.reply.TheConstants.{LONGEST_LINE}
+use Rattle.aa_set.specs.Limits.{longest_line}
 use Rattle.aa_set.specs.declared.session.Session.{Session}
 use Rattle.aa_set.specs.declared.session.Summary.{Summary}
 use Rattle.aa_set.proofs.StreamLemmas.{Tells-same, Tells-trans, Tells-flushed}
@@ -37,12 +37,12 @@ after_lines-append files m [] ys = refl
 after_lines-append files m (x ∷ xs) ys = after_lines-append files (answered files m x.0 x.1).managed xs ys
 
 -- of a line that is too long, no byte behind the first that is too many matters
-pub answered-front : (files : Files) (m : Managed) (line : List ℕ) (flag : Bool) → answered files m (take (LONGEST_LINE + 1) line) flag ≡ answered files m line flag
-answered-front files m line flag = elim (cases_lt LONGEST_LINE (length line)) [
+pub answered-front : (files : Files) (m : Managed) (line : List ℕ) (flag : Bool) → answered files m (take (longest_line + 1) line) flag ≡ answered files m line flag
+answered-front files m line flag = elim (cases_lt longest_line (length line)) [
   | inl longer ↦
-      let size = length-take-le (LONGEST_LINE + 1) line (omega arith) in
-      cond-false _ _ _ (lt-leb (length (take (LONGEST_LINE + 1) line)) LONGEST_LINE (omega arith)) ∙ sym (cond-false _ _ _ (lt-leb (length line) LONGEST_LINE longer))
-  | inr shorter ↦ ap (λ text. answered files m text flag) (take_all (LONGEST_LINE + 1) line (omega arith))
+      let size = length-take-le (longest_line + 1) line (omega arith) in
+      cond-false _ _ _ (lt-leb (length (take (longest_line + 1) line)) longest_line (omega arith)) ∙ sym (cond-false _ _ _ (lt-leb (length line) longest_line longer))
+  | inr shorter ↦ ap (λ text. answered files m text flag) (take_all (longest_line + 1) line (omega arith))
 ]
 
 -- lines and their flags, apart and together again
@@ -69,25 +69,25 @@ IsCut-ended {input} {done} {buffer} cut last line whole is = record {
 
 -- a line that goes on
 pub IsCut-more : {input : List ℕ} {done : Lines} {buffer : List ℕ} → IsCut input done buffer → (rest : List ℕ) → list_any is_line_feed rest ≡ false
-    → IsCut (input ++ rest) done (take (LONGEST_LINE + 1) (buffer ++ rest))
+    → IsCut (input ++ rest) done (take (longest_line + 1) (buffer ++ rest))
 IsCut-more {input} {done} {buffer} cut rest whole = record {
   unfinished = cut.unfinished ++ rest;
   cut = pieces-append is_line_feed input rest ∙ ap (λ xs. joined xs (pieces is_line_feed rest)) cut.cut
       ∙ ap (joined (map (λ l. l.0) done ++ cut.unfinished ∷ [])) (pieces-whole is_line_feed rest whole)
       ∙ joined-last (map (λ l. l.0) done) cut.unfinished rest [];
-  held = ap (λ text. take (LONGEST_LINE + 1) (text ++ rest)) cut.held ∙ take-of_front (LONGEST_LINE + 1) cut.unfinished rest;
+  held = ap (λ text. take (longest_line + 1) (text ++ rest)) cut.held ∙ take-of_front (longest_line + 1) cut.unfinished rest;
 }
 
 -- the lines of an input that ends with a line's end, or with a line that isn't finished
 pub lines-ended : {input : List ℕ} {done : Lines} {buffer : List ℕ} (cut : IsCut input done buffer) → length buffer ≡ 0 → lines input ≡ map (λ l. l.0) done
 lines-ended {input} {done} {buffer} cut none =
-    let nothing = nothing_held LONGEST_LINE cut.unfinished (ap length (sym cut.held) ∙ none) in
+    let nothing = nothing_held longest_line cut.unfinished (ap length (sym cut.held) ∙ none) in
     ap without_empty_last (cut.cut ∙ ap (λ text. map (λ l. l.0) done ++ text ∷ []) nothing) ∙ without_empty_last-empty (map (λ l. l.0) done)
 
 pub lines-unfinished : {input : List ℕ} {done : Lines} {buffer : List ℕ} (cut : IsCut input done buffer) (flag : Bool) → (length buffer ≡ 0 → ⊥)
     → lines input ≡ map (λ l. l.0) (done ++ (cut.unfinished, flag) ∷ [])
 lines-unfinished {input} {done} {buffer} cut flag some =
-    ap without_empty_last cut.cut ∙ without_empty_last-filled (map (λ l. l.0) done) cut.unfinished (filled cut.unfinished (λ none. some (ap length (cut.held ∙ ap (take (LONGEST_LINE + 1)) none))))
+    ap without_empty_last cut.cut ∙ without_empty_last-filled (map (λ l. l.0) done) cut.unfinished (filled cut.unfinished (λ none. some (ap length (cut.held ∙ ap (take (longest_line + 1)) none))))
     ∙ sym (map-last done (cut.unfinished, flag))
   where
     filled : (text : List ℕ) → (text ≡ [] → ⊥) → is_empty text ≡ false
@@ -166,7 +166,7 @@ module _ (files : Files) (force_complain : Bool) where
 
   -- the buffer holds what was read of a line that goes on
   pub Follows-kept : {before now : Option (List ℕ)} {s : Session} {held next input : List ℕ} → Follows files force_complain before now s held input → (rest : List ℕ)
-      → list_any is_line_feed rest ≡ false → next ≡ take (LONGEST_LINE + 1) (held ++ rest) → Follows files force_complain before now s next (input ++ rest)
+      → list_any is_line_feed rest ≡ false → next ≡ take (longest_line + 1) (held ++ rest) → Follows files force_complain before now s next (input ++ rest)
   Follows-kept {before} {now} {s} {held} {next} {input} follows rest whole kept = record {
     lines = follows.lines;
     after = follows.after;

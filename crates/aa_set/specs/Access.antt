@@ -1,4 +1,4 @@
--- Access letters and sets of them. A set is the sum of its letters' bits.
+-- Access letters and sets of them (apparmor.d(5), "File Permission Access Modes"). A set is the sum of its letters' bits.
 use Rattle.std.specs.Prelude.{ℕ, Bool, ◌==◌, if◌then◌else◌, List, [], ◌∷◌, Option, None, Some, option_and_then, bit_and, bit_or}
 use Rattle.bitflags.specs.Sets.{without as bits_without}
 

@@ -1,4 +1,4 @@
--- Commands, and the words that give them.
+-- Commands, and the words that give them (docs/commands.md).
 use Rattle.std.specs.Prelude.{ℕ, Bool, ◌&&◌, ◌+◌, ◌-◌, ◌*◌, nat_le, if◌then◌else◌, List, [], ◌∷◌, length, fold, Option, None, Some, Result, Ok, Err, codes}
 use Rattle.std.specs.List.{list_all}
 use Rattle.std.specs.Str.{bytes_eq}

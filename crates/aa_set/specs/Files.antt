@@ -1,4 +1,4 @@
--- The files that are handed in: a list of names with their bytes, in the order in which they came.
+-- The files that are handed in: a list of names with their bytes, in the order in which they came (docs/commands.md).
 use Rattle.std.specs.Prelude.{ℕ, ◌-◌, Bool, ◌==◌, ◌||◌, ◌&&◌, not, nat_lt, if◌then◌else◌, List, [], ◌∷◌, length, map, slice_index, Option, None, Some, is_some, Vec, codes}
 use Rattle.std.specs.List.{list_any}
 use Rattle.std.specs.Str.{bytes_eq}

@@ -4,6 +4,7 @@ pub mod Command
 pub mod FileReading
 pub mod Files
 pub mod Laws
+pub mod Limits
 pub mod Machine
 pub mod Manager
 pub mod Pattern

@@ -1,4 +1,4 @@
--- The machine that keeps whole policy sets, of whatever kind a policy set is.
+-- The machine that keeps whole policy sets, of whatever kind a policy set is (docs/guarantees.md).
 use Rattle.std.specs.Prelude.{ℕ, ◌+◌, ◌-◌, List, [], ◌∷◌, ◌++◌, length, take, drop, slice_index_or}
 
 -- The policy set now, those that accepted changes have left behind, and those that `undo` has; both in the order in

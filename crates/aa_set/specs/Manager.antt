@@ -1,4 +1,4 @@
--- The manager: the machine over policy sets, and what each command makes of it.
+-- The manager: the machine over policy sets, and what each command makes of it (docs/commands.md).
 use Rattle.std.specs.Prelude.{ℕ, Bool, nat_le, if◌then◌else◌, List, [], ◌∷◌, ◌++◌, length, Option, None, Some, Result, Ok, Err}
 use Rattle.aa_set.specs.Files.{bytes_of}
 use Rattle.aa_set.specs.FileReading.{file_profile}
@@ -23,7 +23,7 @@ abbrev pub read_profile : Option (List ℕ) → Result Profile Refusal
 read_profile None = Err NoFile
 read_profile (Some bytes) = elim (file_profile bytes) [ None ↦ Err BadToken | Some profile ↦ Ok profile ]
 
--- the policy set with a profile that was read at its end, if its name isn't there yet
+-- the policy set with, at its end, a profile that was read, if its name isn't there yet
 abbrev pub with_profile : List Entry → Result Profile Refusal → Result (List Entry) Refusal
 with_profile entries (Err refusal) = Err refusal
 with_profile entries (Ok profile) = if has_name profile.name entries then Err Exists else Ok (entries ++ record { profile = profile; mode = Enforce } ∷ [])

@@ -1,4 +1,5 @@
--- Patterns: what a pattern's text reads as, and which texts match it (apparmor.d(5), "Globbing").
+-- Patterns: what a pattern's text reads as, and which texts match it (apparmor.d(5), "Globbing"). A pattern's text holds no
+-- zero byte, and no item stands for one.
 use Rattle.std.specs.Prelude.{◌≡◌, ◌≢◌, ℕ, Bool, true, false, ◌==◌, ◌||◌, ◌&&◌, not, if◌then◌else◌, List, [], ◌∷◌, ◌++◌}
 use Rattle.std.specs.List.{list_all, All, count_by}
 use Rattle.std.specs.Str.{bytes_eq}

@@ -1,4 +1,4 @@
--- Policy sets: lists of entries in the order in which they were loaded, no two of one name.
+-- Policy sets: lists of entries in the order in which they were loaded, no two of one name (docs/commands.md).
 use Rattle.std.specs.Prelude.{ℕ, Bool, true, not, ◌&&◌, List, [], ◌∷◌, Option, find}
 use Rattle.std.specs.List.{list_any}
 use Rattle.std.specs.Str.{bytes_eq}

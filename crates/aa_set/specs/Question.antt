@@ -1,4 +1,4 @@
--- Questions: what the words after `ask` ask, and what a policy set answers.
+-- Questions: what the words after `ask` ask, and what a policy set answers (docs/commands.md).
 use Rattle.std.specs.Prelude.{ℕ, ◌<◌, Bool, true, false, ◌&&◌, not, ◌==◌, if◌then◌else◌, List, [], ◌∷◌, Option, None, Some, Result, Ok, Err, codes}
 use Rattle.std.specs.List.{list_any}
 use Rattle.std.specs.Str.{bytes_eq}

@@ -1,4 +1,4 @@
--- The refusals: each one's number and name, as replies tell them.
+-- The refusals: each one's number and name, as replies tell them (docs/commands.md).
 use Rattle.std.specs.Prelude.{ℕ, List, codes}
 use Rattle.aa_set.specs.declared.refusal.Refusal.{Refusal}
 use Rattle.aa_set.specs.declared.refusal.Refusal.TheVariants.{NoFile, BadToken, Exists, Absent, NothingToUndo, BadCommand, LineTooLong, BadRequest, Memory}

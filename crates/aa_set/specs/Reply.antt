@@ -1,4 +1,4 @@
--- The texts of replies.
+-- The texts of replies (docs/commands.md, "Replies").
 use Rattle.std.specs.Prelude.{ℕ, Bool, true, false, Result, Ok, Err, List, [], ◌∷◌, ◌++◌, codes}
 use Rattle.std.specs.Fmt.{decimal}
 use Rattle.aa_set.specs.Refusal.{number_of, name_of}
@@ -6,7 +6,7 @@ use Rattle.aa_set.specs.declared.refusal.Refusal.{Refusal}
 use Rattle.aa_set.specs.declared.reply.Reply.{Reply}
 use Rattle.aa_set.specs.declared.reply.Reply.TheVariants.{Silent, Done, Refused, Told}
 use Rattle.aa_set.specs.declared.verdict.Answer.{Answer}
-use Rattle.aa_set.specs.declared.verdict.Answer.TheVariants.{Unconfined, Allow, Deny, Refuse, Complained}
+use Rattle.aa_set.specs.declared.verdict.Answer.TheVariants.{Unconfined, Allow, Deny, Refuse, Complain as Complained}
 
 -- a line: a text, and a line feed
 abbrev pub line_with : List ℕ → List ℕ

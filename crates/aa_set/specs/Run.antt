@@ -1,17 +1,20 @@
--- The run of lines: what an input is answered, line by line, by the machine that keeps whole policy sets.
-use Rattle.std.specs.Prelude.{ℕ, Bool, true, false, ◌&&◌, not, nat_le, if◌then◌else◌, List, [], ◌∷◌, ◌++◌, length, Option, None, Some, Result, Ok, Err}
+-- The run of lines: what an input is answered, line by line, by the machine that keeps whole policy sets
+-- (docs/guarantees.md).
+use Rattle.std.specs.Prelude.{ℕ, Bool, true, false, ◌&&◌, not, nat_le, if◌then◌else◌, List, [], ◌∷◌, ◌++◌, length, Option, None, Some, Result, Ok, Err, ◌≡◌, count_by}
 use Rattle.std.specs.List.{flat_map}
+use Rattle.std.specs.Io.KnownBytes.{Appends}
 use Rattle.aa_set.specs.Command.{Order, Add, Undo, Ask, line_order}
 use Rattle.aa_set.specs.Manager.{Managed, new_manager, added, undone}
 use Rattle.aa_set.specs.Pieces.{lines}
 use Rattle.aa_set.specs.Question.{answer_of, is_absent}
-use Rattle.aa_set.specs.Reply.{reply_text, told_lines}
+use Rattle.aa_set.specs.Reply.{reply_text, told_lines, is_refusal, is_acceptance}
 use Rattle.aa_set.specs.Words.{words_of}
+use Rattle.aa_set.specs.declared.session.Summary.{Summary}
 use Rattle.aa_set.specs.declared.reply.Reply.{Reply}
 use Rattle.aa_set.specs.declared.reply.Reply.TheVariants.{Silent, Done, Refused, Told}
 use Rattle.aa_set.specs.declared.refusal.Refusal.{Refusal}
 use Rattle.aa_set.specs.declared.refusal.Refusal.TheVariants.{LineTooLong, Memory}
-use Rattle.aa_set.specs.declared.reply.TheConstants.{LONGEST_LINE}
+use Rattle.aa_set.specs.Limits.{longest_line}
 
 -- the reply to a line, and the manager after it
 pub record Answered : Type 0 where
@@ -53,7 +56,7 @@ order_answered files managed flag (Ok (Some order)) = obeyed_flagged files manag
 
 -- what a line is answered
 abbrev pub answered : List (List ℕ × List ℕ) → Managed → List ℕ → Bool → Answered
-answered files managed line flag = if nat_le (length line) LONGEST_LINE then order_answered files managed flag (line_order (words_of line)) else refused managed LineTooLong
+answered files managed line flag = if nat_le (length line) longest_line then order_answered files managed flag (line_order (words_of line)) else refused managed LineTooLong
 
 -- the replies to lines in order, each with its flag
 abbrev pub replies_to : List (List ℕ × List ℕ) → Managed → List (List ℕ × Bool) → List Reply
@@ -78,3 +81,14 @@ replies files force_complain input flags = replies_to files (new_manager force_c
 -- what is written for an input: the texts of its replies, joined
 abbrev pub output : List (List ℕ × List ℕ) → Bool → List ℕ → List Bool → List ℕ
 output files force_complain input flags = flat_map reply_text (replies files force_complain input flags)
+
+-- a summary counts these replies
+pub record SumsUp (summary : Summary) (all : List Reply) : Type 0 where
+  pub accepted : summary.accepted ≡ count_by is_acceptance all
+  pub refused : summary.refused ≡ count_by is_refusal all
+
+-- An input was answered: for some flags on its lines the output was written, and the summary counts the replies.
+pub record IsAnswered (files : List (List ℕ × List ℕ)) (force_complain : Bool) (before now : Option (List ℕ)) (summary : Summary) (input : List ℕ) : Type 0 where
+  pub flags : List Bool
+  pub written : Appends before now (output files force_complain input flags)
+  pub summed : SumsUp summary (replies files force_complain input flags)

@@ -1,21 +1,14 @@
--- What a run has done after a part of its input: the lines so far, their replies, and what is left of the last line.
-use Rattle.std.specs.Prelude.{◌≡◌, ℕ, ◌+◌, Bool, List, [], ◌∷◌, ◌++◌, map, take, Option, count_by}
+-- What the code's loop over pieces of an input keeps true: the lines so far, their replies, and what is left of the
+-- last line. What `run` promises is in `Run`.
+use Rattle.std.specs.Prelude.{◌≡◌, ℕ, ◌+◌, Bool, List, [], ◌∷◌, ◌++◌, map, take, Option}
 use Rattle.std.specs.List.{flat_map}
-use Rattle.std.specs.Io.KnownBytes.{Appends}
 use Rattle.aa_set.specs.Manager.{new_manager}
 use Rattle.aa_set.specs.Pieces.{pieces, is_line_feed}
-use Rattle.aa_set.specs.Reply.{reply_text, is_refusal, is_acceptance}
-use Rattle.aa_set.specs.Run.{replies_to, after_lines, replies, output}
+use Rattle.aa_set.specs.Reply.{reply_text}
+use Rattle.aa_set.specs.Run.{replies_to, after_lines, SumsUp}
 use Rattle.aa_set.specs.Streams.{Tells}
-use Rattle.aa_set.specs.declared.reply.Reply.{Reply}
-use Rattle.aa_set.specs.declared.reply.TheConstants.{LONGEST_LINE}
+use Rattle.aa_set.specs.Limits.{longest_line}
 use Rattle.aa_set.specs.declared.session.Session.{Session}
-use Rattle.aa_set.specs.declared.session.Summary.{Summary}
-
--- a summary counts these replies
-pub record SumsUp (summary : Summary) (all : List Reply) : Type 0 where
-  pub accepted : summary.accepted ≡ count_by is_acceptance all
-  pub refused : summary.refused ≡ count_by is_refusal all
 
 -- A session is one after these lines, each with its flag; the text of the replies was told to a writer that had `before`
 -- and has `now`.
@@ -29,16 +22,10 @@ pub record IsAfter (files : List (List ℕ × List ℕ)) (force_complain : Bool)
 pub record IsCut (input : List ℕ) (lines : List (List ℕ × Bool)) (buffer : List ℕ) : Type 0 where
   pub unfinished : List ℕ
   pub cut : pieces is_line_feed input ≡ map (λ line. line.0) lines ++ unfinished ∷ []
-  pub held : buffer ≡ take (LONGEST_LINE + 1) unfinished
+  pub held : buffer ≡ take (longest_line + 1) unfinished
 
 -- a session and its line buffer are those after an input
 pub record Follows (files : List (List ℕ × List ℕ)) (force_complain : Bool) (before now : Option (List ℕ)) (session : Session) (held input : List ℕ) : Type 0 where
   pub lines : List (List ℕ × Bool)
   pub after : IsAfter files force_complain before now session lines
   pub cut : IsCut input lines held
-
--- An input was answered: for some flags on its lines the output was written, and the summary counts the replies.
-pub record IsAnswered (files : List (List ℕ × List ℕ)) (force_complain : Bool) (before now : Option (List ℕ)) (summary : Summary) (input : List ℕ) : Type 0 where
-  pub flags : List Bool
-  pub written : Appends before now (output files force_complain input flags)
-  pub summed : SumsUp summary (replies files force_complain input flags)

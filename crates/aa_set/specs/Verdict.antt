@@ -8,7 +8,7 @@ use Rattle.aa_set.specs.declared.policy.Mode.{Mode}
 use Rattle.aa_set.specs.declared.policy.Mode.TheVariants.{Enforce, Complain}
 use Rattle.aa_set.specs.declared.verdict.FileRequest.{FileRequest}
 use Rattle.aa_set.specs.declared.verdict.Answer.{Answer}
-use Rattle.aa_set.specs.declared.verdict.Answer.TheVariants.{Allow, Deny, Refuse, Complained}
+use Rattle.aa_set.specs.declared.verdict.Answer.TheVariants.{Allow, Deny, Refuse, Complain as Complained}
 
 -- what is asked of a file: the needs, whether the task's user owns it, and its path
 pub record Request : Type 0 where

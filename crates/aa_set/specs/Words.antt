@@ -1,4 +1,4 @@
--- The words of a command line. A word stands between blanks, or between two quotes with nothing escaped in it and a
+-- The words of a command line (docs/commands.md). A word stands between blanks, or between two quotes with nothing escaped in it and a
 -- blank or the line's end behind it.
 use Rattle.std.specs.Prelude.{ℕ, Bool, true, ◌==◌, if◌then◌else◌, List, [], ◌∷◌, Option, None, Some}
 use Rattle.std.specs.Option.{option_map}

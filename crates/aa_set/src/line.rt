@@ -1,7 +1,7 @@
 //! The line buffer: the unfinished line, as far as it matters.
 
 ghost use Rattle.std.specs.Prelude.{◌≡◌, ◌+◌, ◌++◌, [], IfOk, length, take, ◌==◌};
-ghost use Rattle.aa_set.specs.declared.reply.TheConstants.{LONGEST_LINE};
+ghost use Rattle.aa_set.specs.Limits.{longest_line};
 
 use crate::reply::LONGEST_LINE;
 use std::alloc::{AllocError, Global};
@@ -17,13 +17,13 @@ pub struct LineBuffer {
 
 impl Model for LineBuffer {
     ghost use Rattle.std.specs.Prelude.{List, ℕ, ◌≤◌, ◌+◌, vec_len, vec_capacity};
-    ghost use Rattle.aa_set.specs.declared.reply.TheConstants.{LONGEST_LINE};
+    ghost use Rattle.aa_set.specs.Limits.{longest_line};
 
     ghost Value = { List ℕ };
 
     ghost view = { λ l. l.bytes.items };
 
-    ghost invariant = { λ l. (vec_len l.bytes ≤ LONGEST_LINE + 1) × (LONGEST_LINE + 1 ≤ vec_capacity l.bytes) };
+    ghost invariant = { λ l. (vec_len l.bytes ≤ longest_line + 1) × (longest_line + 1 ≤ vec_capacity l.bytes) };
 }
 
 impl LineBuffer {
@@ -52,7 +52,7 @@ impl LineBuffer {
 
     /// Keeps further bytes of the line, as far as there is room.
     pub fn keep(&mut self, bytes: &[u8])
-        ensures { self.new ≡ take (LONGEST_LINE + 1) (self.old ++ bytes.now) }
+        ensures { self.new ≡ take (longest_line + 1) (self.old ++ bytes.now) }
     {
         let room = LONGEST_LINE + 1 - self.bytes.len();
         let kept = room.min(bytes.len());

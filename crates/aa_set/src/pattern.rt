@@ -4,7 +4,7 @@ ghost use Rattle.std.specs.Prelude.{◌≡◌, ◌≢◌, ◌∷◌, ◌↔◌, 
 ghost use Rattle.aa_set.specs.Pattern.{Item, Star, Matches, matches, items_after, items_of, is_inside, is_segment_end, slashes};
 
 /// Whether a path matches a pattern: the pattern relation of `docs/policy.md`. It takes no memory, and its calls nest
-/// at most as deep as the pattern has bytes.
+/// at most about twice as deep as the pattern has bytes.
 pub fn is_match(pattern: &[u8], path: &[u8]) -> bool
     ensures { result ≡ matches (items_of pattern.now) path.now }
 {

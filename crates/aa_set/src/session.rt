@@ -5,8 +5,9 @@ ghost use Rattle.std.specs.List.{list_any};
 ghost use Rattle.std.specs.Io.KnownBytes.{Appends, IsAtEnd, Keeps};
 ghost use Rattle.aa_set.specs.Pieces.{is_line_feed};
 ghost use Rattle.aa_set.specs.Reply.{is_acceptance, is_refusal};
-ghost use Rattle.aa_set.specs.declared.session.TheConstants.{MOST_READS, PIECE};
-ghost use Rattle.aa_set.specs.Session.{IsAfter, Follows, IsAnswered};
+ghost use Rattle.aa_set.specs.Limits.{most_reads};
+ghost use Rattle.aa_set.specs.Run.{IsAnswered};
+ghost use Rattle.aa_set.specs.Session.{IsAfter, Follows};
 
 use crate::files::Files;
 use crate::line::LineBuffer;
@@ -16,6 +17,7 @@ use crate::stream::{Failed, Sink, Source};
 use crate::waiting::{flush, tell};
 use memchr::memchr;
 use std::alloc::{AllocError, Global};
+use thiserror::Error;
 
 /// How many commands were accepted and how many refused. A blank line is neither.
 #[derive(Clone, Copy, Debug, PartialEq, Eq)]
@@ -27,13 +29,16 @@ pub struct Summary {
 }
 
 /// Why a run stopped before the end of its input.
-#[derive(Clone, Copy, Debug, PartialEq, Eq)]
+#[derive(Clone, Copy, Debug, PartialEq, Eq, Error)]
 pub enum RunFault {
     /// A read failed, or the input didn't end within 2,147,483,648 reads.
+    #[error("the input could not be read to its end")]
     Read,
     /// A write failed.
+    #[error("a reply could not be written")]
     Write,
     /// No memory was left for the buffers, before anything was read.
+    #[error("no memory is left")]
     Memory,
 }
 
@@ -79,8 +84,11 @@ pub fn run<S: Source, W: Sink>(
     ensures ended { OnOk result (IsAtEnd (S.left reader.new)) }
     ensures whole { OnOk result ((S.failed reader.new ≡ false) × (W.failed writer.new ≡ false)) }
 
+    // It reads no more often than it may.
+    ensures bound { S.reads reader.new ≤ S.reads reader.old + most_reads }
+
     // When each fault comes.
-    ensures read { IsErrOf result RunFault.Read → (S.failed reader.new ≡ true) ⊎ (S.reads reader.new ≡ S.reads reader.old + MOST_READS) }
+    ensures read { IsErrOf result RunFault.Read → (S.failed reader.new ≡ true) ⊎ (S.reads reader.new ≡ S.reads reader.old + most_reads) }
     ensures write { IsErrOf result RunFault.Write → W.failed writer.new ≡ true }
     ensures memory { IsErrOf result RunFault.Memory → (reader.new ≡ reader.old) × (writer.new ≡ writer.old) }
 {
@@ -101,7 +109,7 @@ fn serve<S: Source, W: Sink>(
     piece: &mut [u8],
 ) -> Result<(), RunFault>
     requires fresh { session.old.summary.accepted + session.old.summary.refused ≡ 0 }
-    requires piece { length piece.old ≡ PIECE }
+    requires piece { length piece.old ≡ 65536 }
     requires whole_reader { S.failed reader.old ≡ false }
     requires whole_writer { W.failed writer.old ≡ false }
     requires reads { S.reads reader.old ≤ 2 ^ 63 }
@@ -110,9 +118,10 @@ fn serve<S: Source, W: Sink>(
         → IfSome (S.left reader.old) (λ input. IsAnswered files.now force_complain before (W.written writer.new) session.new.summary input)) }
     ensures ended { OnOk result (IsAtEnd (S.left reader.new)) }
     ensures whole { OnOk result ((S.failed reader.new ≡ false) × (W.failed writer.new ≡ false)) }
-    ensures read { IsErrOf result RunFault.Read → (S.failed reader.new ≡ true) ⊎ (S.reads reader.new ≡ S.reads reader.old + MOST_READS) }
+    ensures read { IsErrOf result RunFault.Read → (S.failed reader.new ≡ true) ⊎ (S.reads reader.new ≡ S.reads reader.old + most_reads) }
     ensures write { IsErrOf result RunFault.Write → W.failed writer.new ≡ true }
     ensures memory { IsErrOf result RunFault.Memory → ⊥ }
+    ensures bound { S.reads reader.new ≤ S.reads reader.old + most_reads }
 {
     for _turn in 0..MOST_READS {
         let Ok(count) = reader.read(piece) else {
@@ -138,7 +147,7 @@ fn prepared(
 ) -> Result<(Session, LineBuffer, Vec<u8>), AllocError>
     ensures session { IfOk result (λ made. (before : Option (List ℕ)) → (files : List (List ℕ × List ℕ)) → Follows files force_complain before before made.0 made.1 []) }
     ensures counted { IfOk result (λ made. made.0.summary.accepted + made.0.summary.refused ≡ 0) }
-    ensures piece { IfOk result (λ made. vec_len made.2 ≡ PIECE) }
+    ensures piece { IfOk result (λ made. vec_len made.2 ≡ 65536) }
 {
     let session = Session {
         manager: Manager::new(alloc, force_complain),

@@ -21,7 +21,7 @@ pub enum Answer {
     /// Some need is neither allowed nor denied, in enforce mode.
     Refuse,
     /// The same in complain mode, where it is let through.
-    Complained,
+    Complain,
 }
 
 impl Answer {
@@ -34,7 +34,7 @@ impl Answer {
             Answer::Allow => "allow",
             Answer::Deny => "deny",
             Answer::Refuse => "refuse",
-            Answer::Complained => "complain",
+            Answer::Complain => "complain",
         }
     }
 }
@@ -64,7 +64,7 @@ pub fn decide(mode: Mode, rules: &[FileRule], request: FileRequest<'_>) -> Answe
     }
     match mode {
         Mode::Enforce => Answer::Refuse,
-        Mode::Complain => Answer::Complained,
+        Mode::Complain => Answer::Complain,
     }
 }
 
