@@ -1,18 +1,23 @@
 -- The laws of the machine.
-use Rattle.std.proofs.Common.{◌≡◌, ℕ, ◌+◌, ◌-◌, ◌<◌, ◌≤◌, Bool, true, false, cond, leb, not, ◌&&◌, List, [], ◌∷◌, ◌++◌, length, take, drop, Option, None, Some, Result, Ok, Err, slice_index_or, refl, sym, ap, ◌∙◌, subst, arith, append_assoc, append-nil, length-append}
-use Rattle.std.proofs.lemmas.Bool.{cond-true, le-leb, true≢false, false≢true}
-use Rattle.std.proofs.lemmas.List.{length_push, take_at, get_or_at}
+use Rattle.std.proofs.Common.{◌≡◌, ℕ, ◌+◌, ◌-◌, ◌<◌, ◌≤◌, Bool, true, false, cond, leb, not, ◌&&◌, List, [], ◌∷◌, ◌++◌, length, take, drop, Option, None, Some, Result, Ok, Err, IfOk, inl, inr, take-append-drop, slice_index_or, refl, sym, ap, ◌∙◌, subst, arith, append_assoc, append-nil, length-append}
+use Rattle.std.proofs.lemmas.Bool.{cases_lt, cond-false, lt-leb, cond-true, le-leb, true≢false, false≢true}
+use Rattle.std.proofs.lemmas.List.{drop_more, length_push, take_at, get_or_at}
 use Rattle.aa_set.specs.Command.{Order, Add, Undo, Ask, line_order}
-use Rattle.aa_set.specs.Laws.{is_undo, is_question, is_done, NoneGoesBack, changes, GivesBack}
+use Rattle.aa_set.specs.Laws.{AreDistinct, all_sets, is_undo, is_question, is_done, NoneGoesBack, changes, GivesBack}
 use Rattle.aa_set.specs.Machine.{Machine, accepted, gone_back}
-use Rattle.aa_set.specs.Manager.{Managed, added, undone, gone_back_by, after_change, changed_by_add}
+use Rattle.aa_set.specs.Manager.{Managed, new_manager, with_profile, read_profile, added, undone, gone_back_by, after_change, changed_by_add}
 use Rattle.aa_set.specs.Question.{answer_of, is_absent}
 use Rattle.aa_set.specs.Reply.{is_refusal, told_lines}
 use Rattle.aa_set.specs.Run.{Answered, answered, obeyed, obeyed_flagged, order_answered, changed, told, refused, takes_memory, after_lines}
 use Rattle.aa_set.specs.Words.{words_of}
+use Rattle.aa_set.specs.Files.{bytes_of}
+use Rattle.aa_set.specs.PolicySet.{has_name, have_distinct_names}
 use Rattle.aa_set.specs.declared.policy.Entry.{Entry}
+use Rattle.aa_set.specs.declared.policy.Profile.{Profile}
+use Rattle.aa_set.specs.declared.policy.Mode.TheVariants.{Enforce}
+use Rattle.aa_set.proofs.PolicyLemmas.{distinct_with_last}
 use Rattle.aa_set.specs.declared.refusal.Refusal.{Refusal}
-use Rattle.aa_set.specs.declared.refusal.Refusal.TheVariants.{Memory, LineTooLong}
+use Rattle.aa_set.specs.declared.refusal.Refusal.TheVariants.{Exists, Memory, LineTooLong}
 use Rattle.aa_set.specs.declared.reply.Reply.{Reply}
 use Rattle.aa_set.specs.declared.reply.Reply.TheVariants.{Silent, Done, Refused, Told}
 use Rattle.aa_set.specs.Limits.{longest_line}
@@ -90,3 +95,79 @@ given_back m after new n sets size =
 
 pub restored : (files : Files) (m : Managed) (lines : List (List ℕ × Bool)) → NoneGoesBack lines → GivesBack m (undone (changes files m lines) (after_lines files m lines))
 restored files m lines h = let grown = lines_grow files m lines h in given_back m (after_lines files m lines) grown.0 (changes files m lines) grown.1 grown.2
+
+-- distinct sets, and distinct sets behind them
+distinct-append : (xs ys : List (List Entry)) → AreDistinct xs → AreDistinct ys → AreDistinct (xs ++ ys)
+distinct-append [] ys p q = q
+distinct-append (x ∷ xs) ys p q = (p.0, distinct-append xs ys p.1 q)
+
+distinct-front : (xs ys : List (List Entry)) → AreDistinct (xs ++ ys) → AreDistinct xs
+distinct-front [] ys p = tt
+distinct-front (x ∷ xs) ys p = (p.0, distinct-front xs ys p.1)
+
+distinct-behind : (xs ys : List (List Entry)) → AreDistinct (xs ++ ys) → AreDistinct ys
+distinct-behind [] ys p = p
+distinct-behind (x ∷ xs) ys p = distinct-behind xs ys p.1
+
+-- going back gives no policy set that wasn't there
+all_sets-gone_back : (n : ℕ) (m : Managed) → n ≤ length m.machine.earlier → all_sets (gone_back_by n m) ≡ all_sets m
+all_sets-gone_back n m h =
+    let sets : List (List Entry) = sets_of m in
+    let place : ℕ = length m.machine.earlier - n in
+    let longer = length_push m.machine.earlier m.machine.now in
+    ap (λ rest. take place sets ++ rest) (ap (λ rest. rest ++ m.machine.later) (sym (drop_more sets place m.machine.now (omega arith))))
+    ∙ sym (append_assoc (take place sets) (drop place sets) m.machine.later)
+    ∙ ap (λ whole. whole ++ m.machine.later) (take-append-drop place sets)
+    ∙ append_assoc m.machine.earlier (m.machine.now ∷ []) m.machine.later
+
+changed_distinct : (m : Managed) (r : Result (List Entry) Refusal) → AreDistinct (all_sets m) → IfOk r (λ set. have_distinct_names set ≡ true) → AreDistinct (all_sets (changed m (after_change m r)).managed)
+changed_distinct m (Err refusal) h d = h
+changed_distinct m (Ok set) h d =
+    let now = distinct-behind m.machine.earlier (m.machine.now ∷ m.machine.later) h in
+    distinct-append (sets_of m) (set ∷ []) (distinct-append m.machine.earlier (m.machine.now ∷ []) (distinct-front m.machine.earlier (m.machine.now ∷ m.machine.later) h) (now.0, tt)) (d, tt)
+
+with_profile_distinct : (entries : List Entry) (r : Result Profile Refusal) → have_distinct_names entries ≡ true → IfOk (with_profile entries r) (λ set. have_distinct_names set ≡ true)
+with_profile_distinct entries (Err refusal) h = tt
+with_profile_distinct entries (Ok profile) h =
+    let entry : Entry = record { profile = profile; mode = Enforce } in
+    let fresh : (t : Bool) → has_name profile.name entries ≡ t → IfOk (cond {A = Result (List Entry) Refusal} t (Err Exists) (Ok (entries ++ entry ∷ []))) (λ set. have_distinct_names set ≡ true)
+    = λ t. elim t as (λ t. has_name profile.name entries ≡ t → IfOk (cond {A = Result (List Entry) Refusal} t (Err Exists) (Ok (entries ++ entry ∷ []))) (λ set. have_distinct_names set ≡ true)) [
+      | true ↦ λ e. tt
+      | false ↦ λ e. distinct_with_last entries entry h e
+    ] in
+    fresh (has_name profile.name entries) refl
+
+undone_distinct : (m : Managed) (n : ℕ) → AreDistinct (all_sets m) → AreDistinct (all_sets (changed m (undone n m)).managed)
+undone_distinct m n h = elim (cases_lt (length m.machine.earlier) n) [
+  | inl beyond ↦ subst (λ r. AreDistinct (all_sets (changed m r).managed)) (sym (cond-false _ _ _ (lt-leb n (length m.machine.earlier) beyond))) h
+  | inr within ↦ subst (λ r. AreDistinct (all_sets (changed m r).managed)) (sym (cond-true _ _ _ (le-leb n (length m.machine.earlier) within)))
+      (subst AreDistinct (sym (all_sets-gone_back n m within)) h)
+]
+
+told_distinct : (m : Managed) (r : Result (List ℕ) Refusal) → AreDistinct (all_sets m) → AreDistinct (all_sets (told m r).managed)
+told_distinct m (Ok lines) h = h
+told_distinct m (Err refusal) h = h
+
+either_distinct : (t : Bool) (a b : Answered) → AreDistinct (all_sets a.managed) → AreDistinct (all_sets b.managed) → AreDistinct (all_sets (cond t a b).managed)
+either_distinct true a b p q = p
+either_distinct false a b p q = q
+
+order_distinct : (files : Files) (m : Managed) (flag : Bool) (order : Result (Option Order) Refusal) → AreDistinct (all_sets m) → AreDistinct (all_sets (order_answered files m flag order).managed)
+order_distinct files m flag (Err refusal) h = h
+order_distinct files m flag (Ok None) h = h
+order_distinct files m flag (Ok (Some (Undo n))) h = either_distinct (flag && false) (refused m Memory) (obeyed files m (Undo n)) h (undone_distinct m n h)
+order_distinct files m flag (Ok (Some (Add file))) h =
+    let now = distinct-behind m.machine.earlier (m.machine.now ∷ m.machine.later) h in
+    either_distinct (flag && true) (refused m Memory) (obeyed files m (Add file)) h
+    (changed_distinct m (changed_by_add files m.machine.now file) h (with_profile_distinct m.machine.now (read_profile (bytes_of files file)) now.0))
+order_distinct files m flag (Ok (Some (Ask question))) h =
+    either_distinct (flag && takes_memory m (Ask question)) (refused m Memory) (obeyed files m (Ask question)) h (told_distinct m (told_lines (answer_of m.machine.now question)) h)
+
+lines_distinct : (files : Files) (m : Managed) (lines : List (List ℕ × Bool)) → AreDistinct (all_sets m) → AreDistinct (all_sets (after_lines files m lines))
+lines_distinct files m [] h = h
+lines_distinct files m (line ∷ lines) h = lines_distinct files (answered files m line.0 line.1).managed lines
+    (either_distinct (leb (length line.0) longest_line) (order_answered files m line.1 (line_order (words_of line.0))) (refused m LineTooLong)
+    (order_distinct files m line.1 (line_order (words_of line.0)) h) h)
+
+pub distinct : (files : Files) (force_complain : Bool) (lines : List (List ℕ × Bool)) → AreDistinct (all_sets (after_lines files (new_manager force_complain) lines))
+distinct files force_complain lines = lines_distinct files (new_manager force_complain) lines (refl, tt)

@@ -1,8 +1,9 @@
 -- What the laws of the machine speak of: which lines change the policy set, and which ones go back.
-use Rattle.std.specs.Prelude.{◌≡◌, ℕ, ◌+◌, Bool, true, false, if◌then◌else◌, List, [], ◌∷◌, Option, None, Some, Result, Ok, Err}
+use Rattle.std.specs.Prelude.{◌≡◌, ℕ, ◌+◌, Bool, true, false, if◌then◌else◌, List, [], ◌∷◌, ◌++◌, Option, None, Some, Result, Ok, Err}
 use Rattle.aa_set.specs.Command.{Order, Add, Undo, Ask, line_order}
 use Rattle.aa_set.specs.Manager.{Managed, undone}
-use Rattle.aa_set.specs.Run.{answered, after_lines}
+use Rattle.aa_set.specs.PolicySet.{have_distinct_names}
+use Rattle.aa_set.specs.Run.{answered}
 use Rattle.aa_set.specs.Words.{words_of}
 use Rattle.aa_set.specs.declared.policy.Entry.{Entry}
 use Rattle.aa_set.specs.declared.refusal.Refusal.{Refusal}
@@ -37,3 +38,12 @@ changes files managed (line ∷ lines) = let first = answered files managed line
 abbrev pub GivesBack : Managed → Result Managed Refusal → Type 0
 GivesBack managed (Ok after) = (after.machine.now ≡ managed.machine.now) × (after.machine.earlier ≡ managed.machine.earlier)
 GivesBack managed (Err refusal) = ⊥
+
+-- each of these policy sets has distinct names
+abbrev pub AreDistinct : List (List Entry) → Type 0
+AreDistinct [] = Unit {0}
+AreDistinct (set ∷ sets) = (have_distinct_names set ≡ true) × AreDistinct sets
+
+-- every policy set of a manager: the earlier ones, the one now and the later ones
+abbrev pub all_sets : Managed → List (List Entry)
+all_sets managed = managed.machine.earlier ++ managed.machine.now ∷ managed.machine.later
