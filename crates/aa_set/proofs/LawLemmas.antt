@@ -1,14 +1,13 @@
 -- The laws of the machine.
-use Rattle.std.proofs.Common.{◌≡◌, ℕ, ◌+◌, ◌-◌, ◌<◌, ◌≤◌, Bool, true, false, cond, leb, not, ◌&&◌, List, [], ◌∷◌, ◌++◌, length, take, drop, Option, None, Some, Result, Ok, Err, IfOk, inl, inr, take-append-drop, slice_index_or, refl, sym, ap, ◌∙◌, subst, arith, append_assoc, append-nil, length-append}
-use Rattle.std.proofs.lemmas.Bool.{cases_lt, cond-false, lt-leb, cond-true, le-leb, true≢false, false≢true}
+use Rattle.std.proofs.Common.{◌≡◌, ℕ, ◌+◌, ◌-◌, ◌≤◌, Bool, true, false, cond, leb, ◌&&◌, List, [], ◌∷◌, ◌++◌, length, take, drop, Option, None, Some, Result, Ok, Err, IfOk, inl, inr, take-append-drop, slice_index_or, refl, sym, ap, ◌∙◌, subst, arith, append_assoc, append-nil, length-append}
+use Rattle.std.proofs.lemmas.Bool.{cases_lt, cond-false, lt-leb, cond-true, le-leb, true≢false}
 use Rattle.std.proofs.lemmas.List.{drop_more, length_push, take_at, get_or_at}
 use Rattle.aa_set.specs.Command.{Order, Add, Undo, Ask, line_order}
-use Rattle.aa_set.specs.Laws.{AreDistinct, all_sets, is_undo, is_question, is_done, NoneGoesBack, changes, GivesBack}
-use Rattle.aa_set.specs.Machine.{Machine, accepted, gone_back}
-use Rattle.aa_set.specs.Manager.{Managed, new_manager, with_profile, read_profile, added, undone, gone_back_by, after_change, changed_by_add}
-use Rattle.aa_set.specs.Question.{answer_of, is_absent}
-use Rattle.aa_set.specs.Reply.{is_refusal, told_lines}
-use Rattle.aa_set.specs.Run.{Answered, answered, obeyed, obeyed_flagged, order_answered, changed, told, refused, takes_memory, after_lines}
+use Rattle.aa_set.specs.Laws.{AreDistinct, all_sets, is_undo, is_done, NoneGoesBack, changes, GivesBack}
+use Rattle.aa_set.specs.Manager.{Managed, new_manager, with_profile, read_profile, undone, gone_back_by, after_change, changed_by_add}
+use Rattle.aa_set.specs.Question.{answer_of}
+use Rattle.aa_set.specs.Reply.{told_lines}
+use Rattle.aa_set.specs.Run.{Answered, answered, obeyed, order_answered, changed, told, refused, takes_memory, after_lines}
 use Rattle.aa_set.specs.Words.{words_of}
 use Rattle.aa_set.specs.Files.{bytes_of}
 use Rattle.aa_set.specs.PolicySet.{has_name, have_distinct_names}
@@ -19,7 +18,7 @@ use Rattle.aa_set.proofs.PolicyLemmas.{distinct_with_last}
 use Rattle.aa_set.specs.declared.refusal.Refusal.{Refusal}
 use Rattle.aa_set.specs.declared.refusal.Refusal.TheVariants.{Exists, Memory, LineTooLong}
 use Rattle.aa_set.specs.declared.reply.Reply.{Reply}
-use Rattle.aa_set.specs.declared.reply.Reply.TheVariants.{Silent, Done, Refused, Told}
+use Rattle.aa_set.specs.declared.reply.Reply.TheVariants.{Silent, Refused, Told}
 use Rattle.aa_set.specs.Limits.{longest_line}
 
 abbrev Files : Type 0

@@ -1,6 +1,6 @@
 -- Going back change by change.
-use Rattle.std.proofs.Common.{◌≡◌, ℕ, ◌+◌, ◌-◌, ◌<◌, ◌≤◌, List, [], ◌∷◌, ◌++◌, length, take, drop, slice_index_or, refl, sym, ap, ◌∙◌, arith, append_assoc, append-nil}
-use Rattle.std.proofs.lemmas.List.{length_push, length-take-le, take-take, take_all, take_more, drop_more, drop_at, get_or-take, get_or_default, drop_all, get_or_push, take_at}
+use Rattle.std.proofs.Common.{◌≡◌, ℕ, ◌+◌, ◌-◌, ◌<◌, ◌≤◌, List, [], ◌∷◌, ◌++◌, length, take, drop, slice_index_or, sym, ap, ◌∙◌, arith}
+use Rattle.std.proofs.lemmas.List.{length_push, length-take-le, take-take, take_more, drop_more, drop_at, get_or-take, get_or_default, drop_all, get_or_push, take_at}
 use Rattle.aa_set.specs.Machine.{Machine, gone_back}
 
 -- machines of equal parts

@@ -1,7 +1,7 @@
 -- Runs of lines, one line after another.
-use Rattle.std.proofs.Common.{◌≡◌, ℕ, ◌+◌, ◌<◌, ◌≤◌, Bool, true, false, cond, leb, List, [], ◌∷◌, ◌++◌, length, take, map, count_by, Option, refl, sym, ap, ◌∙◌, subst, arith, append_assoc, append-nil, inl, inr}
-use Rattle.std.specs.List.{flat_map, list_any, sum_by}
-use Rattle.std.proofs.lemmas.Bool.{cases_lt, cond-true, cond-false, le-leb, lt-leb}
+use Rattle.std.proofs.Common.{◌≡◌, ℕ, ◌+◌, Bool, false, cond, List, [], ◌∷◌, ◌++◌, length, take, map, count_by, Option, refl, sym, ap, ◌∙◌, subst, arith, append_assoc, append-nil, inl, inr}
+use Rattle.std.specs.List.{flat_map, list_any}
+use Rattle.std.proofs.lemmas.Bool.{cases_lt, cond-false, lt-leb}
 use Rattle.std.proofs.lemmas.List.{length-take-le, take_all, map_push}
 use Rattle.std.proofs.lemmas.List.Concat.{flat_map-append}
 use Rattle.std.proofs.lemmas.List.Sums.{sum_by-append}
@@ -9,7 +9,7 @@ use Rattle.std.specs.Io.KnownBytes.{Appends}
 use Rattle.aa_set.specs.Manager.{Managed, new_manager}
 use Rattle.aa_set.specs.Pieces.{pieces, is_line_feed, is_empty, lines, without_empty_last}
 use Rattle.aa_set.specs.Reply.{reply_text, is_refusal, is_acceptance}
-use Rattle.aa_set.specs.Run.{Answered, answered, replies_to, after_lines, flagged, replies, output, SumsUp, IsAnswered}
+use Rattle.aa_set.specs.Run.{Answered, answered, replies_to, after_lines, flagged, replies, IsAnswered}
 use Rattle.aa_set.specs.Session.{IsAfter, IsCut, Follows}
 use Rattle.aa_set.specs.Streams.{Tells}
 use Rattle.aa_set.specs.declared.reply.Reply.{Reply}

@@ -1,7 +1,7 @@
 -- What the laws of the machine speak of: which lines change the policy set, and which ones go back.
-use Rattle.std.specs.Prelude.{◌≡◌, ℕ, ◌+◌, Bool, true, false, if◌then◌else◌, List, [], ◌∷◌, ◌++◌, Option, None, Some, Result, Ok, Err}
-use Rattle.aa_set.specs.Command.{Order, Add, Undo, Ask, line_order}
-use Rattle.aa_set.specs.Manager.{Managed, undone}
+use Rattle.std.specs.Prelude.{◌≡◌, ℕ, ◌+◌, Bool, true, false, if◌then◌else◌, List, [], ◌∷◌, ◌++◌, Option, Some, Result, Ok, Err}
+use Rattle.aa_set.specs.Command.{Order, Undo, Ask, line_order}
+use Rattle.aa_set.specs.Manager.{Managed}
 use Rattle.aa_set.specs.PolicySet.{have_distinct_names}
 use Rattle.aa_set.specs.Run.{answered}
 use Rattle.aa_set.specs.Words.{words_of}

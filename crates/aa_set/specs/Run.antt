@@ -1,6 +1,6 @@
 -- The run of lines: what an input is answered, line by line, by the machine that keeps whole policy sets
 -- (docs/guarantees.md).
-use Rattle.std.specs.Prelude.{ℕ, Bool, true, false, ◌&&◌, not, nat_le, if◌then◌else◌, List, [], ◌∷◌, ◌++◌, length, Option, None, Some, Result, Ok, Err, ◌≡◌, count_by}
+use Rattle.std.specs.Prelude.{ℕ, Bool, true, false, ◌&&◌, not, nat_le, if◌then◌else◌, List, [], ◌∷◌, length, Option, None, Some, Result, Ok, Err, ◌≡◌, count_by}
 use Rattle.std.specs.List.{flat_map}
 use Rattle.std.specs.Io.KnownBytes.{Appends}
 use Rattle.aa_set.specs.Command.{Order, Add, Undo, Ask, line_order}

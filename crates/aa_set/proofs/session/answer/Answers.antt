@@ -1,4 +1,3 @@
-use Rattle.std.proofs.Common.{ap, ◌∙◌}
 use Rattle.std.proofs.lemmas.Result.{on_ok_weaker}
 use Rattle.aa_set.proofs.RunLemmas.{IsAfter-more}
 use Rattle.aa_set.proofs.session.answer.Goals as goal

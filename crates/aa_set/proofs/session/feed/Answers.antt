@@ -1,4 +1,4 @@
-use Rattle.std.proofs.Common.{◌≡◌, ℕ, ◌+◌, ◌≤◌, ◌∷◌, [], ◌++◌, List, length, sym, ap, ◌∙◌, arith, append_assoc, length-append}
+use Rattle.std.proofs.Common.{◌≡◌, ℕ, ◌+◌, ◌∷◌, [], ◌++◌, List, length, sym, ap, ◌∙◌, arith, append_assoc, length-append}
 use Rattle.aa_set.proofs.RunLemmas.{Follows-same, Follows-kept}
 use Rattle.aa_set.proofs.session.feed.Goals as goal
 

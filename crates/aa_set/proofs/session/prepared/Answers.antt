@@ -1,4 +1,4 @@
-use Rattle.std.proofs.Common.{◌≡◌, [], List, ℕ, refl, sym, subst, ap}
+use Rattle.std.proofs.Common.{[], List, ℕ, refl, sym, subst}
 use Rattle.aa_set.specs.Streams.{Tells}
 use Rattle.aa_set.proofs.StreamLemmas.{Tells-nil}
 use Rattle.aa_set.proofs.session.prepared.Goals as goal

@@ -1,4 +1,4 @@
-use Rattle.std.proofs.Common.{◌≡◌, ◌+◌, ◌-◌, ◌≤◌, ◌++◌, length, min, take, sym, ap, ◌∙◌, arith}
+use Rattle.std.proofs.Common.{◌≡◌, ◌-◌, ◌≤◌, ◌++◌, length, min, take, ap, ◌∙◌, arith}
 use Rattle.aa_set.proofs.LineLemmas.{kept_front}
 use Rattle.aa_set.proofs.line.LineBuffer.keep.Goals as goal
 
