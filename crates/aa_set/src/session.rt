@@ -299,3 +299,6 @@ fn finish<W: Sink>(
     answer(files, session, writer, held.as_slice())?;
     flush(writer, &mut session.waiting)
 }
+
+#[cfg(test)]
+mod tests;
