@@ -1,8 +1,8 @@
 //! The run of command lines: lines from a reader, replies to a writer.
 
-ghost use Rattle.std.specs.Prelude.{◌≡◌, ◌+◌, ◌-◌, ◌*◌, ◌^◌, ◌<◌, ◌≤◌, ◌++◌, ◌∷◌, [], ℕ, Bool, Option, List, length, vec_len, count_by, false, true, OnOk, OnErr, IfOk, IfSome, IfNone, IsErrOf, ◌⊎◌};
+ghost use Rattle.std.specs.Prelude.{◌≡◌, ◌+◌, ◌^◌, ◌<◌, ◌≤◌, ◌++◌, ◌∷◌, [], ℕ, Bool, Option, List, length, vec_len, count_by, false, true, OnOk, OnErr, IfOk, IfSome, IfNone, IsErrOf, ◌⊎◌};
 ghost use Rattle.std.specs.List.{list_any};
-ghost use Rattle.std.specs.Io.KnownBytes.{Appends, IsAtEnd, Keeps};
+ghost use Rattle.std.specs.Io.KnownBytes.{IsAtEnd};
 ghost use Rattle.aa_set.specs.Pieces.{is_line_feed};
 ghost use Rattle.aa_set.specs.Reply.{is_acceptance, is_refusal};
 ghost use Rattle.aa_set.specs.Limits.{most_reads};
