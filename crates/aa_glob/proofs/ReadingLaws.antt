@@ -1,0 +1,352 @@
+-- The laws of reading: a text with backslashes reads as its bytes, and a fault is told alike whatever follows it.
+use Rattle.std.proofs.Common.{◌≡◌, ◌≢◌, ℕ, zero, suc, ◌+◌, ◌-◌, ◌≤◌, Bool, true, false, ◌==◌, not, List, [], ◌∷◌, ◌++◌, length, refl, sym, ap, ◌∙◌, arith, inl, inr, if◌then◌else◌, nat_le, nat_lt, Result, Ok, Err}
+use Rattle.std.proofs.lemmas.Bool.{cases_Bool, cases_eq, false≢true}
+use Rattle.std.proofs.lemmas.Bool.Decides.{nat_tests}
+use Rattle.std.proofs.lemmas.List.Elements.{All-head, All-tail}
+use Rattle.std.proofs.lemmas.List.Folds.{list_any-append}
+use Rattle.std.specs.List.{All, list_any}
+use Rattle.aa_glob.specs.Items.{Item, Byte, Set, Pattern, Patterns, NoMore, More}
+use Rattle.aa_glob.specs.Letters.{is_letter_or_digit, letters}
+use Rattle.aa_glob.specs.Elements.{Element, Single, Open, Comma, Close, Fault, place_after, is_plain, begins_plain, is_whole_segment, run, Extent, Alone, UpTo, Unfinished, extent, member, closed_class, elements, in_class}
+use Rattle.aa_glob.specs.Reading.{Pieces, Cut, Ended, Closed, Refused, onto, behind_comma, group, deepest, pieces, whole, longest, begins_with_slash, reading}
+use Rattle.aa_glob.specs.Laws.{needs_backslash, quoted, bytes_pattern, ends_with_backslash, is_told_before_end}
+use Rattle.aa_glob.specs.declared.byte_set.ByteRange.{ByteRange}
+use Rattle.aa_glob.specs.declared.byte_set.ByteSet.TheVariants.{Inside}
+use Rattle.aa_glob.specs.declared.letter.Letter.{Letter}
+use Rattle.aa_glob.specs.declared.letter.Letter.TheVariants.{Plain, Escaped, Broken}
+use Rattle.aa_glob.specs.declared.pattern_error.PatternError.{PatternError}
+use Rattle.aa_glob.specs.declared.pattern_error.PatternError.TheVariants.{NotAbsolute, UnclosedClass, EmptyClass, BadRange, UnclosedGroup, FewAlternatives, BadEscape, TooLong, TooDeep, ZeroByte}
+use Rattle.aa_glob.specs.declared.place.Place.{Place}
+use Rattle.aa_glob.specs.declared.place.Place.TheVariants.{AfterSlash, AfterStar, Elsewhere}
+
+-- a byte that needs a backslash is no letter and no digit
+marked-no_letter : (b : ℕ) → needs_backslash b ≡ true → is_letter_or_digit b ≡ false
+marked-no_letter b marked = grind (arith, nat_tests)
+
+-- the letter of a byte that is no backslash
+letters-plain : (b : ℕ) (bs : List ℕ) → (b == 92) ≡ false → letters (b ∷ bs) ≡ Plain b ∷ letters bs
+letters-plain b [] plain = rw plain refl
+letters-plain b (c ∷ bs) plain = rw plain refl
+
+-- a byte that needs none passes none of the tests that a reader makes, but that for a comma
+unmarked : (b : ℕ) → needs_backslash b ≡ false → ((b == 92) ≡ false) × ((b == 42) ≡ false) × ((b == 91) ≡ false) × ((b == 63) ≡ false) × ((b == 123) ≡ false) × ((b == 125) ≡ false)
+unmarked b plain = (grind (arith, nat_tests), grind (arith, nat_tests), grind (arith, nat_tests), grind (arith, nat_tests), grind (arith, nat_tests), grind (arith, nat_tests))
+
+-- outside groups it reads as itself, a comma too
+pieces-comma : (place : Place) (ls : List Letter) → pieces 0 (elements place (Plain 44 ∷ ls)) ≡ onto (Byte 44) (pieces 0 (elements (place_after 44) ls))
+pieces-comma place ls = refl
+
+pieces-plain : (place : Place) (b : ℕ) (ls : List Letter) → needs_backslash b ≡ false → pieces 0 (elements place (Plain b ∷ ls)) ≡ onto (Byte b) (pieces 0 (elements (place_after b) ls))
+pieces-plain place b ls plain =
+    let tests = unmarked b plain in
+    elim (cases_eq b 44) [
+      | inl comma ↦ rw comma (pieces-comma place ls)
+      | inr other ↦ let no_comma : (b == 44) ≡ false = grind (arith, nat_tests) in rw (tests.1, tests.2, tests.3, tests.4, no_comma, tests.5) refl
+    ]
+
+-- what the text reads as, wherever it stands outside groups
+pieces-quoted : (place : Place) (text : List ℕ) → pieces 0 (elements place (letters (quoted text))) ≡ Cut (bytes_pattern text) NoMore Ended
+pieces-quoted place [] = refl
+pieces-quoted place (b ∷ bs) = elim (cases_Bool (needs_backslash b)) [
+  | inl marked ↦ rw (marked, marked-no_letter b marked) (ap (onto (Byte b)) (pieces-quoted (place_after b) bs))
+  | inr plain ↦ rw (plain, letters-plain b (quoted bs) (unmarked b plain).0) (pieces-plain place b (letters (quoted bs)) plain ∙ ap (onto (Byte b)) (pieces-quoted (place_after b) bs))
+]
+
+-- what a text reads as that has none of the faults that are told first
+reading-whole : (text : List ℕ) → length text ≤ 4096 → list_any (λ b. b == 0) text ≡ false → begins_with_slash text ≡ true → reading text ≡ whole (pieces 0 (elements Elsewhere (letters text)))
+reading-whole text short no_zero slash =
+    let fits : nat_le (length text) 4096 ≡ true = grind (arith, nat_tests) in
+    rw (fits, no_zero, slash) refl
+
+no_zero-quoted : (text : List ℕ) → All (λ b. b ≢ 0) text → list_any (λ b. b == 0) (quoted text) ≡ false
+no_zero-quoted [] each = refl
+no_zero-quoted (b ∷ bs) each =
+    let first : b ≢ 0 = All-head (λ b. b ≢ 0) b bs each in
+    let no_zero : (b == 0) ≡ false = grind (arith, nat_tests) in
+    let others = no_zero-quoted bs (All-tail (λ b. b ≢ 0) b bs each) in
+    elim (cases_Bool (needs_backslash b)) [
+      | inl marked ↦ rw (marked, no_zero) others
+      | inr plain ↦ rw (plain, no_zero) others
+    ]
+
+begins-quoted : (text : List ℕ) → begins_with_slash text ≡ true → begins_with_slash (quoted text) ≡ true
+begins-quoted [] slash = slash
+begins-quoted (b ∷ bs) slash = let same : b ≡ 47 = grind (arith, nat_tests) in rw same refl
+
+-- A text with a backslash before each byte that needs one reads as its bytes.
+pub reading-quoted : (text : List ℕ) → begins_with_slash text ≡ true → All (λ b. b ≢ 0) text → length (quoted text) ≤ 4096 → reading (quoted text) ≡ Ok (bytes_pattern text)
+reading-quoted text slash each short = reading-whole (quoted text) short (no_zero-quoted text each) (begins-quoted text slash) ∙ ap whole (pieces-quoted Elsewhere text)
+
+quoted-plain : (text : List ℕ) → All (λ b. (b ≢ 0) × (needs_backslash b ≡ false)) text → quoted text ≡ text
+quoted-plain [] each = refl
+quoted-plain (b ∷ bs) each = rw ((All-head (λ b. (b ≢ 0) × (needs_backslash b ≡ false)) b bs each).1) (ap (λ l. b ∷ l) (quoted-plain bs (All-tail (λ b. (b ≢ 0) × (needs_backslash b ≡ false)) b bs each)))
+
+-- A text of bytes that need none reads as itself.
+pub reading-plain : (text : List ℕ) → begins_with_slash text ≡ true → All (λ b. (b ≢ 0) × (needs_backslash b ≡ false)) text → length text ≤ 4096 → reading text ≡ Ok (bytes_pattern text)
+reading-plain text slash each short =
+    let same = quoted-plain text each in
+    ap reading (sym same) ∙ reading-quoted text slash (λ k d within. (each k d within).0) (rw same short)
+
+-- Letters begin like others: these end first, or with a backslash that the others may tell apart, or both break off.
+data Goes (late : PatternError → Bool) : List Letter → List Letter → Type 0 where
+  Out : {ms : List Letter} → Goes late [] ms
+  CutShort : {ms : List Letter} → late BadEscape ≡ true → Goes late (Broken ∷ []) ms
+  BothBroken : Goes late (Broken ∷ []) (Broken ∷ [])
+  Along : {ls ms : List Letter} → (l : Letter) → Goes late ls ms → Goes late (l ∷ ls) (l ∷ ms)
+
+-- Elements begin like others, as far as faults go: these end first, or with a late fault, which the others may lack, or with a
+-- fault that both have. Items don't matter.
+data Alike (late : PatternError → Bool) : List Element → List Element → Type 0 where
+  Stops : {es : List Element} → Alike late [] es
+  Late : {ds es : List Element} → (error : PatternError) → late error ≡ true → Alike late (Fault error ∷ ds) es
+  Same : {ds es : List Element} → (error : PatternError) → Alike late (Fault error ∷ ds) (Fault error ∷ es)
+  Opens : {ds es : List Element} → Alike late ds es → Alike late (Open ∷ ds) (Open ∷ es)
+  Commas : {ds es : List Element} → Alike late ds es → Alike late (Comma ∷ ds) (Comma ∷ es)
+  Closes : {ds es : List Element} → Alike late ds es → Alike late (Close ∷ ds) (Close ∷ es)
+  Left : {ds es : List Element} → (item : Item) → Alike late ds es → Alike late (Single item ∷ ds) es
+  Right : {ds es : List Element} → (item : Item) → Alike late ds es → Alike late ds (Single item ∷ es)
+
+single : {late : PatternError → Bool} {ds es : List Element} → (item : Item) → Alike late ds es → Alike late (Single item ∷ ds) (Single item ∷ es)
+single item alike = Left item (Right item alike)
+
+alike-if : {late : PatternError → Bool} {ds es ds' es' : List Element} → (c : Bool) → Alike late ds es → Alike late ds' es' → Alike late (if c then ds else ds') (if c then es else es')
+alike-if true then_alike else_alike = then_alike
+alike-if false then_alike else_alike = else_alike
+
+-- a run of stars is no fault, whatever it reads as
+run-left : {late : PatternError → Bool} {ds es : List Element} → (place : Place) (ls : List Letter) → Alike late ds es → Alike late (run place ls ++ ds) es
+run-left AfterStar ls alike = alike
+run-left AfterSlash ls alike = elim (cases_Bool (is_whole_segment AfterSlash ls)) [
+  | inl ends ↦ rw ends (Left _ (Left _ alike))
+  | inr goes_on ↦ rw goes_on (Left _ alike)
+]
+run-left Elsewhere ls alike = Left _ alike
+
+run-right : {late : PatternError → Bool} {ds es : List Element} → (place : Place) (ls : List Letter) → Alike late ds es → Alike late ds (run place ls ++ es)
+run-right AfterStar ls alike = alike
+run-right AfterSlash ls alike = elim (cases_Bool (is_whole_segment AfterSlash ls)) [
+  | inl ends ↦ rw ends (Right _ (Right _ alike))
+  | inr goes_on ↦ rw goes_on (Right _ alike)
+]
+run-right Elsewhere ls alike = Right _ alike
+
+-- a class that its text doesn't close
+class-late : {late : PatternError → Bool} {es : List Element} → late UnclosedClass ≡ true → (skip : ℕ) (negated : Bool) (ranges : List ByteRange) → Alike late (in_class skip negated ranges []) es
+class-late unclosed zero negated ranges = Late UnclosedClass unclosed
+class-late unclosed (suc skip) negated ranges = Late UnclosedClass unclosed
+
+class-cut_short : {late : PatternError → Bool} {es : List Element} → late UnclosedClass ≡ true → late BadEscape ≡ true → (skip : ℕ) (negated : Bool) (ranges : List ByteRange) → Alike late (in_class skip negated ranges (Broken ∷ [])) es
+class-cut_short unclosed escape zero negated ranges = Late BadEscape escape
+class-cut_short unclosed escape (suc skip) negated ranges = class-late unclosed skip negated ranges
+
+class-both_broken : {late : PatternError → Bool} → late UnclosedClass ≡ true → (skip : ℕ) (negated : Bool) (ranges : List ByteRange) → Alike late (in_class skip negated ranges (Broken ∷ [])) (in_class skip negated ranges (Broken ∷ []))
+class-both_broken unclosed zero negated ranges = Same BadEscape
+class-both_broken unclosed (suc skip) negated ranges = class-late unclosed skip negated ranges
+
+member-alike : {late : PatternError → Bool} → (first : ℕ) (reach : Extent) (more more' : ℕ → ByteRange → List Element) → ((skip : ℕ) (range : ByteRange) → Alike late (more skip range) (more' skip range)) → Alike late (member first reach more) (member first reach more')
+member-alike first Alone more more' each = each _ _
+member-alike first (UpTo last) more more' each = alike-if (nat_lt last first) (Same BadRange) (each _ _)
+member-alike first Unfinished more more' each = Same BadEscape
+
+closed_class-alike : {late : PatternError → Bool} {ds es : List Element} → (negated : Bool) (ranges : List ByteRange) → Alike late ds es → Alike late (closed_class negated ranges ds) (closed_class negated ranges es)
+closed_class-alike negated [] alike = Same EmptyClass
+closed_class-alike negated (range ∷ ranges) alike = single _ alike
+
+-- how far a member reaches is told by the next two letters
+extent-no_dash : (l : Letter) (ls : List Letter) → is_plain 45 l ≡ false → extent (l ∷ ls) ≡ Alone
+extent-no_dash l [] plain = refl
+extent-no_dash l (Plain last ∷ ls) plain = rw plain refl
+extent-no_dash l (Escaped last ∷ ls) plain = rw plain refl
+extent-no_dash l (Broken ∷ ls) plain = rw plain refl
+
+extent-two : (l m : Letter) (ls ms : List Letter) → extent (l ∷ m ∷ ls) ≡ extent (l ∷ m ∷ ms)
+extent-two l (Plain last) ls ms = refl
+extent-two l (Escaped last) ls ms = refl
+extent-two l Broken ls ms = refl
+
+-- a member of a class, and what follows it
+abbrev follow : ℕ → Bool → List ByteRange → List Letter → List Element
+follow b negated ranges ls = member b (extent ls) (λ skip range. in_class skip negated (ranges ++ range ∷ []) ls)
+
+-- a member that reaches as far in both texts
+follow-same : {late : PatternError → Bool} → (b : ℕ) (negated : Bool) (ranges : List ByteRange) (ls ms : List Letter) → extent ls ≡ extent ms → ((skip : ℕ) (ranges : List ByteRange) → Alike late (in_class skip negated ranges ls) (in_class skip negated ranges ms)) → Alike late (follow b negated ranges ls) (follow b negated ranges ms)
+follow-same b negated ranges ls ms same each = rw same (member-alike b (extent ms) _ _ (λ skip range. each skip (ranges ++ range ∷ [])))
+
+is_dash : (l : Letter) → is_plain 45 l ≡ true → l ≡ Plain 45
+is_dash (Plain c) plain = ap Plain (grind (arith, nat_tests))
+is_dash (Escaped c) plain = absurd (false≢true plain)
+is_dash Broken plain = absurd (false≢true plain)
+
+-- Where the text ends too soon to tell how far a member reaches, its class isn't closed.
+follow-alike : {late : PatternError → Bool} {ls ms : List Letter} → late UnclosedClass ≡ true → (b : ℕ) (negated : Bool) (ranges : List ByteRange) → Goes late ls ms → ((skip : ℕ) (ranges : List ByteRange) → Alike late (in_class skip negated ranges ls) (in_class skip negated ranges ms)) → Alike late (follow b negated ranges ls) (follow b negated ranges ms)
+follow-alike unclosed b negated ranges Out each = Late UnclosedClass unclosed
+follow-alike unclosed b negated ranges (CutShort escape) each = Late BadEscape escape
+follow-alike unclosed b negated ranges BothBroken each = Same BadEscape
+follow-alike unclosed b negated ranges (Along {ms = ms} l Out) each = elim (cases_Bool (is_plain 45 l)) [
+  | inl dash ↦ rw (is_dash l dash) (Late UnclosedClass unclosed)
+  | inr other ↦ follow-same b negated ranges (l ∷ []) (l ∷ ms) (sym (extent-no_dash l ms other)) each
+]
+follow-alike unclosed b negated ranges (Along {ms = ms} l (CutShort escape)) each = elim (cases_Bool (is_plain 45 l)) [
+  | inl dash ↦ rw (is_dash l dash) (Late BadEscape escape)
+  | inr other ↦ follow-same b negated ranges (l ∷ Broken ∷ []) (l ∷ ms) (extent-no_dash l (Broken ∷ []) other ∙ sym (extent-no_dash l ms other)) each
+]
+follow-alike unclosed b negated ranges (Along l BothBroken) each = follow-same b negated ranges (l ∷ Broken ∷ []) (l ∷ Broken ∷ []) refl each
+follow-alike unclosed b negated ranges (Along l (Along {ls = ls} {ms = ms} m goes)) each = follow-same b negated ranges (l ∷ m ∷ ls) (l ∷ m ∷ ms) (extent-two l m ls ms) each
+
+-- what follows a bracket
+abbrev open_class : List Letter → List Element
+open_class ls = if begins_plain 94 ls then in_class 1 true [] ls else in_class 0 false [] ls
+
+class-alike : {late : PatternError → Bool} {ls ms : List Letter} → late UnclosedClass ≡ true → Goes late ls ms → ((skip : ℕ) (negated : Bool) → Alike late (in_class skip negated [] ls) (in_class skip negated [] ms)) → Alike late (open_class ls) (open_class ms)
+class-alike unclosed Out each = Late UnclosedClass unclosed
+class-alike unclosed (CutShort escape) each = Late BadEscape escape
+class-alike unclosed BothBroken each = Same BadEscape
+class-alike unclosed (Along l goes) each = alike-if (is_plain 94 l) (each 1 true) (each 0 false)
+
+-- a text of letters, and a longer one, within a class and outside
+mutual
+  elements-alike : {late : PatternError → Bool} → late UnclosedClass ≡ true → (place : Place) → {ls ms : List Letter} → Goes late ls ms → Alike late (elements place ls) (elements place ms)
+  elements-alike unclosed place Out = Stops
+  elements-alike unclosed place (CutShort escape) = Late BadEscape escape
+  elements-alike unclosed place BothBroken = Same BadEscape
+  elements-alike unclosed place (Along Broken goes) = Same BadEscape
+  elements-alike unclosed place (Along (Escaped b) goes) = single (Byte b) (elements-alike unclosed (place_after b) goes)
+  elements-alike unclosed place (Along {ls = ls} {ms = ms} (Plain b) goes) =
+      alike-if (b == 42) (run-left place ls (run-right place ms (elements-alike unclosed AfterStar goes)))
+      (alike-if (b == 91) (class-alike unclosed goes (λ skip negated. in_class-alike unclosed skip negated [] goes))
+      (alike-if (b == 63) (single (Set Inside) (elements-alike unclosed Elsewhere goes))
+      (alike-if (b == 123) (Opens (elements-alike unclosed Elsewhere goes))
+      (alike-if (b == 44) (Commas (elements-alike unclosed Elsewhere goes))
+      (alike-if (b == 125) (Closes (elements-alike unclosed Elsewhere goes))
+      (single (Byte b) (elements-alike unclosed (place_after b) goes)))))))
+
+  in_class-alike : {late : PatternError → Bool} → late UnclosedClass ≡ true → (skip : ℕ) (negated : Bool) (ranges : List ByteRange) → {ls ms : List Letter} → Goes late ls ms → Alike late (in_class skip negated ranges ls) (in_class skip negated ranges ms)
+  in_class-alike unclosed skip negated ranges Out = class-late unclosed skip negated ranges
+  in_class-alike unclosed skip negated ranges (CutShort escape) = class-cut_short unclosed escape skip negated ranges
+  in_class-alike unclosed skip negated ranges BothBroken = class-both_broken unclosed skip negated ranges
+  in_class-alike unclosed (suc skip) negated ranges (Along l goes) = in_class-alike unclosed skip negated ranges goes
+  in_class-alike unclosed zero negated ranges (Along Broken goes) = Same BadEscape
+  in_class-alike unclosed zero negated ranges (Along (Escaped b) goes) = follow-alike unclosed b negated ranges goes (λ skip ranges. in_class-alike unclosed skip negated ranges goes)
+  in_class-alike unclosed zero negated ranges (Along (Plain b) goes) =
+      alike-if (b == 93) (closed_class-alike negated ranges (elements-alike unclosed Elsewhere goes))
+      (follow-alike unclosed b negated ranges goes (λ skip ranges. in_class-alike unclosed skip negated ranges goes))
+
+ends-behind : (b : ℕ) (bs : List ℕ) → ends_with_backslash bs ≡ true → ends_with_backslash (b ∷ bs) ≡ true
+ends-behind b [] ends = absurd (false≢true ends)
+ends-behind b (c ∷ bs) ends = ends
+
+-- a text of bytes, and a longer one
+letters-goes : {late : PatternError → Bool} → (front more : List ℕ) → (ends_with_backslash front ≡ true → late BadEscape ≡ true) → Goes late (letters front) (letters (front ++ more))
+letters-goes [] more escape = Out
+letters-goes (b ∷ []) more escape = elim (cases_Bool (b == 92)) [
+  | inl backslash ↦ rw backslash (CutShort (escape backslash))
+  | inr plain ↦ rw (letters-plain b [] plain, letters-plain b more plain) (Along (Plain b) Out)
+]
+letters-goes (b ∷ c ∷ bs) more escape = elim (cases_Bool (b == 92)) [
+  | inl backslash ↦ elim (cases_Bool (is_letter_or_digit c)) [
+    | inl letter ↦ rw (backslash, letter) BothBroken
+    | inr other ↦ rw (backslash, other) (Along (Escaped c) (letters-goes bs more (λ ends. escape (ends-behind c bs ends))))
+  ]
+  | inr plain ↦ rw plain (Along (Plain b) (letters-goes (c ∷ bs) more escape))
+]
+
+-- Pieces end like others, as far as faults go: these come to an end, or to a late fault, or both to the same fault, or both to
+-- a brace, behind one alternative or behind more.
+data Agree (late : PatternError → Bool) : Pieces → Pieces → Type 0 where
+  Unended : {pieces : Pieces} → (first : Pattern) (others : Patterns) → Agree late (Cut first others Ended) pieces
+  TooLate : {pieces : Pieces} → (first : Pattern) (others : Patterns) (error : PatternError) → late error ≡ true → Agree late (Cut first others (Refused error)) pieces
+  BothRefused : {first first' : Pattern} {others others' : Patterns} → (error : PatternError) → Agree late (Cut first others (Refused error)) (Cut first' others' (Refused error))
+  BothAlone : {first first' : Pattern} {after after' : Pieces} → Agree late after after' → Agree late (Cut first NoMore (Closed after)) (Cut first' NoMore (Closed after'))
+  BothMore : {first first' second second' : Pattern} {others others' : Patterns} {after after' : Pieces} → Agree late after after' → Agree late (Cut first (More second others) (Closed after)) (Cut first' (More second' others') (Closed after'))
+
+agree-if : {late : PatternError → Bool} {p q p' q' : Pieces} → (c : Bool) → Agree late p q → Agree late p' q' → Agree late (if c then p else p') (if c then q else q')
+agree-if true then_agree else_agree = then_agree
+agree-if false then_agree else_agree = else_agree
+
+onto-left : {late : PatternError → Bool} {p q : Pieces} → (item : Item) → Agree late p q → Agree late (onto item p) q
+onto-left item (Unended first others) = Unended _ _
+onto-left item (TooLate first others error is_late) = TooLate _ _ error is_late
+onto-left item (BothRefused error) = BothRefused error
+onto-left item (BothAlone agree) = BothAlone agree
+onto-left item (BothMore agree) = BothMore agree
+
+onto-right : {late : PatternError → Bool} {p q : Pieces} → (item : Item) → Agree late p q → Agree late p (onto item q)
+onto-right item (Unended first others) = Unended _ _
+onto-right item (TooLate first others error is_late) = TooLate _ _ error is_late
+onto-right item (BothRefused error) = BothRefused error
+onto-right item (BothAlone agree) = BothAlone agree
+onto-right item (BothMore agree) = BothMore agree
+
+comma-agree : {late : PatternError → Bool} {p q : Pieces} → Agree late p q → Agree late (behind_comma p) (behind_comma q)
+comma-agree (Unended first others) = Unended _ _
+comma-agree (TooLate first others error is_late) = TooLate _ _ error is_late
+comma-agree (BothRefused error) = BothRefused error
+comma-agree (BothAlone agree) = BothMore agree
+comma-agree (BothMore agree) = BothMore agree
+
+group-agree : {late : PatternError → Bool} {p q : Pieces} → late UnclosedGroup ≡ true → Agree late p q → Agree late (group p) (group q)
+group-agree unclosed (Unended first others) = TooLate _ _ UnclosedGroup unclosed
+group-agree unclosed (TooLate first others error is_late) = TooLate _ _ error is_late
+group-agree unclosed (BothRefused error) = BothRefused error
+group-agree unclosed (BothAlone agree) = BothRefused FewAlternatives
+group-agree unclosed (BothMore agree) = onto-left _ (onto-right _ agree)
+
+pieces-agree : {late : PatternError → Bool} → late UnclosedGroup ≡ true → (depth : ℕ) → {ds es : List Element} → Alike late ds es → Agree late (pieces depth ds) (pieces depth es)
+pieces-agree unclosed depth Stops = Unended _ _
+pieces-agree unclosed depth (Late error is_late) = TooLate _ _ error is_late
+pieces-agree unclosed depth (Same error) = BothRefused error
+pieces-agree unclosed depth (Opens alike) = agree-if (depth == deepest) (BothRefused TooDeep) (group-agree unclosed (pieces-agree unclosed (depth + 1) alike))
+pieces-agree unclosed depth (Commas alike) = agree-if (depth == 0) (onto-left _ (onto-right _ (pieces-agree unclosed depth alike))) (comma-agree (pieces-agree unclosed depth alike))
+pieces-agree unclosed depth (Closes alike) = BothAlone (pieces-agree unclosed (depth - 1) alike)
+pieces-agree unclosed depth (Left item alike) = onto-left item (pieces-agree unclosed depth alike)
+pieces-agree unclosed depth (Right item alike) = onto-right item (pieces-agree unclosed depth alike)
+
+-- a fault that isn't late is told alike
+whole-agree : {late : PatternError → Bool} {p q : Pieces} → (error : PatternError) → late error ≡ false → Agree late p q → whole p ≡ Err error → whole q ≡ Err error
+whole-agree error early (Unended first others) refuses = absurd (cc)
+whole-agree {late} error early (TooLate first others other is_late) refuses =
+    let same : other ≡ error = cc in
+    absurd (false≢true (sym early ∙ ap late (sym same) ∙ is_late))
+whole-agree error early (BothRefused other) refuses = refuses
+whole-agree error early (BothAlone agree) refuses = refuses
+whole-agree error early (BothMore agree) refuses = refuses
+
+no_zero-all : (text : List ℕ) → All (λ b. b ≢ 0) text → list_any (λ b. b == 0) text ≡ false
+no_zero-all [] each = refl
+no_zero-all (b ∷ bs) each =
+    let first : b ≢ 0 = All-head (λ b. b ≢ 0) b bs each in
+    let no_zero : (b == 0) ≡ false = grind (arith, nat_tests) in
+    rw no_zero (no_zero-all bs (All-tail (λ b. b ≢ 0) b bs each))
+
+begins-append : (front more : List ℕ) → begins_with_slash front ≡ true → begins_with_slash (front ++ more) ≡ true
+begins-append [] more slash = absurd (false≢true slash)
+begins-append (b ∷ bs) more slash = slash
+
+-- a fault that is told before the end is none of those that are told first
+told-behind : (text : List ℕ) (error : PatternError) (test : Bool) (first : PatternError) (rest : Result Pattern PatternError) → is_told_before_end text first ≡ false → is_told_before_end text error ≡ true → (if test then Err first else rest) ≡ Err error → (test ≡ false) × (rest ≡ Err error)
+told-behind text error true first rest untold told refuses =
+    let same : first ≡ error = cc in
+    absurd (false≢true (sym untold ∙ ap (is_told_before_end text) same ∙ told))
+told-behind text error false first rest untold told refuses = (refl, refuses)
+
+not_false : (c : Bool) → not c ≡ false → c ≡ true
+not_false true e = refl
+not_false false e = sym e
+
+-- A text that is refused by a fault that is told before its end has none of the faults that are told first.
+reading-refused : (text : List ℕ) (error : PatternError) → is_told_before_end text error ≡ true → reading text ≡ Err error → (list_any (λ b. b == 0) text ≡ false) × (begins_with_slash text ≡ true) × (whole (pieces 0 (elements Elsewhere (letters text))) ≡ Err error)
+reading-refused text error told refuses =
+    let behind_length = told-behind text error (not (nat_le (length text) longest)) TooLong _ refl told refuses in
+    let behind_zero = told-behind text error (list_any (λ b. b == 0) text) ZeroByte _ refl told behind_length.1 in
+    let behind_slash = told-behind text error (not (begins_with_slash text)) NotAbsolute _ refl told behind_zero.1 in
+    (behind_zero.0, not_false (begins_with_slash text) behind_slash.0, behind_slash.1)
+
+-- A fault that is told before the end of a text is told alike, whatever follows.
+pub reading-first_fault : (front more : List ℕ) (error : PatternError) → reading front ≡ Err error → is_told_before_end front error ≡ true → length (front ++ more) ≤ 4096 → All (λ b. b ≢ 0) more → reading (front ++ more) ≡ Err error
+reading-first_fault front more error refuses told short each =
+    let late = λ (e : PatternError). not (is_told_before_end front e) in
+    let facts = reading-refused front error told refuses in
+    let no_zero : list_any (λ b. b == 0) (front ++ more) ≡ false = list_any-append (λ b. b == 0) front more ∙ rw (facts.0, no_zero-all more each) refl in
+    let goes = letters-goes {late = late} front more (λ ends. rw ends refl) in
+    let agree = pieces-agree {late = late} refl 0 (elements-alike refl Elsewhere goes) in
+    reading-whole (front ++ more) short no_zero (begins-append front more facts.1) ∙ whole-agree error (rw told refl) agree facts.2

@@ -1,0 +1,13 @@
+-- What a pattern holds: a text that reads as a pattern, and the steps of its items.
+use Rattle.std.specs.Prelude.{◌≡◌, ℕ, ◌*◌, ◌≤◌, List, length, Ok}
+use Rattle.aa_glob.specs.Layout.{steps_of}
+use Rattle.aa_glob.specs.Reading.{items_of, longest, reading}
+use Rattle.aa_glob.specs.declared.step.Step.{Step}
+
+-- There are at most two steps for each byte of the text.
+abbrev pub IsCompiled : List Step → List ℕ → Type 0
+IsCompiled steps text =
+    (reading text ≡ Ok (items_of text))
+    × (steps ≡ steps_of (items_of text))
+    × (length steps ≤ 2 * length text)
+    × (length text ≤ longest)

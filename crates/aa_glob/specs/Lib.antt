@@ -1,0 +1,13 @@
+pub mod ByteSets
+pub mod Compiled
+pub mod Elements
+pub mod Exactness
+pub mod Items
+pub mod Laws
+pub mod Layout
+pub mod Letters
+pub mod Matching
+pub mod PatternError
+pub mod Progress
+pub mod Reading
+pub mod Steps

@@ -1,0 +1,97 @@
+//! Matching of a text, from its last byte to its first, by the steps that accept what follows.
+
+ghost use Rattle.std.specs.Prelude.{◌≡◌, ◌||◌, ◌+◌, ◌≤◌, [], length, get_or, false};
+ghost use Rattle.aa_glob.specs.Steps.{accepting, accepting_byte, accepting_end, leads, takes};
+
+use crate::byte_set::is_inside;
+use crate::step::Step;
+
+/// How many steps a pattern may have: two for each byte of its text.
+pub const MOST_STEPS: usize = 8_192;
+
+/// Whether the first step accepts the text. It takes no memory.
+pub fn accepts(steps: &[Step], text: &[u8]) -> bool
+    requires { length steps.now ≤ 8192 }
+    ensures { result ≡ get_or (accepting steps.now text.now) 0 false }
+{
+    let mut room = [false; 8_193];
+    let answers = &mut room[..steps.len() + 1];
+    answer_end(steps, answers);
+    let mut at = text.len();
+    while at > 0 {
+        at -= 1;
+        answer_byte(text[at], steps, answers);
+    }
+    answers[0]
+}
+
+// Writes which steps accept the empty text.
+fn answer_end(steps: &[Step], answers: &mut [bool])
+    requires { length answers.now ≡ length steps.now + 1 }
+    ensures { answers.new ≡ accepting_end steps.now }
+{
+    let mut at = steps.len();
+    answers[at] = true;
+    while at > 0 {
+        answers[at - 1] = leads(&steps[at - 1], &answers[at..]);
+        at -= 1;
+    }
+}
+
+// Writes which steps accept the byte and what follows it, over which of them accept what follows it.
+fn answer_byte(byte: u8, steps: &[Step], answers: &mut [bool])
+    requires { length answers.now ≡ length steps.now + 1 }
+    ensures { answers.new ≡ accepting_byte byte steps.now answers.old }
+{
+    let mut at = steps.len();
+    let mut behind = answers[at];
+    answers[at] = false;
+    while at > 0 {
+        let own = answers[at - 1];
+        answers[at - 1] = answer(&steps[at - 1], byte, own, &answers[at..], behind);
+        behind = own;
+        at -= 1;
+    }
+}
+
+// Whether a step accepts the byte and what follows it: by its own answer on what follows, and by those of the steps
+// behind it, on the whole and, from the first of them, on what follows.
+fn answer(step: &Step, byte: u8, own: bool, whole: &[bool], behind: bool) -> bool
+    ensures { result ≡ (takes step.now byte own behind || leads step.now whole.now) }
+{
+    takes(step, byte, own, behind) || leads(step, whole)
+}
+
+// Whether a step leads on without a byte to one that accepts.
+fn leads(step: &Step, behind: &[bool]) -> bool
+    ensures { result ≡ leads step.now behind.now }
+{
+    match step {
+        Step::Byte(_) | Step::One(_) => false,
+        Step::Star | Step::DoubleStar => is_set(behind, 0),
+        Step::Fork(over) => is_set(behind, 0) || is_set(behind, *over),
+        Step::Jump(over) => is_set(behind, *over),
+    }
+}
+
+fn is_set(answers: &[bool], at: usize) -> bool
+    ensures { result ≡ get_or answers.now at false }
+{
+    match answers.get(at) {
+        Some(answer) => *answer,
+        None => false,
+    }
+}
+
+// Whether a step takes the byte and then accepts.
+fn takes(step: &Step, byte: u8, own: bool, behind: bool) -> bool
+    ensures { result ≡ takes step.now byte own behind }
+{
+    match step {
+        Step::Byte(wanted) => behind && byte == *wanted,
+        Step::One(set) => behind && set.has(byte),
+        Step::Star => own && is_inside(byte),
+        Step::DoubleStar => own && byte != 0,
+        Step::Fork(_) | Step::Jump(_) => false,
+    }
+}
