@@ -14,5 +14,5 @@ mod sequence;
 mod step;
 
 pub use laws::{first_fault_is_told, plain_text_reads_as_itself, quoted_text_reads_as_itself};
-pub use pattern::Pattern;
+pub use pattern::{LONGEST_PATTERN, Pattern};
 pub use pattern_error::PatternError;

@@ -16,7 +16,7 @@ use std::alloc::{AllocError, Global};
 use std::marker::Model;
 
 /// How many bytes the text of a pattern may have.
-pub const LONGEST: usize = 4_096;
+pub const LONGEST_PATTERN: usize = 4_096;
 
 /// A pattern of paths. Contracts see its text, which reads as a pattern (`docs/policy.md`, "Patterns").
 #[derive(Debug, Drop)]
@@ -50,7 +50,7 @@ impl Pattern {
         ensures read { IfOk result (λ pattern. reading text.now ≡ Ok (items_of text.now)) }
         ensures refused { IfErr result (λ error. error ≢ Memory → reading text.now ≡ Err error) }
     {
-        if text.len() > LONGEST {
+        if text.len() > LONGEST_PATTERN {
             return Err(PatternError::TooLong);
         }
         if has_zero(text) {

@@ -4,10 +4,10 @@ pub mod LawLemmas
 pub mod LineLemmas
 pub mod MachineLemmas
 pub mod NumberLemmas
-pub mod PatternLemmas
 pub mod PieceLemmas
 pub mod PolicyLemmas
 pub mod ReadingLemmas
+pub mod ReplyLemmas
 pub mod RunLemmas
 pub mod StreamLemmas
 pub mod WordLemmas

@@ -1,13 +1,19 @@
 -- The words of a line, from its front.
-use Rattle.std.proofs.Common.{◌≡◌, ℕ, ◌<◌, ◌≤◌, true, false, List, [], ◌∷◌, ◌++◌, length, Option, Some, None, suc, zero, refl, sym, ap, ◌∙◌, arith, take, drop, take-append-drop, append_assoc, get_or, ◌≢◌, length-append}
+use Rattle.std.proofs.Common.{◌-◌, take_all, ◌≡◌, ℕ, ◌<◌, ◌≤◌, true, false, List, [], ◌∷◌, ◌++◌, length, Option, Some, None, suc, zero, refl, sym, ap, ◌∙◌, arith, take, drop, take-append-drop, append_assoc, get_or, ◌≢◌, length-append}
 use Rattle.std.specs.List.{list_any}
 use Rattle.std.specs.Option.{option_map, IfSome}
 use Rattle.std.proofs.lemmas.Bool.{eqb-true, ne_eqb, or_parts, cond-true, cond-false}
 use Rattle.std.proofs.lemmas.List.{take_all}
 use Rattle.aa_set.specs.Bytes.{is_command_blank, begins_with}
 use Rattle.aa_set.specs.Pieces.{onto_first}
-use Rattle.aa_set.proofs.PatternLemmas.{others, others-cons}
 use Rattle.aa_set.specs.Words.{words_of, words_in_word, words_in_quotes, is_word_end, is_quote}
+
+-- the bytes after the first
+abbrev pub others : List ℕ → List ℕ
+others s = take (length s - 1) (drop 1 s)
+
+others-cons : (b : ℕ) (bs : List ℕ) → others (b ∷ bs) ≡ bs
+others-cons b bs = grind (arith, take_all)
 
 -- a byte goes onto the word in front
 onto_word : (b : ℕ) (w : List ℕ) (words : Option (List (List ℕ))) → option_map (onto_first b) (option_map (λ ws. w ∷ ws) words) ≡ option_map (λ ws. (b ∷ w) ∷ ws) words

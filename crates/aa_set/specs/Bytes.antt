@@ -9,9 +9,9 @@ is_letter_or_digit b = (nat_le 97 b && nat_le b 122) || (nat_le 65 b && nat_le b
 abbrev pub is_name_byte : ℕ → Bool
 is_name_byte b = is_letter_or_digit b || b == 95 || b == 45 || b == 46
 
--- what a pattern is made of: that, `/` and `*`
+-- what a pattern is made of in a file: that, `/`, `*`, `?`, `[`, `]`, `^`, `{`, `}` and `,`
 abbrev pub is_pattern_byte : ℕ → Bool
-is_pattern_byte b = is_name_byte b || b == 47 || b == 42
+is_pattern_byte b = is_name_byte b || b == 47 || b == 42 || b == 63 || b == 91 || b == 93 || b == 94 || b == 123 || b == 125 || b == 44
 
 -- the blanks of a file: space, tab, line feed, vertical tab, form feed and carriage return
 abbrev pub is_blank : ℕ → Bool

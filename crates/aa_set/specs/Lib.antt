@@ -7,7 +7,6 @@ pub mod Laws
 pub mod Limits
 pub mod Machine
 pub mod Manager
-pub mod Pattern
 pub mod Pieces
 pub mod PolicySet
 pub mod Question

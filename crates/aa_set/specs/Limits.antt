@@ -5,10 +5,6 @@ use Rattle.std.specs.Prelude.{ℕ}
 abbrev pub longest_file : ℕ
 longest_file = 16777216
 
--- how many bytes a pattern may have
-abbrev pub longest_pattern : ℕ
-longest_pattern = 4096
-
 -- how many rules a file may have
 abbrev pub most_rules : ℕ
 most_rules = 16384

@@ -8,7 +8,7 @@ use Rattle.aa_set.specs.declared.policy.Entry.{Entry}
 use Rattle.aa_set.specs.declared.policy.Profile.{Profile}
 use Rattle.aa_set.specs.declared.policy.Mode.TheVariants.{Enforce}
 use Rattle.aa_set.specs.declared.refusal.Refusal.{Refusal}
-use Rattle.aa_set.specs.declared.refusal.Refusal.TheVariants.{NoFile, BadToken, Exists, NothingToUndo}
+use Rattle.aa_set.specs.declared.refusal.Refusal.TheVariants.{NoFile, Exists, NothingToUndo}
 
 -- a manager, as contracts see it: whether profiles are loaded in complain mode, and the machine
 pub record Managed : Type 0 where
@@ -21,7 +21,7 @@ new_manager force_complain = record { force_complain = force_complain; machine =
 
 abbrev pub read_profile : Option (List ℕ) → Result Profile Refusal
 read_profile None = Err NoFile
-read_profile (Some bytes) = elim (file_profile bytes) [ None ↦ Err BadToken | Some profile ↦ Ok profile ]
+read_profile (Some bytes) = file_profile bytes
 
 -- the policy set with, at its end, a profile that was read, if its name isn't there yet
 abbrev pub with_profile : List Entry → Result Profile Refusal → Result (List Entry) Refusal

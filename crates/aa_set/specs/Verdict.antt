@@ -1,8 +1,9 @@
 -- What a profile's rules say of a file request: cover, applicability, masks and the verdict (apparmor.d(5), "Rule
 -- Qualifiers" and "Access Permission Accumulation"; see docs/policy.md).
 use Rattle.std.specs.Prelude.{ℕ, Bool, not, ◌&&◌, ◌||◌, ◌==◌, if◌then◌else◌, List, filter, fold}
+use Rattle.aa_glob.specs.Matching.{matches}
+use Rattle.aa_glob.specs.Reading.{items_of}
 use Rattle.aa_set.specs.Access.{common, union, without, covered}
-use Rattle.aa_set.specs.Pattern.{matches, items_of}
 use Rattle.aa_set.specs.declared.policy.FileRule.{FileRule}
 use Rattle.aa_set.specs.declared.policy.Mode.{Mode}
 use Rattle.aa_set.specs.declared.policy.Mode.TheVariants.{Enforce, Complain}

@@ -10,10 +10,9 @@ ghost use Rattle.aa_set.specs.Run.{answered, after_lines};
 ghost use Rattle.aa_set.specs.Words.{words_of};
 
 /// A refused line leaves the policy set and both lists of sets, and so does any line that isn't answered `ok`, as a
-/// question or a blank one. After lines of which none goes back, undoing as many
-/// changes as were accepted gives back the very policy set from before them, with its history. And the reply to a
-/// question depends on the policy set alone, so each request then gets the answer that it had. No policy set that a run
-/// comes to has two profiles of one name.
+/// question or a blank one. After lines of which none goes back, undoing as many changes as were accepted gives back the
+/// very policy set from before them, with its history. And the reply to a question depends on the policy set alone, so
+/// each request then gets the answer that it had. No policy set that a run comes to has two profiles of one name.
 pub fn the_way_back()
     ensures refused { (files : List (List ℕ × List ℕ)) (managed : Managed) (line : List ℕ) (flag : Bool)
         → is_refusal (answered files managed line flag).reply ≡ true

@@ -62,8 +62,9 @@ impl Manager {
     ///
     /// # Errors
     ///
-    /// `NoFile` where no file has the name, `BadToken` where it is no profile, `Exists` where a profile of its name is
-    /// loaded, in this order, and `Memory` where memory ran out. The policy set and its history are then as they were.
+    /// `NoFile` where no file has the name, `BadToken` where it hasn't the shape of a profile, the refusal of its first
+    /// pattern that is none (as `UnclosedGroup`), `Exists` where a profile of its name is loaded, in this order, and
+    /// `Memory` where memory ran out. The policy set and its history are then as they were.
     pub fn add(&mut self, files: &Files, name: &[u8]) -> Result<(), Refusal>
         ensures ok { OnOk result (added files.now self.old name.now ≡ Ok self.new) }
         ensures refused { IfErr result (λ refusal. refusal ≢ Memory → added files.now self.old name.now ≡ Err refusal) }
@@ -179,7 +180,9 @@ fn answer(set: &PolicySet, question: &Question<'_>) -> Result<Answer, Refusal>
 fn answer_line(alloc: Global, answer: Answer) -> Result<Vec<u8>, AllocError>
     ensures { IfOk result (λ line. line.items ≡ line_with (answer_word answer)) }
 {
-    let mut line = Vec::from_slice(alloc, answer.word().as_bytes())?;
+    let word = answer.word().as_bytes();
+    let mut line = Vec::with_capacity(alloc, word.len() + 1)?;
+    line.extend_from_slice(word)?;
     line.push(b'\n')?;
     Ok(line)
 }

@@ -6,6 +6,7 @@ ghost use Rattle.aa_set.specs.PolicySet.{entry_named, has_name, have_distinct_na
 
 use crate::access::Perms;
 use crate::sequence::Sequence;
+use aa_glob::Pattern;
 use std::alloc::{AllocError, Global};
 use std::marker::Model;
 
@@ -21,8 +22,8 @@ pub enum Mode {
 /// A rule on files.
 #[derive(Debug, Drop)]
 pub struct FileRule {
-    /// The pattern's text.
-    pub pattern: Sequence<u8>,
+    /// The pattern of the paths that it is about.
+    pub pattern: Pattern,
     /// The access letters.
     pub access: Perms,
     /// Whether it applies only where the task's user owns the file.
@@ -55,7 +56,7 @@ impl FileRule {
         ensures { IfOk result (λ copy. copy ≡ self.now) }
     {
         Ok(FileRule {
-            pattern: Sequence::from_bytes(alloc, self.pattern.as_slice())?,
+            pattern: self.pattern.try_copy(alloc)?,
             access: self.access,
             owner: self.owner,
             deny: self.deny,
@@ -103,8 +104,7 @@ impl Entry {
 fn copied_entries(alloc: Global, entries: &[Entry]) -> Result<Vec<Entry>, AllocError>
     ensures { IfOk result (λ copies. copies.items ≡ entries.now) }
 {
-    let mut copies = Vec::new(alloc);
-    copies.reserve(entries.len())?;
+    let mut copies = Vec::with_capacity(alloc, entries.len() + 1)?;
     for entry in entries {
         copies.push(entry.try_copy(alloc)?)?;
     }

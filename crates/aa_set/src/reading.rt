@@ -1,26 +1,27 @@
 //! Reading of a profile's file, word by word.
 
-ghost use Rattle.std.specs.Prelude.{◌≡◌, ◌<◌, ◌∷◌, [], length, Option, Some, None, Ok, Err, MatchOption, MatchResult, ◌≢◌, IfOk, IfErr, IfSome, true, false, codes, ◌≤◌, take, drop};
+ghost use Rattle.std.specs.Prelude.{◌≡◌, ◌<◌, ◌∷◌, [], length, ℕ, ◌+◌, ◌^◌, List, map, option_and_then, Result, Option, Some, None, Ok, Err, MatchOption, MatchResult, ◌≢◌, IfOk, IfErr, IfSome, true, false, codes, ◌≤◌, take, drop};
 ghost use Rattle.std.specs.List.{list_all, list_any};
 ghost use Rattle.std.specs.Str.{bytes_eq};
 ghost use Rattle.std.specs.Option.{option_map};
 ghost use Rattle.aa_set.specs.declared.refusal.Refusal.TheVariants.{BadToken, Memory};
+ghost use Rattle.aa_glob.specs.Reading.{items_of, reading};
+ghost use Rattle.aa_set.specs.declared.policy.FileRule.{FileRule};
+ghost use Rattle.aa_set.specs.declared.refusal.Refusal.{Refusal};
 ghost use Rattle.aa_set.specs.Bytes.{is_blank, is_name_byte, is_pattern_byte};
 ghost use Rattle.aa_set.specs.Pieces.{file_words, begins_blank, IsWordEnd};
-ghost use Rattle.aa_set.specs.FileReading.{is_name, is_pattern, has_double, body_patterns, body_rules, file_profile, read_rule};
+ghost use Rattle.aa_set.specs.FileReading.{body_patterns, braces_pair, ends_with_comma, few_enough, file_profile, file_shape, has_double, is_name, is_pattern, read_rule, rule_before, rules_of};
 
 use crate::access::Perms;
 use crate::bytes::{begins_with, is_text};
 use crate::policy::{FileRule, Profile};
 use crate::refusal::Refusal;
 use crate::sequence::Sequence;
+use aa_glob::{LONGEST_PATTERN, Pattern};
 use std::alloc::{AllocError, Global};
 
 /// How many bytes a file may have.
 pub const LONGEST_FILE: usize = 16_777_216;
-
-/// How many bytes a pattern may have.
-pub const LONGEST_PATTERN: usize = 4_096;
 
 /// How many rules a file may have.
 pub const MOST_RULES: usize = 16_384;
@@ -84,7 +85,7 @@ fn is_name_byte(byte: u8) -> bool
 fn is_pattern_byte(byte: u8) -> bool
     ensures { result ≡ is_pattern_byte byte }
 {
-    is_name_byte(byte) || byte == b'/' || byte == b'*'
+    is_name_byte(byte) || b"/*?[]^{},".contains(&byte)
 }
 
 fn is_name(word: &[u8]) -> bool
@@ -125,14 +126,50 @@ fn are_pattern_bytes(word: &[u8]) -> bool
     word.iter().all(|byte| is_pattern_byte(*byte))
 }
 
+// How many braces are open behind a byte before which so many were, or none where it closes one that isn't open.
+fn depth_after(depth: usize, byte: u8) -> Option<usize>
+    requires { depth + 1 < 2 ^ 64 }
+    ensures pair { MatchOption result ((rest : List ℕ) → braces_pair depth (byte ∷ rest) ≡ false) (λ next. (rest : List ℕ) → braces_pair depth (byte ∷ rest) ≡ braces_pair next rest) }
+    ensures bound { IfSome result (λ next. next ≤ depth + 1) }
+{
+    match byte {
+        b'{' => Some(depth + 1),
+        b'}' => depth.checked_sub(1),
+        _ => Some(depth),
+    }
+}
+
+fn braces_pair(word: &[u8]) -> bool
+    ensures { result ≡ braces_pair 0 word.now }
+{
+    let mut depth = 0;
+    for byte in word {
+        let Some(next) = depth_after(depth, *byte) else {
+            return false;
+        };
+        depth = next;
+    }
+    depth == 0
+}
+
+fn ends_with_comma(word: &[u8]) -> bool
+    ensures { result ≡ ends_with_comma word.now }
+{
+    match word {
+        [.., last] => *last == b',',
+        [] => false,
+    }
+}
+
 fn is_pattern(word: &[u8]) -> bool
     ensures { result ≡ is_pattern word.now }
 {
     word.len() <= LONGEST_PATTERN
         && begins_with(b'/', word)
         && are_pattern_bytes(word)
-        && !has_double(b'*', word)
         && !has_double(b'/', word)
+        && !ends_with_comma(word)
+        && braces_pair(word)
 }
 
 // The next pattern of a profile's body and what follows its letters, or nothing where the body ends.
@@ -160,40 +197,53 @@ fn next_pattern(body: &[u8]) -> Result<Option<(&[u8], &[u8])>, Refusal>
     }
 }
 
-// The rule that lets a file be read.
-fn read_rule(alloc: Global, pattern: &[u8]) -> Result<FileRule, AllocError>
-    ensures { IfOk result (λ rule. rule ≡ read_rule pattern.now) }
+// The patterns of a profile's body, not yet read.
+fn read_body(alloc: Global, body: &[u8]) -> Result<Vec<&[u8]>, Refusal>
+    ensures ok { IfOk result (λ patterns. option_and_then few_enough (body_patterns (file_words body.now)) ≡ Some (map (λ pattern. pattern.now) patterns.items)) }
+    ensures refused { IfErr result (λ refusal. refusal ≢ Memory → (refusal ≡ BadToken) × (option_and_then few_enough (body_patterns (file_words body.now)) ≡ None)) }
+{
+    let mut patterns = Vec::new(alloc);
+    let mut rest = body;
+    while let Some((pattern, after)) = next_pattern(rest)? {
+        if patterns.len() == MOST_RULES {
+            return Err(Refusal::BadToken);
+        }
+        patterns.push(pattern)?;
+        rest = after;
+    }
+    Ok(patterns)
+}
+
+// The rule that lets a pattern's files be read.
+fn read_rule(alloc: Global, pattern: &[u8]) -> Result<FileRule, Refusal>
+    ensures rule { IfOk result (λ rule. rule ≡ read_rule pattern.now) }
+    ensures read { IfOk result (λ rule. reading pattern.now ≡ Ok (items_of pattern.now)) }
+    ensures refused { IfErr result (λ refusal. refusal ≢ Memory → (rules : Result (List FileRule) Refusal) → rule_before pattern.now (reading pattern.now) rules ≡ Err refusal) }
 {
     Ok(FileRule {
-        pattern: Sequence::from_bytes(alloc, pattern)?,
+        pattern: Pattern::read(alloc, pattern)?,
         access: Perms::READ,
         owner: false,
         deny: false,
     })
 }
 
-// The rules of a profile's body.
-fn read_body(alloc: Global, body: &[u8]) -> Result<Vec<FileRule>, Refusal>
-    ensures ok { IfOk result (λ rules. body_rules (file_words body.now) ≡ Some rules.items) }
-    ensures refused { IfErr result (λ refusal. refusal ≢ Memory → (refusal ≡ BadToken) × (body_rules (file_words body.now) ≡ None)) }
+// The rules of patterns, or the refusal of the first that is none.
+fn read_rules(alloc: Global, patterns: &[&[u8]]) -> Result<Vec<FileRule>, Refusal>
+    ensures ok { IfOk result (λ rules. rules_of (map (λ pattern. pattern.now) patterns.now) ≡ Ok rules.items) }
+    ensures refused { IfErr result (λ refusal. refusal ≢ Memory → rules_of (map (λ pattern. pattern.now) patterns.now) ≡ Err refusal) }
 {
-    let mut rules = Vec::new(alloc);
-    let mut rest = body;
-    while let Some((pattern, after)) = next_pattern(rest)? {
-        if rules.len() == MOST_RULES {
-            return Err(Refusal::BadToken);
-        }
+    let mut rules = Vec::with_capacity(alloc, patterns.len())?;
+    for pattern in patterns {
         rules.push(read_rule(alloc, pattern)?)?;
-        rest = after;
     }
     Ok(rules)
 }
 
-/// The profile that a file's text spells. `BadToken` where it spells none or is longer than it may be, and `Memory`
-/// where memory ran out.
-pub fn read_profile(alloc: Global, text: &[u8]) -> Result<Profile, Refusal>
-    ensures ok { IfOk result (λ profile. file_profile text.now ≡ Some profile) }
-    ensures refused { IfErr result (λ refusal. refusal ≢ Memory → (refusal ≡ BadToken) × (file_profile text.now ≡ None)) }
+// The name of the profile that a file spells, and its patterns, not yet read.
+fn read_shape(alloc: Global, text: &[u8]) -> Result<(&[u8], Vec<&[u8]>), Refusal>
+    ensures ok { IfOk result (λ read. file_shape text.now ≡ Some (record { name = read.0.now; patterns = map (λ pattern. pattern.now) read.1.items })) }
+    ensures refused { IfErr result (λ refusal. refusal ≢ Memory → (refusal ≡ BadToken) × (file_shape text.now ≡ None)) }
 {
     if text.len() > LONGEST_FILE {
         return Err(Refusal::BadToken);
@@ -210,9 +260,23 @@ pub fn read_profile(alloc: Global, text: &[u8]) -> Result<Profile, Refusal>
     if !is_text(keyword, b"profile") || !is_name(name) || !is_text(brace, b"{") {
         return Err(Refusal::BadToken);
     }
-    let rules = read_body(alloc, body)?;
+    let patterns = read_body(alloc, body)?;
+    Ok((name, patterns))
+}
+
+/// The profile that a file's text spells. `BadToken` where its shape is none of a profile's or it is longer than it may be,
+/// then the refusal of its first pattern that is none; `Memory` where memory ran out.
+pub fn read_profile(alloc: Global, text: &[u8]) -> Result<Profile, Refusal>
+    ensures ok { IfOk result (λ profile. file_profile text.now ≡ Ok profile) }
+    ensures refused { IfErr result (λ refusal. refusal ≢ Memory → file_profile text.now ≡ Err refusal) }
+{
+    let (name, patterns) = read_shape(alloc, text)?;
+    let rules = read_rules(alloc, &patterns)?;
     Ok(Profile {
         name: Sequence::from_bytes(alloc, name)?,
         rules: Sequence::from_vec(rules),
     })
 }
+
+#[cfg(test)]
+mod tests;

@@ -4,6 +4,7 @@ ghost use Rattle.std.specs.Prelude.{◌≡◌};
 ghost use Rattle.aa_set.specs.Refusal.{number_of, name_of};
 ghost use Rattle.aa_set.specs.declared.refusal.Refusal.TheVariants.{Memory};
 
+use aa_glob::PatternError;
 use std::alloc::{AllocError, AllocFailed};
 use thiserror::Error;
 
@@ -11,6 +12,36 @@ use thiserror::Error;
 /// `docs/commands.md` has the table of numbers and names.
 #[derive(Clone, Copy, Debug, PartialEq, Eq, Error)]
 pub enum Refusal {
+    /// A pattern's first byte isn't `/`.
+    #[error("a pattern doesn't begin with a slash")]
+    NotAbsolute,
+    /// A class of a pattern has no `]` that closes it.
+    #[error("a class of a pattern isn't closed")]
+    UnclosedClass,
+    /// A class of a pattern lists no byte.
+    #[error("a class of a pattern lists no byte")]
+    EmptyClass,
+    /// The first byte of a pattern's range is above its last.
+    #[error("a range of a pattern ends before it begins")]
+    BadRange,
+    /// A group of a pattern has no `}` that closes it.
+    #[error("a group of a pattern isn't closed")]
+    UnclosedGroup,
+    /// A `}` of a pattern closes no group.
+    #[error("a brace of a pattern closes no group")]
+    StrayClose,
+    /// A group of a pattern has one alternative alone.
+    #[error("a group of a pattern has one alternative alone")]
+    FewAlternatives,
+    /// A backslash of a pattern stands at the end, or before a letter or digit.
+    #[error("a backslash of a pattern stands before a letter, a digit or the end")]
+    BadEscape,
+    /// A pattern is longer than 4,096 bytes.
+    #[error("a pattern is longer than 4,096 bytes")]
+    TooLong,
+    /// More than 16 groups of a pattern stand one in another.
+    #[error("the groups of a pattern are nested too deep")]
+    TooDeep,
     /// No file of the name was handed in.
     #[error("there is no such file")]
     NoFile,
@@ -46,6 +77,16 @@ impl Refusal {
         ensures { result ≡ number_of self }
     {
         match self {
+            Refusal::NotAbsolute => 1,
+            Refusal::UnclosedClass => 2,
+            Refusal::EmptyClass => 3,
+            Refusal::BadRange => 4,
+            Refusal::UnclosedGroup => 5,
+            Refusal::StrayClose => 6,
+            Refusal::FewAlternatives => 7,
+            Refusal::BadEscape => 8,
+            Refusal::TooLong => 9,
+            Refusal::TooDeep => 10,
             Refusal::NoFile => 23,
             Refusal::BadToken => 40,
             Refusal::Exists => 60,
@@ -63,6 +104,16 @@ impl Refusal {
         ensures { result.now ≡ name_of self }
     {
         match self {
+            Refusal::NotAbsolute => "NotAbsolute",
+            Refusal::UnclosedClass => "UnclosedClass",
+            Refusal::EmptyClass => "EmptyClass",
+            Refusal::BadRange => "BadRange",
+            Refusal::UnclosedGroup => "UnclosedGroup",
+            Refusal::StrayClose => "StrayClose",
+            Refusal::FewAlternatives => "FewAlternatives",
+            Refusal::BadEscape => "BadEscape",
+            Refusal::TooLong => "TooLong",
+            Refusal::TooDeep => "TooDeep",
             Refusal::NoFile => "NoFile",
             Refusal::BadToken => "BadToken",
             Refusal::Exists => "Exists",
@@ -72,6 +123,30 @@ impl Refusal {
             Refusal::LineTooLong => "LineTooLong",
             Refusal::BadRequest => "BadRequest",
             Refusal::Memory => "Memory",
+        }
+    }
+}
+
+impl From<PatternError> for Refusal {
+    ghost use Rattle.aa_set.specs.Refusal.{refusal_of};
+
+    ghost from_gives = { λ error refusal. refusal ≡ refusal_of error };
+
+    fn from(error: PatternError) -> Self {
+        match error {
+            PatternError::NotAbsolute => Refusal::NotAbsolute,
+            PatternError::UnclosedClass => Refusal::UnclosedClass,
+            PatternError::EmptyClass => Refusal::EmptyClass,
+            PatternError::BadRange => Refusal::BadRange,
+            PatternError::UnclosedGroup => Refusal::UnclosedGroup,
+            PatternError::StrayClose => Refusal::StrayClose,
+            PatternError::FewAlternatives => Refusal::FewAlternatives,
+            PatternError::BadEscape => Refusal::BadEscape,
+            PatternError::TooLong => Refusal::TooLong,
+            PatternError::TooDeep => Refusal::TooDeep,
+            // The word of a file's pattern holds no zero byte.
+            PatternError::ZeroByte => Refusal::BadToken,
+            PatternError::Memory => Refusal::Memory,
         }
     }
 }

@@ -60,7 +60,8 @@ const PIECE: usize = 65_536;
 ///
 /// The run begins with the empty policy set. A line ends at a line feed, the last one at the input's end too; one of more
 /// than 65,536 bytes is refused when it ends. The replies to all lines that were read are written before the next read.
-/// Memory for lines and replies is taken once, before the first read: a line that undoes changes takes none.
+/// The buffers for lines and replies are made before the first read, and never grow; a line that undoes changes takes no
+/// memory at all.
 ///
 /// # Errors
 ///

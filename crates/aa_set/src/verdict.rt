@@ -5,7 +5,6 @@ ghost use Rattle.aa_set.specs.Reply.{answer_word};
 ghost use Rattle.aa_set.specs.Verdict.{request_of, applies, denied, granted, verdict};
 
 use crate::access::Perms;
-use crate::pattern::is_match;
 use crate::policy::{FileRule, Mode};
 use bitflags::Flags;
 
@@ -91,5 +90,5 @@ fn covers(rules: &[FileRule], request: FileRequest<'_>) -> (Perms, Perms)
 fn is_applying(rule: &FileRule, request: FileRequest<'_>) -> bool
     ensures { result ≡ applies (request_of request.entry) rule.now }
 {
-    is_match(rule.pattern.as_slice(), request.path) && (!rule.owner || request.owned)
+    rule.pattern.matches(request.path) && (!rule.owner || request.owned)
 }

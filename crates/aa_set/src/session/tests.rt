@@ -216,6 +216,66 @@ fn answers_single_lines(rt: HostRuntime) -> Result<(), Fail> {
     )
 }
 
+// Questions are answered by what the patterns of a file stand for.
+#[test]
+fn answers_by_patterns(rt: HostRuntime) -> Result<(), Fail> {
+    let alloc = rt.alloc();
+    let table: [(&[u8], &[u8], &[u8]); 16] = [
+        (b"/tmp/*", b"/tmp/", b"ok\nrefuse\n"),
+        (b"/tmp/*", b"/tmp/x", b"ok\nallow\n"),
+        (b"/tmp/*", b"/tmp/x/y", b"ok\nrefuse\n"),
+        (b"/tmp/**", b"/tmp/", b"ok\nrefuse\n"),
+        (b"/tmp/**", b"/tmp/a/b/", b"ok\nallow\n"),
+        (b"/tmp/**/", b"/tmp/a/", b"ok\nallow\n"),
+        (b"/tmp/*/", b"/tmp/", b"ok\nrefuse\n"),
+        (b"/tmp/{*,x}", b"/tmp/", b"ok\nallow\n"),
+        (b"/{**,}", b"/", b"ok\nallow\n"),
+        (b"/**", b"/", b"ok\nrefuse\n"),
+        (b"/etc/{passwd,group}", b"/etc/group", b"ok\nallow\n"),
+        (b"/etc/{passwd,group}", b"/etc/shadow", b"ok\nrefuse\n"),
+        (b"/dev/tty[0-9]", b"/dev/tty1", b"ok\nallow\n"),
+        (b"/dev/tty[^0-9]", b"/dev/tty1", b"ok\nrefuse\n"),
+        (b"/a?c", b"/abc", b"ok\nallow\n"),
+        (b"/a?c", b"/a/c", b"ok\nrefuse\n"),
+    ];
+    for (pattern, path, output) in table {
+        let mut files = Files::new(alloc);
+        let text = profile_text(alloc, pattern, 1)?;
+        files.insert(Vec::from_slice(alloc, b"p")?, text)?;
+        let mut input = Vec::from_slice(alloc, b"add p\nask file p r other ")?;
+        input.extend_from_slice(path)?;
+        is_answered(&rt, alloc, &files, (input.as_slice(), output, 2, 0))?;
+    }
+    Ok(())
+}
+
+// A pattern's refusal is told with its number, and makes no change.
+#[test]
+fn tells_the_refusals_of_patterns(rt: HostRuntime) -> Result<(), Fail> {
+    let alloc = rt.alloc();
+    let table: [(&[u8], &[u8]); 9] = [
+        (b"/[", b"refused 2 UnclosedClass\n"),
+        (b"/[]", b"refused 3 EmptyClass\n"),
+        (b"/[b-a]", b"refused 4 BadRange\n"),
+        (b"/{[}]", b"refused 5 UnclosedGroup\n"),
+        (b"/[{]}", b"refused 6 StrayClose\n"),
+        (b"/{a}", b"refused 7 FewAlternatives\n"),
+        (
+            b"/{{{{{{{{{{{{{{{{{}}}}}}}}}}}}}}}}}",
+            b"refused 10 TooDeep\n",
+        ),
+        (b"/[{]", b"refused 40 BadToken\n"),
+        (b"/a\\*", b"refused 40 BadToken\n"),
+    ];
+    for (pattern, output) in table {
+        let mut files = Files::new(alloc);
+        let text = profile_text(alloc, pattern, 1)?;
+        files.insert(Vec::from_slice(alloc, b"p")?, text)?;
+        is_answered(&rt, alloc, &files, (b"add p\n", output, 0, 1))?;
+    }
+    Ok(())
+}
+
 // A line may have 65,536 bytes. One that has more is one refusal, whatever its further bytes are.
 #[test]
 fn refuses_overlong_lines(rt: HostRuntime) -> Result<(), Fail> {

@@ -1,7 +1,6 @@
 use Rattle.std.proofs.Common.{◌≡◌, drop, true, false, refl, sym, ap, ◌∙◌, arith}
 use Rattle.aa_set.specs.Words.{is_word_end}
-use Rattle.aa_set.proofs.PatternLemmas.{others}
-use Rattle.aa_set.proofs.WordLemmas.{words_in_quotes-closed, words_in_quotes-followed, words_in_quotes-open}
+use Rattle.aa_set.proofs.WordLemmas.{others, words_in_quotes-closed, words_in_quotes-followed, words_in_quotes-open}
 use Rattle.aa_set.proofs.words.quoted_word.Goals as goal
 
 pub returns-in_default-clause-refused : goal.returns-in_default-clause-refused

@@ -1,0 +1,6 @@
+use Rattle.aa_set.proofs.ReplyLemmas.{obeyed-added}
+use Rattle.aa_set.proofs.reply.obey.Goals as goal
+
+pub returns-in-Add : goal.returns-in-Add
+returns-in-Add c =
+    rw c.in-Add.is (obeyed-added c.args.files.now c.args.manager.now c.add.new.self c.in-Add.file.now c.add.result c.done.result c.add.ensures.ok c.add.ensures.refused c.add.ensures.unchanged c.done.ensures)
