@@ -13,7 +13,7 @@ use Rattle.aa_glob.specs.Layout.{alternative, steps_of_item, steps_of, steps_of_
 use Rattle.aa_glob.specs.Matching.{is_of, matches, some_matches}
 use Rattle.aa_glob.specs.Steps.{leads, takes, accepting, accepting_byte}
 
--- the step at a place accepts a text; behind the last step is the end
+-- the step at a context accepts a text; behind the last step is the end
 abbrev accepts_at : ℕ → List Step → List ℕ → Bool
 accepts_at n steps s = get_or (accepting steps s) n false
 

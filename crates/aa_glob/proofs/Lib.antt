@@ -3,6 +3,7 @@ pub mod ClassLemmas
 pub mod ExactnessLemmas
 pub mod LayoutLemmas
 pub mod MatchLemmas
+pub mod MatchingLaws
 pub mod ReadLemmas
 pub mod ReadingLaws
 pub mod StepLemmas

@@ -1,7 +1,6 @@
 -- What a match comes to: of one pattern before another, of a group, and one byte at a time.
-use Rattle.std.proofs.Common.{◌≡◌, ℕ, Bool, true, false, ◌||◌, ◌&&◌, ◌==◌, ◌≢◌, List, [], ◌∷◌, ◌++◌, refl, sym, ap, ap₂, ◌∙◌, arith, subst, inl, inr, not, Decides, ◌↔◌}
+use Rattle.std.proofs.Common.{◌≡◌, ℕ, Bool, true, false, ◌||◌, ◌&&◌, ◌==◌, ◌≢◌, List, [], ◌∷◌, ◌++◌, refl, ap, ap₂, ◌∙◌, arith, subst, inl, inr, not, Decides}
 use Rattle.std.proofs.Math.Bool.{and-true, or-false, and_assoc, and-or_distrib_right}
-use Rattle.std.proofs.Math.Path.{fun_ext}
 use Rattle.std.proofs.lemmas.Bool.Decides.{Decides-eqb, Decides-not, Decides-and, Decides-or, Decides-by_and}
 use Rattle.std.proofs.lemmas.Bool.{or_cases, or_right, and_parts, and_from, false≢true}
 use Rattle.std.proofs.lemmas.Slice.Eq.{bytes_eq-Decides}
@@ -130,64 +129,3 @@ star-before rest x s = ap (λ c. rest (x ∷ s) || c) (when-before (is_inside x)
 
 pub double_star-before : (rest : List ℕ → Bool) (x : ℕ) (s : List ℕ) → before (is_of DoubleStar) rest (x ∷ s) ≡ (rest (x ∷ s) || not (x == 0) && before (is_of DoubleStar) rest s)
 double_star-before rest x s = ap (λ c. rest (x ∷ s) || c) (when-before (not (x == 0)) (list_all (λ b. not (b == 0))) rest s)
-
--- the same of a pattern's first item
-pub matches-byte-nil : (b : ℕ) (items : Pattern) → matches (Next (Byte b) items) [] ≡ false
-matches-byte-nil b items = refl
-
-pub matches-byte : (b : ℕ) (items : Pattern) (x : ℕ) (s : List ℕ) → matches (Next (Byte b) items) (x ∷ s) ≡ (x == b && matches items s)
-matches-byte b items x s = byte-before b (matches items) x s
-
-pub matches-set-nil : (set : ByteSet) (items : Pattern) → matches (Next (Set set) items) [] ≡ false
-matches-set-nil set items = refl
-
-pub matches-set : (set : ByteSet) (items : Pattern) (x : ℕ) (s : List ℕ) → matches (Next (Set set) items) (x ∷ s) ≡ (has set x && matches items s)
-matches-set set items x s = set-before set (matches items) x s
-
-pub matches-star-nil : (items : Pattern) → matches (Next Star items) [] ≡ matches items []
-matches-star-nil items = refl
-
-pub matches-star : (items : Pattern) (x : ℕ) (s : List ℕ) → matches (Next Star items) (x ∷ s) ≡ (matches items (x ∷ s) || is_inside x && matches (Next Star items) s)
-matches-star items x s = star-before (matches items) x s
-
-pub matches-double_star-nil : (items : Pattern) → matches (Next DoubleStar items) [] ≡ matches items []
-matches-double_star-nil items = refl
-
-pub matches-double_star : (items : Pattern) (x : ℕ) (s : List ℕ) → matches (Next DoubleStar items) (x ∷ s) ≡ (matches items (x ∷ s) || not (x == 0) && matches (Next DoubleStar items) s)
-matches-double_star items x s = double_star-before (matches items) x s
-
--- the items of a pattern, and then those of another
-abbrev pub joined : Pattern → Pattern → Pattern
-joined End rest = rest
-joined (Next item items) rest = Next item (joined items rest)
-
-abbrev pub each_joined : Patterns → Pattern → Patterns
-each_joined NoMore rest = NoMore
-each_joined (More pattern patterns) rest = More (joined pattern rest) (each_joined patterns rest)
-
-pub matches-joined : (items rest : Pattern) (s : List ℕ) → matches (joined items rest) s ≡ before (matches items) (matches rest) s
-matches-joined End rest s = sym (nothing-before (matches rest) s)
-matches-joined (Next item items) rest s =
-    ap (λ test. before (is_of item) test s) (fun_ext (matches-joined items rest)) ∙ sym (before-before (is_of item) (matches items) (matches rest) s)
-
--- a text matches both where it splits into one that matches each
-pub Decides-joined : (items rest : Pattern) (s : List ℕ) → Decides (matches (joined items rest) s) ((u v : List ℕ) × (s ≡ u ++ v) × (Matches items u × Matches rest v))
-Decides-joined items rest s =
-    rw (matches-joined items rest s) (Decides-some_split (λ u v. matches items u && matches rest v) (λ u v. Matches items u × Matches rest v) (λ u v. Decides-and (matches items u) (matches rest v) (Decides-matches items u) (Decides-matches rest v)) s)
-
-pub Matches-joined : (items rest : Pattern) (s : List ℕ) → Matches (joined items rest) s ↔ ((u v : List ℕ) × (s ≡ u ++ v) × Matches items u × Matches rest v)
-Matches-joined items rest s =
-    let whole = Decides-matches (joined items rest) s in
-    let cut = Decides-joined items rest s in
-    (λ m. let found = cut.0 (whole.1 m) in (found.0, found.1, found.2, found.3.0, found.3.1), λ m. whole.0 (cut.1 (m.0, m.1, m.2, (m.3, m.4))))
-
-some_matches-joined : (patterns : Patterns) (rest : Pattern) (s : List ℕ) → some_matches (each_joined patterns rest) s ≡ before (some_matches patterns) (matches rest) s
-some_matches-joined NoMore rest s = sym (some_split-none s)
-some_matches-joined (More pattern patterns) rest s =
-    ap₂ (λ c d. c || d) (matches-joined pattern rest s) (some_matches-joined patterns rest s) ∙ sym (either-before (matches pattern) (some_matches patterns) (matches rest) s)
-
--- a group comes to its alternatives, each with what follows the group
-pub matches-group : (first second : Pattern) (others : Patterns) (items : Pattern) (s : List ℕ)
-    → matches (Next (Group first second others) items) s ≡ (matches (joined first items) s || (matches (joined second items) s || some_matches (each_joined others items) s))
-matches-group first second others items s =
-    sym (some_matches-joined (More first (More second others)) items s)

@@ -7,10 +7,10 @@ use Rattle.aa_glob.specs.Items.{Item, Star, DoubleStar}
 use Rattle.aa_glob.specs.Layout.{steps_of_item, steps_of}
 use Rattle.aa_glob.specs.Progress.{ReadsOn}
 use Rattle.aa_glob.specs.Reading.{Pieces, first_of, group, onto, pieces}
-use Rattle.aa_glob.specs.declared.letter.Letter.{Letter}
-use Rattle.aa_glob.specs.declared.letter.Letter.TheVariants.{Plain}
-use Rattle.aa_glob.specs.declared.place.Place.{Place}
-use Rattle.aa_glob.specs.declared.place.Place.TheVariants.{AfterSlash, AfterStar, Elsewhere}
+use Rattle.aa_glob.specs.declared.symbol.Symbol.{Symbol}
+use Rattle.aa_glob.specs.declared.symbol.Symbol.TheVariants.{Plain}
+use Rattle.aa_glob.specs.declared.context.Context.{Context}
+use Rattle.aa_glob.specs.declared.context.Context.TheVariants.{AfterSlash, AfterStar, Elsewhere}
 use Rattle.aa_glob.specs.declared.step.Step.{Step}
 use Rattle.aa_glob.specs.declared.step.Step.TheVariants.{Star as StarStep, DoubleStar as DoubleStarStep}
 
@@ -26,22 +26,22 @@ steps-star : (double : Bool) → steps_of_item (if double then DoubleStar else S
 steps-star true = refl
 steps-star false = refl
 
-run-inner : (place : Place) (ls : List Letter) → place ≢ AfterStar → is_whole_segment place ls ≡ false → run place ls ≡ stars ls ∷ []
+run-inner : (context : Context) (ls : List Symbol) → context ≢ AfterStar → is_whole_segment context ls ≡ false → run context ls ≡ stars ls ∷ []
 run-inner AfterSlash ls at inner = rw inner refl
 run-inner AfterStar ls at inner = absurd (at refl)
 run-inner Elsewhere ls at inner = refl
 
-pub ReadsOn-star : (old new : List Step) (step : Step) (depth : ℕ) (place : Place) (ls : List Letter) (es : List Element)
-    → place ≢ AfterStar → is_whole_segment place ls ≡ false → step ≡ (if begins_plain 42 ls then DoubleStarStep else StarStep) → new ≡ old ++ step ∷ []
-    → ReadsOn old (pieces depth (run place ls ++ es)) new (pieces depth es)
-ReadsOn-star old new step depth place ls es at inner is_step put =
-    rw (run-inner place ls at inner) (ReadsOn-item old new (if begins_plain 42 ls then DoubleStar else Star) (pieces depth es) (put ∙ ap (λ s. old ++ s ∷ []) is_step ∙ ap (λ l. old ++ l) (sym (steps-star (begins_plain 42 ls)))))
+pub ReadsOn-star : (old new : List Step) (step : Step) (depth : ℕ) (context : Context) (ls : List Symbol) (es : List Element)
+    → context ≢ AfterStar → is_whole_segment context ls ≡ false → step ≡ (if begins_plain 42 ls then DoubleStarStep else StarStep) → new ≡ old ++ step ∷ []
+    → ReadsOn old (pieces depth (run context ls ++ es)) new (pieces depth es)
+ReadsOn-star old new step depth context ls es at inner is_step put =
+    rw (run-inner context ls at inner) (ReadsOn-item old new (if begins_plain 42 ls then DoubleStar else Star) (pieces depth es) (put ∙ ap (λ s. old ++ s ∷ []) is_step ∙ ap (λ l. old ++ l) (sym (steps-star (begins_plain 42 ls)))))
 
 -- a group was read
-pub ReadsOn-group : (old new : List Step) (depth : ℕ) (place : Place) (byte : ℕ) (ls : List Letter) (es : List Element) → byte ≡ 123 → depth ≢ 16
+pub ReadsOn-group : (old new : List Step) (depth : ℕ) (context : Context) (byte : ℕ) (ls : List Symbol) (es : List Element) → byte ≡ 123 → depth ≢ 16
     → ReadsOn old (group (pieces (depth + 1) (elements Elsewhere ls))) new (pieces (depth + 1 - 1) es)
-    → ReadsOn old (pieces depth (elements place (Plain byte ∷ ls))) new (pieces depth es)
-ReadsOn-group old new depth place byte ls es brace shallow read =
+    → ReadsOn old (pieces depth (elements context (Plain byte ∷ ls))) new (pieces depth es)
+ReadsOn-group old new depth context byte ls es brace shallow read =
     let out : depth + 1 - 1 ≡ depth = omega arith in
     let below : (depth == 16) ≡ false = grind (arith, nat_tests) in
     rw (brace, below) (subst (λ n. ReadsOn old (group (pieces (depth + 1) (elements Elsewhere ls))) new (pieces n es)) out read)

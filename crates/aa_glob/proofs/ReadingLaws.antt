@@ -6,54 +6,54 @@ use Rattle.std.proofs.lemmas.List.Elements.{All-head, All-tail}
 use Rattle.std.proofs.lemmas.List.Folds.{list_any-append}
 use Rattle.std.specs.List.{All, list_any}
 use Rattle.aa_glob.specs.Items.{Item, Byte, Set, Pattern, Patterns, NoMore, More}
-use Rattle.aa_glob.specs.Letters.{is_letter_or_digit, letters}
-use Rattle.aa_glob.specs.Elements.{Element, Single, Open, Comma, Close, Fault, place_after, is_plain, begins_plain, is_whole_segment, run, Extent, Alone, UpTo, Unfinished, extent, member, closed_class, elements, in_class}
+use Rattle.aa_glob.specs.Symbols.{is_letter_or_digit, symbols}
+use Rattle.aa_glob.specs.Elements.{Element, Single, Open, Comma, Close, Fault, context_after, is_plain, begins_plain, is_whole_segment, run, Extent, Alone, UpTo, Unfinished, extent, member, closed_class, elements, in_class}
 use Rattle.aa_glob.specs.Reading.{Pieces, Cut, Ended, Closed, Refused, onto, behind_comma, group, deepest, pieces, whole, longest, begins_with_slash, reading}
 use Rattle.aa_glob.specs.Laws.{needs_backslash, quoted, bytes_pattern, ends_with_backslash, is_told_before_end}
 use Rattle.aa_glob.specs.declared.byte_set.ByteRange.{ByteRange}
 use Rattle.aa_glob.specs.declared.byte_set.ByteSet.TheVariants.{Inside}
-use Rattle.aa_glob.specs.declared.letter.Letter.{Letter}
-use Rattle.aa_glob.specs.declared.letter.Letter.TheVariants.{Plain, Escaped, Broken}
+use Rattle.aa_glob.specs.declared.symbol.Symbol.{Symbol}
+use Rattle.aa_glob.specs.declared.symbol.Symbol.TheVariants.{Plain, Escaped, Broken}
 use Rattle.aa_glob.specs.declared.pattern_error.PatternError.{PatternError}
 use Rattle.aa_glob.specs.declared.pattern_error.PatternError.TheVariants.{NotAbsolute, UnclosedClass, EmptyClass, BadRange, UnclosedGroup, FewAlternatives, BadEscape, TooLong, TooDeep, ZeroByte}
-use Rattle.aa_glob.specs.declared.place.Place.{Place}
-use Rattle.aa_glob.specs.declared.place.Place.TheVariants.{AfterSlash, AfterStar, Elsewhere}
+use Rattle.aa_glob.specs.declared.context.Context.{Context}
+use Rattle.aa_glob.specs.declared.context.Context.TheVariants.{AfterSlash, AfterStar, Elsewhere}
 
 -- a byte that needs a backslash is no letter and no digit
 marked-no_letter : (b : ℕ) → needs_backslash b ≡ true → is_letter_or_digit b ≡ false
 marked-no_letter b marked = grind (arith, nat_tests)
 
--- the letter of a byte that is no backslash
-letters-plain : (b : ℕ) (bs : List ℕ) → (b == 92) ≡ false → letters (b ∷ bs) ≡ Plain b ∷ letters bs
-letters-plain b [] plain = rw plain refl
-letters-plain b (c ∷ bs) plain = rw plain refl
+-- the symbol of a byte that is no backslash
+symbols-plain : (b : ℕ) (bs : List ℕ) → (b == 92) ≡ false → symbols (b ∷ bs) ≡ Plain b ∷ symbols bs
+symbols-plain b [] plain = rw plain refl
+symbols-plain b (c ∷ bs) plain = rw plain refl
 
 -- a byte that needs none passes none of the tests that a reader makes, but that for a comma
 unmarked : (b : ℕ) → needs_backslash b ≡ false → ((b == 92) ≡ false) × ((b == 42) ≡ false) × ((b == 91) ≡ false) × ((b == 63) ≡ false) × ((b == 123) ≡ false) × ((b == 125) ≡ false)
 unmarked b plain = (grind (arith, nat_tests), grind (arith, nat_tests), grind (arith, nat_tests), grind (arith, nat_tests), grind (arith, nat_tests), grind (arith, nat_tests))
 
 -- outside groups it reads as itself, a comma too
-pieces-comma : (place : Place) (ls : List Letter) → pieces 0 (elements place (Plain 44 ∷ ls)) ≡ onto (Byte 44) (pieces 0 (elements (place_after 44) ls))
-pieces-comma place ls = refl
+pieces-comma : (context : Context) (ls : List Symbol) → pieces 0 (elements context (Plain 44 ∷ ls)) ≡ onto (Byte 44) (pieces 0 (elements (context_after 44) ls))
+pieces-comma context ls = refl
 
-pieces-plain : (place : Place) (b : ℕ) (ls : List Letter) → needs_backslash b ≡ false → pieces 0 (elements place (Plain b ∷ ls)) ≡ onto (Byte b) (pieces 0 (elements (place_after b) ls))
-pieces-plain place b ls plain =
+pieces-plain : (context : Context) (b : ℕ) (ls : List Symbol) → needs_backslash b ≡ false → pieces 0 (elements context (Plain b ∷ ls)) ≡ onto (Byte b) (pieces 0 (elements (context_after b) ls))
+pieces-plain context b ls plain =
     let tests = unmarked b plain in
     elim (cases_eq b 44) [
-      | inl comma ↦ rw comma (pieces-comma place ls)
+      | inl comma ↦ rw comma (pieces-comma context ls)
       | inr other ↦ let no_comma : (b == 44) ≡ false = grind (arith, nat_tests) in rw (tests.1, tests.2, tests.3, tests.4, no_comma, tests.5) refl
     ]
 
 -- what the text reads as, wherever it stands outside groups
-pieces-quoted : (place : Place) (text : List ℕ) → pieces 0 (elements place (letters (quoted text))) ≡ Cut (bytes_pattern text) NoMore Ended
-pieces-quoted place [] = refl
-pieces-quoted place (b ∷ bs) = elim (cases_Bool (needs_backslash b)) [
-  | inl marked ↦ rw (marked, marked-no_letter b marked) (ap (onto (Byte b)) (pieces-quoted (place_after b) bs))
-  | inr plain ↦ rw (plain, letters-plain b (quoted bs) (unmarked b plain).0) (pieces-plain place b (letters (quoted bs)) plain ∙ ap (onto (Byte b)) (pieces-quoted (place_after b) bs))
+pieces-quoted : (context : Context) (text : List ℕ) → pieces 0 (elements context (symbols (quoted text))) ≡ Cut (bytes_pattern text) NoMore Ended
+pieces-quoted context [] = refl
+pieces-quoted context (b ∷ bs) = elim (cases_Bool (needs_backslash b)) [
+  | inl marked ↦ rw (marked, marked-no_letter b marked) (ap (onto (Byte b)) (pieces-quoted (context_after b) bs))
+  | inr plain ↦ rw (plain, symbols-plain b (quoted bs) (unmarked b plain).0) (pieces-plain context b (symbols (quoted bs)) plain ∙ ap (onto (Byte b)) (pieces-quoted (context_after b) bs))
 ]
 
 -- what a text reads as that has none of the faults that are told first
-reading-whole : (text : List ℕ) → length text ≤ 4096 → list_any (λ b. b == 0) text ≡ false → begins_with_slash text ≡ true → reading text ≡ whole (pieces 0 (elements Elsewhere (letters text)))
+reading-whole : (text : List ℕ) → length text ≤ 4096 → list_any (λ b. b == 0) text ≡ false → begins_with_slash text ≡ true → reading text ≡ whole (pieces 0 (elements Elsewhere (symbols text)))
 reading-whole text short no_zero slash =
     let fits : nat_le (length text) 4096 ≡ true = grind (arith, nat_tests) in
     rw (fits, no_zero, slash) refl
@@ -87,12 +87,12 @@ reading-plain text slash each short =
     let same = quoted-plain text each in
     ap reading (sym same) ∙ reading-quoted text slash (λ k d within. (each k d within).0) (rw same short)
 
--- Letters begin like others: these end first, or with a backslash that the others may tell apart, or both break off.
-data Goes (late : PatternError → Bool) : List Letter → List Letter → Type 0 where
-  Out : {ms : List Letter} → Goes late [] ms
-  CutShort : {ms : List Letter} → late BadEscape ≡ true → Goes late (Broken ∷ []) ms
+-- Symbols begin like others: these end first, or with a backslash that the others may tell apart, or both break off.
+data Goes (late : PatternError → Bool) : List Symbol → List Symbol → Type 0 where
+  Out : {ms : List Symbol} → Goes late [] ms
+  CutShort : {ms : List Symbol} → late BadEscape ≡ true → Goes late (Broken ∷ []) ms
   BothBroken : Goes late (Broken ∷ []) (Broken ∷ [])
-  Along : {ls ms : List Letter} → (l : Letter) → Goes late ls ms → Goes late (l ∷ ls) (l ∷ ms)
+  Along : {ls ms : List Symbol} → (l : Symbol) → Goes late ls ms → Goes late (l ∷ ls) (l ∷ ms)
 
 -- Elements begin like others, as far as faults go: these end first, or with a late fault, which the others may lack, or with a
 -- fault that both have. Items don't matter.
@@ -114,7 +114,7 @@ alike-if true then_alike else_alike = then_alike
 alike-if false then_alike else_alike = else_alike
 
 -- a run of stars is no fault, whatever it reads as
-run-left : {late : PatternError → Bool} {ds es : List Element} → (place : Place) (ls : List Letter) → Alike late ds es → Alike late (run place ls ++ ds) es
+run-left : {late : PatternError → Bool} {ds es : List Element} → (context : Context) (ls : List Symbol) → Alike late ds es → Alike late (run context ls ++ ds) es
 run-left AfterStar ls alike = alike
 run-left AfterSlash ls alike = elim (cases_Bool (is_whole_segment AfterSlash ls)) [
   | inl ends ↦ rw ends (Left _ (Left _ alike))
@@ -122,7 +122,7 @@ run-left AfterSlash ls alike = elim (cases_Bool (is_whole_segment AfterSlash ls)
 ]
 run-left Elsewhere ls alike = Left _ alike
 
-run-right : {late : PatternError → Bool} {ds es : List Element} → (place : Place) (ls : List Letter) → Alike late ds es → Alike late ds (run place ls ++ es)
+run-right : {late : PatternError → Bool} {ds es : List Element} → (context : Context) (ls : List Symbol) → Alike late ds es → Alike late ds (run context ls ++ es)
 run-right AfterStar ls alike = alike
 run-right AfterSlash ls alike = elim (cases_Bool (is_whole_segment AfterSlash ls)) [
   | inl ends ↦ rw ends (Right _ (Right _ alike))
@@ -152,33 +152,33 @@ closed_class-alike : {late : PatternError → Bool} {ds es : List Element} → (
 closed_class-alike negated [] alike = Same EmptyClass
 closed_class-alike negated (range ∷ ranges) alike = single _ alike
 
--- how far a member reaches is told by the next two letters
-extent-no_dash : (l : Letter) (ls : List Letter) → is_plain 45 l ≡ false → extent (l ∷ ls) ≡ Alone
+-- how far a member reaches is told by the next two symbols
+extent-no_dash : (l : Symbol) (ls : List Symbol) → is_plain 45 l ≡ false → extent (l ∷ ls) ≡ Alone
 extent-no_dash l [] plain = refl
 extent-no_dash l (Plain last ∷ ls) plain = rw plain refl
 extent-no_dash l (Escaped last ∷ ls) plain = rw plain refl
 extent-no_dash l (Broken ∷ ls) plain = rw plain refl
 
-extent-two : (l m : Letter) (ls ms : List Letter) → extent (l ∷ m ∷ ls) ≡ extent (l ∷ m ∷ ms)
+extent-two : (l m : Symbol) (ls ms : List Symbol) → extent (l ∷ m ∷ ls) ≡ extent (l ∷ m ∷ ms)
 extent-two l (Plain last) ls ms = refl
 extent-two l (Escaped last) ls ms = refl
 extent-two l Broken ls ms = refl
 
 -- a member of a class, and what follows it
-abbrev follow : ℕ → Bool → List ByteRange → List Letter → List Element
+abbrev follow : ℕ → Bool → List ByteRange → List Symbol → List Element
 follow b negated ranges ls = member b (extent ls) (λ skip range. in_class skip negated (ranges ++ range ∷ []) ls)
 
 -- a member that reaches as far in both texts
-follow-same : {late : PatternError → Bool} → (b : ℕ) (negated : Bool) (ranges : List ByteRange) (ls ms : List Letter) → extent ls ≡ extent ms → ((skip : ℕ) (ranges : List ByteRange) → Alike late (in_class skip negated ranges ls) (in_class skip negated ranges ms)) → Alike late (follow b negated ranges ls) (follow b negated ranges ms)
+follow-same : {late : PatternError → Bool} → (b : ℕ) (negated : Bool) (ranges : List ByteRange) (ls ms : List Symbol) → extent ls ≡ extent ms → ((skip : ℕ) (ranges : List ByteRange) → Alike late (in_class skip negated ranges ls) (in_class skip negated ranges ms)) → Alike late (follow b negated ranges ls) (follow b negated ranges ms)
 follow-same b negated ranges ls ms same each = rw same (member-alike b (extent ms) _ _ (λ skip range. each skip (ranges ++ range ∷ [])))
 
-is_dash : (l : Letter) → is_plain 45 l ≡ true → l ≡ Plain 45
+is_dash : (l : Symbol) → is_plain 45 l ≡ true → l ≡ Plain 45
 is_dash (Plain c) plain = ap Plain (grind (arith, nat_tests))
 is_dash (Escaped c) plain = absurd (false≢true plain)
 is_dash Broken plain = absurd (false≢true plain)
 
 -- Where the text ends too soon to tell how far a member reaches, its class isn't closed.
-follow-alike : {late : PatternError → Bool} {ls ms : List Letter} → late UnclosedClass ≡ true → (b : ℕ) (negated : Bool) (ranges : List ByteRange) → Goes late ls ms → ((skip : ℕ) (ranges : List ByteRange) → Alike late (in_class skip negated ranges ls) (in_class skip negated ranges ms)) → Alike late (follow b negated ranges ls) (follow b negated ranges ms)
+follow-alike : {late : PatternError → Bool} {ls ms : List Symbol} → late UnclosedClass ≡ true → (b : ℕ) (negated : Bool) (ranges : List ByteRange) → Goes late ls ms → ((skip : ℕ) (ranges : List ByteRange) → Alike late (in_class skip negated ranges ls) (in_class skip negated ranges ms)) → Alike late (follow b negated ranges ls) (follow b negated ranges ms)
 follow-alike unclosed b negated ranges Out each = Late UnclosedClass unclosed
 follow-alike unclosed b negated ranges (CutShort escape) each = Late BadEscape escape
 follow-alike unclosed b negated ranges BothBroken each = Same BadEscape
@@ -194,33 +194,33 @@ follow-alike unclosed b negated ranges (Along l BothBroken) each = follow-same b
 follow-alike unclosed b negated ranges (Along l (Along {ls = ls} {ms = ms} m goes)) each = follow-same b negated ranges (l ∷ m ∷ ls) (l ∷ m ∷ ms) (extent-two l m ls ms) each
 
 -- what follows a bracket
-abbrev open_class : List Letter → List Element
+abbrev open_class : List Symbol → List Element
 open_class ls = if begins_plain 94 ls then in_class 1 true [] ls else in_class 0 false [] ls
 
-class-alike : {late : PatternError → Bool} {ls ms : List Letter} → late UnclosedClass ≡ true → Goes late ls ms → ((skip : ℕ) (negated : Bool) → Alike late (in_class skip negated [] ls) (in_class skip negated [] ms)) → Alike late (open_class ls) (open_class ms)
+class-alike : {late : PatternError → Bool} {ls ms : List Symbol} → late UnclosedClass ≡ true → Goes late ls ms → ((skip : ℕ) (negated : Bool) → Alike late (in_class skip negated [] ls) (in_class skip negated [] ms)) → Alike late (open_class ls) (open_class ms)
 class-alike unclosed Out each = Late UnclosedClass unclosed
 class-alike unclosed (CutShort escape) each = Late BadEscape escape
 class-alike unclosed BothBroken each = Same BadEscape
 class-alike unclosed (Along l goes) each = alike-if (is_plain 94 l) (each 1 true) (each 0 false)
 
--- a text of letters, and a longer one, within a class and outside
+-- a text of symbols, and a longer one, within a class and outside
 mutual
-  elements-alike : {late : PatternError → Bool} → late UnclosedClass ≡ true → (place : Place) → {ls ms : List Letter} → Goes late ls ms → Alike late (elements place ls) (elements place ms)
-  elements-alike unclosed place Out = Stops
-  elements-alike unclosed place (CutShort escape) = Late BadEscape escape
-  elements-alike unclosed place BothBroken = Same BadEscape
-  elements-alike unclosed place (Along Broken goes) = Same BadEscape
-  elements-alike unclosed place (Along (Escaped b) goes) = single (Byte b) (elements-alike unclosed (place_after b) goes)
-  elements-alike unclosed place (Along {ls = ls} {ms = ms} (Plain b) goes) =
-      alike-if (b == 42) (run-left place ls (run-right place ms (elements-alike unclosed AfterStar goes)))
+  elements-alike : {late : PatternError → Bool} → late UnclosedClass ≡ true → (context : Context) → {ls ms : List Symbol} → Goes late ls ms → Alike late (elements context ls) (elements context ms)
+  elements-alike unclosed context Out = Stops
+  elements-alike unclosed context (CutShort escape) = Late BadEscape escape
+  elements-alike unclosed context BothBroken = Same BadEscape
+  elements-alike unclosed context (Along Broken goes) = Same BadEscape
+  elements-alike unclosed context (Along (Escaped b) goes) = single (Byte b) (elements-alike unclosed (context_after b) goes)
+  elements-alike unclosed context (Along {ls = ls} {ms = ms} (Plain b) goes) =
+      alike-if (b == 42) (run-left context ls (run-right context ms (elements-alike unclosed AfterStar goes)))
       (alike-if (b == 91) (class-alike unclosed goes (λ skip negated. in_class-alike unclosed skip negated [] goes))
       (alike-if (b == 63) (single (Set Inside) (elements-alike unclosed Elsewhere goes))
       (alike-if (b == 123) (Opens (elements-alike unclosed Elsewhere goes))
       (alike-if (b == 44) (Commas (elements-alike unclosed Elsewhere goes))
       (alike-if (b == 125) (Closes (elements-alike unclosed Elsewhere goes))
-      (single (Byte b) (elements-alike unclosed (place_after b) goes)))))))
+      (single (Byte b) (elements-alike unclosed (context_after b) goes)))))))
 
-  in_class-alike : {late : PatternError → Bool} → late UnclosedClass ≡ true → (skip : ℕ) (negated : Bool) (ranges : List ByteRange) → {ls ms : List Letter} → Goes late ls ms → Alike late (in_class skip negated ranges ls) (in_class skip negated ranges ms)
+  in_class-alike : {late : PatternError → Bool} → late UnclosedClass ≡ true → (skip : ℕ) (negated : Bool) (ranges : List ByteRange) → {ls ms : List Symbol} → Goes late ls ms → Alike late (in_class skip negated ranges ls) (in_class skip negated ranges ms)
   in_class-alike unclosed skip negated ranges Out = class-late unclosed skip negated ranges
   in_class-alike unclosed skip negated ranges (CutShort escape) = class-cut_short unclosed escape skip negated ranges
   in_class-alike unclosed skip negated ranges BothBroken = class-both_broken unclosed skip negated ranges
@@ -236,18 +236,18 @@ ends-behind b [] ends = absurd (false≢true ends)
 ends-behind b (c ∷ bs) ends = ends
 
 -- a text of bytes, and a longer one
-letters-goes : {late : PatternError → Bool} → (front more : List ℕ) → (ends_with_backslash front ≡ true → late BadEscape ≡ true) → Goes late (letters front) (letters (front ++ more))
-letters-goes [] more escape = Out
-letters-goes (b ∷ []) more escape = elim (cases_Bool (b == 92)) [
+symbols-goes : {late : PatternError → Bool} → (front more : List ℕ) → (ends_with_backslash front ≡ true → late BadEscape ≡ true) → Goes late (symbols front) (symbols (front ++ more))
+symbols-goes [] more escape = Out
+symbols-goes (b ∷ []) more escape = elim (cases_Bool (b == 92)) [
   | inl backslash ↦ rw backslash (CutShort (escape backslash))
-  | inr plain ↦ rw (letters-plain b [] plain, letters-plain b more plain) (Along (Plain b) Out)
+  | inr plain ↦ rw (symbols-plain b [] plain, symbols-plain b more plain) (Along (Plain b) Out)
 ]
-letters-goes (b ∷ c ∷ bs) more escape = elim (cases_Bool (b == 92)) [
+symbols-goes (b ∷ c ∷ bs) more escape = elim (cases_Bool (b == 92)) [
   | inl backslash ↦ elim (cases_Bool (is_letter_or_digit c)) [
-    | inl letter ↦ rw (backslash, letter) BothBroken
-    | inr other ↦ rw (backslash, other) (Along (Escaped c) (letters-goes bs more (λ ends. escape (ends-behind c bs ends))))
+    | inl symbol ↦ rw (backslash, symbol) BothBroken
+    | inr other ↦ rw (backslash, other) (Along (Escaped c) (symbols-goes bs more (λ ends. escape (ends-behind c bs ends))))
   ]
-  | inr plain ↦ rw plain (Along (Plain b) (letters-goes (c ∷ bs) more escape))
+  | inr plain ↦ rw plain (Along (Plain b) (symbols-goes (c ∷ bs) more escape))
 ]
 
 -- Pieces end like others, as far as faults go: these come to an end, or to a late fault, or both to the same fault, or both to
@@ -334,7 +334,7 @@ not_false true e = refl
 not_false false e = sym e
 
 -- A text that is refused by a fault that is told before its end has none of the faults that are told first.
-reading-refused : (text : List ℕ) (error : PatternError) → is_told_before_end text error ≡ true → reading text ≡ Err error → (list_any (λ b. b == 0) text ≡ false) × (begins_with_slash text ≡ true) × (whole (pieces 0 (elements Elsewhere (letters text))) ≡ Err error)
+reading-refused : (text : List ℕ) (error : PatternError) → is_told_before_end text error ≡ true → reading text ≡ Err error → (list_any (λ b. b == 0) text ≡ false) × (begins_with_slash text ≡ true) × (whole (pieces 0 (elements Elsewhere (symbols text))) ≡ Err error)
 reading-refused text error told refuses =
     let behind_length = told-behind text error (not (nat_le (length text) longest)) TooLong _ refl told refuses in
     let behind_zero = told-behind text error (list_any (λ b. b == 0) text) ZeroByte _ refl told behind_length.1 in
@@ -347,6 +347,6 @@ reading-first_fault front more error refuses told short each =
     let late = λ (e : PatternError). not (is_told_before_end front e) in
     let facts = reading-refused front error told refuses in
     let no_zero : list_any (λ b. b == 0) (front ++ more) ≡ false = list_any-append (λ b. b == 0) front more ∙ rw (facts.0, no_zero-all more each) refl in
-    let goes = letters-goes {late = late} front more (λ ends. rw ends refl) in
+    let goes = symbols-goes {late = late} front more (λ ends. rw ends refl) in
     let agree = pieces-agree {late = late} refl 0 (elements-alike refl Elsewhere goes) in
     reading-whole (front ++ more) short no_zero (begins-append front more facts.1) ∙ whole-agree error (rw told refl) agree facts.2

@@ -4,7 +4,8 @@ use Rattle.aa_glob.specs.Layout.{steps_of}
 use Rattle.aa_glob.specs.Reading.{items_of, longest, reading}
 use Rattle.aa_glob.specs.declared.step.Step.{Step}
 
--- There are at most two steps for each byte of the text.
+-- There are at most two steps for each byte of the text. That the text isn't too long follows from its reading; it is kept
+-- because the room for a match is made for the longest.
 abbrev pub IsCompiled : List Step → List ℕ → Type 0
 IsCompiled steps text =
     (reading text ≡ Ok (items_of text))

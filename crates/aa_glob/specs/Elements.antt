@@ -1,15 +1,16 @@
 -- The elements of a pattern's text, from left to right: items, and the braces and commas of groups (apparmor.d(5),
 -- "Globbing").
 use Rattle.std.specs.Prelude.{ℕ, zero, suc, Bool, true, false, ◌==◌, ◌&&◌, not, nat_lt, if◌then◌else◌, List, [], ◌∷◌, ◌++◌}
+use Rattle.aa_glob.specs.Bytes.{caret, closing_brace, closing_bracket, comma, dash, opening_brace, opening_bracket, question_mark, slash, star}
 use Rattle.aa_glob.specs.Items.{Item, Byte, Set, Star, DoubleStar}
 use Rattle.aa_glob.specs.declared.byte_set.ByteRange.{ByteRange}
 use Rattle.aa_glob.specs.declared.byte_set.ByteSet.TheVariants.{Inside, Class}
-use Rattle.aa_glob.specs.declared.letter.Letter.{Letter}
-use Rattle.aa_glob.specs.declared.letter.Letter.TheVariants.{Plain, Escaped, Broken}
+use Rattle.aa_glob.specs.declared.symbol.Symbol.{Symbol}
+use Rattle.aa_glob.specs.declared.symbol.Symbol.TheVariants.{Plain, Escaped, Broken}
 use Rattle.aa_glob.specs.declared.pattern_error.PatternError.{PatternError}
 use Rattle.aa_glob.specs.declared.pattern_error.PatternError.TheVariants.{UnclosedClass, EmptyClass, BadRange, BadEscape}
-use Rattle.aa_glob.specs.declared.place.Place.{Place}
-use Rattle.aa_glob.specs.declared.place.Place.TheVariants.{AfterSlash, AfterStar, Elsewhere}
+use Rattle.aa_glob.specs.declared.context.Context.{Context}
+use Rattle.aa_glob.specs.declared.context.Context.TheVariants.{AfterSlash, AfterStar, Elsewhere}
 
 -- An element: an item that is no group, what a group is made of, or the fault at which reading ends.
 pub data Element : Type 0 where
@@ -19,43 +20,44 @@ pub data Element : Type 0 where
   Close : Element
   Fault : (error : PatternError) → Element
 
--- where a letter stands that comes after this byte
-abbrev pub place_after : ℕ → Place
-place_after b = if b == 47 then AfterSlash else Elsewhere
+-- where a symbol stands that comes after this byte
+abbrev pub context_after : ℕ → Context
+context_after b = if b == slash then AfterSlash else Elsewhere
 
--- the byte that a letter is, if no backslash stands before it
-abbrev pub is_plain : ℕ → Letter → Bool
+-- the byte that a symbol is, if no backslash stands before it
+abbrev pub is_plain : ℕ → Symbol → Bool
 is_plain b (Plain c) = c == b
 is_plain b _ = false
 
--- a text of letters begins with this byte, and no backslash stands before it
-abbrev pub begins_plain : ℕ → List Letter → Bool
+-- a text of symbols begins with this byte, and no backslash stands before it
+abbrev pub begins_plain : ℕ → List Symbol → Bool
 begins_plain b [] = false
 begins_plain b (l ∷ ls) = is_plain b l
 
 -- what follows the stars that a text begins with
-abbrev pub behind_stars : List Letter → List Letter
+abbrev pub behind_stars : List Symbol → List Symbol
 behind_stars [] = []
-behind_stars (l ∷ ls) = if is_plain 42 l then behind_stars ls else l ∷ ls
+behind_stars (l ∷ ls) = if is_plain star l then behind_stars ls else l ∷ ls
 
 -- the end of a segment comes next: `/`, or the text's end
-abbrev pub is_segment_end : List Letter → Bool
+abbrev pub is_segment_end : List Symbol → Bool
 is_segment_end [] = true
-is_segment_end (l ∷ ls) = is_plain 47 l
+is_segment_end (l ∷ ls) = is_plain slash l
 
 -- What a run of stars reads as, from what follows its first: one star alone is a star, two and more are a double star.
-abbrev pub stars : List Letter → Element
-stars ls = Single (if begins_plain 42 ls then DoubleStar else Star)
+abbrev pub stars : List Symbol → Element
+stars ls = Single (if begins_plain star ls then DoubleStar else Star)
 
--- A run that is a whole segment of its own stands for at least one byte, which isn't `/`: no file's name is empty.
-abbrev pub is_whole_segment : Place → List Letter → Bool
+-- A run that is a whole segment of its own stands for at least one byte, the first of which isn't `/`: no file's name is empty. The
+-- slash before it may have a backslash, the one behind it not.
+abbrev pub is_whole_segment : Context → List Symbol → Bool
 is_whole_segment AfterSlash ls = is_segment_end (behind_stars ls)
 is_whole_segment _ ls = false
 
 -- The first star of a run tells what the run reads as, and the others add nothing.
-abbrev pub run : Place → List Letter → List Element
+abbrev pub run : Context → List Symbol → List Element
 run AfterStar ls = []
-run place ls = if is_whole_segment place ls then Single (Set Inside) ∷ stars ls ∷ [] else stars ls ∷ []
+run context ls = if is_whole_segment context ls then Single (Set Inside) ∷ stars ls ∷ [] else stars ls ∷ []
 
 -- what a member of a class may turn out to be: one byte alone, a range up to another byte, or a range that a broken backslash cuts short
 pub data Extent : Type 0 where
@@ -64,13 +66,13 @@ pub data Extent : Type 0 where
   Unfinished : Extent
 
 -- A member is a range where `-` comes next and then another byte that isn't the closing `]`.
-abbrev pub extent : List Letter → Extent
-extent (dash ∷ Plain last ∷ ls) = if is_plain 45 dash && not (last == 93) then UpTo last else Alone
-extent (dash ∷ Escaped last ∷ ls) = if is_plain 45 dash then UpTo last else Alone
-extent (dash ∷ Broken ∷ ls) = if is_plain 45 dash then Unfinished else Alone
+abbrev pub extent : List Symbol → Extent
+extent (link ∷ Plain last ∷ ls) = if is_plain dash link && not (last == closing_bracket) then UpTo last else Alone
+extent (link ∷ Escaped last ∷ ls) = if is_plain dash link then UpTo last else Alone
+extent (link ∷ Broken ∷ ls) = if is_plain dash link then Unfinished else Alone
 extent _ = Alone
 
--- A member that begins with a byte, and what follows: how many letters more it takes, and the range.
+-- A member that begins with a byte, and what follows: how many symbols more it takes, and the range.
 abbrev pub member : ℕ → Extent → (ℕ → ByteRange → List Element) → List Element
 member first Alone more = more 0 (record { first = first; last = first })
 member first (UpTo last) more = if nat_lt last first then Fault BadRange ∷ [] else more 2 (record { first = first; last = last })
@@ -83,30 +85,31 @@ closed_class negated (range ∷ ranges) after = Single (Set (Class negated (rang
 
 -- `[` begins a class, `{` a group; `?` is one byte within a segment; a comma and braces are those of groups.
 abbrev mutual
-  -- the elements of a text that stands at a place
-  pub elements : Place → List Letter → List Element
-  elements place [] = []
-  elements place (Broken ∷ ls) = Fault BadEscape ∷ []
-  elements place (Escaped b ∷ ls) = Single (Byte b) ∷ elements (place_after b) ls
-  elements place (Plain b ∷ ls) =
-      if b == 42 then run place ls ++ elements AfterStar ls else
-      if b == 91 then (if begins_plain 94 ls then in_class 1 true [] ls else in_class 0 false [] ls) else
-      if b == 63 then Single (Set Inside) ∷ elements Elsewhere ls else
-      if b == 123 then Open ∷ elements Elsewhere ls else
-      if b == 44 then Comma ∷ elements Elsewhere ls else
-      if b == 125 then Close ∷ elements Elsewhere ls else
-      Single (Byte b) ∷ elements (place_after b) ls
+  -- the elements of a text that stands at a context
+  pub elements : Context → List Symbol → List Element
+  elements context [] = []
+  elements context (Broken ∷ ls) = Fault BadEscape ∷ []
+  elements context (Escaped b ∷ ls) = Single (Byte b) ∷ elements (context_after b) ls
+  elements context (Plain b ∷ ls) =
+      if b == star then run context ls ++ elements AfterStar ls else
+      if b == opening_bracket then (if begins_plain caret ls then in_class 1 true [] ls else in_class 0 false [] ls) else
+      if b == question_mark then Single (Set Inside) ∷ elements Elsewhere ls else
+      if b == opening_brace then Open ∷ elements Elsewhere ls else
+      if b == comma then Comma ∷ elements Elsewhere ls else
+      if b == closing_brace then Close ∷ elements Elsewhere ls else
+      Single (Byte b) ∷ elements (context_after b) ls
 
-  -- the elements of a text that stands within a class, behind so many letters that were read already, after these members
-  pub in_class : ℕ → Bool → List ByteRange → List Letter → List Element
+  -- The elements of a text that stands within a class, behind these members. So many symbols were looked at with what stands
+  -- before them: a `^`, or the `-` of a range and its last byte.
+  pub in_class : ℕ → Bool → List ByteRange → List Symbol → List Element
   in_class _ negated ranges [] = Fault UnclosedClass ∷ []
   in_class (suc skip) negated ranges (l ∷ ls) = in_class skip negated ranges ls
   in_class zero negated ranges (Broken ∷ ls) = Fault BadEscape ∷ []
   in_class zero negated ranges (Escaped b ∷ ls) = member b (extent ls) (λ skip range. in_class skip negated (ranges ++ range ∷ []) ls)
   in_class zero negated ranges (Plain b ∷ ls) =
-      if b == 93 then closed_class negated ranges (elements Elsewhere ls) else
+      if b == closing_bracket then closed_class negated ranges (elements Elsewhere ls) else
       member b (extent ls) (λ skip range. in_class skip negated (ranges ++ range ∷ []) ls)
 
--- a class, from what follows its `[`
-abbrev pub class : List Letter → List Element
-class ls = if begins_plain 94 ls then in_class 1 true [] ls else in_class 0 false [] ls
+-- a class, from what follows its `[`, as `elements` reads it
+abbrev pub class : List Symbol → List Element
+class ls = if begins_plain caret ls then in_class 1 true [] ls else in_class 0 false [] ls

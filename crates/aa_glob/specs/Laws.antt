@@ -1,31 +1,39 @@
--- What the laws of reading speak of: texts that spell themselves, and faults that are told before a text's end.
+-- What the laws speak of: texts that spell themselves, the one text that an exact pattern matches, and faults that are told
+-- before a text's end.
 use Rattle.std.specs.Prelude.{ℕ, Bool, true, false, ◌==◌, ◌||◌, not, if◌then◌else◌, List, [], ◌∷◌, ◌++◌}
+use Rattle.aa_glob.specs.Bytes.{backslash, closing_brace, opening_brace, opening_bracket, question_mark, star}
 use Rattle.aa_glob.specs.Items.{Byte, Pattern, End, Next}
 use Rattle.aa_glob.specs.declared.pattern_error.PatternError.{PatternError}
 use Rattle.aa_glob.specs.declared.pattern_error.PatternError.TheVariants.{EmptyClass, BadRange, StrayClose, FewAlternatives, BadEscape, TooDeep}
 
--- a byte that stands for itself only behind a backslash: `\`, `*`, `?`, `[`, `{` and `}`
+-- a byte that outside groups and classes stands for itself only behind a backslash: `\`, `*`, `?`, `[`, `{` and `}`
 abbrev pub needs_backslash : ℕ → Bool
-needs_backslash b = b == 92 || b == 42 || b == 63 || b == 91 || b == 123 || b == 125
+needs_backslash b = b == backslash || b == star || b == question_mark || b == opening_bracket || b == opening_brace || b == closing_brace
 
 -- a text with a backslash before each byte that needs one
 abbrev pub quoted : List ℕ → List ℕ
 quoted [] = []
-quoted (b ∷ bs) = (if needs_backslash b then 92 ∷ b ∷ [] else b ∷ []) ++ quoted bs
+quoted (b ∷ bs) = (if needs_backslash b then backslash ∷ b ∷ [] else b ∷ []) ++ quoted bs
 
 -- the pattern that is these bytes
 abbrev pub bytes_pattern : List ℕ → Pattern
 bytes_pattern [] = End
 bytes_pattern (b ∷ bs) = Next (Byte b) (bytes_pattern bs)
 
+-- the bytes of a pattern's items that are bytes, where all of them are
+abbrev pub bytes_of : Pattern → List ℕ
+bytes_of End = []
+bytes_of (Next (Byte b) items) = b ∷ bytes_of items
+bytes_of (Next item items) = bytes_of items
+
 -- a text ends with a backslash
 abbrev pub ends_with_backslash : List ℕ → Bool
 ends_with_backslash [] = false
-ends_with_backslash (b ∷ []) = b == 92
+ends_with_backslash (b ∷ []) = b == backslash
 ends_with_backslash (b ∷ c ∷ bs) = ends_with_backslash (c ∷ bs)
 
--- A fault of a text's bytes, which is told whatever follows them. A class or group that isn't closed is told at the end,
--- and so is a backslash that stands there.
+-- A fault that is met before a text's end, and so is told whatever follows. A class or group that isn't closed is told at the end,
+-- and so is a backslash that stands there; a text's length, a zero byte and its first byte are looked at before any of these.
 abbrev pub is_told_before_end : List ℕ → PatternError → Bool
 is_told_before_end text EmptyClass = true
 is_told_before_end text BadRange = true

@@ -1,13 +1,14 @@
 pub mod ByteSets
+pub mod Bytes
 pub mod Compiled
 pub mod Elements
 pub mod Exactness
 pub mod Items
 pub mod Laws
 pub mod Layout
-pub mod Letters
 pub mod Matching
 pub mod PatternError
 pub mod Progress
 pub mod Reading
 pub mod Steps
+pub mod Symbols

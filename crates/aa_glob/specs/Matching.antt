@@ -3,7 +3,34 @@ use Rattle.std.specs.Prelude.{◌≡◌, ◌≢◌, ℕ, Bool, true, false, ◌=
 use Rattle.std.specs.List.{list_all, All}
 use Rattle.std.specs.Str.{bytes_eq}
 use Rattle.aa_glob.specs.ByteSets.{has, is_inside}
+use Rattle.aa_glob.specs.Bytes.{slash}
 use Rattle.aa_glob.specs.Items.{Item, Byte, Set, Star, DoubleStar, Group, Pattern, End, Next, Patterns, NoMore, More}
+
+-- a byte within a segment of a path
+abbrev pub IsInside : ℕ → Type 0
+IsInside b = (b ≢ 0) × (b ≢ slash)
+
+abbrev mutual
+  -- a text is of an item
+  pub IsOf : Item → List ℕ → Type 0
+  IsOf (Byte b) u = u ≡ b ∷ []
+  IsOf (Set set) u = (b : ℕ) × (u ≡ b ∷ []) × (has set b ≡ true)
+  IsOf Star u = All IsInside u
+  IsOf DoubleStar u = All (λ b. b ≢ 0) u
+  IsOf (Group first second others) u = Matches first u ⊎ (Matches second u ⊎ SomeMatches others u)
+
+  -- The empty pattern matches the empty text alone. Another one matches a text that is a text of its first item and then one
+  -- that matches the other items.
+  pub Matches : Pattern → List ℕ → Type 0
+  Matches End s = s ≡ []
+  Matches (Next item items) s = (u v : List ℕ) × (s ≡ u ++ v) × IsOf item u × Matches items v
+
+  -- a text matches one of the patterns
+  pub SomeMatches : Patterns → List ℕ → Type 0
+  SomeMatches NoMore s = ⊥
+  SomeMatches (More pattern patterns) s = Matches pattern s ⊎ SomeMatches patterns s
+
+-- The same as a test, which contracts name: `matching_is_by_splits` is the law that the two agree.
 
 -- some way to split a text in two passes the test
 abbrev pub some_split : (List ℕ → List ℕ → Bool) → List ℕ → Bool
@@ -24,7 +51,7 @@ abbrev mutual
   is_of DoubleStar u = list_all (λ b. not (b == 0)) u
   is_of (Group first second others) u = matches first u || (matches second u || some_matches others u)
 
-  -- A text matches a pattern where it splits into a text of the first item and one that matches the other items.
+  -- a text matches a pattern
   pub matches : Pattern → List ℕ → Bool
   matches End s = bytes_eq s []
   matches (Next item items) s = some_split (λ u v. is_of item u && matches items v) s
@@ -33,28 +60,3 @@ abbrev mutual
   pub some_matches : Patterns → List ℕ → Bool
   some_matches NoMore s = false
   some_matches (More pattern patterns) s = matches pattern s || some_matches patterns s
-
--- The same without a test, in plain words: `matching_is_by_splits` is the law that the two agree.
-
--- a byte within a segment of a path
-abbrev pub IsInside : ℕ → Type 0
-IsInside b = (b ≢ 0) × (b ≢ 47)
-
-abbrev mutual
-  -- a text is of an item
-  pub IsOf : Item → List ℕ → Type 0
-  IsOf (Byte b) u = u ≡ b ∷ []
-  IsOf (Set set) u = (b : ℕ) × (u ≡ b ∷ []) × (has set b ≡ true)
-  IsOf Star u = All IsInside u
-  IsOf DoubleStar u = All (λ b. b ≢ 0) u
-  IsOf (Group first second others) u = Matches first u ⊎ (Matches second u ⊎ SomeMatches others u)
-
-  -- A text matches a pattern where it is a text of the first item and then one that matches the other items.
-  pub Matches : Pattern → List ℕ → Type 0
-  Matches End s = s ≡ []
-  Matches (Next item items) s = (u v : List ℕ) × (s ≡ u ++ v) × IsOf item u × Matches items v
-
-  -- a text matches one of the patterns
-  pub SomeMatches : Patterns → List ℕ → Type 0
-  SomeMatches NoMore s = ⊥
-  SomeMatches (More pattern patterns) s = Matches pattern s ⊎ SomeMatches patterns s

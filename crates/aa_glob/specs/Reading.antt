@@ -2,12 +2,13 @@
 -- docs/policy.md).
 use Rattle.std.specs.Prelude.{ℕ, ◌+◌, ◌-◌, Bool, false, ◌==◌, not, nat_le, if◌then◌else◌, List, [], ◌∷◌, length, Result, Ok, Err}
 use Rattle.std.specs.List.{list_any}
+use Rattle.aa_glob.specs.Bytes.{comma, slash}
 use Rattle.aa_glob.specs.Items.{Item, Byte, Group, Pattern, End, Next, Patterns, NoMore, More}
-use Rattle.aa_glob.specs.Letters.{letters}
+use Rattle.aa_glob.specs.Symbols.{symbols}
 use Rattle.aa_glob.specs.Elements.{Element, Single, Open, Comma, Close, Fault, elements}
 use Rattle.aa_glob.specs.declared.pattern_error.PatternError.{PatternError}
 use Rattle.aa_glob.specs.declared.pattern_error.PatternError.TheVariants.{NotAbsolute, UnclosedGroup, StrayClose, FewAlternatives, TooLong, TooDeep, ZeroByte}
-use Rattle.aa_glob.specs.declared.place.Place.TheVariants.{Elsewhere}
+use Rattle.aa_glob.specs.declared.context.Context.TheVariants.{Elsewhere}
 
 mutual
   -- A text, or what is left of one, cut at the commas of the group that it stands in: the pattern before the first of them,
@@ -62,7 +63,7 @@ abbrev pub pieces : ℕ → List Element → Pieces
 pieces depth [] = Cut End NoMore Ended
 pieces depth (Single item ∷ es) = onto item (pieces depth es)
 pieces depth (Open ∷ es) = if depth == deepest then refused TooDeep else group (pieces (depth + 1) es)
-pieces depth (Comma ∷ es) = if depth == 0 then onto (Byte 44) (pieces depth es) else behind_comma (pieces depth es)
+pieces depth (Comma ∷ es) = if depth == 0 then onto (Byte comma) (pieces depth es) else behind_comma (pieces depth es)
 pieces depth (Close ∷ es) = Cut End NoMore (Closed (pieces (depth - 1) es))
 pieces depth (Fault error ∷ es) = refused error
 
@@ -82,7 +83,7 @@ longest = 4096
 -- a text begins with `/`
 abbrev pub begins_with_slash : List ℕ → Bool
 begins_with_slash [] = false
-begins_with_slash (b ∷ bs) = b == 47
+begins_with_slash (b ∷ bs) = b == slash
 
 -- a text holds a zero byte
 abbrev pub has_zero : List ℕ → Bool
@@ -95,12 +96,13 @@ reading text =
     if not (nat_le (length text) longest) then Err TooLong else
     if has_zero text then Err ZeroByte else
     if not (begins_with_slash text) then Err NotAbsolute else
-    whole (pieces 0 (elements Elsewhere (letters text)))
+    whole (pieces 0 (elements Elsewhere (symbols text)))
 
--- the pattern of a text, if it reads as one
-abbrev pub items_or_none : Result Pattern PatternError → Pattern
-items_or_none (Ok items) = items
-items_or_none (Err error) = End
+-- the items that were read; of a refused text none
+abbrev pub items_read : Result Pattern PatternError → Pattern
+items_read (Ok items) = items
+items_read (Err error) = End
 
+-- The items that a text reads as. Contracts speak of those of texts that read as a pattern.
 abbrev pub items_of : List ℕ → Pattern
-items_of text = items_or_none (reading text)
+items_of text = items_read (reading text)

@@ -1,4 +1,5 @@
--- The flat steps of a pattern, and which of them accept a text.
+-- Which of a pattern's flat steps accept a text, worked out from its last byte to its first. No public contract rests on this
+-- form: `accepting-matches` of `LayoutLemmas` says that a pattern's first step accepts what matches the pattern.
 use Rattle.std.specs.Prelude.{ℕ, Bool, true, false, ◌==◌, ◌||◌, ◌&&◌, not, List, [], ◌∷◌, get_or}
 use Rattle.aa_glob.specs.ByteSets.{has, is_inside}
 use Rattle.aa_glob.specs.declared.step.Step.{Step}
@@ -30,7 +31,7 @@ accepting_end (step ∷ steps) = leads step (accepting_end steps) ∷ accepting_
 -- which steps accept a byte and what follows it, from those that accept what follows it
 abbrev pub accepting_byte : ℕ → List Step → List Bool → List Bool
 accepting_byte c [] after = false ∷ []
-accepting_byte c (step ∷ steps) [] = false ∷ []
+accepting_byte c (step ∷ steps) [] = false ∷ []  -- never met: there is an answer for each step
 accepting_byte c (step ∷ steps) (own ∷ after) =
     (takes step c own (get_or after 0 false) || leads step (accepting_byte c steps after)) ∷ accepting_byte c steps after
 

@@ -1,22 +1,56 @@
-//! What holds of reading: which texts spell themselves, and which faults are told whatever follows them.
+//! What holds of reading and matching: which texts spell themselves, which faults are told whatever follows them, and which
+//! texts match.
 
-ghost use Rattle.std.specs.Prelude.{◌≡◌, ◌≢◌, ◌≤◌, ℕ, true, false, List, ◌++◌, length, Ok, Err};
+ghost use Rattle.std.specs.Prelude.{◌≡◌, ◌≢◌, ◌≤◌, ◌↔◌, ℕ, true, false, List, ◌++◌, length, Ok, Err, IsTrue};
 ghost use Rattle.std.specs.List.{All};
-ghost use Rattle.aa_glob.specs.Laws.{bytes_pattern, is_told_before_end, needs_backslash, quoted};
-ghost use Rattle.aa_glob.specs.Reading.{begins_with_slash, reading};
+ghost use Rattle.aa_glob.specs.Exactness.{is_exact};
+ghost use Rattle.aa_glob.specs.Items.{Pattern};
+ghost use Rattle.aa_glob.specs.Laws.{bytes_of, bytes_pattern, is_told_before_end, needs_backslash, quoted};
+ghost use Rattle.aa_glob.specs.Matching.{matches, Matches};
+ghost use Rattle.aa_glob.specs.Reading.{begins_with_slash, has_zero, items_of, longest, reading};
 ghost use Rattle.aa_glob.specs.declared.pattern_error.PatternError.{PatternError};
 
 /// A text of bytes that need no backslash reads as these bytes.
 pub fn plain_text_reads_as_itself()
-    ensures { (text : List ℕ) → begins_with_slash text ≡ true → All (λ b. (b ≢ 0) × (needs_backslash b ≡ false)) text → length text ≤ 4096 → reading text ≡ Ok (bytes_pattern text) }
+    ensures { (text : List ℕ)
+        → begins_with_slash text ≡ true → All (λ b. (b ≢ 0) × (needs_backslash b ≡ false)) text → length text ≤ longest
+        → reading text ≡ Ok (bytes_pattern text) }
 {}
 
 /// A text with a backslash before each byte that needs one reads as these bytes.
 pub fn quoted_text_reads_as_itself()
-    ensures { (text : List ℕ) → begins_with_slash text ≡ true → All (λ b. b ≢ 0) text → length (quoted text) ≤ 4096 → reading (quoted text) ≡ Ok (bytes_pattern text) }
+    ensures { (text : List ℕ)
+        → begins_with_slash text ≡ true → All (λ b. b ≢ 0) text → length (quoted text) ≤ longest
+        → reading (quoted text) ≡ Ok (bytes_pattern text) }
 {}
 
-/// A fault that is told before a text's end is told alike, whatever follows.
+/// A fault that is met before a text's end is told alike whatever follows, so texts that agree up to it are refused alike.
 pub fn first_fault_is_told()
-    ensures { (front more : List ℕ) (error : PatternError) → reading front ≡ Err error → is_told_before_end front error ≡ true → length (front ++ more) ≤ 4096 → All (λ b. b ≢ 0) more → reading (front ++ more) ≡ Err error }
+    ensures { (front more : List ℕ) (error : PatternError)
+        → reading front ≡ Err error → is_told_before_end front error ≡ true
+        → length (front ++ more) ≤ longest → All (λ b. b ≢ 0) more
+        → reading (front ++ more) ≡ Err error }
+{}
+
+/// The test that contracts name says that the text can be cut into one text for each item.
+pub fn matching_is_by_splits()
+    ensures { (items : Pattern) (text : List ℕ) → (IsTrue (matches items text) ↔ Matches items text) }
+{}
+
+/// A pattern whose items are all bytes matches the text of these bytes alone.
+pub fn exact_pattern_matches_one_text()
+    ensures { (items : Pattern) (text : List ℕ)
+        → is_exact items ≡ true → (IsTrue (matches items text) ↔ (text ≡ bytes_of items)) }
+{}
+
+/// No pattern that was read matches a text with a zero byte.
+pub fn no_text_with_a_zero_byte_matches()
+    ensures { (pattern text : List ℕ) → has_zero text ≡ true → matches (items_of pattern) text ≡ false }
+{}
+
+/// A text with a backslash before each byte that needs one matches itself alone.
+pub fn quoted_text_matches_itself()
+    ensures { (text path : List ℕ)
+        → begins_with_slash text ≡ true → All (λ b. b ≢ 0) text → length (quoted text) ≤ longest
+        → (IsTrue (matches (items_of (quoted text)) path) ↔ (path ≡ text)) }
 {}

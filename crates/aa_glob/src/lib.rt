@@ -3,16 +3,20 @@
 
 mod byte_set;
 mod class;
+mod context;
 mod laws;
-mod letter;
 mod matching;
 mod pattern;
 mod pattern_error;
-mod place;
 mod reading;
 mod sequence;
 mod step;
+mod symbol;
 
-pub use laws::{first_fault_is_told, plain_text_reads_as_itself, quoted_text_reads_as_itself};
+pub use laws::{
+    exact_pattern_matches_one_text, first_fault_is_told, matching_is_by_splits,
+    no_text_with_a_zero_byte_matches, plain_text_reads_as_itself, quoted_text_matches_itself,
+    quoted_text_reads_as_itself,
+};
 pub use pattern::{LONGEST_PATTERN, Pattern};
 pub use pattern_error::PatternError;

@@ -46,7 +46,7 @@ impl Pattern {
     /// at the text's end, a class before a group. `Memory` may come at any time. The rules are those of apparmor.d(5),
     /// "Globbing"; `docs/policy.md` has them whole.
     pub fn read(alloc: Global, text: &[u8]) -> Result<Pattern, PatternError>
-        ensures ok { IfOk result (λ pattern. pattern ≡ text.now) }
+        ensures text { IfOk result (λ pattern. pattern ≡ text.now) }
         ensures read { IfOk result (λ pattern. reading text.now ≡ Ok (items_of text.now)) }
         ensures refused { IfErr result (λ error. error ≢ Memory → reading text.now ≡ Err error) }
     {
@@ -69,8 +69,8 @@ impl Pattern {
         Ok(Pattern { text, steps })
     }
 
-    /// Whether a text matches the pattern, as the text of a path does that ends with `/` where it is a directory's. It
-    /// takes no memory, and its time is the length of the text times the length of the pattern's.
+    /// Whether a text matches the pattern. A directory's path has to end with `/`, which the caller writes. It takes no
+    /// memory, and its work grows with the length of the text times that of the pattern's.
     pub fn matches(&self, text: &[u8]) -> bool
         ensures test { result ≡ matches (items_of self.now) text.now }
         ensures relation { IsTrue result ↔ Matches (items_of self.now) text.now }
@@ -95,12 +95,13 @@ impl Pattern {
 
     /// The text that was read. It takes no memory.
     pub fn text(&self) -> &[u8]
-        ensures { result.now ≡ self.now }
+        ensures text { result.now ≡ self.now }
+        ensures reads { reading self.now ≡ Ok (items_of self.now) }
     {
         self.text.as_slice()
     }
 
-    /// An equal pattern, or the want of memory, after which nothing is left behind.
+    /// An equal pattern, or `AllocError` where memory ran out.
     pub fn try_copy(&self, alloc: Global) -> Result<Pattern, AllocError>
         ensures { IfOk result (λ copy. copy ≡ self.now) }
     {

@@ -1,22 +1,22 @@
-//! Reading of a pattern's text into steps, letter by letter.
+//! Reading of a pattern's text into steps, symbol by symbol.
 
 ghost use Rattle.std.specs.Prelude.{◌≡◌, ◌≢◌, ◌++◌, ◌≤◌, ◌<◌, ◌+◌, ◌*◌, ◌∷◌, [], ℕ, ◌-◌, List, length, IfOk, IfErr, OnOk, if◌then◌else◌, true, false, ◌==◌};
 ghost use Rattle.aa_glob.specs.Elements.{Element, begins_plain, behind_stars, elements, is_segment_end, is_whole_segment, run};
 ghost use Rattle.aa_glob.specs.Layout.{steps_of};
-ghost use Rattle.aa_glob.specs.Letters.{letters};
+ghost use Rattle.aa_glob.specs.Symbols.{symbols};
 ghost use Rattle.aa_glob.specs.Items.{More, NoMore};
-ghost use Rattle.aa_glob.specs.Progress.{ReadsOn, is_comma, laid_out, left_with, pieces_of, stopped};
+ghost use Rattle.aa_glob.specs.Progress.{ReadsOn, is_comma, laid_out, bytes_left, pieces_of, stopped};
 ghost use Rattle.aa_glob.specs.Reading.{Refused, ending_of, first_of, group, others_of, pieces};
-ghost use Rattle.aa_glob.specs.declared.letter.Letter.TheVariants.{Plain};
+ghost use Rattle.aa_glob.specs.declared.symbol.Symbol.TheVariants.{Plain};
 ghost use Rattle.aa_glob.specs.declared.pattern_error.PatternError.TheVariants.{Memory};
 ghost use Rattle.aa_glob.specs.declared.step.Step.TheVariants.{DoubleStar, Star};
 
 use crate::byte_set::ByteSet;
 use crate::class::read_class;
-use crate::letter::{Letter, first_letter};
+use crate::context::{Context, context_after};
 use crate::pattern_error::PatternError;
-use crate::place::{Place, place_after};
 use crate::step::Step;
+use crate::symbol::{Symbol, first_symbol};
 use std::alloc::Global;
 
 /// How deep groups may stand in one another.
@@ -34,48 +34,48 @@ pub enum Stop<'a> {
 
 // Whether a text begins with this byte, and no backslash stands before it.
 fn begins_plain(byte: u8, text: &[u8]) -> bool
-    ensures { result ≡ begins_plain byte (letters text.now) }
+    ensures { result ≡ begins_plain byte (symbols text.now) }
 {
-    match first_letter(text) {
-        Some((Letter::Plain(first), _)) => first == byte,
+    match first_symbol(text) {
+        Some((Symbol::Plain(first), _)) => first == byte,
         _ => false,
     }
 }
 
 // What follows the stars that a text begins with.
 fn behind_stars(text: &[u8]) -> &[u8]
-    ensures { letters result.now ≡ behind_stars (letters text.now) }
+    ensures { symbols result.now ≡ behind_stars (symbols text.now) }
 {
     let mut rest = text;
-    while let Some((Letter::Plain(b'*'), after)) = first_letter(rest) {
+    while let Some((Symbol::Plain(b'*'), after)) = first_symbol(rest) {
         rest = after;
     }
     rest
 }
 
 fn is_segment_end(text: &[u8]) -> bool
-    ensures { result ≡ is_segment_end (letters text.now) }
+    ensures { result ≡ is_segment_end (symbols text.now) }
 {
-    match first_letter(text) {
+    match first_symbol(text) {
         None => true,
-        Some((Letter::Plain(byte), _)) => byte == b'/',
+        Some((Symbol::Plain(byte), _)) => byte == b'/',
         _ => false,
     }
 }
 
-// Whether a run of stars whose first stands at the place, before the text, is a whole segment of its own.
-fn is_whole_segment(place: Place, text: &[u8]) -> bool
-    ensures { result ≡ is_whole_segment place (letters text.now) }
+// Whether a run of stars whose first stands at the context, before the text, is a whole segment of its own.
+fn is_whole_segment(context: Context, text: &[u8]) -> bool
+    ensures { result ≡ is_whole_segment context (symbols text.now) }
 {
-    match place {
-        Place::AfterSlash => is_segment_end(behind_stars(text)),
-        Place::AfterStar | Place::Elsewhere => false,
+    match context {
+        Context::AfterSlash => is_segment_end(behind_stars(text)),
+        Context::AfterStar | Context::Elsewhere => false,
     }
 }
 
 // The step of a run of stars, from what follows its first.
 fn star_step(text: &[u8]) -> Step
-    ensures { result ≡ (if begins_plain 42 (letters text.now) then DoubleStar else Star) }
+    ensures { result ≡ (if begins_plain 42 (symbols text.now) then DoubleStar else Star) }
 {
     if begins_plain(b'*', text) {
         Step::DoubleStar
@@ -84,17 +84,17 @@ fn star_step(text: &[u8]) -> Step
     }
 }
 
-// Reads a star, which stands at the place and before the text.
-fn read_star(steps: &mut Vec<Step>, place: Place, text: &[u8]) -> Result<(), PatternError>
-    ensures ok { IfOk result (λ done. (depth : ℕ) (es : List Element) → ReadsOn steps.old.items (pieces depth (run place (letters text.now) ++ es)) steps.new.items (pieces depth es)) }
+// Reads a star, which stands at the context and before the text.
+fn read_star(steps: &mut Vec<Step>, context: Context, text: &[u8]) -> Result<(), PatternError>
+    ensures ok { IfOk result (λ done. (depth : ℕ) (es : List Element) → ReadsOn steps.old.items (pieces depth (run context (symbols text.now) ++ es)) steps.new.items (pieces depth es)) }
     ensures few { OnOk result (length steps.new.items ≤ length steps.old.items + 2) }
     ensures refused { IfErr result (λ error. error ≡ Memory) }
 {
-    if place == Place::AfterStar {
+    if context == Context::AfterStar {
         return Ok(());
     }
     let star = star_step(text);
-    if is_whole_segment(place, text) {
+    if is_whole_segment(context, text) {
         steps.push(Step::One(ByteSet::Inside))?;
         steps.push(star)?;
         return Ok(());
@@ -114,30 +114,30 @@ pub fn read_items<'a>(
 ) -> Result<Stop<'a>, PatternError>
     requires { depth ≤ 16 }
     ensures ok { IfOk result (λ stop. ReadsOn steps.old.items (pieces_of depth text.now) steps.new.items (stopped depth stop)) }
-    ensures few { IfOk result (λ stop. length steps.new.items + 2 * left_with stop ≤ length steps.old.items + 2 * length text.now) }
-    ensures shorter { IfOk result (λ stop. left_with stop ≤ length text.now) }
+    ensures few { IfOk result (λ stop. length steps.new.items + 2 * bytes_left stop ≤ length steps.old.items + 2 * length text.now) }
+    ensures shorter { IfOk result (λ stop. bytes_left stop ≤ length text.now) }
     ensures outside { IfOk result (λ stop. depth ≡ 0 → is_comma stop ≡ false) }
     ensures refused { IfErr result (λ error. error ≢ Memory → ending_of (pieces_of depth text.now) ≡ Refused error) }
 {
     let mut rest = text;
-    let mut place = Place::Elsewhere;
-    while let Some((letter, after)) = first_letter(rest) {
-        match letter {
-            Letter::Broken => return Err(PatternError::BadEscape),
-            Letter::Escaped(byte) => {
+    let mut context = Context::Elsewhere;
+    while let Some((symbol, after)) = first_symbol(rest) {
+        match symbol {
+            Symbol::Broken => return Err(PatternError::BadEscape),
+            Symbol::Escaped(byte) => {
                 steps.push(Step::Byte(byte))?;
-                place = place_after(byte);
+                context = context_after(byte);
                 rest = after;
             }
-            Letter::Plain(byte) => {
+            Symbol::Plain(byte) => {
                 if byte == b'}' {
                     return Ok(Stop::Close(after));
                 }
                 if byte == b',' && depth > 0 {
                     return Ok(Stop::Comma(after));
                 }
-                let (next_place, next) = read_plain(alloc, steps, depth, place, byte, after)?;
-                place = next_place;
+                let (next_context, next) = read_plain(alloc, steps, depth, context, byte, after)?;
+                context = next_context;
                 rest = next;
             }
         }
@@ -145,48 +145,48 @@ pub fn read_items<'a>(
     Ok(Stop::End)
 }
 
-// Reads what begins with a byte without a backslash, which stands at the place and before the text: an item or a group.
+// Reads what begins with a byte without a backslash, which stands at the context and before the text: an item or a group.
 #[cycle(reading)]
 fn read_plain<'a>(
     alloc: Global,
     steps: &mut Vec<Step>,
     depth: usize,
-    place: Place,
+    context: Context,
     byte: u8,
     text: &'a [u8],
-) -> Result<(Place, &'a [u8]), PatternError>
+) -> Result<(Context, &'a [u8]), PatternError>
     requires depth { depth ≤ 16 }
     requires brace { byte ≢ 125 }
     requires comma { byte ≡ 44 → depth ≡ 0 }
-    ensures ok { IfOk result (λ read. ReadsOn steps.old.items (pieces depth (elements place (Plain byte ∷ letters text.now))) steps.new.items (pieces depth (elements read.0 (letters read.1.now)))) }
+    ensures ok { IfOk result (λ read. ReadsOn steps.old.items (pieces depth (elements context (Plain byte ∷ symbols text.now))) steps.new.items (pieces depth (elements read.0 (symbols read.1.now)))) }
     ensures few { IfOk result (λ read. length steps.new.items + 2 * length read.1.now ≤ length steps.old.items + 2 * length text.now + 2) }
     ensures within { IfOk result (λ read. length read.1.now ≤ length text.now) }
-    ensures refused { IfErr result (λ error. error ≢ Memory → ending_of (pieces depth (elements place (Plain byte ∷ letters text.now))) ≡ Refused error) }
+    ensures refused { IfErr result (λ error. error ≢ Memory → ending_of (pieces depth (elements context (Plain byte ∷ symbols text.now))) ≡ Refused error) }
 {
     match byte {
         b'*' => {
-            read_star(steps, place, text)?;
-            Ok((Place::AfterStar, text))
+            read_star(steps, context, text)?;
+            Ok((Context::AfterStar, text))
         }
         b'?' => {
             steps.push(Step::One(ByteSet::Inside))?;
-            Ok((Place::Elsewhere, text))
+            Ok((Context::Elsewhere, text))
         }
         b'[' => {
             let (set, rest) = read_class(alloc, text)?;
             steps.push(Step::One(set))?;
-            Ok((Place::Elsewhere, rest))
+            Ok((Context::Elsewhere, rest))
         }
         b'{' => {
             if depth == DEEPEST {
                 return Err(PatternError::TooDeep);
             }
             let rest = read_group(alloc, steps, depth + 1, text)?;
-            Ok((Place::Elsewhere, rest))
+            Ok((Context::Elsewhere, rest))
         }
         _ => {
             steps.push(Step::Byte(byte))?;
-            Ok((place_after(byte), text))
+            Ok((context_after(byte), text))
         }
     }
 }
@@ -240,8 +240,8 @@ fn read_alternative<'a>(
     ensures ending { IfOk result (λ read. ending_of (stopped depth read.1) ≡ ending_of (pieces_of depth text.now)) }
     ensures last { IfOk result (λ read. laid_out steps.new.items read.0 NoMore ≡ steps.new.items) }
     ensures fork { IfOk result (λ read. read.0 < length steps.new.items) }
-    ensures few { IfOk result (λ read. length steps.new.items + 2 * left_with read.1 ≤ length steps.old.items + 2 + 2 * length text.now) }
-    ensures shorter { IfOk result (λ read. left_with read.1 ≤ length text.now) }
+    ensures few { IfOk result (λ read. length steps.new.items + 2 * bytes_left read.1 ≤ length steps.old.items + 2 + 2 * length text.now) }
+    ensures shorter { IfOk result (λ read. bytes_left read.1 ≤ length text.now) }
     ensures refused { IfErr result (λ error. error ≢ Memory → ending_of (pieces_of depth text.now) ≡ Refused error) }
 {
     let jump = steps.len();

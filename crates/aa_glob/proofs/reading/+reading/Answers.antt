@@ -1,8 +1,8 @@
 use Rattle.std.proofs.Common.{◌∙◌, ◌++◌, ◌∷◌, [], ap}
-use Rattle.aa_glob.specs.Letters.{letters}
+use Rattle.aa_glob.specs.Symbols.{symbols}
 use Rattle.aa_glob.specs.Elements.{elements}
 use Rattle.aa_glob.specs.Progress.{pieces_of, stopped}
-use Rattle.aa_glob.specs.declared.place.Place.TheVariants.{Elsewhere}
+use Rattle.aa_glob.specs.declared.context.Context.TheVariants.{Elsewhere}
 use Rattle.aa_glob.specs.declared.step.Step.TheVariants.{Fork}
 use Rattle.aa_glob.proofs.AlternativeLemmas.{first_of-stopped, laid_out-last, laid_out-more}
 use Rattle.aa_glob.proofs.ReadLemmas.{ReadsOn-group}
@@ -18,4 +18,4 @@ read_alternative-returns-clause-last t c =
 
 pub read_plain-returns-in_ok-rest-in-123-clause-ok :
     goal.read_plain-returns-in_ok-rest-in-123-clause-ok
-read_plain-returns-in_ok-rest-in-123-clause-ok t c = ReadsOn-group c.args.steps.now.items c.read_group.new.steps.items c.args.depth c.args.place c.args.byte (letters c.args.text.now) (elements Elsewhere (letters c.in_ok-rest-in-123.rest.now)) c.in-123.is c.if-depth-eq-DEEPEST.false c.in_ok-rest-in-123.ensures.ok
+read_plain-returns-in_ok-rest-in-123-clause-ok t c = ReadsOn-group c.args.steps.now.items c.read_group.new.steps.items c.args.depth c.args.context c.args.byte (symbols c.args.text.now) (elements Elsewhere (symbols c.in_ok-rest-in-123.rest.now)) c.in-123.is c.if-depth-eq-DEEPEST.false c.in_ok-rest-in-123.ensures.ok

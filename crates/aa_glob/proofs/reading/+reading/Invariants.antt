@@ -3,7 +3,7 @@ use Rattle.std.proofs.Common.{◌≡◌, ◌++◌, ◌≤◌, ◌<◌, ◌+◌, 
 use Rattle.aa_glob.specs.Elements.{elements}
 use Rattle.aa_glob.specs.Items.{More}
 use Rattle.aa_glob.specs.Layout.{alternative, steps_of, steps_of_each}
-use Rattle.aa_glob.specs.Letters.{letters}
+use Rattle.aa_glob.specs.Symbols.{symbols}
 use Rattle.aa_glob.specs.Progress.{ReadsOn, has_more, laid_out, pieces_of}
 use Rattle.aa_glob.specs.Reading.{ending_of, first_of, others_of, pieces}
 use Rattle.aa_glob.proofs.reading.+reading.Given as goal
@@ -35,11 +35,11 @@ abbrev pub decreases-read_group-loop-next_fork : goal.decreases-read_group-loop-
 decreases-read_group-loop-next_fork l = length l.rest
 
 -- the items so far have their steps
-abbrev pub invariant-read_items-loop-letter : goal.invariant-read_items-loop-letter
-invariant-read_items-loop-letter l =
-    ReadsOn l.fn.steps.items (pieces_of l.depth l.text) l.steps.items (pieces l.depth (elements l.place (letters l.rest)))
+abbrev pub invariant-read_items-loop-symbol : goal.invariant-read_items-loop-symbol
+invariant-read_items-loop-symbol l =
+    ReadsOn l.fn.steps.items (pieces_of l.depth l.text) l.steps.items (pieces l.depth (elements l.context (symbols l.rest)))
     × (length l.steps.items + 2 * length l.rest ≤ length l.fn.steps.items + 2 * length l.text)
     × (length l.rest ≤ length l.text)
 
-abbrev pub decreases-read_items-loop-letter : goal.decreases-read_items-loop-letter
-decreases-read_items-loop-letter l = length l.rest
+abbrev pub decreases-read_items-loop-symbol : goal.decreases-read_items-loop-symbol
+decreases-read_items-loop-symbol l = length l.rest

@@ -1,0 +1,26 @@
+//! Where a symbol of a pattern's text stands, for the sake of stars.
+
+ghost use Rattle.std.specs.Prelude.{◌≡◌};
+ghost use Rattle.aa_glob.specs.Elements.{context_after};
+
+/// What stands directly before a symbol.
+#[derive(Clone, Copy, Debug, PartialEq, Eq)]
+pub enum Context {
+    /// The byte `/`, also one behind a backslash.
+    AfterSlash,
+    /// A star of the run of stars that goes on here.
+    AfterStar,
+    /// Anything else, or nothing.
+    Elsewhere,
+}
+
+/// Where a symbol stands that comes after this byte.
+pub fn context_after(byte: u8) -> Context
+    ensures { result ≡ context_after byte }
+{
+    if byte == b'/' {
+        Context::AfterSlash
+    } else {
+        Context::Elsewhere
+    }
+}
