@@ -9,7 +9,7 @@ use Rattle.aa_set.specs.Question.{answer_of}
 use Rattle.aa_set.specs.Reply.{told_lines}
 use Rattle.aa_set.specs.Run.{Answered, answered, obeyed, order_answered, changed, told, refused, takes_memory, after_lines}
 use Rattle.aa_set.specs.Words.{words_of}
-use Rattle.aa_set.specs.Files.{bytes_of}
+use Rattle.aa_text.specs.Files.{bytes_of}
 use Rattle.aa_set.specs.PolicySet.{has_name, have_distinct_names}
 use Rattle.aa_set.specs.declared.policy.Entry.{Entry}
 use Rattle.aa_set.specs.declared.policy.Profile.{Profile}

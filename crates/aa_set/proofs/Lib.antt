@@ -1,5 +1,4 @@
 pub mod AccessLemmas
-pub mod FilesLemmas
 pub mod LawLemmas
 pub mod LineLemmas
 pub mod MachineLemmas

@@ -2,7 +2,6 @@ pub mod Access
 pub mod Bytes
 pub mod Command
 pub mod FileReading
-pub mod Files
 pub mod Laws
 pub mod Limits
 pub mod Machine

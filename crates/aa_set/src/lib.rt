@@ -4,7 +4,6 @@
 mod access;
 mod bytes;
 mod command;
-mod files;
 mod laws;
 mod line;
 mod manager;
@@ -21,7 +20,6 @@ mod waiting;
 mod words;
 
 pub use access::Perms;
-pub use files::{Files, FilesError};
 pub use laws::the_way_back;
 pub use manager::Manager;
 pub use question::Question;

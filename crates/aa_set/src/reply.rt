@@ -10,7 +10,7 @@ ghost use Rattle.aa_set.specs.declared.reply.Reply.TheVariants.{Done, Refused};
 
 use crate::command;
 use crate::command::Command;
-use crate::files::Files;
+use aa_text::Files;
 use crate::manager::Manager;
 use crate::refusal::Refusal;
 use crate::sequence::Sequence;

@@ -9,7 +9,7 @@ ghost use Rattle.aa_set.specs.Limits.{most_reads};
 ghost use Rattle.aa_set.specs.Run.{IsAnswered};
 ghost use Rattle.aa_set.specs.Session.{IsAfter, Follows};
 
-use crate::files::Files;
+use aa_text::Files;
 use crate::line::LineBuffer;
 use crate::manager::Manager;
 use crate::reply::{Reply, reply_to, tell_reply};

@@ -2,7 +2,7 @@
 ghost use Rattle.std.specs.Prelude.{◌≡◌, ◌<◌, ◌≤◌, ◌++◌, ◌∷◌, [], ℕ, List, IsFalse, IsTrue, IfOk, IfErr, IfSome, OnOk, IsOkAnd, length, vec_len};
 ghost use Rattle.std.specs.List.{All};
 ghost use Rattle.std.specs.Io.KnownBytes.{IsAtEnd};
-ghost use Rattle.aa_set.specs.Files.{is_folder_name};
+ghost use Rattle.aa_text.specs.Files.{is_folder_name};
 ghost use Rattle.aaset.specs.declared.gather.GatherFault.TheVariants.{Memory};
 ghost use Rattle.aaset.specs.declared.gather.ReadFault.TheVariants as read;
 ghost use Rattle.std.specs.IoError.{error_kind};
@@ -11,7 +11,7 @@ ghost use Rattle.aaset.specs.Texts.{texts};
 ghost use Rattle.aaset.specs.Gather.{names_of, IsTakable, IsFaultOf, ReadsBehind};
 
 use crate::arguments::Plan;
-use aa_set::{Files, FilesError};
+use aa_text::{Files, FilesError};
 use std::alloc::{AllocError, Global};
 use std::io::{ErrorKind, Read};
 use std::{fs, io, rt};

@@ -11,7 +11,8 @@ mod gather;
 mod plan;
 mod status;
 
-use aa_set::{Files, FromRead, RunFault, ToWrite};
+use aa_set::{FromRead, RunFault, ToWrite};
+use aa_text::Files;
 use arguments::ArgFault;
 use gather::GatherFault;
 use std::alloc::{AllocError, AllocFailed, Global};

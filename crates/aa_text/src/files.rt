@@ -1,6 +1,6 @@
 //! The files that a set of profiles is read from, handed in by name.
 ghost use Rattle.std.specs.Prelude.{◌≡◌, ◌++◌, ◌∷◌, [], ◌↔◌, ◌&&◌, not, IsTrue, IsErrOf, OnOk, OnErr, option_map, slice_get};
-ghost use Rattle.aa_set.specs.Files.{is_folder_name, has_control_byte, is_bad_file, has_file, bytes_of, described};
+ghost use Rattle.aa_text.specs.Files.{is_folder_name, has_control_byte, is_bad_file, has_file, bytes_of, described};
 
 use indexmap::IndexMap;
 use std::alloc::Global;
@@ -18,7 +18,7 @@ pub struct Files {
 
 impl Model for Files {
     ghost use Rattle.std.specs.Prelude.{ℕ, List};
-    ghost use Rattle.aa_set.specs.Files.{as_files};
+    ghost use Rattle.aa_text.specs.Files.{as_files};
 
     ghost Value = { List (List ℕ × List ℕ) };
 

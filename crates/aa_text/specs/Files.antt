@@ -2,8 +2,8 @@
 use Rattle.std.specs.Prelude.{ℕ, ◌-◌, Bool, ◌==◌, ◌||◌, ◌&&◌, not, nat_lt, if◌then◌else◌, List, [], ◌∷◌, length, map, slice_index, Option, None, Some, is_some, Vec, codes}
 use Rattle.std.specs.List.{list_any}
 use Rattle.std.specs.Str.{bytes_eq}
-use Rattle.aa_set.specs.declared.files.FilesError.{FilesError}
-use Rattle.aa_set.specs.declared.files.FilesError.TheVariants.{BadFile, Twice, Memory}
+use Rattle.aa_text.specs.declared.files.FilesError.{FilesError}
+use Rattle.aa_text.specs.declared.files.FilesError.TheVariants.{BadFile, Twice, Memory}
 
 -- a file: its name and its bytes
 abbrev pub File : Type 0

@@ -1,8 +1,8 @@
 use Rattle.std.proofs.Common.{◌≡◌, true, false, [], ◌∷◌, ◌++◌, sym, ap, ◌∙◌, refl}
-use Rattle.aa_set.specs.Files.{is_bad_file, has_file, as_files}
+use Rattle.aa_text.specs.Files.{is_bad_file, has_file, as_files}
 use Rattle.indexmap.proofs.CallerLemmas.{insert_entry-new}
-use Rattle.aa_set.proofs.FilesLemmas.{has_file-lookup, none-lookup, as_files-push}
-use Rattle.aa_set.proofs.files.Files.insert.Goals as goal
+use Rattle.aa_text.proofs.FilesLemmas.{has_file-lookup, none-lookup, as_files-push}
+use Rattle.aa_text.proofs.files.Files.insert.Goals as goal
 
 pub returns-then-contains_key-clause-twice : goal.returns-then-contains_key-clause-twice
 returns-then-contains_key-clause-twice c =

@@ -3,7 +3,7 @@ use Rattle.std.proofs.Common.{◌≡◌, ℕ, Bool, true, false, List, [], ◌�
 use Rattle.std.specs.Prelude.{Vec, Option, None, Some, option_map, is_some}
 use Rattle.std.specs.Str.{bytes_eq}
 use Rattle.std.specs.Map.{lookup}
-use Rattle.aa_set.specs.Files.{as_files, file_named, has_file}
+use Rattle.aa_text.specs.Files.{as_files, file_named, has_file}
 
 -- nothing is found where the map says so
 pub none-lookup : {X : Type 0} (found : Option X) → false ≡ is_some found → found ≡ None

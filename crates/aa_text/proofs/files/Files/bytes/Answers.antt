@@ -1,6 +1,6 @@
 use Rattle.std.proofs.Common.{refl}
-use Rattle.aa_set.proofs.FilesLemmas.{file_named-lookup}
-use Rattle.aa_set.proofs.files.Files.bytes.Goals as goal
+use Rattle.aa_text.proofs.FilesLemmas.{file_named-lookup}
+use Rattle.aa_text.proofs.files.Files.bytes.Goals as goal
 
 pub returns-in-Some : goal.returns-in-Some
 returns-in-Some c =
