@@ -20,7 +20,7 @@ pub data Element : Type 0 where
   Close : Element
   Fault : (error : PatternError) → Element
 
--- where a symbol stands that comes after this byte
+-- the context of a symbol that comes after this byte
 abbrev pub context_after : ℕ → Context
 context_after b = if b == slash then AfterSlash else Elsewhere
 
@@ -85,7 +85,7 @@ closed_class negated (range ∷ ranges) after = Single (Set (Class negated (rang
 
 -- `[` begins a class, `{` a group; `?` is one byte within a segment; a comma and braces are those of groups.
 abbrev mutual
-  -- the elements of a text that stands at a context
+  -- the elements of a text that stands in a context
   pub elements : Context → List Symbol → List Element
   elements context [] = []
   elements context (Broken ∷ ls) = Fault BadEscape ∷ []

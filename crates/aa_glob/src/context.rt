@@ -1,4 +1,4 @@
-//! Where a symbol of a pattern's text stands, for the sake of stars.
+//! The context of a symbol in a pattern's text, as far as stars ask for it.
 
 ghost use Rattle.std.specs.Prelude.{◌≡◌};
 ghost use Rattle.aa_glob.specs.Elements.{context_after};
@@ -14,7 +14,7 @@ pub enum Context {
     Elsewhere,
 }
 
-/// Where a symbol stands that comes after this byte.
+/// The context of a symbol that comes after this byte.
 pub fn context_after(byte: u8) -> Context
     ensures { result ≡ context_after byte }
 {

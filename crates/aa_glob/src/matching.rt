@@ -6,15 +6,15 @@ ghost use Rattle.aa_glob.specs.Steps.{accepting, accepting_byte, accepting_end, 
 use crate::byte_set::is_inside;
 use crate::step::Step;
 
-/// How many steps a pattern may have: two for each byte of its text.
-pub const MOST_STEPS: usize = 8_192;
+// How many answers there may be: two steps for each byte of the longest pattern, and the end behind them.
+const MOST_ANSWERS: usize = 8_193;
 
 /// Whether the first step accepts the text. It takes no memory.
 pub fn accepts(steps: &[Step], text: &[u8]) -> bool
     requires { length steps.now ≤ 8192 }
     ensures { result ≡ get_or (accepting steps.now text.now) 0 false }
 {
-    let mut room = [false; 8_193];
+    let mut room = [false; MOST_ANSWERS];
     let answers = &mut room[..steps.len() + 1];
     answer_end(steps, answers);
     let mut at = text.len();

@@ -1,9 +1,9 @@
 //! Patterns: texts that were read, with the steps by which they are matched.
 
-ghost use Rattle.std.specs.Prelude.{◌≡◌, ◌≢◌, ◌↔◌, ◌||◌, ◌≤◌, Ok, Err, IfOk, IfErr, IsTrue};
+ghost use Rattle.std.specs.Prelude.{◌≡◌, ◌≢◌, ◌↔◌, ◌≤◌, true, false, length, Ok, Err, IfOk, IfErr, IsTrue};
 ghost use Rattle.aa_glob.specs.Exactness.{is_exact, literal_prefix};
 ghost use Rattle.aa_glob.specs.Matching.{Matches, matches};
-ghost use Rattle.aa_glob.specs.Reading.{begins_with_slash, has_zero, items_of, reading};
+ghost use Rattle.aa_glob.specs.Reading.{begins_with_slash, has_zero, items_of, longest, reading};
 ghost use Rattle.aa_glob.specs.Steps.{is_byte};
 ghost use Rattle.std.specs.List.{list_all, prefix_len};
 ghost use Rattle.aa_glob.specs.declared.pattern_error.PatternError.TheVariants.{Memory};
@@ -49,6 +49,8 @@ impl Pattern {
         ensures text { IfOk result (λ pattern. pattern ≡ text.now) }
         ensures read { IfOk result (λ pattern. reading text.now ≡ Ok (items_of text.now)) }
         ensures refused { IfErr result (λ error. error ≢ Memory → reading text.now ≡ Err error) }
+        // What is told before anything is read takes no memory.
+        ensures memory { IfErr result (λ error. error ≡ Memory → (length text.now ≤ longest) × (has_zero text.now ≡ false) × (begins_with_slash text.now ≡ true)) }
     {
         if text.len() > LONGEST_PATTERN {
             return Err(PatternError::TooLong);
@@ -153,3 +155,6 @@ fn leading_bytes(steps: &[Step]) -> usize
     }
     steps.len()
 }
+
+#[cfg(test)]
+mod tests;

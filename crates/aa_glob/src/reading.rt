@@ -63,7 +63,7 @@ fn is_segment_end(text: &[u8]) -> bool
     }
 }
 
-// Whether a run of stars whose first stands at the context, before the text, is a whole segment of its own.
+// Whether a run of stars whose first stands in the context, before the text, is a whole segment of its own.
 fn is_whole_segment(context: Context, text: &[u8]) -> bool
     ensures { result ≡ is_whole_segment context (symbols text.now) }
 {
@@ -84,7 +84,7 @@ fn star_step(text: &[u8]) -> Step
     }
 }
 
-// Reads a star, which stands at the context and before the text.
+// Reads a star, which stands in the context and before the text.
 fn read_star(steps: &mut Vec<Step>, context: Context, text: &[u8]) -> Result<(), PatternError>
     ensures ok { IfOk result (λ done. (depth : ℕ) (es : List Element) → ReadsOn steps.old.items (pieces depth (run context (symbols text.now) ++ es)) steps.new.items (pieces depth es)) }
     ensures few { OnOk result (length steps.new.items ≤ length steps.old.items + 2) }
@@ -145,7 +145,7 @@ pub fn read_items<'a>(
     Ok(Stop::End)
 }
 
-// Reads what begins with a byte without a backslash, which stands at the context and before the text: an item or a group.
+// Reads what begins with a byte without a backslash, which stands in the context and before the text: an item or a group.
 #[cycle(reading)]
 fn read_plain<'a>(
     alloc: Global,

@@ -5,12 +5,12 @@ ghost use Rattle.aa_set.specs.Question.{HasKnownNeeds, asked, answer_of, is_abse
 ghost use Rattle.aa_set.specs.Reply.{answer_word, line_with, told_lines};
 ghost use Rattle.aa_set.specs.declared.refusal.Refusal.TheVariants.{Absent, Memory};
 
-use aa_text::Files;
 use crate::policy::{Entry, Mode, PolicySet};
 use crate::question::Question;
 use crate::reading::{is_unconfined, read_profile};
 use crate::refusal::Refusal;
 use crate::verdict::{Answer, FileRequest, decide};
+use aa_text::Files;
 use std::alloc::{AllocError, Global};
 use std::marker::Model;
 use std::mem;

@@ -10,12 +10,12 @@ ghost use Rattle.aa_set.specs.declared.reply.Reply.TheVariants.{Done, Refused};
 
 use crate::command;
 use crate::command::Command;
-use aa_text::Files;
 use crate::manager::Manager;
 use crate::refusal::Refusal;
 use crate::sequence::Sequence;
 use crate::stream::{Failed, Sink};
 use crate::waiting::tell;
+use aa_text::Files;
 
 /// How many bytes a command line may have, without its line feed.
 pub const LONGEST_LINE: usize = 65_536;

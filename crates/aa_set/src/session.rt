@@ -9,12 +9,12 @@ ghost use Rattle.aa_set.specs.Limits.{most_reads};
 ghost use Rattle.aa_set.specs.Run.{IsAnswered};
 ghost use Rattle.aa_set.specs.Session.{IsAfter, Follows};
 
-use aa_text::Files;
 use crate::line::LineBuffer;
 use crate::manager::Manager;
 use crate::reply::{Reply, reply_to, tell_reply};
 use crate::stream::{Failed, Sink, Source};
 use crate::waiting::{flush, tell};
+use aa_text::Files;
 use memchr::memchr;
 use std::alloc::{AllocError, Global};
 use thiserror::Error;
