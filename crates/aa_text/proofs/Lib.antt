@@ -1,1 +1,4 @@
+pub mod CutLemmas
 pub mod FilesLemmas
+pub mod SizeLemmas
+pub mod WordLemmas
