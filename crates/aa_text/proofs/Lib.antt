@@ -1,4 +1,6 @@
 pub mod CutLemmas
 pub mod FilesLemmas
+pub mod PartLemmas
 pub mod SizeLemmas
+pub mod VariableLemmas
 pub mod WordLemmas

@@ -22,6 +22,9 @@ closing_parenthesis = 41
 abbrev pub comma : ℕ
 comma = 44
 
+abbrev pub slash : ℕ
+slash = 47
+
 abbrev pub smaller : ℕ
 smaller = 60
 

@@ -3,4 +3,8 @@ pub mod Cut
 pub mod CutFault
 pub mod Files
 pub mod Pieces
+pub mod TextError
+pub mod TextParts
 pub mod Tokens
+pub mod Variables
+pub mod VariablesMap

@@ -1,0 +1,188 @@
+//! The variables that a profile's text defines, by name.
+
+ghost use Rattle.std.specs.Prelude.{◌≡◌, ◌≢◌, ◌<◌, ◌++◌, ◌∷◌, [], length, map, Ok, Err, None, IfOk, IfErr, OnOk, OnErr};
+ghost use Rattle.std.specs.List.{list_any};
+ghost use Rattle.aa_text.specs.TextParts.{parts_of};
+ghost use Rattle.aa_text.specs.Variables.{after_append, after_define, is_undefined, named, names_undefined, same_texts};
+ghost use Rattle.aa_text.specs.declared.text_error.TextRefusal.TheVariants.{Memory};
+
+use crate::parts::{TextPart, first_part};
+use crate::sequence::Sequence;
+use crate::text_error::{TextError, TextRefusal};
+use indexmap::IndexMap;
+use std::alloc::{AllocError, Global};
+use std::marker::Model;
+
+// The values of a variable: those of its first `=`, and those that were added behind them.
+#[derive(Drop)]
+struct Values {
+    defined: Sequence<Sequence<u8>>,
+    added: Sequence<Sequence<u8>>,
+}
+
+/// Variables in the order of their first definitions.
+///
+/// No name comes twice.
+#[derive(Drop)]
+pub struct Variables {
+    by_name: IndexMap<Vec<u8>, Values>,
+}
+
+impl Model for Variables {
+    ghost use Rattle.std.specs.Prelude.{List};
+    ghost use Rattle.aa_text.specs.Variables.{Variable};
+    ghost use Rattle.aa_text.specs.VariablesMap.{as_variables};
+
+    ghost Value = { List Variable };
+
+    ghost view = { λ v. as_variables v.by_name.entries };
+}
+
+// A refusal whose place the caller knows.
+fn refused(refusal: TextRefusal) -> TextError
+    ensures refusal { result.refusal ≡ refusal }
+    ensures place { result.place ≡ None }
+{
+    TextError {
+        refusal,
+        place: None,
+    }
+}
+
+// Equal words, in memory of their own.
+fn copied_words(alloc: Global, words: &[&[u8]]) -> Result<Sequence<Sequence<u8>>, AllocError>
+    ensures { IfOk result (λ copies. copies ≡ map (λ w. w.now) words.now) }
+{
+    let mut copies = Vec::with_capacity(alloc, words.len())?;
+    for word in words {
+        copies.push(Sequence::from_slice(alloc, word)?)?;
+    }
+    Ok(Sequence::from_vec(copies))
+}
+
+// Whether words are the same as others, in the same order.
+fn are_same(words: &[&[u8]], others: &[Sequence<u8>]) -> bool
+    ensures { result ≡ same_texts (map (λ w. w.now) words.now) others.now }
+{
+    let mut rest = others;
+    for word in words {
+        match rest {
+            [other, more @ ..] => {
+                if *word != other.as_slice() {
+                    return false;
+                }
+                rest = more;
+            }
+            [] => return false,
+        }
+    }
+    rest.is_empty()
+}
+
+impl Variables {
+    /// No variables, on an allocator from which each later one takes its memory. It takes none itself.
+    pub fn new(alloc: Global) -> Variables
+        ensures { result ≡ [] }
+    {
+        Variables {
+            by_name: IndexMap::new(alloc),
+        }
+    }
+
+    /// What `=` does: defines a variable with these words, behind those that are there.
+    ///
+    /// Where the variable is defined with the same words already, nothing changes, whatever was added to it.
+    ///
+    /// # Errors
+    ///
+    /// The first of these that applies, without a place. The variables are then as they were.
+    /// - `Redefined`: the variable is defined with other words.
+    /// - `Memory`: memory ran out.
+    pub fn define(&mut self, name: &[u8], words: &[&[u8]]) -> Result<(), TextError>
+        requires { 0 < length words.now }
+        ensures ok { OnOk result (after_define self.old name.now (map (λ w. w.now) words.now) ≡ Ok self.new) }
+        ensures refused { IfErr result (λ e. e.refusal ≢ Memory → after_define self.old name.now (map (λ w. w.now) words.now) ≡ Err e.refusal) }
+        ensures place { IfErr result (λ e. e.place ≡ None) }
+        ensures unchanged { OnErr result (self.new ≡ self.old) }
+    {
+        match self.by_name.get(name) {
+            Some(values) => {
+                if !are_same(words, values.defined.as_slice()) {
+                    return Err(refused(TextRefusal::Redefined));
+                }
+                Ok(())
+            }
+            None => self.define_new(name, words),
+        }
+    }
+
+    // Defines a variable that isn't there.
+    fn define_new(&mut self, name: &[u8], words: &[&[u8]]) -> Result<(), TextError>
+        requires { named name.now self.old ≡ None }
+        ensures ok { OnOk result (self.new ≡ self.old ++ record { name = name.now; defined = map (λ w. w.now) words.now; added = [] } ∷ []) }
+        ensures memory { IfErr result (λ e. e.refusal ≡ Memory) }
+        ensures place { IfErr result (λ e. e.place ≡ None) }
+        ensures unchanged { OnErr result (self.new ≡ self.old) }
+    {
+        let alloc = *self.by_name.allocator();
+        let values = Values {
+            defined: copied_words(alloc, words)?,
+            added: Sequence::new(alloc),
+        };
+        let name = Vec::from_slice(alloc, name)?;
+        self.by_name.insert(name, values)?;
+        Ok(())
+    }
+
+    /// What `+=` does: adds these words behind those of a variable.
+    ///
+    /// # Errors
+    ///
+    /// The first of these that applies, without a place. The variables are then as they were.
+    /// - `AppendUndefined`: the variable isn't defined.
+    /// - `Memory`: memory ran out.
+    pub fn append(&mut self, name: &[u8], words: &[&[u8]]) -> Result<(), TextError>
+        requires { 0 < length words.now }
+        ensures ok { OnOk result (after_append self.old name.now (map (λ w. w.now) words.now) ≡ Ok self.new) }
+        ensures refused { IfErr result (λ e. e.refusal ≢ Memory → after_append self.old name.now (map (λ w. w.now) words.now) ≡ Err e.refusal) }
+        ensures place { IfErr result (λ e. e.place ≡ None) }
+        ensures unchanged { OnErr result (self.new ≡ self.old) }
+    {
+        let alloc = *self.by_name.allocator();
+        let values = match self.by_name.get_mut(name) {
+            Some(values) => values,
+            None => return Err(refused(TextRefusal::AppendUndefined)),
+        };
+        let more = copied_words(alloc, words)?;
+        values.added.append(more)?;
+        Ok(())
+    }
+
+    // Whether a part of a text names a variable that isn't defined, or is a name that isn't closed.
+    fn is_undefined(&self, part: TextPart<'_>) -> bool
+        ensures { result ≡ list_any (is_undefined self.now) (parts_of part.entry) }
+    {
+        match part {
+            TextPart::Text(_) => false,
+            TextPart::Name(name) => !self.by_name.contains_key(name),
+            TextPart::Unclosed => true,
+        }
+    }
+
+    /// Whether a text itself names a variable that isn't defined, or doesn't close a name. It takes no memory.
+    pub fn undefined(&self, text: &[u8]) -> bool
+        ensures { result ≡ names_undefined self.now text.now }
+    {
+        let mut rest = text;
+        while let Some((part, after)) = first_part(rest) {
+            if self.is_undefined(part) {
+                return true;
+            }
+            rest = after;
+        }
+        false
+    }
+}
+
+#[cfg(test)]
+mod tests;
