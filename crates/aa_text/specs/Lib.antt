@@ -3,6 +3,8 @@ pub mod Cut
 pub mod CutFault
 pub mod Files
 pub mod Pieces
+pub mod Splicing
+pub mod SplicingProgress
 pub mod TextError
 pub mod TextParts
 pub mod Tokens

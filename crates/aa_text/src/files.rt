@@ -1,6 +1,7 @@
 //! The files that a set of profiles is read from, handed in by name.
-ghost use Rattle.std.specs.Prelude.{◌≡◌, ◌++◌, ◌∷◌, [], ◌↔◌, ◌&&◌, not, IsTrue, IsErrOf, OnOk, OnErr, option_map, slice_get};
+ghost use Rattle.std.specs.Prelude.{◌≡◌, ◌++◌, ◌∷◌, [], ◌↔◌, ◌&&◌, not, IsTrue, IsErrOf, OnOk, OnErr, length, option_map, slice_get};
 ghost use Rattle.aa_text.specs.Files.{is_folder_name, has_control_byte, is_bad_file, has_file, bytes_of, described};
+ghost use Rattle.aa_text.specs.Splicing.{bytes_at, file_at, name_at};
 
 use indexmap::IndexMap;
 use std::alloc::Global;
@@ -133,6 +134,50 @@ impl Files {
         match self.by_name.get(name) {
             Some(bytes) => Some(bytes.as_slice()),
             None => None,
+        }
+    }
+
+    /// How many files and folders there are.
+    pub(crate) fn len(&self) -> usize
+        ensures { result ≡ length self.now }
+    {
+        self.by_name.len()
+    }
+
+    /// Whether a file or folder of that name is there.
+    pub(crate) fn has(&self, name: &[u8]) -> bool
+        ensures { result ≡ has_file self.now name.now }
+    {
+        self.by_name.contains_key(name)
+    }
+
+    /// How many files and folders came before the file of that name, or nothing where no file has it or it declares a folder.
+    pub(crate) fn position(&self, name: &[u8]) -> Option<usize>
+        ensures { result ≡ file_at self.now name.now }
+    {
+        if !Files::is_folder(name) {
+            return self.by_name.get_index_of(name);
+        }
+        None
+    }
+
+    /// The bytes of the file that came after `at` others: none where it is a folder, or where there are no more than that.
+    pub(crate) fn bytes_at(&self, at: usize) -> &[u8]
+        ensures { result.now ≡ bytes_at self.now at }
+    {
+        match self.by_name.get_index(at) {
+            Some((_, bytes)) => bytes.as_slice(),
+            None => &[],
+        }
+    }
+
+    /// The name of the file or folder that came after `at` others: an empty one where there are no more than that.
+    pub(crate) fn name_at(&self, at: usize) -> &[u8]
+        ensures { result.now ≡ name_at self.now at }
+    {
+        match self.by_name.get_index(at) {
+            Some((name, _)) => name.as_slice(),
+            None => &[],
         }
     }
 

@@ -1,4 +1,4 @@
-//! The text of AppArmor's profile files: the files by name, their tokens, and variables.
+//! The text of AppArmor's profile files: the files by name, their tokens, includes, and variables.
 #![tactic(auto)]
 
 mod assign;
@@ -6,15 +6,20 @@ mod cut;
 mod files;
 mod front;
 mod include;
+mod members;
 mod parts;
 mod piece;
 mod quoted;
 mod sequence;
+mod spliced_token;
+mod splicing;
 mod text_error;
 mod variables;
 mod word;
 
 pub use cut::{CutFault, CutRefusal, Token, TokenKind, tokens};
 pub use files::{Files, FilesError};
+pub use spliced_token::Spliced;
+pub use splicing::spliced;
 pub use text_error::{Place, TextError, TextRefusal};
 pub use variables::Variables;
