@@ -334,3 +334,6 @@ pub fn spliced<'a>(
     enter(alloc, files, &mut all, DEEPEST, file, 0, None)?;
     Ok(all)
 }
+
+#[cfg(test)]
+mod tests;
