@@ -5,8 +5,8 @@ use Rattle.std.specs.List.{insert, position, position_from, prefix_len}
 use Rattle.std.specs.Str.{bytes_eq}
 use Rattle.std.proofs.lemmas.List.{at_drop_all, drop_more}
 use Rattle.std.proofs.lemmas.Iterator.Adapters.{position_from-zero}
-use Rattle.aa_text.specs.Files.{File, as_files}
-use Rattle.aa_text.specs.Splicing.{in_order, index_from, is_before, is_member, members, members_from, name_at}
+use Rattle.aa_text.specs.Files.{File, as_files, index_from, name_at}
+use Rattle.aa_text.specs.Members.{in_order, is_before, is_member, members, members_from}
 
 -- a file before which these others stand
 abbrev pub not_behind : List File → ℕ → ℕ → Bool

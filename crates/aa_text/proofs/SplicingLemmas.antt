@@ -7,8 +7,9 @@ use Rattle.std.proofs.lemmas.List.{at_drop_all, drop_more, map-append}
 use Rattle.aa_text.specs.Bytes.{slash}
 use Rattle.std.specs.Option.{option_map}
 use Rattle.aa_text.specs.Cut.{Seen, cut}
-use Rattle.aa_text.specs.Files.{File, has_file}
-use Rattle.aa_text.specs.Splicing.{Entered, Fault, Placed, Target, Entering, Absent, Way, and_then, bytes_at, deepest, each, entered, file_at, included, looked_up, members, most_bytes, of_members, refusal_of, spliced, target, tokens_of, walked, within, without}
+use Rattle.aa_text.specs.Files.{File, bytes_at, file_at, has_file}
+use Rattle.aa_text.specs.Splicing.{Entered, Fault, Placed, Target, Entering, Absent, Way, and_then, deepest, each, entered, included, looked_up, most_bytes, of_members, refusal_of, spliced, target, tokens_of, walked, within, without}
+use Rattle.aa_text.specs.Members.{members}
 use Rattle.aa_text.specs.SplicingProgress.{fault_of, seen_spliced, way, with_entered}
 use Rattle.aa_text.specs.Tokens.{seen}
 use Rattle.aa_text.specs.declared.cut.CutRefusal.{CutRefusal}

@@ -1,7 +1,8 @@
 -- The files that are handed in: a list of names with their bytes, in the order in which they came (docs/commands.md).
-use Rattle.std.specs.Prelude.{ℕ, ◌-◌, Bool, ◌==◌, ◌||◌, ◌&&◌, not, nat_lt, if◌then◌else◌, List, [], ◌∷◌, length, map, slice_index, Option, None, Some, is_some, Vec, codes}
+use Rattle.std.specs.Prelude.{ℕ, ◌+◌, ◌-◌, Bool, ◌==◌, ◌||◌, ◌&&◌, not, nat_lt, if◌then◌else◌, List, [], ◌∷◌, length, map, slice_index, slice_index_or, Option, None, Some, is_some, Vec, codes}
 use Rattle.std.specs.List.{list_any}
 use Rattle.std.specs.Str.{bytes_eq}
+use Rattle.aa_text.specs.Bytes.{slash}
 use Rattle.aa_text.specs.declared.files.FilesError.{FilesError}
 use Rattle.aa_text.specs.declared.files.FilesError.TheVariants.{BadFile, Twice, Memory}
 
@@ -11,7 +12,7 @@ File = List ℕ × List ℕ
 
 -- a name whose last byte is `/` declares a folder
 abbrev pub is_folder_name : List ℕ → Bool
-is_folder_name name = slice_index name (length name - 1) == 47
+is_folder_name name = slice_index name (length name - 1) == slash
 
 -- bytes below the space are control bytes, and none is part of a name
 abbrev pub has_control_byte : List ℕ → Bool
@@ -33,6 +34,21 @@ has_file files name = is_some (file_named files name)
 -- what can be read under a name: a folder has no bytes to read
 abbrev pub bytes_of : List File → List ℕ → Option (List ℕ)
 bytes_of files name = if is_folder_name name then None else file_named files name
+
+-- the place of a name among the files
+abbrev pub index_from : ℕ → List ℕ → List File → Option ℕ
+index_from at name [] = None
+index_from at name (file ∷ files) = if bytes_eq name file.0 then Some at else index_from (at + 1) name files
+
+-- the place of a file, which is no folder, by its name
+abbrev pub file_at : List File → List ℕ → Option ℕ
+file_at files name = if is_folder_name name then None else index_from 0 name files
+
+abbrev pub name_at : List File → ℕ → List ℕ
+name_at files file = (slice_index_or files file ([], [])).0
+
+abbrev pub bytes_at : List File → ℕ → List ℕ
+bytes_at files file = (slice_index_or files file ([], [])).1
 
 -- the entries of a map over byte vectors, without their capacities
 abbrev pub as_files : {A B : Type 0} → List (Vec ℕ A × Vec ℕ B) → List File

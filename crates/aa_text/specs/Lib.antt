@@ -2,6 +2,7 @@ pub mod Bytes
 pub mod Cut
 pub mod CutFault
 pub mod Files
+pub mod Members
 pub mod Pieces
 pub mod Splicing
 pub mod SplicingProgress

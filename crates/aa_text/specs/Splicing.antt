@@ -2,10 +2,10 @@
 -- mechanism"; see docs/policy.md, "Includes").
 use Rattle.std.specs.Prelude.{ℕ, zero, suc, ◌+◌, ◌-◌, Bool, true, false, not, ◌==◌, ◌&&◌, ◌||◌, nat_le, nat_lt, if◌then◌else◌, List, [], ◌∷◌, ◌++◌, length, take, drop, slice_index_or, Option, None, Some, Result, Ok, Err}
 use Rattle.std.specs.List.{list_any, prefix_len}
-use Rattle.std.specs.Str.{bytes_eq}
 use Rattle.aa_text.specs.Bytes.{slash}
 use Rattle.aa_text.specs.Cut.{Seen, cut}
-use Rattle.aa_text.specs.Files.{File, has_file, is_folder_name}
+use Rattle.aa_text.specs.Files.{File, bytes_at, file_at, has_file, is_folder_name}
+use Rattle.aa_text.specs.Members.{members}
 use Rattle.aa_text.specs.declared.cut.CutRefusal.{CutRefusal}
 use Rattle.aa_text.specs.declared.cut.CutRefusal.TheVariants as cut_refusal
 use Rattle.aa_text.specs.declared.cut.TokenKind.TheVariants.{Include}
@@ -36,49 +36,7 @@ Entered = Result (List Placed × ℕ) Fault
 
 -- the name that an Include looks up: as it is written, but for one `/` at its end
 abbrev pub looked_up : List ℕ → List ℕ
-looked_up name = if slice_index_or name (length name - 1) 0 == slash then take (length name - 1) name else name
-
--- a name is a direct member of a folder: it begins with the folder's name, and the rest isn't empty and has no `/`
-abbrev pub is_member : List ℕ → List ℕ → Bool
-is_member folder name =
-    let rest = drop (length folder) name in
-    bytes_eq (take (length folder) name) folder && not (length rest == 0) && not (list_any (λ b. b == slash) rest)
-
--- one text is before another in the order of bytes
-abbrev pub is_before : List ℕ → List ℕ → Bool
-is_before [] [] = false
-is_before [] (d ∷ ds) = true
-is_before (b ∷ bs) [] = false
-is_before (b ∷ bs) (d ∷ ds) = nat_lt b d || (b == d && is_before bs ds)
-
--- the place of a name among the files
-abbrev pub index_from : ℕ → List ℕ → List File → Option ℕ
-index_from at name [] = None
-index_from at name (file ∷ files) = if bytes_eq name file.0 then Some at else index_from (at + 1) name files
-
--- the place of a file, which is no folder, by its name
-abbrev pub file_at : List File → List ℕ → Option ℕ
-file_at files name = if is_folder_name name then None else index_from 0 name files
-
-abbrev pub name_at : List File → ℕ → List ℕ
-name_at files file = (slice_index_or files file ([], [])).0
-
-abbrev pub bytes_at : List File → ℕ → List ℕ
-bytes_at files file = (slice_index_or files file ([], [])).1
-
--- a file among others, which are in the order of their names
-abbrev pub in_order : List File → ℕ → List ℕ → List ℕ
-in_order files file [] = file ∷ []
-in_order files file (other ∷ others) = if is_before (name_at files file) (name_at files other) then file ∷ other ∷ others else other ∷ in_order files file others
-
--- the direct members of a folder from a place on, in the order of their names
-unfoldable pub members_from : List File → ℕ → List ℕ → List File → List ℕ
-members_from all at folder [] = []
-members_from all at folder (file ∷ files) =
-    if is_member folder file.0 then in_order all at (members_from all (at + 1) folder files) else members_from all (at + 1) folder files
-
-abbrev pub members : List File → List ℕ → List ℕ
-members files folder = members_from files 0 folder files
+looked_up name = if is_folder_name name then take (length name - 1) name else name
 
 -- what an Include puts in: these files, nothing, or a file that isn't there
 pub data Target : Type 0 where

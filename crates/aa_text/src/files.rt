@@ -1,7 +1,6 @@
 //! The files that a set of profiles is read from, handed in by name.
 ghost use Rattle.std.specs.Prelude.{◌≡◌, ◌++◌, ◌∷◌, [], ◌↔◌, ◌&&◌, not, IsTrue, IsErrOf, OnOk, OnErr, length, option_map, slice_get};
-ghost use Rattle.aa_text.specs.Files.{is_folder_name, has_control_byte, is_bad_file, has_file, bytes_of, described};
-ghost use Rattle.aa_text.specs.Splicing.{bytes_at, file_at, name_at};
+ghost use Rattle.aa_text.specs.Files.{bytes_at, bytes_of, described, file_at, has_control_byte, has_file, is_bad_file, is_folder_name, name_at};
 
 use indexmap::IndexMap;
 use std::alloc::Global;

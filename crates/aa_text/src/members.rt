@@ -3,7 +3,8 @@
 ghost use Rattle.std.specs.Prelude.{◌≡◌, ◌≤◌, ◌==◌, length, IfOk, OnOk, not, if◌then◌else◌};
 ghost use Rattle.std.specs.List.{list_any, prefix_len};
 ghost use Rattle.aa_text.specs.Bytes.{slash};
-ghost use Rattle.aa_text.specs.Splicing.{in_order, is_before, is_member, members, name_at};
+ghost use Rattle.aa_text.specs.Members.{in_order, is_before, is_member, members};
+ghost use Rattle.aa_text.specs.Files.{name_at};
 
 use crate::files::Files;
 use crate::front::{begins_with, behind};

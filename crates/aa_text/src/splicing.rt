@@ -1,11 +1,12 @@
 //! The tokens of a file, with those of the files that it includes in the place of each Include.
 
-ghost use Rattle.std.specs.Prelude.{◌≡◌, ◌≢◌, ◌≤◌, ◌==◌, ◌++◌, ◌∷◌, [], List, not, map, option_map, IfOk, IfErr, if◌then◌else◌};
+ghost use Rattle.std.specs.Prelude.{◌≡◌, ◌≢◌, ◌≤◌, ◌==◌, ◌++◌, ◌∷◌, [], List, not, map, option_map, None, IfOk, IfErr, if◌then◌else◌};
 ghost use Rattle.std.specs.List.{list_any, prefix_len};
 ghost use Rattle.aa_text.specs.Bytes.{slash};
 ghost use Rattle.aa_text.specs.Cut.{Seen};
 ghost use Rattle.aa_text.specs.Files.{has_file};
-ghost use Rattle.aa_text.specs.Splicing.{Way, each, entered, included, looked_up, members, most_bytes, of_members, refusal_of, spliced, target, walked, within, without};
+ghost use Rattle.aa_text.specs.Splicing.{Way, each, entered, included, looked_up, most_bytes, of_members, refusal_of, spliced, target, walked, within, without};
+ghost use Rattle.aa_text.specs.Members.{members};
 ghost use Rattle.aa_text.specs.SplicingProgress.{fault_of, seen_spliced, target_of, way, with_entered};
 ghost use Rattle.aa_text.specs.Tokens.{seen};
 ghost use Rattle.aa_text.specs.declared.text_error.TextRefusal.TheVariants.{IncludeDepth, Memory, NoFile};
@@ -150,6 +151,7 @@ fn file_tokens<'a>(
     ensures ok { IfOk result (λ read. (way : Way) → entered files.now way file before place ≡ walked files.now way file (map seen read.0.items) read.1) }
     ensures within { IfOk result (λ read. read.1 ≤ most_bytes) }
     ensures refused { IfErr result (λ error. error.refusal ≢ Memory → (way : Way) → entered files.now way file before place ≡ Err (fault_of error)) }
+    ensures memory { IfErr result (λ error. error.refusal ≡ Memory → error.place ≡ None) }
 {
     let bytes = files.bytes_at(file);
     if bytes.len() > MOST_BYTES - before {
@@ -205,6 +207,7 @@ fn enter<'a>(
     ensures ok { IfOk result (λ total. Ok (map seen_spliced all.new.items, total) ≡ with_entered (map seen_spliced all.old.items) (within files.now depth file before place)) }
     ensures within { IfOk result (λ total. total ≤ most_bytes) }
     ensures refused { IfErr result (λ error. error.refusal ≢ Memory → within files.now depth file before place ≡ Err (fault_of error)) }
+    ensures memory { IfErr result (λ error. error.refusal ≡ Memory → error.place ≡ None) }
 {
     let (tokens, own) = file_tokens(alloc, files, file, before, place)?;
     let mut total = own;
@@ -230,6 +233,7 @@ fn put_token<'a>(
     ensures ok { IfOk result (λ total. (rest : List Seen) → with_entered (map seen_spliced all.new.items) (walked files.now (way files.now depth) file rest total) ≡ with_entered (map seen_spliced all.old.items) (walked files.now (way files.now depth) file (seen token.entry ∷ rest) before)) }
     ensures within { IfOk result (λ total. total ≤ most_bytes) }
     ensures refused { IfErr result (λ error. error.refusal ≢ Memory → (rest : List Seen) → walked files.now (way files.now depth) file (seen token.entry ∷ rest) before ≡ Err (fault_of error)) }
+    ensures memory { IfErr result (λ error. error.refusal ≡ Memory → error.place ≡ None) }
 {
     match token.kind {
         TokenKind::Include { if_exists } => {
@@ -266,6 +270,7 @@ fn include<'a>(
     ensures ok { IfOk result (λ total. Ok (map seen_spliced all.new.items, total) ≡ with_entered (map seen_spliced all.old.items) (included (way files.now depth) place (target files.now name.now if_exists) before)) }
     ensures within { IfOk result (λ total. total ≤ most_bytes) }
     ensures refused { IfErr result (λ error. error.refusal ≢ Memory → included (way files.now depth) place (target files.now name.now if_exists) before ≡ Err (fault_of error)) }
+    ensures memory { IfErr result (λ error. error.refusal ≡ Memory → error.place ≡ None) }
 {
     let Some(found) = target(alloc, files, name, if_exists)? else {
         return Err(absent(depth, place));
@@ -296,6 +301,7 @@ fn enter_each<'a>(
     ensures ok { IfOk result (λ total. Ok (map seen_spliced all.new.items, total) ≡ with_entered (map seen_spliced all.old.items) (each (within files.now depth) (Some place) found.now before)) }
     ensures within { IfOk result (λ total. total ≤ most_bytes) }
     ensures refused { IfErr result (λ error. error.refusal ≢ Memory → each (within files.now depth) (Some place) found.now before ≡ Err (fault_of error)) }
+    ensures memory { IfErr result (λ error. error.refusal ≡ Memory → error.place ≡ None) }
 {
     let mut total = before;
     for file in found {
@@ -308,13 +314,13 @@ fn enter_each<'a>(
 ///
 /// # Errors
 ///
-/// The first fault in the order in which the files are read. An Include's own faults are told at the place of the Include.
-/// - `NoFile`, with no place: no file of that name is there.
-/// - `TextTooBig`: with the file that an Include enters, more than 16,777,216 bytes are entered, each file counted as often as it is.
-///   With no place where the first file alone has more.
-/// - `ZeroByte`, `OpenQuote` and `OpenOther`: of the first such kind that the whole file has, in that order, at the fault's own place.
+/// The first fault: those of a file's own text come before any of what it includes, and else one Include is read before the next.
+/// - `NoFile`: no file has the name, with no place; or nothing has the name of an Include without `if exists`, at the Include.
+/// - `TextTooBig`: more than 16,777,216 bytes are entered, each file's as often as it is. It is told at the Include that enters the
+///   file, and with no place where the first file alone has more.
+/// - `ZeroByte`: a file holds one, at the first.
+/// - `OpenQuote` and `OpenOther`: a file can't be cut into tokens, at the first such place.
 /// - `IncludeDepth`: an Include stands in 16 others, unless it puts in nothing.
-/// - `NoFile`: nothing has the name of an Include without `if exists`.
 /// - `Memory`, with no place: memory ran out.
 pub fn spliced<'a>(
     alloc: Global,
@@ -323,6 +329,7 @@ pub fn spliced<'a>(
 ) -> Result<Vec<Spliced<'a>>, TextError>
     ensures ok { IfOk result (λ all. spliced files.now name.now ≡ Ok (map seen_spliced all.items)) }
     ensures refused { IfErr result (λ error. error.refusal ≢ Memory → spliced files.now name.now ≡ Err (error.refusal, error.place)) }
+    ensures memory { IfErr result (λ error. error.refusal ≡ Memory → error.place ≡ None) }
 {
     let Some(file) = files.position(name) else {
         return Err(TextError {

@@ -1,5 +1,5 @@
 use Rattle.std.proofs.Common.{◌≡◌, length}
-use Rattle.aa_text.specs.Splicing.{is_before}
+use Rattle.aa_text.specs.Members.{is_before}
 use Rattle.aa_text.proofs.members.is_before.Given as goal
 
 -- what is left of both is in the order of the whole

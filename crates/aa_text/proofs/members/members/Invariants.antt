@@ -1,5 +1,5 @@
 use Rattle.std.proofs.Common.{◌≡◌, ◌≤◌, length, drop}
-use Rattle.aa_text.specs.Splicing.{members_from}
+use Rattle.aa_text.specs.Members.{members_from}
 use Rattle.aa_text.proofs.members.members.Given as goal
 
 -- the members from a place on are there

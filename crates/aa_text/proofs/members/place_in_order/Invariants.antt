@@ -1,6 +1,7 @@
 use Rattle.std.proofs.Common.{◌≡◌, ◌+◌, not, drop}
 use Rattle.std.specs.List.{prefix_len}
-use Rattle.aa_text.specs.Splicing.{is_before, name_at}
+use Rattle.aa_text.specs.Members.{is_before}
+use Rattle.aa_text.specs.Files.{name_at}
 use Rattle.aa_text.proofs.members.place_in_order.Given as goal
 
 -- the files so far, and those of the rest, are all

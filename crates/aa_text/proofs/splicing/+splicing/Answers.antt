@@ -101,4 +101,5 @@ put_token-returns-in_ok-push-in_default t c = record {
   ok = λ rest. walked-other c.args.all.now.items c.push.new.self.items _ c.args.files.now (way c.args.files.now c.args.depth) c.args.file c.args.token rest c.args.before (not-include c.args.token.kind c.in_default.not-Include) c.in_ok-push-in_default.ensures.items refl;
   within = c.requires.before;
   refused = tt;
+  memory = tt;
 }

@@ -1,5 +1,6 @@
 use Rattle.std.proofs.Common.{ap, sym, ◌∙◌, ◌++◌, ◌∷◌, []}
-use Rattle.aa_text.specs.Splicing.{file_at, of_members}
+use Rattle.aa_text.specs.Splicing.{of_members}
+use Rattle.aa_text.specs.Files.{file_at}
 use Rattle.aa_text.proofs.SplicingLemmas.{none-there, some-there, target-empty, target-file, target-folder}
 use Rattle.aa_text.proofs.splicing.target.Goals as goal
 
