@@ -1,10 +1,13 @@
 -- What the calls of the map say, in the words of the variables.
-use Rattle.std.proofs.Common.{◌≡◌, ℕ, Bool, true, false, List, [], ◌∷◌, ◌++◌, ◌<◌, zero, suc, length, drop, arith, refl, sym, ap, ◌∙◌}
-use Rattle.std.specs.Prelude.{Vec, Option, None, Some, is_some, map, Ok, Err, if◌then◌else◌}
+use Rattle.std.proofs.Common.{◌≡◌, ℕ, Bool, true, false, List, [], ◌∷◌, ◌++◌, ◌+◌, ◌<◌, zero, suc, length, drop, arith, refl, sym, ap, ◌∙◌}
+use Rattle.std.specs.Prelude.{Vec, Option, None, Some, is_some, map, Ok, Err, if◌then◌else◌, cond, nat_lt, option_map, position}
+use Rattle.std.specs.List.{position_or_len}
 use Rattle.std.specs.Str.{bytes_eq}
-use Rattle.std.specs.Map.{lookup, set_value}
+use Rattle.std.specs.Map.{keys_of, lookup, set_value}
+use Rattle.std.proofs.lemmas.Bool.Decides.{nat_tests}
 use Rattle.std.proofs.lemmas.Map.Steps.{set_value_same}
 use Rattle.aa_text.specs.Variables.{Variable, named, is_defined, same_texts, after_append, after_define, with_added}
+use Rattle.aa_text.specs.VariablePlaces.{place_of}
 use Rattle.aa_text.specs.VariablesMap.{as_variable, as_variables}
 use Rattle.aa_text.specs.declared.variables.Values.{Values}
 use Rattle.aa_text.specs.declared.text_error.TextRefusal.TheVariants.{AppendUndefined, Redefined}
@@ -138,3 +141,23 @@ same_texts-short f [] at others within short = absurd (omega arith)
 same_texts-short f (t ∷ ts) zero [] within short = refl
 same_texts-short f (t ∷ ts) zero (o ∷ os) within short = absurd (omega arith)
 same_texts-short f (t ∷ ts) (suc at) others within short = same_texts-short f ts at others (omega arith) short
+
+-- one place further on in a list that is longer by one
+shifted : (at len : ℕ) → cond (nat_lt (1 + at) (suc len)) (Some (1 + at)) None ≡ option_map suc (cond (nat_lt at len) (Some at) None)
+shifted at len = by (nat_lt at len) refl
+  where
+    by : (within : Bool) → nat_lt at len ≡ within → cond (nat_lt (1 + at) (suc len)) (Some (1 + at)) None ≡ option_map suc (cond (nat_lt at len) (Some at) None)
+    by true w = let next : nat_lt (1 + at) (suc len) ≡ true = grind (arith, nat_tests) in let one : 1 + at ≡ suc at = omega arith in rw (w, next, one) refl
+    by false w = let next : nat_lt (1 + at) (suc len) ≡ false = grind (arith, nat_tests) in rw (w, next) refl
+
+-- The place of a name among the map's keys is that of its variable.
+pub place_of-keys : {A : Type 0} (name : List ℕ) (entries : List (Vec ℕ A × Values))
+    → position (λ k. bytes_eq name k.items) (keys_of entries) ≡ place_of (as_variables entries) name
+place_of-keys name [] = refl
+place_of-keys name (e ∷ es) = by (bytes_eq name e.0.items) refl (place_of-keys name es)
+  where
+    by : (b : Bool) → bytes_eq name e.0.items ≡ b
+        → position (λ k. bytes_eq name k.items) (keys_of es) ≡ place_of (as_variables es) name
+        → position (λ k. bytes_eq name k.items) (keys_of (e ∷ es)) ≡ place_of (as_variables (e ∷ es)) name
+    by true b rest = let first : nat_lt 0 (suc (length (keys_of es))) ≡ true = grind (arith, nat_tests) in rw (b, first) refl
+    by false b rest = rw b (shifted (position_or_len (λ k. bytes_eq name k.items) (keys_of es)) (length (keys_of es)) ∙ ap (option_map suc) rest)

@@ -1,6 +1,8 @@
 pub mod Bytes
 pub mod Cut
 pub mod CutFault
+pub mod ExpansionOrder
+pub mod Expansions
 pub mod Files
 pub mod Members
 pub mod Pieces
@@ -9,5 +11,6 @@ pub mod SplicingProgress
 pub mod TextError
 pub mod TextParts
 pub mod Tokens
+pub mod VariablePlaces
 pub mod Variables
 pub mod VariablesMap

@@ -184,5 +184,9 @@ impl Variables {
     }
 }
 
+mod expand;
+mod order;
+mod places;
+mod reached;
 #[cfg(test)]
 mod tests;
