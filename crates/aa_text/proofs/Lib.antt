@@ -2,6 +2,8 @@ pub mod CutLemmas
 pub mod FilesLemmas
 pub mod MembersLemmas
 pub mod PartLemmas
+pub mod PlaceLemmas
+pub mod ReachedLemmas
 pub mod SizeLemmas
 pub mod SplicingLemmas
 pub mod VariableLemmas

@@ -6,6 +6,7 @@ pub mod Expansions
 pub mod Files
 pub mod Members
 pub mod Pieces
+pub mod ReachedVariables
 pub mod Splicing
 pub mod SplicingProgress
 pub mod TextError

@@ -7,7 +7,7 @@ use crate::variables::Variables;
 
 impl Variables {
     // The place of a name's variable.
-    fn place(&self, name: &[u8]) -> Option<usize>
+    pub(super) fn place(&self, name: &[u8]) -> Option<usize>
         ensures value { result ≡ place_of self.now name.now }
         ensures within { IfSome result (λ place. place < length self.now) }
     {
@@ -15,7 +15,7 @@ impl Variables {
     }
 
     // A word of the variable at a place: those of its first `=`, then those that were added.
-    fn word(&self, place: usize, at: usize) -> Option<&[u8]>
+    pub(super) fn word(&self, place: usize, at: usize) -> Option<&[u8]>
         ensures value { option_map (λ word. word.now) result ≡ slice_get (words_at self.now place) at }
         ensures fits { IfSome result (λ word. at < 2 ^ 64 - 1) }
     {
