@@ -6,6 +6,7 @@ mod cut;
 mod files;
 mod front;
 mod include;
+mod laws;
 mod members;
 mod parts;
 mod piece;
@@ -19,6 +20,7 @@ mod word;
 
 pub use cut::{CutFault, CutRefusal, Token, TokenKind, tokens};
 pub use files::{Files, FilesError};
+pub use laws::what_a_text_leads_to;
 pub use spliced_token::Spliced;
 pub use splicing::spliced;
 pub use text_error::{Place, TextError, TextRefusal};

@@ -1,6 +1,6 @@
 //! The variables that a profile's text defines, by name.
 
-ghost use Rattle.std.specs.Prelude.{◌≡◌, ◌≢◌, ◌<◌, ◌++◌, ◌∷◌, [], length, map, Ok, Err, None, IfOk, IfErr, OnOk, OnErr};
+ghost use Rattle.std.specs.Prelude.{◌≡◌, ◌≢◌, ◌<◌, ◌++◌, ◌∷◌, [], length, map, Ok, Err, None, IfOk, IfErr, OnOk, OnErr, option_map, slice_get};
 ghost use Rattle.std.specs.List.{list_any};
 ghost use Rattle.aa_text.specs.TextParts.{parts_of};
 ghost use Rattle.aa_text.specs.Variables.{after_append, after_define, is_undefined, named, names_undefined, same_texts};
@@ -86,6 +86,17 @@ impl Variables {
     {
         Variables {
             by_name: IndexMap::new(alloc),
+        }
+    }
+
+    /// The name of the variable before which so many others were defined, or nothing where there are no more than that. It takes no
+    /// memory.
+    pub fn name(&self, place: usize) -> Option<&[u8]>
+        ensures { option_map (λ name. name.now) result ≡ option_map (λ variable. variable.name) (slice_get self.now place) }
+    {
+        match self.by_name.get_index(place) {
+            Some((name, _)) => Some(name.as_slice()),
+            None => None,
         }
     }
 
