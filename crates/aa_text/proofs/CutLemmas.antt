@@ -20,7 +20,7 @@ cut-skips at (suc n) values (b ∷ bs) =
     cut-skips (at + 1) n values bs ∙ ap (λ k. cut k 0 values (drop n bs)) same
 
 -- so are the bytes of a piece behind its first
-cut-behind : (at size : ℕ) (values : Bool) (b : ℕ) (bs : List ℕ) → 1 ≤ size → cut (at + 1) (size - 1) values bs ≡ cut (at + size) 0 values (drop size (b ∷ bs))
+pub cut-behind : (at size : ℕ) (values : Bool) (b : ℕ) (bs : List ℕ) → 1 ≤ size → cut (at + 1) (size - 1) values bs ≡ cut (at + size) 0 values (drop size (b ∷ bs))
 cut-behind at zero values b bs some = absurd (omega arith)
 cut-behind at (suc n) values b bs some =
     let one : suc n - 1 ≡ n = omega arith in
@@ -28,7 +28,7 @@ cut-behind at (suc n) values b bs some =
     rw one (cut-skips (at + 1) n values bs ∙ ap (λ k. cut k 0 values (drop n bs)) same)
 
 -- the cut at a piece
-cut-piece : (at : ℕ) (values : Bool) (b : ℕ) (bs : List ℕ) (p : Piece) → false ≡ is_blank b → p ≡ piece_at values (b ∷ bs)
+pub cut-piece : (at : ℕ) (values : Bool) (b : ℕ) (bs : List ℕ) (p : Piece) → false ≡ is_blank b → p ≡ piece_at values (b ∷ bs)
     → cut at 0 values (b ∷ bs) ≡ cut_on at values (b ∷ bs) p (λ left values. cut (at + 1) left values bs)
 cut-piece at values b bs p black is_piece =
     cond-false (is_blank b) _ _ (sym black) ∙ ap (λ q. cut_on at values (b ∷ bs) q (λ left values. cut (at + 1) left values bs)) (sym is_piece)

@@ -1,5 +1,5 @@
 -- What the gathered places are, and that they are those of all variables that a text leads to.
-use Rattle.std.proofs.Common.{◌≡◌, ℕ, Bool, true, false, nat_eq, ◌||◌, ◌&&◌, List, [], ◌∷◌, ◌++◌, ◌+◌, ◌-◌, ◌<◌, ◌≤◌, zero, suc, length, map, slice_get, drop, arith, add-one, drop-cons, length-append, refl, sym, ap, subst, ◌∙◌, ◌⊎◌, inl, inr}
+use Rattle.std.proofs.Common.{◌≡◌, ℕ, Bool, true, false, nat_eq, ◌||◌, ◌&&◌, List, [], ◌∷◌, ◌++◌, ◌+◌, ◌-◌, ◌<◌, ◌≤◌, zero, suc, length, map, slice_get, drop, arith, length-append, refl, sym, ap, subst, ◌∙◌, ◌⊎◌, inl, inr}
 use Rattle.std.specs.Prelude.{Option, None, Some}
 use Rattle.std.specs.List.{list_all, list_any, IsDistinct}
 use Rattle.std.proofs.lemmas.Bool.{cases_eq}
@@ -7,13 +7,14 @@ use Rattle.std.proofs.lemmas.Bool.Decides.{nat_tests}
 use Rattle.std.proofs.lemmas.List.Folds.{list_any-append}
 use Rattle.std.proofs.lemmas.Map.Keys.{IsDistinct-push, any_passes_from_place}
 use Rattle.std.proofs.lemmas.Map.Steps.{length-le_from_distinct_below}
-use Rattle.std.proofs.lemmas.Option.{get_or_from_slice_get, slice_get_within}
+use Rattle.std.proofs.lemmas.Option.{slice_get_within}
 use Rattle.std.proofs.lemmas.Cmp.{nat_eq_equiv}
 use Rattle.aa_text.specs.Variables.{Variable, Part, Byte, Name, Unclosed, is_undefined, names_undefined, parts}
 use Rattle.aa_text.specs.Expansions.{leads_to_undefined, leads_to_undefined_within, words_behind, words_behind_parts, words_named}
 use Rattle.aa_text.specs.ExpansionOrder.{are_texts_known, is_part_known, is_text_known}
 use Rattle.aa_text.specs.ReachedVariables.{places_in, places_of, places_within, with_place, with_places, IsReachedSoFar}
 use Rattle.aa_text.specs.VariablePlaces.{place_of, words_at}
+use Rattle.aa_text.proofs.ListLemmas.{drop-some, past-none}
 use Rattle.aa_text.proofs.PlaceLemmas.{is_defined-from_some, named-from_none, place_of-within, words_named-from_none, words_named-from_some}
 
 -- ---- the parts of a text
@@ -133,25 +134,6 @@ module _ {X : Type 0} (test : X → Bool) where
       by (inr there) rest = or-right (other x) (list_any other xs) (rest there)
 
 -- ---- lists of places
-
--- a place behind all has no element
-pub past-none : {X : Type 0} (xs : List X) (at : ℕ) → None ≡ slice_get xs at → length xs ≤ at
-past-none [] at h = omega arith
-past-none (x ∷ xs) zero h = absurd cc
-past-none (x ∷ xs) (suc at) h = let rest : length xs ≤ at = past-none xs at h in omega arith
-
--- none are left there
-pub drop-none : {X : Type 0} (xs : List X) (at : ℕ) → None ≡ slice_get xs at → drop at xs ≡ []
-drop-none [] zero h = refl
-drop-none [] (suc at) h = refl
-drop-none (x ∷ xs) zero h = absurd cc
-drop-none (x ∷ xs) (suc at) h = drop-none xs at h
-
--- the element at a place, and those that are left behind it
-pub drop-some : {X : Type 0} (xs : List X) (at : ℕ) (x : X) → Some x ≡ slice_get xs at → drop at xs ≡ x ∷ drop (at + 1) xs
-drop-some xs at x h =
-    let within : at < length xs = slice_get_within xs at x (sym h) in
-    drop-cons xs at x within ∙ rw (get_or_from_slice_get xs at x x (sym h), add-one) refl
 
 -- a listed number has a place
 place-found : (ks : List ℕ) (q : ℕ) → list_any (nat_eq q) ks ≡ true → (k : ℕ) × (slice_get ks k ≡ Some q)

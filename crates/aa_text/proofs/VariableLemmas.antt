@@ -143,7 +143,7 @@ same_texts-short f (t ∷ ts) zero (o ∷ os) within short = absurd (omega arith
 same_texts-short f (t ∷ ts) (suc at) others within short = same_texts-short f ts at others (omega arith) short
 
 -- one place further on in a list that is longer by one
-shifted : (at len : ℕ) → cond (nat_lt (1 + at) (suc len)) (Some (1 + at)) None ≡ option_map suc (cond (nat_lt at len) (Some at) None)
+pub shifted : (at len : ℕ) → cond (nat_lt (1 + at) (suc len)) (Some (1 + at)) None ≡ option_map suc (cond (nat_lt at len) (Some at) None)
 shifted at len = by (nat_lt at len) refl
   where
     by : (within : Bool) → nat_lt at len ≡ within → cond (nat_lt (1 + at) (suc len)) (Some (1 + at)) None ≡ option_map suc (cond (nat_lt at len) (Some at) None)

@@ -1,5 +1,5 @@
 -- An order of variables in which each stands behind all that its words name.
-use Rattle.std.specs.Prelude.{ℕ, Bool, true, ◌≡◌, nat_eq, List, [], take, slice_get, Option, None, Some}
+use Rattle.std.specs.Prelude.{ℕ, Bool, true, ◌≡◌, nat_eq, List, take, slice_get, None, Some}
 use Rattle.std.specs.List.{list_all, list_any}
 use Rattle.aa_text.specs.Variables.{Variable, Part, Byte, Name, Unclosed, parts}
 use Rattle.aa_text.specs.VariablePlaces.{place_of, words_at}

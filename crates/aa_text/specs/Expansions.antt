@@ -1,5 +1,5 @@
 -- Expansions: what the names in a text lead to, and the texts that come of putting values in (apparmor.d(5), "Variables"; see docs/policy.md, "Variables").
-use Rattle.std.specs.Prelude.{ℕ, zero, suc, Bool, true, not, ◌||◌, List, [], ◌∷◌, ◌++◌, length, map, flat_map, find, Option, None, Some, if◌then◌else◌}
+use Rattle.std.specs.Prelude.{ℕ, zero, suc, Bool, true, ◌||◌, List, [], ◌∷◌, ◌++◌, length, map, flat_map, Option, None, Some, if◌then◌else◌}
 use Rattle.std.specs.List.{list_any}
 use Rattle.aa_text.specs.Variables.{Variable, named, names_undefined, Part, Byte, Name, Unclosed, parts}
 use Rattle.aa_text.specs.declared.text_error.TextRefusal.{TextRefusal}

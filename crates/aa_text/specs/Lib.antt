@@ -1,12 +1,16 @@
 pub mod Bytes
 pub mod Cut
 pub mod CutFault
+pub mod CutLaws
+pub mod ExpansionLaws
 pub mod ExpansionOrder
+pub mod ExpansionTables
 pub mod Expansions
 pub mod Files
 pub mod Members
 pub mod Pieces
 pub mod ReachedVariables
+pub mod SettledVariables
 pub mod Splicing
 pub mod SplicingProgress
 pub mod TextError

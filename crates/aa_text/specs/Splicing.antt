@@ -1,6 +1,6 @@
 -- Splicing: a file's tokens, with those of the files that it includes in the place of each Include (apparmor.d(5), "#include
 -- mechanism"; see docs/policy.md, "Includes").
-use Rattle.std.specs.Prelude.{ℕ, zero, suc, ◌+◌, ◌-◌, Bool, true, false, not, ◌==◌, ◌&&◌, ◌||◌, nat_le, nat_lt, if◌then◌else◌, List, [], ◌∷◌, ◌++◌, length, take, drop, slice_index_or, Option, None, Some, Result, Ok, Err}
+use Rattle.std.specs.Prelude.{ℕ, zero, suc, ◌+◌, ◌-◌, Bool, false, not, ◌==◌, nat_le, if◌then◌else◌, List, [], ◌∷◌, ◌++◌, length, take, Option, None, Some, Result, Ok, Err}
 use Rattle.std.specs.List.{list_any, prefix_len}
 use Rattle.aa_text.specs.Bytes.{slash}
 use Rattle.aa_text.specs.Cut.{Seen, cut}

@@ -1,9 +1,12 @@
-//! What holds of variables and expansions, as laws over their definitions.
+//! What holds of tokens, variables and expansions, as laws over their definitions.
 
-ghost use Rattle.std.specs.Prelude.{◌≡◌, ℕ, false, List, None, find, flat_map};
+ghost use Rattle.std.specs.Prelude.{◌≡◌, ℕ, true, false, List, ◌∷◌, [], None, Ok, Some, find, flat_map, length};
 ghost use Rattle.std.specs.List.{list_any};
-ghost use Rattle.aa_text.specs.Expansions.{is_cyclic, leads_to_cycle, leads_to_undefined, words_of};
-ghost use Rattle.aa_text.specs.Variables.{Variable, names_undefined};
+ghost use Rattle.aa_text.specs.Cut.{cut, Seen};
+ghost use Rattle.aa_text.specs.CutLaws.{Covers};
+ghost use Rattle.aa_text.specs.ExpansionLaws.{choice_count, names_nothing, names_variable};
+ghost use Rattle.aa_text.specs.Expansions.{expansions, is_cyclic, leads_to_cycle, leads_to_undefined, values, words_of};
+ghost use Rattle.aa_text.specs.Variables.{Variable, named, names_undefined, parts};
 
 /// Where no word of a variable names one that isn't defined, a text leads to such a name only if it names one itself. Where no variable
 /// leads to itself, no text leads to one that does.
@@ -15,4 +18,30 @@ pub fn what_a_text_leads_to()
     ensures acyclic { (variables : List Variable) (text : List ℕ)
         → find (is_cyclic variables) variables ≡ None
         → leads_to_cycle variables text ≡ false }
+{}
+
+/// A text that names no variable has itself as its one expansion. A text has as many expansions as the product of the counts of its names'
+/// values. The values of a variable that does not lead to itself are the expansions of its words, in order. And the expansions of a text
+/// depend on the values of those names alone that it names.
+pub fn how_texts_expand()
+    ensures plain { (variables : List Variable) (text : List ℕ)
+        → names_nothing text ≡ true
+        → expansions variables text ≡ text ∷ [] }
+    ensures product { (variables : List Variable) (text : List ℕ)
+        → length (expansions variables text) ≡ choice_count (values variables) (parts text) }
+    ensures values { (variables : List Variable) (name : List ℕ) (variable : Variable)
+        → named name variables ≡ Some variable
+        → is_cyclic variables variable ≡ false
+        → values variables name ≡ flat_map (expansions variables) (words_of variable) }
+    ensures once { (variables others : List Variable) (text : List ℕ)
+        → ((name : List ℕ) → names_variable text name ≡ true → values variables name ≡ values others name)
+        → expansions variables text ≡ expansions others text }
+{}
+
+/// The tokens of a text cover it from left to right: none overlaps another, what stands between them, before the first and behind the last
+/// is blanks and comments alone, and each token's text is a part of its span.
+pub fn how_a_text_is_cut()
+    ensures covered { (source : List ℕ) (tokens : List Seen)
+        → cut 0 0 false source ≡ Ok tokens
+        → Covers 0 source tokens }
 {}

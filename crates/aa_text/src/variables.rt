@@ -195,6 +195,7 @@ impl Variables {
     }
 }
 
+mod count;
 mod expand;
 mod order;
 mod places;

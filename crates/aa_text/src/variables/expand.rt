@@ -1,30 +1,89 @@
 //! The expansions of a text: one for each choice of a value for each of its names.
 
-ghost use Rattle.std.specs.Prelude.{◌≡◌, ◌≢◌, None, Some, IfOk, IfErr, OnOk, length, map, min, take};
-ghost use Rattle.aa_text.specs.Expansions.{expansion_refusal, expansions, most_counted, most_told};
+ghost use Rattle.std.specs.Prelude.{◌≡◌, ◌≢◌, ◌≤◌, ◌++◌, ◌∷◌, [], None, Some, IfOk, IfErr, OnOk, length, map, take};
+ghost use Rattle.aa_text.specs.ExpansionOrder.{IsOrder};
+ghost use Rattle.aa_text.specs.ExpansionTables.{bytes_of, expanded_words, joined, texts_of, told, told_at, told_by};
+ghost use Rattle.aa_text.specs.Expansions.{choices, expansion_refusal, expansions, most_told};
+ghost use Rattle.aa_text.specs.TextParts.{parts_of};
+ghost use Rattle.aa_text.specs.VariablePlaces.{words_at};
+ghost use Rattle.aa_text.specs.Variables.{parts};
 ghost use Rattle.aa_text.specs.declared.text_error.TextRefusal.TheVariants.{Memory};
 
+use crate::parts::{TextPart, first_part};
+use crate::sequence::Sequence;
 use crate::text_error::TextError;
 use crate::variables::Variables;
+use indexmap::IndexSet;
+use std::alloc::{AllocError, Global};
+
+// How many bytes of an expansion are told.
+const MOST_TOLD: usize = 4_097;
+
+// As much of a text as is told.
+fn cut(text: &[u8]) -> &[u8]
+    ensures { result.now ≡ take most_told text.now }
+{
+    &text[..text.len().min(MOST_TOLD)]
+}
+
+// A text with another behind it, as much of it as is told.
+fn joined_text(alloc: Global, text: &[u8], end: &[u8]) -> Result<Vec<u8>, AllocError>
+    ensures { IfOk result (λ all. all.items ≡ take most_told (text.now ++ end.now)) }
+{
+    let text = cut(text);
+    let room = MOST_TOLD - text.len();
+    let end = &end[..end.len().min(room)];
+    let mut all = Vec::with_capacity(alloc, text.len() + end.len())?;
+    all.extend_from_slice(text)?;
+    all.extend_from_slice(end)?;
+    Ok(all)
+}
+
+// A text with each end behind it, as much of each as is told.
+fn with_each(alloc: Global, text: &[u8], ends: &[Vec<u8>]) -> Result<Vec<Vec<u8>>, AllocError>
+    ensures { IfOk result (λ all. texts_of all ≡ told (map (λ end. text.now ++ end) (bytes_of ends.now))) }
+{
+    let mut all = Vec::with_capacity(alloc, ends.len())?;
+    for end in ends {
+        all.push(joined_text(alloc, text, end)?)?;
+    }
+    Ok(all)
+}
+
+// Each text with each end behind it, as much of each as is told.
+fn with_ends(alloc: Global, texts: &[Vec<u8>], ends: &[Vec<u8>]) -> Result<Vec<Vec<u8>>, AllocError>
+    ensures { IfOk result (λ all. texts_of all ≡ told (joined (bytes_of texts.now) (bytes_of ends.now))) }
+{
+    let mut all = Vec::new(alloc);
+    for text in texts {
+        let mut more = with_each(alloc, text, ends)?;
+        all.append(&mut more)?;
+    }
+    Ok(all)
+}
+
+// Puts bytes behind a text, as many as are told.
+fn put_behind(text: &mut Vec<u8>, bytes: &[u8]) -> Result<(), AllocError>
+    ensures { OnOk result (text.new.items ≡ take most_told (text.old.items ++ bytes.now)) }
+{
+    text.truncate(MOST_TOLD);
+    let room = MOST_TOLD - text.len();
+    text.extend_from_slice(&bytes[..bytes.len().min(room)])?;
+    Ok(())
+}
+
+// Each text with the same bytes behind it, as much of each as is told.
+fn with_bytes(texts: Vec<Vec<u8>>, bytes: &[u8]) -> Result<Vec<Vec<u8>>, AllocError>
+    ensures { IfOk result (λ all. texts_of all ≡ told (joined (texts_of texts) (bytes.now ∷ []))) }
+{
+    let mut texts = texts;
+    for text in texts.iter_mut() {
+        put_behind(text, bytes)?;
+    }
+    Ok(texts)
+}
 
 impl Variables {
-    /// How many expansions a text has, where that is less than 16,385, and else 16,385.
-    ///
-    /// # Errors
-    ///
-    /// The first of these that applies, without a place.
-    /// - `Undefined`: the text leads to a name that isn't defined or isn't closed.
-    /// - `Cycle`: the text leads to a variable that leads to itself.
-    /// - `Memory`: memory ran out.
-    pub fn count(&self, text: &[u8]) -> Result<usize, TextError>
-        ensures fine { OnOk result (expansion_refusal self.now text.now ≡ None) }
-        ensures count { IfOk result (λ count. count ≡ min (length (expansions self.now text.now)) most_counted) }
-        ensures refused { IfErr result (λ e. e.refusal ≢ Memory → expansion_refusal self.now text.now ≡ Some e.refusal) }
-        ensures place { IfErr result (λ e. e.place ≡ None) }
-    {
-        Ok(0)
-    }
-
     /// The expansions of a text: one for each choice of a value for each name, the first name changing slowest. Of each, the first
     /// 4,097 bytes are told.
     ///
@@ -42,7 +101,119 @@ impl Variables {
         ensures refused { IfErr result (λ e. e.refusal ≢ Memory → expansion_refusal self.now text.now ≡ Some e.refusal) }
         ensures place { IfErr result (λ e. e.place ≡ None) }
     {
+        let order = self.order(text)?;
+        let table = self.table(&order)?;
+        Ok(self.expand_text(&order, table.as_slice(), text)?)
+    }
+
+    // The values of each variable of an order.
+    fn table(&self, order: &IndexSet<usize>) -> Result<Vec<Vec<Vec<u8>>>, AllocError>
+        requires order { IsOrder self.now order.now.keys }
+        requires few { length order.now.keys ≤ length self.now }
+        ensures { IfOk result (λ table. map texts_of table.items ≡ map (told_at self.now) order.now.keys) }
+    {
+        let places = order.as_slice();
+        let mut table = Vec::with_capacity(*self.by_name.allocator(), places.len())?;
+        for place in places {
+            let texts = self.expand_place(order, table.as_slice(), *place)?;
+            table.push(texts)?;
+        }
+        Ok(table)
+    }
+
+    // The values of the variable at a place, by a table of values.
+    fn expand_place(
+        &self,
+        order: &IndexSet<usize>,
+        table: &[Vec<Vec<u8>>],
+        place: usize,
+    ) -> Result<Vec<Vec<u8>>, AllocError>
+        ensures { IfOk result (λ texts. texts_of texts ≡ expanded_words (told_by self.now order.now.keys table.now) (words_at self.now place)) }
+    {
+        match self.by_name.get_index(place) {
+            Some((_, values)) => {
+                let mut texts = self.expand_words(order, table, values.defined.as_slice())?;
+                let mut added = self.expand_words(order, table, values.added.as_slice())?;
+                texts.append(&mut added)?;
+                Ok(texts)
+            }
+            None => Ok(Vec::new(*self.by_name.allocator())),
+        }
+    }
+
+    // The expansions of words, by a table of values, one list behind the other.
+    fn expand_words(
+        &self,
+        order: &IndexSet<usize>,
+        table: &[Vec<Vec<u8>>],
+        words: &[Sequence<u8>],
+    ) -> Result<Vec<Vec<u8>>, AllocError>
+        ensures { IfOk result (λ texts. texts_of texts ≡ expanded_words (told_by self.now order.now.keys table.now) words.now) }
+    {
+        let mut texts = Vec::new(*self.by_name.allocator());
+        for word in words {
+            let mut more = self.expand_text(order, table, word.as_slice())?;
+            texts.append(&mut more)?;
+        }
+        Ok(texts)
+    }
+
+    // The expansions of a text, by a table of values.
+    fn expand_text(
+        &self,
+        order: &IndexSet<usize>,
+        table: &[Vec<Vec<u8>>],
+        text: &[u8],
+    ) -> Result<Vec<Vec<u8>>, AllocError>
+        ensures { IfOk result (λ texts. texts_of texts ≡ told (choices (told_by self.now order.now.keys table.now) (parts text.now))) }
+    {
         let alloc = *self.by_name.allocator();
-        Ok(Vec::new(alloc))
+        let mut texts = Vec::with_capacity(alloc, 1)?;
+        texts.push(Vec::new(alloc))?;
+        let mut rest = text;
+        while let Some((part, after)) = first_part(rest) {
+            texts = self.expand_part(order, table, part, texts)?;
+            rest = after;
+        }
+        Ok(texts)
+    }
+
+    // Texts with the expansions of a part behind them, by a table of values.
+    fn expand_part(
+        &self,
+        order: &IndexSet<usize>,
+        table: &[Vec<Vec<u8>>],
+        part: TextPart<'_>,
+        texts: Vec<Vec<u8>>,
+    ) -> Result<Vec<Vec<u8>>, AllocError>
+        ensures { IfOk result (λ all. texts_of all ≡ told (joined (texts_of texts) (choices (told_by self.now order.now.keys table.now) (parts_of part.entry)))) }
+    {
+        let alloc = *self.by_name.allocator();
+        match part {
+            TextPart::Text(bytes) => with_bytes(texts, bytes),
+            TextPart::Name(name) => {
+                let values = self.values(order, table, name);
+                with_ends(alloc, texts.as_slice(), values)
+            }
+            TextPart::Unclosed => Ok(Vec::new(alloc)),
+        }
+    }
+
+    // The values of a name, by a table of values.
+    fn values<'a>(
+        &self,
+        order: &IndexSet<usize>,
+        table: &'a [Vec<Vec<u8>>],
+        name: &[u8],
+    ) -> &'a [Vec<u8>]
+        ensures { bytes_of result.now ≡ told_by self.now order.now.keys table.now name.now }
+    {
+        match self.row(order, name) {
+            Some(row) => match table.get(row) {
+                Some(values) => values.as_slice(),
+                None => &[],
+            },
+            None => &[],
+        }
     }
 }

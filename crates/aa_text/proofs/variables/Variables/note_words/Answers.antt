@@ -6,7 +6,8 @@ use Rattle.std.proofs.lemmas.Result.{err_from_is_err_and}
 use Rattle.aa_text.specs.ReachedVariables.{places_within, with_places}
 use Rattle.aa_text.specs.VariablePlaces.{words_at}
 use Rattle.aa_text.specs.Variables.{names_undefined}
-use Rattle.aa_text.proofs.ReachedLemmas.{any-drop, drop-none, places_within-behind}
+use Rattle.aa_text.proofs.ListLemmas.{drop-none}
+use Rattle.aa_text.proofs.ReachedLemmas.{any-drop, places_within-behind}
 use Rattle.aa_text.proofs.variables.Variables.note_words.Goals as goal
 
 pub returns-in_err-note-clause-refused : goal.returns-in_err-note-clause-refused

@@ -1,0 +1,28 @@
+-- Words that the laws of expansions are said in.
+use Rattle.std.specs.Prelude.{ℕ, ◌*◌, Bool, true, false, List, [], ◌∷◌, length}
+use Rattle.std.specs.List.{list_all, list_any}
+use Rattle.std.specs.Str.{bytes_eq}
+use Rattle.aa_text.specs.Variables.{Part, Byte, Name, Unclosed, parts}
+
+abbrev pub is_byte : Part → Bool
+is_byte (Byte b) = true
+is_byte part = false
+
+-- a text names no variable and opens no name
+abbrev pub names_nothing : List ℕ → Bool
+names_nothing text = list_all is_byte (parts text)
+
+abbrev pub is_name : List ℕ → Part → Bool
+is_name name (Name other) = bytes_eq name other
+is_name name part = false
+
+-- a text names the variable of this name
+abbrev pub names_variable : List ℕ → List ℕ → Bool
+names_variable text name = list_any (is_name name) (parts text)
+
+-- how many choices there are: the product of the counts of values of the names
+abbrev pub choice_count : (List ℕ → List (List ℕ)) → List Part → ℕ
+choice_count values [] = 1
+choice_count values (Byte b ∷ ps) = choice_count values ps
+choice_count values (Name name ∷ ps) = length (values name) * choice_count values ps
+choice_count values (Unclosed ∷ ps) = 0
