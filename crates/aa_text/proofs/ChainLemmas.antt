@@ -2,37 +2,16 @@
 use Rattle.std.proofs.Common.{◌≡◌, ℕ, zero, suc, ◌<◌, ◌≤◌, Bool, true, false, ◌||◌, List, [], ◌∷◌, length, take, arith, refl}
 use Rattle.std.specs.Prelude.{Option, None, Some, nat_eq}
 use Rattle.std.specs.List.{list_all, list_any}
+use Rattle.std.proofs.lemmas.Bool.{and_parts, or_from, or_left, or_right}
 use Rattle.std.proofs.lemmas.List.Folds.{list_any-append}
 use Rattle.std.proofs.Math.Seq.{take-length}
-use Rattle.aa_text.proofs.OrderLemmas.{both, index_of_known}
+use Rattle.aa_text.proofs.ListLemmas.{place-among_first}
 use Rattle.aa_text.proofs.PlaceLemmas.{words_named-from_none, words_named-from_some}
+use Rattle.aa_text.proofs.TestLemmas.{any-weaker}
 use Rattle.aa_text.specs.ExpansionOrder.{IsOrder, are_texts_known, is_part_known, is_text_known}
 use Rattle.aa_text.specs.Expansions.{has_chain, leads_to_cycle, words_behind, words_behind_parts, words_named}
 use Rattle.aa_text.specs.VariablePlaces.{place_of, words_at}
 use Rattle.aa_text.specs.Variables.{Byte, Name, Part, Unclosed, Variable, parts}
-
--- neither of two tests passes
-neither : (a b : Bool) → a ≡ false → b ≡ false → (a || b) ≡ false
-neither true b h k = absurd (cc)
-neither false b h k = k
-
--- one of two tests passes
-first_passes : (a b : Bool) → a ≡ true → (a || b) ≡ true
-first_passes true b h = refl
-first_passes false b h = absurd (cc)
-
-second_passes : (a b : Bool) → b ≡ true → (a || b) ≡ true
-second_passes true b h = refl
-second_passes false b h = h
-
--- a test that is weaker passes too
-list_any_weaker : {X : Type 0} (p q : X → Bool) → ((x : X) → p x ≡ true → q x ≡ true) → (xs : List X) → list_any p xs ≡ true → list_any q xs ≡ true
-list_any_weaker p q weaker [] h = absurd (cc)
-list_any_weaker p q weaker (x ∷ xs) h = by (p x) refl (list_any_weaker p q weaker xs)
-  where
-    by : (b : Bool) → p x ≡ b → (list_any p xs ≡ true → list_any q xs ≡ true) → list_any q (x ∷ xs) ≡ true
-    by true b rest = first_passes (q x) (list_any q xs) (weaker x b)
-    by false b rest = second_passes (q x) (list_any q xs) (rest (rw b at h))
 
 module _ (variables : List Variable) where
   -- a chain has shorter ones
@@ -40,7 +19,7 @@ module _ (variables : List Variable) where
   shorter_chain zero long b text h = refl
   shorter_chain (suc short) zero b text h = absurd (omega arith)
   shorter_chain (suc short) (suc long) b text h =
-      list_any_weaker (has_chain variables long) (has_chain variables short) (shorter_chain short long (omega arith)) (words_behind variables text) h
+      any-weaker (has_chain variables long) (has_chain variables short) (shorter_chain short long (omega arith)) (words_behind variables text) h
 
   -- where a chain is missing, longer ones are
   pub no_longer_chain : (short long : ℕ) → short ≤ long → (text : List ℕ) → has_chain variables short text ≡ false → has_chain variables long text ≡ false
@@ -52,14 +31,14 @@ module _ (variables : List Variable) where
 
   module _ (known : List ℕ) (test : List ℕ → Bool) where
     -- no word behind parts passes a test that none of the words of a known name passes
-    no_word_behind : ((name : List ℕ) → is_part_known variables known (Name name) ≡ true → list_any test (words_named variables name) ≡ false)
+    pub no_word_behind : ((name : List ℕ) → is_part_known variables known (Name name) ≡ true → list_any test (words_named variables name) ≡ false)
         → (ps : List Part) → list_all (is_part_known variables known) ps ≡ true → list_any test (words_behind_parts variables ps) ≡ false
     no_word_behind none [] h = refl
     no_word_behind none (Byte b ∷ ps) h = no_word_behind none ps h
     no_word_behind none (Name name ∷ ps) h =
-        let here = both _ _ h in
+        let here = and_parts _ _ h in
         rw (list_any-append test (words_named variables name) (words_behind_parts variables ps))
-        (neither _ _ (none name here.0) (no_word_behind none ps here.1))
+        (or_from _ _ (none name here.0) (no_word_behind none ps here.1))
     no_word_behind none (Unclosed ∷ ps) h = no_word_behind none ps h
 
     -- no known text passes a test that none passes
@@ -67,8 +46,8 @@ module _ (variables : List Variable) where
         → (texts : List (List ℕ)) → are_texts_known variables known texts ≡ true → list_any test texts ≡ false
     no_known_text none [] h = refl
     no_known_text none (text ∷ texts) h =
-        let here = both _ _ h in
-        neither _ _ (none text here.0) (no_known_text none texts here.1)
+        let here = and_parts _ _ h in
+        or_from _ _ (none text here.0) (no_known_text none texts here.1)
 
   module _ (order : List ℕ) (ordered : IsOrder variables order) where
     -- behind a text that is known by the first ones of an order, no chain is longer than these are many
@@ -80,7 +59,7 @@ module _ (variables : List Variable) where
             → list_any (has_chain variables count) (words_named variables name) ≡ false
         by name known None f = rw (words_named-from_none variables name f) refl
         by name known (Some place) f =
-            let there = index_of_known order count place (rw (f, is_part_known) at known) in
+            let there = place-among_first order count place (rw (f, is_part_known) at known) in
             absurd (omega (arith, there.1))
     no_chain (suc bound) count b text h =
         no_word_behind (take count order) (has_chain variables count) (λ name known. by (no_chain bound) name known (place_of variables name) refl) (parts text) h
@@ -90,7 +69,7 @@ module _ (variables : List Variable) where
             → list_any (has_chain variables count) (words_named variables name) ≡ false
         by rest name known None f = rw (words_named-from_none variables name f) refl
         by rest name known (Some place) f =
-            let there = index_of_known order count place (rw (f, is_part_known) at known) in
+            let there = place-among_first order count place (rw (f, is_part_known) at known) in
             let before : there.0 < count = there.1 in
             rw (words_named-from_some variables name place f)
             (no_known_text (take there.0 order) (has_chain variables count)
@@ -107,7 +86,7 @@ module _ (variables : List Variable) where
     pub no_cycle-at : length order ≤ length variables → (place : ℕ) → list_any (nat_eq place) order ≡ true
         → list_any (has_chain variables (length variables)) (words_at variables place) ≡ false
     no_cycle-at few place h =
-        let there = index_of_known order (length order) place (rw (take-length order) h) in
+        let there = place-among_first order (length order) place (rw (take-length order) h) in
         let before : there.0 < length order = there.1 in
         no_known_text (take there.0 order) (has_chain variables (length variables))
         (λ word w. no_longer_chain (suc there.0) (length variables) (omega arith) word (no_chain there.0 there.0 (omega arith) word w))
@@ -122,15 +101,15 @@ module _ (variables : List Variable) where
     some_word_behind test some [] h k = absurd (cc)
     some_word_behind test some (Byte b ∷ ps) h k = some_word_behind test some ps h k
     some_word_behind test some (Name name ∷ ps) h k =
-        let here = both _ _ h in
+        let here = and_parts _ _ h in
         rw (list_any-append test (words_named variables name) (words_behind_parts variables ps))
         (by (is_part_known variables order (Name name)) refl here.0 (some_word_behind test some ps here.1))
       where
         by : (b : Bool) → is_part_known variables order (Name name) ≡ b → is_part_known variables candidates (Name name) ≡ true
             → (list_all (is_part_known variables order) ps ≡ false → list_any test (words_behind_parts variables ps) ≡ true)
             → (list_any test (words_named variables name) || list_any test (words_behind_parts variables ps)) ≡ true
-        by true b known rest = second_passes _ _ (rest (rw b at k))
-        by false b known rest = first_passes _ _ (some name known b)
+        by true b known rest = or_right _ _ (rest (rw b at k))
+        by false b known rest = or_left _ _ (some name known b)
     some_word_behind test some (Unclosed ∷ ps) h k = some_word_behind test some ps h k
 
     -- one of the texts is known by the candidates alone
@@ -138,14 +117,14 @@ module _ (variables : List Variable) where
         → (texts : List (List ℕ)) → are_texts_known variables candidates texts ≡ true → are_texts_known variables order texts ≡ false → list_any test texts ≡ true
     some_unknown_text test some [] h k = absurd (cc)
     some_unknown_text test some (text ∷ texts) h k =
-        let here = both _ _ h in
+        let here = and_parts _ _ h in
         by (is_text_known variables order text) refl here.0 (some_unknown_text test some texts here.1)
       where
         by : (b : Bool) → is_text_known variables order text ≡ b → is_text_known variables candidates text ≡ true
             → (are_texts_known variables order texts ≡ false → list_any test texts ≡ true)
             → list_any test (text ∷ texts) ≡ true
-        by true b known rest = second_passes _ _ (rest (rw b at k))
-        by false b known rest = first_passes _ _ (some text known b)
+        by true b known rest = or_right _ _ (rest (rw b at k))
+        by false b known rest = or_left _ _ (some text known b)
 
     module _ (closed : (place : ℕ) → list_any (nat_eq place) candidates ≡ true → are_texts_known variables candidates (words_at variables place) ≡ true)
         (stuck : (place : ℕ) → list_any (nat_eq place) candidates ≡ true → list_any (nat_eq place) order ≡ false → are_texts_known variables order (words_at variables place) ≡ false) where

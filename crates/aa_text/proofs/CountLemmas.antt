@@ -46,10 +46,6 @@ min-product a t p most fits h =
     let same : (a * t) * p ≡ a * (t * p) = omega arith in
     rw (cut, min-times (a * t) p most, same) refl
 
--- a sum that is cut at each step
-pub min-sum : (a b s most fits : ℕ) → most ≤ fits → min (min (min (a + b) fits) most + s) most ≡ min (a + (b + s)) most
-min-sum a b s most fits h = omega arith
-
 -- the parts so far, one more part, and the rest
 pub count-part : (counts : List ℕ → ℕ) (so_far times fits : ℕ) (part rest ps : List Part) → part ++ rest ≡ ps → times ≡ product counts part → most_counted ≤ fits
     → min (min (min (so_far * times) fits) most_counted * product counts rest) most_counted ≡ min (so_far * product counts ps) most_counted

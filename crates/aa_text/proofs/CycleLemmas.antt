@@ -1,17 +1,18 @@
 -- What a settled order says of the refusals of texts and of the variables that lead to themselves.
 use Rattle.std.proofs.Common.{◌≡◌, ℕ, zero, suc, ◌+◌, ◌<◌, ◌≤◌, Bool, true, false, List, [], ◌∷◌, ◌++◌, length, arith, refl, sym, ap, ◌∙◌}
 use Rattle.std.specs.Prelude.{Option, None, Some, nat_eq, nat_lt, option_map, slice_get, position}
-use Rattle.std.specs.List.{list_all, list_any, position_or_len, range_with_len}
+use Rattle.std.specs.List.{list_any, position_or_len, range_with_len}
 use Rattle.std.proofs.lemmas.Bool.Decides.{nat_tests}
+use Rattle.std.proofs.lemmas.Option.{slice_get_within}
 use Rattle.aa_text.proofs.ChainLemmas.{no_cycle, no_cycle-at, stuck_place, stuck_text}
-use Rattle.aa_text.proofs.OrderLemmas.{same_number}
-use Rattle.aa_text.proofs.PlaceLemmas.{place_of-within}
+use Rattle.aa_text.proofs.ReachedLemmas.{places_within-below, texts-known}
+use Rattle.aa_text.proofs.TestLemmas.{same-from_test}
 use Rattle.aa_text.proofs.VariableLemmas.{shifted}
-use Rattle.aa_text.specs.ExpansionOrder.{IsOrder, are_texts_known, is_part_known, is_text_known}
+use Rattle.aa_text.specs.ExpansionOrder.{IsOrder, are_texts_known, is_text_known}
 use Rattle.aa_text.specs.Expansions.{expansion_refusal, is_cyclic, leads_to_cycle, leads_to_undefined}
 use Rattle.aa_text.specs.SettledVariables.{FirstOutside, is_ready}
-use Rattle.aa_text.specs.VariablePlaces.{place_of, words_at}
-use Rattle.aa_text.specs.Variables.{Byte, Name, Part, Unclosed, Variable, parts}
+use Rattle.aa_text.specs.VariablePlaces.{words_at}
+use Rattle.aa_text.specs.Variables.{Variable}
 use Rattle.aa_text.specs.declared.text_error.TextRefusal.TheVariants.{Cycle}
 
 module _ (variables : List Variable) (text : List ℕ) where
@@ -62,33 +63,12 @@ range-below first zero q h = absurd (cc)
 range-below first (suc count) q h = by (nat_eq q first) refl (range-below (first + 1) count q)
   where
     by : (b : Bool) → nat_eq q first ≡ b → (list_any (nat_eq q) (range_with_len (first + 1) count) ≡ true → q < first + 1 + count) → q < first + suc count
-    by true b rest = let same = same_number q first b in omega arith
+    by true b rest = let same = same-from_test q first b in omega arith
     by false b rest = let within = rest (rw b at h) in omega arith
 
 -- the first places are below their number
 pub places-below : (count q : ℕ) → list_any (nat_eq q) (range_with_len 0 count) ≡ true → q < count
 places-below count q h = let within = range-below 0 count q h in omega arith
-
-module _ (variables : List Variable) (all : List ℕ) (has : (q : ℕ) → q < length variables → list_any (nat_eq q) all ≡ true) where
-  -- where all places are known, each part is
-  part-known : (part : Part) → is_part_known variables all part ≡ true
-  part-known (Byte b) = refl
-  part-known (Name name) = by (place_of variables name) refl
-    where
-      by : (found : Option ℕ) → place_of variables name ≡ found → is_part_known variables all (Name name) ≡ true
-      by None f = rw (f, is_part_known) refl
-      by (Some place) f = rw (f, is_part_known) (has place (place_of-within variables name place f))
-  part-known Unclosed = refl
-
-  -- so are all parts
-  parts-known : (ps : List Part) → list_all (is_part_known variables all) ps ≡ true
-  parts-known [] = refl
-  parts-known (p ∷ ps) = rw (part-known p) (parts-known ps)
-
-  -- and all texts
-  pub texts-known : (texts : List (List ℕ)) → are_texts_known variables all texts ≡ true
-  texts-known [] = refl
-  texts-known (text ∷ texts) = let here : is_text_known variables all text ≡ true = parts-known (parts text) in rw here (texts-known texts)
 
 module _ {X : Type 0} (p : X → Bool) where
   -- the first element that passes a test
@@ -112,10 +92,10 @@ module _ {X : Type 0} (p : X → Bool) where
       rw here (shifted (position_or_len p ys) (length ys) ∙ ap (option_map suc) (position-nowhere ys (λ k z s. none (suc k) z s)))
 
 -- where a list has elements
-slice_get-within : {X : Type 0} (xs : List X) (at : ℕ) → at < length xs → (x : X) × (slice_get xs at ≡ Some x)
-slice_get-within [] at h = absurd (omega arith)
-slice_get-within (x ∷ xs) zero h = (x, refl)
-slice_get-within (x ∷ xs) (suc at) h = slice_get-within xs at (omega arith)
+element_within : {X : Type 0} (xs : List X) (at : ℕ) → at < length xs → (x : X) × (slice_get xs at ≡ Some x)
+element_within [] at h = absurd (omega arith)
+element_within (x ∷ xs) zero h = (x, refl)
+element_within (x ∷ xs) (suc at) h = element_within xs at (omega arith)
 
 module _ (variables : List Variable) (order : List ℕ) (ordered : IsOrder variables order) (few : length order ≤ length variables) where
   -- a variable whose place is in an order doesn't lead to itself
@@ -126,12 +106,7 @@ module _ (variables : List Variable) (order : List ℕ) (ordered : IsOrder varia
 
   -- where all places are in an order, none does
   cycle-nowhere : ((q : ℕ) → q < length variables → list_any (nat_eq q) order ≡ true) → None ≡ position (is_cyclic variables) variables
-  cycle-nowhere has = sym (position-nowhere (is_cyclic variables) variables (λ k v h. acyclic-at k v (has k (within variables k v h)) h))
-    where
-      within : (xs : List Variable) (k : ℕ) (v : Variable) → slice_get xs k ≡ Some v → k < length xs
-      within [] k v h = absurd (cc)
-      within (x ∷ xs) zero v h = omega arith
-      within (x ∷ xs) (suc k) v h = let rest = within xs k v h in omega arith
+  cycle-nowhere has = sym (position-nowhere (is_cyclic variables) variables (λ k v h. acyclic-at k v (has k (slice_get_within variables k v h)) h))
 
   -- the first place that isn't in an order behind which no place can be put is that of the first that does
   cycle-first : ((q : ℕ) → q < length variables → list_any (nat_eq q) order ≡ false → is_ready variables order q ≡ false)
@@ -140,9 +115,9 @@ module _ (variables : List Variable) (order : List ℕ) (ordered : IsOrder varia
   cycle-first stuck place below before outside =
       let all = range_with_len 0 (length variables) in
       let has : (q : ℕ) → q < length variables → list_any (nat_eq q) all ≡ true = λ q h. range-within 0 (length variables) q (omega arith) (omega arith) in
-      let found = slice_get-within variables place below in
+      let found = element_within variables place below in
       let chain = stuck_place variables all order
-      (λ q h. texts-known variables all has (words_at variables q))
+      (λ q h. texts-known variables all (words_at variables q) (λ place named. has place (places_within-below variables (words_at variables q) place named)))
       (λ q h o. stuck q (omega (arith, range-below 0 (length variables) q h)) o)
       (length variables) place (has place below) outside in
       let cyclic : is_cyclic variables found.0 ≡ true = rw (found.1, words_at) at chain in

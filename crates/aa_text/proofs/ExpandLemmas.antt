@@ -4,7 +4,7 @@ use Rattle.std.specs.Prelude.{Vec}
 use Rattle.std.specs.List.{flat_map, list_all}
 use Rattle.std.proofs.lemmas.Bool.{and_parts}
 use Rattle.std.proofs.lemmas.Grind.{flat_map-append}
-use Rattle.std.proofs.lemmas.List.{drop-set-lt, drop_more, map-append, take_all, take_more, take_more_set}
+use Rattle.std.proofs.lemmas.List.{drop-set-lt, drop_more, map-append, take-take, take_all, take_min, take_more, take_more_set}
 use Rattle.std.proofs.lemmas.Option.{slice_get-get_or}
 use Rattle.aa_text.specs.Variables.{Variable, Part, Byte, Name, Unclosed, parts}
 use Rattle.aa_text.specs.Expansions.{choices, expansions, most_told, values}
@@ -84,28 +84,15 @@ take-front zero (b ∷ bs) end = refl
 take-front (suc most) [] end = refl
 take-front (suc most) (b ∷ bs) end = ap (◌∷◌ b) (take-front most bs end)
 
--- a cut behind a cut
-take-shorter : (most more : ℕ) (text : List ℕ) → most ≤ more → take most (take more text) ≡ take most text
-take-shorter zero zero [] h = refl
-take-shorter zero (suc more) [] h = refl
-take-shorter zero zero (b ∷ bs) h = refl
-take-shorter zero (suc more) (b ∷ bs) h = refl
-take-shorter (suc most) zero text h = absurd (omega arith)
-take-shorter (suc most) (suc more) [] h = refl
-take-shorter (suc most) (suc more) (b ∷ bs) h = ap (◌∷◌ b) (take-shorter most more bs (omega arith))
-
 -- What is cut from a text may be cut from its end before.
 pub take-end : (most more : ℕ) (text end : List ℕ) → most ≤ more → take most (text ++ take more end) ≡ take most (text ++ end)
-take-end most more [] end h = take-shorter most more end h
+take-end most more [] end h = take-take most more end h
 take-end zero more (b ∷ bs) end h = refl
 take-end (suc most) more (b ∷ bs) end h = ap (◌∷◌ b) (take-end most more bs end (omega arith))
 
 -- no text grows by a cut
 pub take-min : (most : ℕ) (text : List ℕ) → take (min (length text) most) text ≡ take most text
-take-min zero [] = refl
-take-min (suc most) [] = let none : min 0 (suc most) ≡ 0 = omega arith in rw none refl
-take-min zero (b ∷ bs) = let none : min (length (b ∷ bs)) zero ≡ zero = omega arith in rw none refl
-take-min (suc most) (b ∷ bs) = let more : min (suc (length bs)) (suc most) ≡ suc (min (length bs) most) = omega arith in rw more (ap (◌∷◌ b) (take-min most bs))
+take-min most text = let same : min (length text) most ≡ min most (length text) = omega arith in rw same (take_min most text)
 
 -- an end of which as much is taken as there is room for
 take-room : (most : ℕ) (text end : List ℕ) → take most text ++ take (most - length (take most text)) end ≡ take most (text ++ end)
@@ -124,7 +111,7 @@ take-joined text end front size f s = rw (s, take-min (4097 - length front) end,
 -- texts that are cut
 pub told-told : (texts : List (List ℕ)) → told (told texts) ≡ told texts
 told-told [] = refl
-told-told (text ∷ texts) = rw (take-shorter most_told most_told text (omega arith), told-told texts) refl
+told-told (text ∷ texts) = rw (take-take most_told most_told text (omega arith), told-told texts) refl
 
 -- the texts of two lists are cut
 pub told-append : (texts others : List (List ℕ)) → told (texts ++ others) ≡ told texts ++ told others

@@ -1,15 +1,17 @@
 -- What the expansions of texts are.
-use Rattle.std.proofs.Common.{◌≡◌, ℕ, Bool, true, false, ◌||◌, ◌&&◌, ◌==◌, List, [], ◌∷◌, ◌++◌, ◌+◌, ◌*◌, ◌≤◌, zero, suc, length, map, arith, length-append, refl, sym, ap, ◌∙◌}
+use Rattle.std.proofs.Common.{◌≡◌, ℕ, Bool, true, false, ◌&&◌, ◌==◌, List, [], ◌∷◌, ◌++◌, ◌+◌, ◌*◌, ◌≤◌, zero, suc, length, map, arith, length-append, refl, sym, ap, ◌∙◌}
 use Rattle.std.specs.Prelude.{None, Some, flat_map}
 use Rattle.std.specs.List.{list_all, list_any}
 use Rattle.std.specs.Str.{bytes_eq}
+use Rattle.std.proofs.lemmas.Bool.{or_parts, or_right}
 use Rattle.std.proofs.lemmas.List.{length-map}
 use Rattle.std.proofs.lemmas.Slice.Eq.{bytes_eq-Decides}
 use Rattle.aa_text.specs.Bytes.{backslash, closing_brace, opening_brace}
 use Rattle.aa_text.specs.Variables.{Variable, Part, Byte, Name, Unclosed, at_sign, named, parts, parts_behind}
 use Rattle.aa_text.specs.Expansions.{choices, expansions, has_chain, is_cyclic, values, values_within, words_behind_parts, words_named, words_of}
 use Rattle.aa_text.specs.ExpansionLaws.{choice_count, is_byte, is_name}
-use Rattle.aa_text.proofs.LeadLaws.{none-first, none-second}
+use Rattle.aa_text.proofs.PlaceLemmas.{values_within-no_words}
+use Rattle.aa_text.proofs.TestLemmas.{any-neither_left, any-neither_right}
 
 -- ---- a text that names nothing
 
@@ -69,13 +71,9 @@ choices-agree f g [] h = refl
 choices-agree f g (Byte b ∷ ps) h = ap (map (λ rest. b ∷ rest)) (choices-agree f g ps h)
 choices-agree f g (Name name ∷ ps) h =
     let here : f name ≡ g name = h name (rw (same-text name) refl) in
-    let rest : choices f ps ≡ choices g ps = choices-agree f g ps (λ other named. h other (or-second (bytes_eq other name) (list_any (is_name other) ps) named)) in
+    let rest : choices f ps ≡ choices g ps = choices-agree f g ps (λ other named. h other (or_right (bytes_eq other name) (list_any (is_name other) ps) named)) in
     ap (λ values. flat_map (λ value. map (λ rest. value ++ rest) (choices f ps)) values) here
     ∙ ap (λ rests. flat_map (λ value. map (λ rest. value ++ rest) rests) (g name)) rest
-  where
-    or-second : (a b : Bool) → b ≡ true → (a || b) ≡ true
-    or-second true b k = refl
-    or-second false b k = k
 choices-agree f g (Unclosed ∷ ps) h = refl
 
 -- ---- the values of variables
@@ -84,13 +82,9 @@ choices-agree f g (Unclosed ∷ ps) h = refl
 flat_map-agree : {X Y : Type 0} (test : X → Bool) (f g : X → List Y) → ((x : X) → test x ≡ false → f x ≡ g x) → (xs : List X) → list_any test xs ≡ false → flat_map f xs ≡ flat_map g xs
 flat_map-agree test f g h [] none = refl
 flat_map-agree test f g h (x ∷ xs) none =
-    let here : f x ≡ g x = h x (or-not_first (test x) (list_any test xs) none) in
-    let rest : flat_map f xs ≡ flat_map g xs = flat_map-agree test f g h xs (none-second test (x ∷ []) xs none) in
+    let here : f x ≡ g x = h x (or_parts (test x) (list_any test xs) none).0 in
+    let rest : flat_map f xs ≡ flat_map g xs = flat_map-agree test f g h xs (any-neither_right test (x ∷ []) xs none) in
     cc
-  where
-    or-not_first : (a b : Bool) → (a || b) ≡ false → a ≡ false
-    or-not_first true b k = k
-    or-not_first false b k = refl
 
 -- where no word behind parts passes a test, no word of a name among them does
 words-of_named : (variables : List Variable) (test : List ℕ → Bool) (ps : List Part) (name : List ℕ) → list_any test (words_behind_parts variables ps) ≡ false
@@ -98,13 +92,13 @@ words-of_named : (variables : List Variable) (test : List ℕ → Bool) (ps : Li
 words-of_named variables test [] name h k = absurd cc
 words-of_named variables test (Byte b ∷ ps) name h k = words-of_named variables test ps name h k
 words-of_named variables test (Name other ∷ ps) name h k =
-    by (bytes_eq name other) refl (words-of_named variables test ps name (none-second test (words_named variables other) (words_behind_parts variables ps) h))
+    by (bytes_eq name other) refl (words-of_named variables test ps name (any-neither_right test (words_named variables other) (words_behind_parts variables ps) h))
   where
     by : (b : Bool) → bytes_eq name other ≡ b → (list_any (is_name name) ps ≡ true → list_any test (words_named variables name) ≡ false)
         → list_any test (words_named variables name) ≡ false
     by true e rest =
         let same : name ≡ other = (bytes_eq-Decides name other).0 e in
-        ap (λ n. list_any test (words_named variables n)) same ∙ none-first test (words_named variables other) (words_behind_parts variables ps) h
+        ap (λ n. list_any test (words_named variables n)) same ∙ any-neither_left test (words_named variables other) (words_behind_parts variables ps) h
     by false e rest = rest (rw e at k)
 words-of_named variables test (Unclosed ∷ ps) name h k = words-of_named variables test ps name h k
 
@@ -113,25 +107,20 @@ all-none : {X : Type 0} (xs : List X) → list_any (λ x. true) xs ≡ false →
 all-none [] h = refl
 all-none (x ∷ xs) h = absurd cc
 
--- a name without words has no values
-values-none : (variables : List Variable) (depth : ℕ) (name : List ℕ) → words_named variables name ≡ [] → values_within variables depth name ≡ []
-values-none variables zero name h = refl
-values-none variables (suc depth) name h = ap (flat_map (λ word. choices (values_within variables depth) (parts word))) h
-
 -- the values of a name that leads over few variables, as they are over so many at most, or over more
-pub values-settled : (variables : List Variable) (size : ℕ) (name : List ℕ) → list_any (has_chain variables size) (words_named variables name) ≡ false
+pub values-at_any_depth : (variables : List Variable) (size : ℕ) (name : List ℕ) → list_any (has_chain variables size) (words_named variables name) ≡ false
     → (depth deeper : ℕ) → size ≤ depth → size ≤ deeper → values_within variables depth name ≡ values_within variables deeper name
-values-settled variables zero name h depth deeper k l =
+values-at_any_depth variables zero name h depth deeper k l =
     let none : words_named variables name ≡ [] = all-none (words_named variables name) h in
-    values-none variables depth name none ∙ sym (values-none variables deeper name none)
-values-settled variables (suc size) name h zero deeper k l = absurd (omega arith)
-values-settled variables (suc size) name h (suc depth) zero k l = absurd (omega arith)
-values-settled variables (suc size) name h (suc depth) (suc deeper) k l =
+    values_within-no_words variables depth name none ∙ sym (values_within-no_words variables deeper name none)
+values-at_any_depth variables (suc size) name h zero deeper k l = absurd (omega arith)
+values-at_any_depth variables (suc size) name h (suc depth) zero k l = absurd (omega arith)
+values-at_any_depth variables (suc size) name h (suc depth) (suc deeper) k l =
     let below : size ≤ depth = omega arith in
     let deeper_below : size ≤ deeper = omega arith in
     flat_map-agree (has_chain variables (suc size)) (λ word. choices (values_within variables depth) (parts word)) (λ word. choices (values_within variables deeper) (parts word))
     (λ word short. choices-agree (values_within variables depth) (values_within variables deeper) (parts word)
-    (λ other named. values-settled variables size other (words-of_named variables (has_chain variables size) (parts word) other short named) depth deeper below deeper_below))
+    (λ other named. values-at_any_depth variables size other (words-of_named variables (has_chain variables size) (parts word) other short named) depth deeper below deeper_below))
     (words_named variables name) h
 
 -- the values of a variable that does not lead to itself
@@ -140,5 +129,5 @@ pub values-of_variable : (variables : List Variable) (name : List ℕ) (variable
 values-of_variable variables name variable h k =
     let words : words_named variables name ≡ words_of variable = rw (h, words_named) refl in
     let short : list_any (has_chain variables (length variables)) (words_named variables name) ≡ false = ap (list_any (has_chain variables (length variables))) words ∙ k in
-    values-settled variables (length variables) name short (length variables) (suc (length variables)) (omega arith) (omega arith)
+    values-at_any_depth variables (length variables) name short (length variables) (suc (length variables)) (omega arith) (omega arith)
     ∙ ap (flat_map (expansions variables)) words

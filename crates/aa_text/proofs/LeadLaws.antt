@@ -1,53 +1,28 @@
 -- What texts lead to, where the words of variables do not.
-use Rattle.std.proofs.Common.{◌≡◌, ℕ, Bool, true, false, ◌||◌, List, [], ◌∷◌, ◌++◌, zero, suc, length, refl, sym, ◌∙◌}
+use Rattle.std.proofs.Common.{◌≡◌, ℕ, Bool, true, false, List, [], ◌∷◌, zero, suc, length, refl}
 use Rattle.std.specs.Prelude.{None, Some, find, flat_map}
 use Rattle.std.specs.List.{list_any}
 use Rattle.std.specs.Str.{bytes_eq}
-use Rattle.std.proofs.lemmas.List.Folds.{list_any-append}
+use Rattle.std.proofs.lemmas.Bool.{or_from, or_parts}
 use Rattle.aa_text.specs.Variables.{Variable, Part, Byte, Name, Unclosed, names_undefined, parts}
 use Rattle.aa_text.specs.Expansions.{has_chain, is_cyclic, leads_to_undefined_within, words_behind, words_behind_parts, words_named, words_of}
-
--- neither passes, so none does
-neither : (a b : Bool) → a ≡ false → b ≡ false → (a || b) ≡ false
-neither a b h k = rw (h, k) refl
-
--- where none passes, the first does not
-not_first : (a b : Bool) → (a || b) ≡ false → a ≡ false
-not_first true b h = h
-not_first false b h = refl
-
--- nor does the second
-not_second : (a b : Bool) → (a || b) ≡ false → b ≡ false
-not_second true b h = absurd cc
-not_second false b h = h
+use Rattle.aa_text.proofs.TestLemmas.{any-neither, any-neither_left, any-neither_right}
 
 module _ {X : Type 0} (test : X → Bool) where
-  -- none passes where none of either list does
-  none-append : (xs ys : List X) → list_any test xs ≡ false → list_any test ys ≡ false → list_any test (xs ++ ys) ≡ false
-  none-append xs ys h k = list_any-append test xs ys ∙ neither (list_any test xs) (list_any test ys) h k
-
-  -- where none of two lists passes, none of the first does
-  pub none-first : (xs ys : List X) → list_any test (xs ++ ys) ≡ false → list_any test xs ≡ false
-  none-first xs ys h = not_first (list_any test xs) (list_any test ys) (sym (list_any-append test xs ys) ∙ h)
-
-  -- nor of the second
-  pub none-second : (xs ys : List X) → list_any test (xs ++ ys) ≡ false → list_any test ys ≡ false
-  none-second xs ys h = not_second (list_any test xs) (list_any test ys) (sym (list_any-append test xs ys) ∙ h)
-
   -- where what fails the test fails another too, and none passes, none passes the other
   none-other : (other : X → Bool) → ((x : X) → test x ≡ false → other x ≡ false) → (xs : List X) → list_any test xs ≡ false → list_any other xs ≡ false
   none-other other f [] h = refl
   none-other other f (x ∷ xs) h =
-      neither (other x) (list_any other xs) (f x (not_first (test x) (list_any test xs) h)) (none-other other f xs (not_second (test x) (list_any test xs) h))
+      or_from (other x) (list_any other xs) (f x (or_parts (test x) (list_any test xs) h).0) (none-other other f xs (or_parts (test x) (list_any test xs) h).1)
 
 -- where no word of a variable passes a test, no word of a name's variable does
 pub words_named-none : (test : List ℕ → Bool) (variables : List Variable) (name : List ℕ) → list_any test (flat_map words_of variables) ≡ false
     → list_any test (words_named variables name) ≡ false
 words_named-none test [] name h = refl
-words_named-none test (v ∷ vs) name h = by (bytes_eq name v.name) refl (words_named-none test vs name (none-second test (words_of v) (flat_map words_of vs) h))
+words_named-none test (v ∷ vs) name h = by (bytes_eq name v.name) refl (words_named-none test vs name (any-neither_right test (words_of v) (flat_map words_of vs) h))
   where
     by : (b : Bool) → bytes_eq name v.name ≡ b → list_any test (words_named vs name) ≡ false → list_any test (words_named (v ∷ vs) name) ≡ false
-    by true e rest = rw (e, words_named) (none-first test (words_of v) (flat_map words_of vs) h)
+    by true e rest = rw (e, words_named) (any-neither_left test (words_of v) (flat_map words_of vs) h)
     by false e rest = rw (e, words_named) rest
 
 -- nor does a word behind the parts of a text
@@ -56,7 +31,7 @@ words_behind_parts-none : (test : List ℕ → Bool) (variables : List Variable)
 words_behind_parts-none test variables [] h = refl
 words_behind_parts-none test variables (Byte b ∷ ps) h = words_behind_parts-none test variables ps h
 words_behind_parts-none test variables (Name name ∷ ps) h =
-    none-append test (words_named variables name) (words_behind_parts variables ps) (words_named-none test variables name h) (words_behind_parts-none test variables ps h)
+    any-neither test (words_named variables name) (words_behind_parts variables ps) (words_named-none test variables name h) (words_behind_parts-none test variables ps h)
 words_behind_parts-none test variables (Unclosed ∷ ps) h = words_behind_parts-none test variables ps h
 
 -- nor does a word behind a text
@@ -69,7 +44,7 @@ pub leads-defined : (variables : List Variable) (depth : ℕ) (text : List ℕ) 
     → names_undefined variables text ≡ false → leads_to_undefined_within variables depth text ≡ false
 leads-defined variables zero text h k = k
 leads-defined variables (suc depth) text h k =
-    neither (names_undefined variables text) (list_any (leads_to_undefined_within variables depth) (words_behind variables text)) k
+    or_from (names_undefined variables text) (list_any (leads_to_undefined_within variables depth) (words_behind variables text)) k
     (words_behind-none (leads_to_undefined_within variables depth) variables text
     (none-other (names_undefined variables) (leads_to_undefined_within variables depth) (λ word fine. leads-defined variables depth word h fine) (flat_map words_of variables) h))
 
@@ -83,4 +58,4 @@ no_chains variables (v ∷ vs) h = by (is_cyclic variables v) refl (no_chains va
         → list_any (has_chain variables (length variables)) (flat_map words_of (v ∷ vs)) ≡ false
     by true e rest = let there : Some v ≡ None = rw e at h in absurd cc
     by false e rest = let there : find (is_cyclic variables) vs ≡ None = rw e at h in
-        none-append (has_chain variables (length variables)) (words_of v) (flat_map words_of vs) e (rest there)
+        any-neither (has_chain variables (length variables)) (words_of v) (flat_map words_of vs) e (rest there)

@@ -18,5 +18,6 @@ pub mod SettledLemmas
 pub mod SizeLemmas
 pub mod SplicingLemmas
 pub mod TableLemmas
+pub mod TestLemmas
 pub mod VariableLemmas
 pub mod WordLemmas

@@ -1,7 +1,11 @@
 -- What stands at the places of lists.
-use Rattle.std.proofs.Common.{◌≡◌, ℕ, List, [], ◌∷◌, ◌+◌, ◌<◌, ◌≤◌, zero, suc, length, slice_get, drop, arith, add-one, drop-cons, refl, sym, ◌∙◌}
+use Rattle.std.proofs.Common.{◌≡◌, ℕ, Bool, true, false, nat_eq, List, [], ◌∷◌, ◌++◌, ◌+◌, ◌<◌, ◌≤◌, zero, suc, length, slice_get, take, drop, arith, add-one, drop-cons, refl, sym, ap, ◌∙◌, ◌⊎◌, inl, inr}
 use Rattle.std.specs.Prelude.{None, Some}
+use Rattle.std.specs.List.{list_any}
+use Rattle.std.proofs.lemmas.Map.Keys.{any_passes_from_place}
 use Rattle.std.proofs.lemmas.Option.{get_or_from_slice_get, slice_get_within}
+use Rattle.std.proofs.Math.Seq.{take-length}
+use Rattle.aa_text.proofs.TestLemmas.{same-from_test, same-test}
 
 -- a place behind all has no element
 pub past-none : {X : Type 0} (xs : List X) (at : ℕ) → None ≡ slice_get xs at → length xs ≤ at
@@ -21,3 +25,37 @@ pub drop-some : {X : Type 0} (xs : List X) (at : ℕ) (x : X) → Some x ≡ sli
 drop-some xs at x h =
     let within : at < length xs = slice_get_within xs at x (sym h) in
     drop-cons xs at x within ∙ rw (get_or_from_slice_get xs at x x (sym h), add-one) refl
+
+-- where a number stands that is among the first ones
+pub place-among_first : (order : List ℕ) (count place : ℕ) → list_any (nat_eq place) (take count order) ≡ true
+    → (at : ℕ) × (at < count) × (slice_get order at ≡ Some place)
+place-among_first order zero place h = absurd (cc)
+place-among_first [] (suc count) place h = absurd (cc)
+place-among_first (x ∷ xs) (suc count) place h = by (nat_eq place x) refl h (place-among_first xs count place)
+  where
+    by : (b : Bool) → nat_eq place x ≡ b → list_any (nat_eq place) (take (suc count) (x ∷ xs)) ≡ true
+        → (list_any (nat_eq place) (take count xs) ≡ true → (at : ℕ) × (at < count) × (slice_get xs at ≡ Some place))
+        → (at : ℕ) × (at < suc count) × (slice_get (x ∷ xs) at ≡ Some place)
+    by true b h rest = (zero, omega arith, ap Some (sym (same-from_test place x b)))
+    by false b h rest =
+        let found = rest (rw b at h) in
+        (suc found.0, omega (arith, found.1), found.2)
+
+-- a listed number has a place
+pub place-found : (ks : List ℕ) (q : ℕ) → list_any (nat_eq q) ks ≡ true → (k : ℕ) × (slice_get ks k ≡ Some q)
+place-found ks q h = let found = place-among_first ks (length ks) q (rw (take-length ks) h) in (found.0, found.2)
+
+-- a number with a place is listed
+pub listed : (ks : List ℕ) (k q : ℕ) → slice_get ks k ≡ Some q → list_any (nat_eq q) ks ≡ true
+listed ks k q h = any_passes_from_place (nat_eq q) ks k q h (same-test q)
+
+-- an element of a list with one more behind it is in the list, or is that one
+pub slice_get-push : (xs : List ℕ) (x at y : ℕ) → slice_get (xs ++ x ∷ []) at ≡ Some y
+    → ((at < length xs) × (slice_get xs at ≡ Some y)) ⊎ ((at ≡ length xs) × (x ≡ y))
+slice_get-push [] x zero y h = inr (refl, cc)
+slice_get-push [] x (suc at) y h = absurd (cc)
+slice_get-push (z ∷ zs) x zero y h = inl (omega arith, h)
+slice_get-push (z ∷ zs) x (suc at) y h = elim (slice_get-push zs x at y h) [
+  | inl there ↦ inl (omega (arith, there.0), there.1)
+  | inr last ↦ inr (omega (arith, last.0), last.1)
+]

@@ -1,38 +1,15 @@
 -- What an order of variables says of their values and of chains.
-use Rattle.std.proofs.Common.{◌≡◌, ℕ, zero, suc, ◌<◌, ◌≤◌, Bool, true, false, ◌&&◌, List, [], ◌∷◌, length, take, arith, refl, sym, ap, ◌∙◌}
-use Rattle.std.specs.Prelude.{Option, None, Some, nat_eq, slice_get, flat_map}
-use Rattle.std.specs.List.{list_all, list_any}
-use Rattle.std.proofs.lemmas.Bool.Decides.{nat_tests}
+use Rattle.std.proofs.Common.{◌≡◌, ℕ, zero, suc, ◌<◌, ◌≤◌, true, List, [], ◌∷◌, length, take, arith, refl, sym, ◌∙◌}
+use Rattle.std.specs.Prelude.{Option, None, Some, slice_get, flat_map}
+use Rattle.std.specs.List.{list_all}
+use Rattle.std.proofs.lemmas.Bool.{and_parts}
 use Rattle.std.proofs.lemmas.Option.{slice_get_within}
+use Rattle.aa_text.proofs.ListLemmas.{place-among_first}
 use Rattle.aa_text.proofs.PlaceLemmas.{values_within-from_none, words_named-from_some}
-use Rattle.aa_text.specs.ExpansionOrder.{IsOrder, are_texts_known, is_part_known, is_text_known}
+use Rattle.aa_text.specs.ExpansionOrder.{IsOrder, are_texts_known, is_part_known}
 use Rattle.aa_text.specs.Expansions.{choices, expansions, values, values_within}
 use Rattle.aa_text.specs.VariablePlaces.{place_of, words_at}
 use Rattle.aa_text.specs.Variables.{Byte, Name, Part, Unclosed, Variable, parts}
-
--- both of two tests pass
-pub both : (a b : Bool) → (a && b) ≡ true → (a ≡ true) × (b ≡ true)
-both true b h = (refl, h)
-both false b h = absurd (cc)
-
--- one of two numbers that pass the test of equality
-pub same_number : (a b : ℕ) → nat_eq a b ≡ true → a ≡ b
-same_number a b h = grind (arith, nat_tests)
-
--- where a place stands that is among the first ones
-pub index_of_known : (order : List ℕ) (count place : ℕ) → list_any (nat_eq place) (take count order) ≡ true
-    → (at : ℕ) × (at < count) × (slice_get order at ≡ Some place)
-index_of_known order zero place h = absurd (cc)
-index_of_known [] (suc count) place h = absurd (cc)
-index_of_known (x ∷ xs) (suc count) place h = by (nat_eq place x) refl h (index_of_known xs count place)
-  where
-    by : (b : Bool) → nat_eq place x ≡ b → list_any (nat_eq place) (take (suc count) (x ∷ xs)) ≡ true
-        → (list_any (nat_eq place) (take count xs) ≡ true → (at : ℕ) × (at < count) × (slice_get xs at ≡ Some place))
-        → (at : ℕ) × (at < suc count) × (slice_get (x ∷ xs) at ≡ Some place)
-    by true b h rest = (zero, omega arith, ap Some (sym (same_number place x b)))
-    by false b h rest =
-        let found = rest (rw b at h) in
-        (suc found.0, omega (arith, found.1), found.2)
 
 module _ (variables : List Variable) (known : List ℕ) (f g : List ℕ → List (List ℕ))
     (same : (name : List ℕ) → is_part_known variables known (Name name) ≡ true → f name ≡ g name) where
@@ -41,7 +18,7 @@ module _ (variables : List Variable) (known : List ℕ) (f g : List ℕ → List
   choices-same [] h = refl
   choices-same (Byte b ∷ ps) h = rw (choices-same ps h) refl
   choices-same (Name name ∷ ps) h =
-      let here = both _ _ h in
+      let here = and_parts _ _ h in
       rw (choices-same ps here.1, same name here.0) refl
   choices-same (Unclosed ∷ ps) h = refl
 
@@ -50,7 +27,7 @@ module _ (variables : List Variable) (known : List ℕ) (f g : List ℕ → List
       → flat_map (λ word. choices f (parts word)) words ≡ flat_map (λ word. choices g (parts word)) words
   flat_map-same [] h = refl
   flat_map-same (word ∷ words) h =
-      let here = both _ _ h in
+      let here = and_parts _ _ h in
       rw (choices-same (parts word) here.0, flat_map-same words here.1) refl
 
 module _ (variables : List Variable) (order : List ℕ) (ordered : IsOrder variables order) where
@@ -62,7 +39,7 @@ module _ (variables : List Variable) (order : List ℕ) (ordered : IsOrder varia
       by : (found : Option ℕ) → place_of variables name ≡ found → values_within variables d name ≡ values_within variables e name
       by None f = values_within-from_none variables d name f ∙ sym (values_within-from_none variables e name f)
       by (Some place) f =
-          let there = index_of_known order count place (rw (f, is_part_known) at h) in
+          let there = place-among_first order count place (rw (f, is_part_known) at h) in
           absurd (omega (arith, there.1))
   name-depth (suc bound) count d e b hd he name h = by (place_of variables name) refl d e hd he (name-depth bound)
     where
@@ -72,23 +49,17 @@ module _ (variables : List Variable) (order : List ℕ) (ordered : IsOrder varia
           → values_within variables d name ≡ values_within variables e name
       by None f d e hd he rest = values_within-from_none variables d name f ∙ sym (values_within-from_none variables e name f)
       by (Some place) f zero e hd he rest =
-          let there = index_of_known order count place (rw (f, is_part_known) at h) in
+          let there = place-among_first order count place (rw (f, is_part_known) at h) in
           absurd (omega (arith, there.1))
       by (Some place) f (suc d) zero hd he rest =
-          let there = index_of_known order count place (rw (f, is_part_known) at h) in
+          let there = place-among_first order count place (rw (f, is_part_known) at h) in
           absurd (omega (arith, there.1))
       by (Some place) f (suc d) (suc e) hd he rest =
-          let there = index_of_known order count place (rw (f, is_part_known) at h) in
+          let there = place-among_first order count place (rw (f, is_part_known) at h) in
           let before : there.0 < count = there.1 in
           rw (words_named-from_some variables name place f)
           (flat_map-same variables (take there.0 order) (values_within variables d) (values_within variables e)
           (rest there.0 d e (omega arith) (omega arith) (omega arith)) (words_at variables place) (ordered there.0 place there.2))
-
-  -- of a text that is known by the first ones of an order, depth beyond them plays no part
-  pub choices-depth : (count : ℕ) (text : List ℕ) → is_text_known variables (take count order) text ≡ true
-      → (d e : ℕ) → count ≤ d → count ≤ e → choices (values_within variables d) (parts text) ≡ choices (values_within variables e) (parts text)
-  choices-depth count text h d e hd he =
-      choices-same variables (take count order) (values_within variables d) (values_within variables e) (name-depth count count d e (omega arith) hd he) (parts text) h
 
   -- the values of a name in the order, by the words at its place
   values-at : (depth at place : ℕ) → at < depth → slice_get order at ≡ Some place → (name : List ℕ) → place_of variables name ≡ Some place

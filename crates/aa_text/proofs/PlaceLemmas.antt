@@ -1,9 +1,9 @@
 -- A name's variable by its place.
-use Rattle.std.proofs.Common.{◌≡◌, ℕ, Bool, true, false, List, [], ◌∷◌, ◌<◌, suc, zero, length, arith, refl}
-use Rattle.std.specs.Prelude.{Option, None, Some}
+use Rattle.std.proofs.Common.{◌≡◌, ℕ, Bool, true, false, List, [], ◌∷◌, ◌<◌, suc, zero, length, arith, refl, ap}
+use Rattle.std.specs.Prelude.{Option, None, Some, flat_map}
 use Rattle.std.specs.Str.{bytes_eq}
-use Rattle.aa_text.specs.Variables.{Variable, is_defined, named}
-use Rattle.aa_text.specs.Expansions.{values_within, words_named}
+use Rattle.aa_text.specs.Variables.{Variable, is_defined, named, parts}
+use Rattle.aa_text.specs.Expansions.{choices, values_within, words_named}
 use Rattle.aa_text.specs.VariablePlaces.{place_of, words_at}
 
 -- a name that has no place names no variable
@@ -21,10 +21,14 @@ named-from_none (v ∷ vs) name h = by (bytes_eq name v.name) refl (place_of vs 
 pub words_named-from_none : (variables : List Variable) (name : List ℕ) → place_of variables name ≡ None → words_named variables name ≡ []
 words_named-from_none variables name h = rw (named-from_none variables name h, words_named) refl
 
--- a name that has no place has no values
+-- a name without words has no values
+pub values_within-no_words : (variables : List Variable) (depth : ℕ) (name : List ℕ) → words_named variables name ≡ [] → values_within variables depth name ≡ []
+values_within-no_words variables zero name h = refl
+values_within-no_words variables (suc depth) name h = ap (flat_map (λ word. choices (values_within variables depth) (parts word))) h
+
+-- a name that has no place has none either
 pub values_within-from_none : (variables : List Variable) (depth : ℕ) (name : List ℕ) → place_of variables name ≡ None → values_within variables depth name ≡ []
-values_within-from_none variables zero name h = refl
-values_within-from_none variables (suc depth) name h = rw (words_named-from_none variables name h) refl
+values_within-from_none variables depth name h = values_within-no_words variables depth name (words_named-from_none variables name h)
 
 -- the words of a name are those at its place
 pub words_named-from_some : (variables : List Variable) (name : List ℕ) (place : ℕ) → place_of variables name ≡ Some place

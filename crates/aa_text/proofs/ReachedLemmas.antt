@@ -1,11 +1,10 @@
 -- What the gathered places are, and that they are those of all variables that a text leads to.
-use Rattle.std.proofs.Common.{◌≡◌, ℕ, Bool, true, false, nat_eq, ◌||◌, ◌&&◌, List, [], ◌∷◌, ◌++◌, ◌+◌, ◌-◌, ◌<◌, ◌≤◌, zero, suc, length, map, slice_get, drop, arith, length-append, refl, sym, ap, subst, ◌∙◌, ◌⊎◌, inl, inr}
+use Rattle.std.proofs.Common.{◌≡◌, ℕ, Bool, true, false, nat_eq, List, [], ◌∷◌, ◌++◌, ◌+◌, ◌-◌, ◌<◌, ◌≤◌, zero, suc, length, map, slice_get, drop, arith, length-append, refl, sym, ap, subst, ◌∙◌, ◌⊎◌, inl, inr}
 use Rattle.std.specs.Prelude.{Option, None, Some}
 use Rattle.std.specs.List.{list_all, list_any, IsDistinct}
-use Rattle.std.proofs.lemmas.Bool.{cases_eq}
-use Rattle.std.proofs.lemmas.Bool.Decides.{nat_tests}
-use Rattle.std.proofs.lemmas.List.Folds.{list_any-append}
-use Rattle.std.proofs.lemmas.Map.Keys.{IsDistinct-push, any_passes_from_place}
+use Rattle.std.specs.Cmp.Derive.{both_true}
+use Rattle.std.proofs.lemmas.Bool.{and_parts, cases_eq, or_from, or_left, or_parts, or_right}
+use Rattle.std.proofs.lemmas.Map.Keys.{IsDistinct-push}
 use Rattle.std.proofs.lemmas.Map.Steps.{length-le_from_distinct_below}
 use Rattle.std.proofs.lemmas.Option.{slice_get_within}
 use Rattle.std.proofs.lemmas.Cmp.{nat_eq_equiv}
@@ -14,8 +13,10 @@ use Rattle.aa_text.specs.Expansions.{leads_to_undefined, leads_to_undefined_with
 use Rattle.aa_text.specs.ExpansionOrder.{are_texts_known, is_part_known, is_text_known}
 use Rattle.aa_text.specs.ReachedVariables.{places_in, places_of, places_within, with_place, with_places, IsReachedSoFar}
 use Rattle.aa_text.specs.VariablePlaces.{place_of, words_at}
-use Rattle.aa_text.proofs.ListLemmas.{drop-some, past-none}
+use Rattle.aa_text.proofs.ChainLemmas.{no_word_behind}
+use Rattle.aa_text.proofs.ListLemmas.{drop-some, listed, past-none, place-found, slice_get-push}
 use Rattle.aa_text.proofs.PlaceLemmas.{is_defined-from_some, named-from_none, place_of-within, words_named-from_none, words_named-from_some}
+use Rattle.aa_text.proofs.TestLemmas.{any-behind, any-left, any-right, any-split, any-weaker, or-split, same-from_test, same-test}
 
 -- ---- the parts of a text
 
@@ -51,114 +52,7 @@ pub with_places-append : (known xs ys : List ℕ) → with_places known (xs ++ y
 with_places-append known [] ys = refl
 with_places-append known (x ∷ xs) ys = with_places-append (with_place known x) xs ys
 
--- ---- tests
-
--- one passes where its first part does
-or-left : (a b : Bool) → a ≡ true → (a || b) ≡ true
-or-left a b h = rw h refl
-
--- and where its second does
-or-right : (a b : Bool) → b ≡ true → (a || b) ≡ true
-or-right true b h = refl
-or-right false b h = h
-
--- where one passes, a part does
-or-split : (a b : Bool) → (a || b) ≡ true → (a ≡ true) ⊎ (b ≡ true)
-or-split true b h = inl refl
-or-split false b h = inr h
-
--- none passes where no part does
-or-none : (a b : Bool) → a ≡ false → b ≡ false → (a || b) ≡ false
-or-none a b h k = rw (h, k) refl
-
--- where none passes, the first part does not
-or-none_left : (a b : Bool) → (a || b) ≡ false → a ≡ false
-or-none_left true b h = h
-or-none_left false b h = refl
-
--- nor does the second
-or-none_right : (a b : Bool) → (a || b) ≡ false → b ≡ false
-or-none_right true b h = absurd cc
-or-none_right false b h = h
-
--- both pass where each part does
-and-both : (a b : Bool) → a ≡ true → b ≡ true → (a && b) ≡ true
-and-both a b h k = rw (h, k) refl
-
--- where both pass, the first part does
-and-left : (a b : Bool) → (a && b) ≡ true → a ≡ true
-and-left true b h = refl
-and-left false b h = h
-
--- and so does the second
-and-right : (a b : Bool) → (a && b) ≡ true → b ≡ true
-and-right true b h = h
-and-right false b h = absurd cc
-
--- a number passes the test of being itself
-same-test : (x : ℕ) → nat_eq x x ≡ true
-same-test x = grind (arith, nat_tests)
-
--- numbers that pass it are the same
-same-from_test : (q x : ℕ) → nat_eq q x ≡ true → q ≡ x
-same-from_test q x h = grind (arith, nat_tests)
-
-module _ {X : Type 0} (test : X → Bool) where
-  -- an element passes where one of the first list does
-  any-left : (xs ys : List X) → list_any test xs ≡ true → list_any test (xs ++ ys) ≡ true
-  any-left xs ys h = list_any-append test xs ys ∙ or-left (list_any test xs) (list_any test ys) h
-
-  -- and where one of the second does
-  any-right : (xs ys : List X) → list_any test ys ≡ true → list_any test (xs ++ ys) ≡ true
-  any-right xs ys h = list_any-append test xs ys ∙ or-right (list_any test xs) (list_any test ys) h
-
-  -- where one passes, it is of the first list or of the second
-  any-split : (xs ys : List X) → list_any test (xs ++ ys) ≡ true → (list_any test xs ≡ true) ⊎ (list_any test ys ≡ true)
-  any-split xs ys h = or-split (list_any test xs) (list_any test ys) (sym (list_any-append test xs ys) ∙ h)
-
-  -- none passes where none of either does
-  any-neither : (xs ys : List X) → list_any test xs ≡ false → list_any test ys ≡ false → list_any test (xs ++ ys) ≡ false
-  any-neither xs ys h k = list_any-append test xs ys ∙ or-none (list_any test xs) (list_any test ys) h k
-
-  -- elements of which none passes, before others
-  pub any-behind : (xs ys all : List X) → list_any test xs ≡ false → xs ++ ys ≡ all → list_any test ys ≡ list_any test all
-  any-behind xs ys all h e = sym (rw (list_any-append test xs ys, h) refl) ∙ ap (list_any test) e
-
-  -- what passes the test passes another
-  any-weaker : (other : X → Bool) → ((x : X) → test x ≡ true → other x ≡ true) → (xs : List X) → list_any test xs ≡ true → list_any other xs ≡ true
-  any-weaker other f [] h = h
-  any-weaker other f (x ∷ xs) h = by (or-split (test x) (list_any test xs) h) (any-weaker other f xs)
-    where
-      by : (test x ≡ true) ⊎ (list_any test xs ≡ true) → (list_any test xs ≡ true → list_any other xs ≡ true) → list_any other (x ∷ xs) ≡ true
-      by (inl here) rest = or-left (other x) (list_any other xs) (f x here)
-      by (inr there) rest = or-right (other x) (list_any other xs) (rest there)
-
 -- ---- lists of places
-
--- a listed number has a place
-place-found : (ks : List ℕ) (q : ℕ) → list_any (nat_eq q) ks ≡ true → (k : ℕ) × (slice_get ks k ≡ Some q)
-place-found [] q h = absurd cc
-place-found (x ∷ xs) q h = by (or-split (nat_eq q x) (list_any (nat_eq q) xs) h) (place-found xs q)
-  where
-    by : (nat_eq q x ≡ true) ⊎ (list_any (nat_eq q) xs ≡ true) → (list_any (nat_eq q) xs ≡ true → (k : ℕ) × (slice_get xs k ≡ Some q))
-        → (k : ℕ) × (slice_get (x ∷ xs) k ≡ Some q)
-    by (inl here) rest = (0, ap Some (sym (same-from_test q x here)))
-    by (inr there) rest = (suc (rest there).0, (rest there).1)
-
--- a number with a place is listed
-listed : (ks : List ℕ) (k q : ℕ) → slice_get ks k ≡ Some q → list_any (nat_eq q) ks ≡ true
-listed ks k q h = any_passes_from_place (nat_eq q) ks k q h (same-test q)
-
--- what stands at a place of a list with one more
-push-from : (ks : List ℕ) (x i q : ℕ) → slice_get (ks ++ x ∷ []) i ≡ Some q → (slice_get ks i ≡ Some q) ⊎ ((length ks ≤ i) × (q ≡ x))
-push-from [] x zero q h = let same : q ≡ x = cc in inr (omega arith, same)
-push-from [] x (suc i) q h = absurd cc
-push-from (k ∷ ks) x zero q h = inl h
-push-from (k ∷ ks) x (suc i) q h = by (push-from ks x i q h)
-  where
-    by : (slice_get ks i ≡ Some q) ⊎ ((length ks ≤ i) × (q ≡ x)) → (slice_get (k ∷ ks) (suc i) ≡ Some q) ⊎ ((length (k ∷ ks) ≤ suc i) × (q ≡ x))
-    by (inl here) = inl here
-    by (inr new) = let far : length ks ≤ i = new.0 in inr (omega arith, new.1)
 
 module _ (known : List ℕ) (x : ℕ) where
   -- what is listed stays listed
@@ -175,7 +69,7 @@ module _ (known : List ℕ) (x : ℕ) where
     where
       by : (b : Bool) → list_any (nat_eq x) known ≡ b → list_any (nat_eq x) (with_place known x) ≡ true
       by true e = rw e e
-      by false e = rw e (any-right (nat_eq x) known (x ∷ []) (or-left (nat_eq x x) false (same-test x)))
+      by false e = rw e (any-right (nat_eq x) known (x ∷ []) (or_left (nat_eq x x) false (same-test x)))
 
   -- what stands at a place stood there, or is the one more
   with_place-from : (i q : ℕ) → slice_get (with_place known x) i ≡ Some q → (slice_get known i ≡ Some q) ⊎ ((length known ≤ i) × (q ≡ x))
@@ -183,7 +77,10 @@ module _ (known : List ℕ) (x : ℕ) where
     where
       by : (b : Bool) → list_any (nat_eq x) known ≡ b → (slice_get known i ≡ Some q) ⊎ ((length known ≤ i) × (q ≡ x))
       by true e = inl (rw e at h)
-      by false e = push-from known x i q (rw e at h)
+      by false e = elim (slice_get-push known x i q (rw e at h)) [
+        | inl here ↦ inl here.1
+        | inr new ↦ let last : i ≡ length known = new.0 in inr (omega arith, sym new.1)
+      ]
 
   -- no fewer are listed
   with_place-long : length known ≤ length (with_place known x)
@@ -228,7 +125,7 @@ with_places-from known (x ∷ xs) i q h = by (with_places-from (with_place known
   where
     first : (slice_get known i ≡ Some q) ⊎ ((length known ≤ i) × (q ≡ x)) → (slice_get known i ≡ Some q) ⊎ ((length known ≤ i) × (list_any (nat_eq q) (x ∷ xs) ≡ true))
     first (inl here) = inl here
-    first (inr new) = inr (new.0, or-left (nat_eq q x) (list_any (nat_eq q) xs) (subst (λ y. nat_eq q y ≡ true) new.1 (same-test q)))
+    first (inr new) = inr (new.0, or_left (nat_eq q x) (list_any (nat_eq q) xs) (subst (λ y. nat_eq q y ≡ true) new.1 (same-test q)))
 
     by : (slice_get (with_place known x) i ≡ Some q) ⊎ ((length (with_place known x) ≤ i) × (list_any (nat_eq q) xs ≡ true))
         → (slice_get known i ≡ Some q) ⊎ ((length known ≤ i) × (list_any (nat_eq q) (x ∷ xs) ≡ true))
@@ -236,7 +133,7 @@ with_places-from known (x ∷ xs) i q h = by (with_places-from (with_place known
     by (inr new) =
         let far : length (with_place known x) ≤ i = new.0 in
         let long : length known ≤ length (with_place known x) = with_place-long known x in
-        inr (omega arith, or-right (nat_eq q x) (list_any (nat_eq q) xs) new.1)
+        inr (omega arith, or_right (nat_eq q x) (list_any (nat_eq q) xs) new.1)
 
 -- no fewer are listed
 with_places-long : (known xs : List ℕ) → length known ≤ length (with_places known xs)
@@ -274,7 +171,7 @@ places_within-behind variables known more texts at text h m =
 -- a text that names nothing undefined, and the texts behind it
 pub any-drop : {X : Type 0} (test : X → Bool) (xs : List X) (at : ℕ) (x : X) → Some x ≡ slice_get xs at → test x ≡ false
     → list_any test (drop (at + 1) xs) ≡ list_any test (drop at xs)
-any-drop test xs at x h f = any-behind test (x ∷ []) (drop (at + 1) xs) (drop at xs) (or-none (test x) false f refl) (sym (drop-some xs at x h))
+any-drop test xs at x h f = any-behind test (x ∷ []) (drop (at + 1) xs) (drop at xs) (or_from (test x) false f refl) (sym (drop-some xs at x h))
 
 -- ---- what the names of texts lead to
 
@@ -302,7 +199,7 @@ module _ (variables : List Variable) where
   places_of-below (Unclosed ∷ ps) q h = places_of-below ps q h
 
   -- and so are those that texts name
-  places_within-below : (texts : List (List ℕ)) (q : ℕ) → list_any (nat_eq q) (places_within variables texts) ≡ true → q < length variables
+  pub places_within-below : (texts : List (List ℕ)) (q : ℕ) → list_any (nat_eq q) (places_within variables texts) ≡ true → q < length variables
   places_within-below [] q h = absurd cc
   places_within-below (text ∷ texts) q h = by (any-split (nat_eq q) (places_in variables text) (places_within variables texts) h) (places_within-below texts q)
     where
@@ -333,7 +230,7 @@ module _ (variables : List Variable) where
   leads-place : (text : List ℕ) (q depth : ℕ) → list_any (nat_eq q) (places_in variables text) ≡ true
       → list_any (leads_to_undefined_within variables depth) (words_at variables q) ≡ true → leads_to_undefined_within variables (suc depth) text ≡ true
   leads-place text q depth h k =
-      or-right (names_undefined variables text) (list_any (leads_to_undefined_within variables depth) (words_behind variables text))
+      or_right (names_undefined variables text) (list_any (leads_to_undefined_within variables depth) (words_behind variables text))
       (words_behind-place (leads_to_undefined_within variables depth) (parts text) q h k)
 
   -- and so does one of several texts
@@ -345,19 +242,19 @@ module _ (variables : List Variable) where
       by : (list_any (nat_eq q) (places_in variables text) ≡ true) ⊎ (list_any (nat_eq q) (places_within variables texts) ≡ true)
           → (list_any (nat_eq q) (places_within variables texts) ≡ true → list_any (leads_to_undefined_within variables (suc depth)) texts ≡ true)
           → list_any (leads_to_undefined_within variables (suc depth)) (text ∷ texts) ≡ true
-      by (inl here) rest = or-left (leads_to_undefined_within variables (suc depth) text) (list_any (leads_to_undefined_within variables (suc depth)) texts) (leads-place text q depth here k)
-      by (inr there) rest = or-right (leads_to_undefined_within variables (suc depth) text) (list_any (leads_to_undefined_within variables (suc depth)) texts) (rest there)
+      by (inl here) rest = or_left (leads_to_undefined_within variables (suc depth) text) (list_any (leads_to_undefined_within variables (suc depth)) texts) (leads-place text q depth here k)
+      by (inr there) rest = or_right (leads_to_undefined_within variables (suc depth) text) (list_any (leads_to_undefined_within variables (suc depth)) texts) (rest there)
 
   -- what a text leads to it leads to over one variable more
   leads-one_more : (depth : ℕ) (text : List ℕ) → leads_to_undefined_within variables depth text ≡ true → leads_to_undefined_within variables (suc depth) text ≡ true
-  leads-one_more zero text h = or-left (names_undefined variables text) (list_any (leads_to_undefined_within variables zero) (words_behind variables text)) h
+  leads-one_more zero text h = or_left (names_undefined variables text) (list_any (leads_to_undefined_within variables zero) (words_behind variables text)) h
   leads-one_more (suc depth) text h = by (or-split (names_undefined variables text) (list_any (leads_to_undefined_within variables depth) (words_behind variables text)) h) (leads-one_more depth)
     where
       by : (names_undefined variables text ≡ true) ⊎ (list_any (leads_to_undefined_within variables depth) (words_behind variables text) ≡ true)
           → ((word : List ℕ) → leads_to_undefined_within variables depth word ≡ true → leads_to_undefined_within variables (suc depth) word ≡ true)
           → leads_to_undefined_within variables (suc (suc depth)) text ≡ true
-      by (inl here) rest = or-left (names_undefined variables text) (list_any (leads_to_undefined_within variables (suc depth)) (words_behind variables text)) here
-      by (inr there) rest = or-right (names_undefined variables text) (list_any (leads_to_undefined_within variables (suc depth)) (words_behind variables text))
+      by (inl here) rest = or_left (names_undefined variables text) (list_any (leads_to_undefined_within variables (suc depth)) (words_behind variables text)) here
+      by (inr there) rest = or_right (names_undefined variables text) (list_any (leads_to_undefined_within variables (suc depth)) (words_behind variables text))
           (any-weaker (leads_to_undefined_within variables depth) (leads_to_undefined_within variables (suc depth)) rest (words_behind variables text) there)
 
   -- over several more
@@ -421,52 +318,44 @@ module _ (variables : List Variable) (reached : List ℕ) where
           → list_all (is_part_known variables reached) (Name name ∷ ps) ≡ true
       by None e rest =
           let here : is_part_known variables reached (Name name) ≡ true = rw (e, is_part_known) refl in
-          and-both (is_part_known variables reached (Name name)) (list_all (is_part_known variables reached) ps) here
+          both_true here
           (rest (λ q k. has q (ap (list_any (nat_eq q)) (places_of-none variables name ps e) ∙ k)))
       by (Some place) e rest =
           let first : list_any (nat_eq place) (places_of variables (Name name ∷ ps)) ≡ true =
-          ap (list_any (nat_eq place)) (places_of-some variables name ps place e) ∙ or-left (nat_eq place place) (list_any (nat_eq place) (places_of variables ps)) (same-test place) in
+          ap (list_any (nat_eq place)) (places_of-some variables name ps place e) ∙ or_left (nat_eq place place) (list_any (nat_eq place) (places_of variables ps)) (same-test place) in
           let here : is_part_known variables reached (Name name) ≡ true = rw (e, is_part_known) (has place first) in
-          and-both (is_part_known variables reached (Name name)) (list_all (is_part_known variables reached) ps) here
-          (rest (λ q k. has q (ap (list_any (nat_eq q)) (places_of-some variables name ps place e) ∙ or-right (nat_eq q place) (list_any (nat_eq q) (places_of variables ps)) k)))
+          both_true here
+          (rest (λ q k. has q (ap (list_any (nat_eq q)) (places_of-some variables name ps place e) ∙ or_right (nat_eq q place) (list_any (nat_eq q) (places_of variables ps)) k)))
   parts-known (Unclosed ∷ ps) has = parts-known ps has
 
   -- so are texts
-  texts-known : (texts : List (List ℕ)) → ((q : ℕ) → list_any (nat_eq q) (places_within variables texts) ≡ true → list_any (nat_eq q) reached ≡ true)
+  pub texts-known : (texts : List (List ℕ)) → ((q : ℕ) → list_any (nat_eq q) (places_within variables texts) ≡ true → list_any (nat_eq q) reached ≡ true)
       → are_texts_known variables reached texts ≡ true
   texts-known [] has = refl
   texts-known (text ∷ texts) has =
-      and-both (is_text_known variables reached text) (are_texts_known variables reached texts)
+      both_true
       (parts-known (parts text) (λ q k. has q (any-left (nat_eq q) (places_in variables text) (places_within variables texts) k)))
       (texts-known texts (λ q k. has q (any-right (nat_eq q) (places_in variables text) (places_within variables texts) k)))
 
   -- no word behind known parts passes a test that no word at a gathered place passes
   behind-none : (test : List ℕ → Bool) → ((place : ℕ) → list_any (nat_eq place) reached ≡ true → list_any test (words_at variables place) ≡ false)
       → (ps : List Part) → list_all (is_part_known variables reached) ps ≡ true → list_any test (words_behind_parts variables ps) ≡ false
-  behind-none test fails [] h = refl
-  behind-none test fails (Byte b ∷ ps) h = behind-none test fails ps h
-  behind-none test fails (Name name ∷ ps) h =
-      by (place_of variables name) refl (behind-none test fails ps (and-right (is_part_known variables reached (Name name)) (list_all (is_part_known variables reached) ps) h))
+  behind-none test fails = no_word_behind variables reached test (λ name known. by name known (place_of variables name) refl)
     where
-      by : (found : Option ℕ) → place_of variables name ≡ found → list_any test (words_behind_parts variables ps) ≡ false
-          → list_any test (words_behind_parts variables (Name name ∷ ps)) ≡ false
-      by None e rest =
-          any-neither test (words_named variables name) (words_behind_parts variables ps) (ap (list_any test) (words_named-from_none variables name e)) rest
-      by (Some place) e rest =
-          let known : is_part_known variables reached (Name name) ≡ true = and-left (is_part_known variables reached (Name name)) (list_all (is_part_known variables reached) ps) h in
-          let means : is_part_known variables reached (Name name) ≡ list_any (nat_eq place) reached = rw (e, is_part_known) refl in
-          any-neither test (words_named variables name) (words_behind_parts variables ps)
-          (ap (list_any test) (words_named-from_some variables name place e) ∙ fails place (sym means ∙ known)) rest
-  behind-none test fails (Unclosed ∷ ps) h = behind-none test fails ps h
+      by : (name : List ℕ) → is_part_known variables reached (Name name) ≡ true → (found : Option ℕ) → place_of variables name ≡ found
+          → list_any test (words_named variables name) ≡ false
+      by name known None e = ap (list_any test) (words_named-from_none variables name e)
+      by name known (Some place) e = ap (list_any test) (words_named-from_some variables name place e) ∙ fails place (rw (e, is_part_known) at known)
 
   -- no known text that names nothing undefined passes a test that no such text passes
   texts-none : (test : List ℕ → Bool) → ((text : List ℕ) → is_text_known variables reached text ≡ true → names_undefined variables text ≡ false → test text ≡ false)
       → (texts : List (List ℕ)) → are_texts_known variables reached texts ≡ true → list_any (names_undefined variables) texts ≡ false → list_any test texts ≡ false
   texts-none test fails [] h k = refl
   texts-none test fails (text ∷ texts) h k =
-      or-none (test text) (list_any test texts)
-      (fails text (and-left (is_text_known variables reached text) (are_texts_known variables reached texts) h) (or-none_left (names_undefined variables text) (list_any (names_undefined variables) texts) k))
-      (texts-none test fails texts (and-right (is_text_known variables reached text) (are_texts_known variables reached texts) h) (or-none_right (names_undefined variables text) (list_any (names_undefined variables) texts) k))
+      let known = and_parts (is_text_known variables reached text) (are_texts_known variables reached texts) h in
+      or_from (test text) (list_any test texts)
+      (fails text known.0 (or_parts (names_undefined variables text) (list_any (names_undefined variables) texts) k).0)
+      (texts-none test fails texts known.1 (or_parts (names_undefined variables text) (list_any (names_undefined variables) texts) k).1)
 
   -- a known text that names nothing undefined leads to nothing undefined, where no word at a gathered place does
   leads-none : ((place : ℕ) → list_any (nat_eq place) reached ≡ true → are_texts_known variables reached (words_at variables place) ≡ true)
@@ -474,7 +363,7 @@ module _ (variables : List Variable) (reached : List ℕ) where
       → (depth : ℕ) (text : List ℕ) → is_text_known variables reached text ≡ true → names_undefined variables text ≡ false → leads_to_undefined_within variables depth text ≡ false
   leads-none closed fine zero text h k = k
   leads-none closed fine (suc depth) text h k =
-      or-none (names_undefined variables text) (list_any (leads_to_undefined_within variables depth) (words_behind variables text)) k
+      or_from (names_undefined variables text) (list_any (leads_to_undefined_within variables depth) (words_behind variables text)) k
       (behind-none (leads_to_undefined_within variables depth)
       (λ place has. texts-none (leads_to_undefined_within variables depth) (leads-none closed fine depth) (words_at variables place) (closed place has) (fine place has))
       (parts text) h)

@@ -1,26 +1,15 @@
 -- What a round over places leaves of an order of variables.
-use Rattle.std.proofs.Common.{◌≡◌, ℕ, zero, suc, ◌<◌, ◌≤◌, ◌⊎◌, inl, inr, Bool, true, false, List, [], ◌∷◌, ◌++◌, length, arith, refl, sym, ap, ◌∙◌, subst, length-append}
-use Rattle.std.specs.Prelude.{Some, nat_eq, slice_get}
+use Rattle.std.proofs.Common.{◌≡◌, ℕ, ◌<◌, ◌≤◌, ◌⊎◌, inl, inr, Bool, true, false, List, [], ◌∷◌, ◌++◌, length, arith, refl, sym, ap, ◌∙◌, subst, length-append}
+use Rattle.std.specs.Prelude.{nat_eq}
 use Rattle.std.specs.List.{list_any}
-use Rattle.std.proofs.lemmas.Bool.Decides.{nat_tests}
 use Rattle.std.proofs.lemmas.List.Folds.{list_any-append}
 use Rattle.std.proofs.lemmas.List.{take-append-le}
 use Rattle.std.proofs.Math.Seq.{take-append_seam}
-use Rattle.aa_text.proofs.OrderLemmas.{same_number}
+use Rattle.aa_text.proofs.ListLemmas.{slice_get-push}
+use Rattle.aa_text.proofs.TestLemmas.{same-from_test, same-test}
 use Rattle.aa_text.specs.ExpansionOrder.{IsOrder}
 use Rattle.aa_text.specs.SettledVariables.{AllBelow, is_ready, settled_each, settled_one}
 use Rattle.aa_text.specs.Variables.{Variable}
-
--- an element of a list with one more behind it is in the list, or is that one
-slice_get-push : (xs : List ℕ) (x at y : ℕ) → slice_get (xs ++ x ∷ []) at ≡ Some y
-    → ((at < length xs) × (slice_get xs at ≡ Some y)) ⊎ ((at ≡ length xs) × (x ≡ y))
-slice_get-push [] x zero y h = inr (refl, cc)
-slice_get-push [] x (suc at) y h = absurd (cc)
-slice_get-push (z ∷ zs) x zero y h = inl (omega arith, h)
-slice_get-push (z ∷ zs) x (suc at) y h = elim (slice_get-push zs x at y h) [
-  | inl there ↦ inl (omega (arith, there.0), there.1)
-  | inr last ↦ inr (omega (arith, last.0), last.1)
-]
 
 -- numbers below a bound, with one more behind them
 below-push : (bound : ℕ) (xs : List ℕ) (x : ℕ) → AllBelow bound xs → x < bound → AllBelow bound (xs ++ x ∷ [])
@@ -28,12 +17,8 @@ below-push bound xs x below within q h = by (list_any (nat_eq q) xs) refl (nat_e
   where
     by : (b : Bool) → list_any (nat_eq q) xs ≡ b → (c : Bool) → nat_eq q x ≡ c → q < bound
     by true b c e = below q b
-    by false b true e = let same = same_number q x e in omega arith
+    by false b true e = let same = same-from_test q x e in omega arith
     by false b false e = let there : false ≡ true = rw (list_any-append (nat_eq q) xs (x ∷ []), b, e) at h in absurd (cc)
-
--- in the words of a push
-pub below-pushed : (bound : ℕ) (xs ys : List ℕ) (x : ℕ) → ys ≡ xs ++ x ∷ [] → AllBelow bound xs → x < bound → AllBelow bound ys
-below-pushed bound xs ys x pushed below within = subst (AllBelow bound) (sym pushed) (below-push bound xs x below within)
 
 module _ (variables : List Variable) where
   -- an order goes on with a place that is ready
@@ -76,7 +61,7 @@ module _ (variables : List Variable) where
       (λ q h. within q (later q h))
     where
       first : (q : ℕ) → list_any (nat_eq q) (q ∷ places) ≡ true
-      first q = let same : nat_eq q q ≡ true = grind (arith, nat_tests) in rw same refl
+      first q = rw (same-test q) refl
 
       later : (q : ℕ) → list_any (nat_eq q) places ≡ true → list_any (nat_eq q) (place ∷ places) ≡ true
       later q h = by (nat_eq q place) refl
@@ -118,7 +103,7 @@ module _ (variables : List Variable) where
               → ((q : ℕ) → list_any (nat_eq q) places ≡ true → list_any (nat_eq q) order ≡ false → is_ready variables order q ≡ false)
               → is_ready variables order q ≡ false
           of q among outside true b behind =
-              let equal = same_number q place b in
+              let equal = same-from_test q place b in
               rw equal (stays.1 (rw equal at outside))
           of q among outside false b behind = behind q (rw b at among) outside
       by (inr more) rest =

@@ -12,6 +12,7 @@ use Rattle.aa_text.specs.Expansions.{values}
 use Rattle.aa_text.specs.VariablePlaces.{place_of, words_at}
 use Rattle.aa_text.specs.VariablesMap.{as_variable, as_variables}
 use Rattle.aa_text.specs.declared.variables.Values.{Values}
+use Rattle.aa_text.proofs.ListLemmas.{place-among_first}
 use Rattle.aa_text.proofs.PlaceLemmas.{values_within-from_none}
 use Rattle.aa_text.proofs.VariableLemmas.{shifted}
 
@@ -39,21 +40,6 @@ row-known {A} other value place (p ∷ ps) (suc size) h = by (nat_eq place p) re
         let among : list_any (nat_eq place) (take size ps) ≡ true = rw b at h in
         rw b (ap (row_or other (value p ∷ map value (take size ps))) (shifted (position_or_len (nat_eq place) ps) (length ps)) ∙ next (position (nat_eq place) ps) ∙ rest among)
 
--- A place that stands among the first of an order stands somewhere.
-pub place-known : (place : ℕ) (order : List ℕ) (size : ℕ) → list_any (nat_eq place) (take size order) ≡ true → (at : ℕ) × (slice_get order at ≡ Some place)
-place-known place [] zero h = absurd cc
-place-known place [] (suc size) h = absurd cc
-place-known place (p ∷ ps) zero h = absurd cc
-place-known place (p ∷ ps) (suc size) h = by (nat_eq place p) refl h (place-known place ps size)
-  where
-    by : (b : Bool) → nat_eq place p ≡ b → list_any (nat_eq place) (take (suc size) (p ∷ ps)) ≡ true
-        → (list_any (nat_eq place) (take size ps) ≡ true → (at : ℕ) × (slice_get ps at ≡ Some place)) → (at : ℕ) × (slice_get (p ∷ ps) at ≡ Some place)
-    by true b h rest = let same : p ≡ place = grind (arith, nat_tests) in (0, ap Some same)
-    by false b h rest =
-        let among : list_any (nat_eq place) (take size ps) ≡ true = rw b at h in
-        let found = rest among in
-        (suc found.0, found.1)
-
 -- The values of each variable that an order has are the expansions of its words.
 abbrev pub Settled : List Variable → List ℕ → Type 0
 Settled variables order = (at place : ℕ) → slice_get order at ≡ Some place → (name : List ℕ) → place_of variables name ≡ Some place → values variables name ≡ values_at variables place
@@ -69,8 +55,8 @@ name-known {A} of variables order size settled name h = by (place_of variables n
     by None at h = rw (looked_up, row_of, at, values_within-from_none variables (length variables) name at) refl
     by (Some place) at h =
         let among : list_any (nat_eq place) (take size order) ≡ true = rw (at, is_part_known) at h in
-        let found = place-known place order size among in
-        rw (looked_up, row_of, at) (row-known (of []) (λ place. of (values_at variables place)) place order size among ∙ ap of (sym (settled found.0 place found.1 name at)))
+        let found = place-among_first order size place among in
+        rw (looked_up, row_of, at) (row-known (of []) (λ place. of (values_at variables place)) place order size among ∙ ap of (sym (settled found.0 place found.2 name at)))
 
 -- the words of the variable that the map has at a place
 pub words_at-entry : {A : Type 0} (variables : List Variable) (entries : List (Vec ℕ A × Values)) (place : ℕ) (entry : Vec ℕ A × Values)

@@ -1,7 +1,8 @@
 use Rattle.std.proofs.Common.{◌∙◌}
 use Rattle.aa_text.specs.TextParts.{parts_of}
 use Rattle.aa_text.specs.Variables.{is_undefined, parts}
-use Rattle.aa_text.proofs.ReachedLemmas.{any-behind, places_of-behind}
+use Rattle.aa_text.proofs.ReachedLemmas.{places_of-behind}
+use Rattle.aa_text.proofs.TestLemmas.{any-behind}
 use Rattle.aa_text.proofs.variables.Variables.note.Goals as goal
 
 pub loop-part-preserved : goal.loop-part-preserved
