@@ -196,6 +196,7 @@ impl Variables {
 }
 
 mod count;
+mod cycle;
 mod expand;
 mod order;
 mod places;

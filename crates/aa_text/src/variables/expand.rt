@@ -217,3 +217,6 @@ impl Variables {
         }
     }
 }
+
+#[cfg(test)]
+mod tests;

@@ -1,10 +1,10 @@
 //! An order of the variables that a text leads to, in which each stands behind all that its words name.
 
-ghost use Rattle.std.specs.Prelude.{◌≡◌, ◌≢◌, ◌≤◌, ◌<◌, ℕ, true, false, nat_eq, None, Some, IfOk, IfErr, OnOk, length, position};
-ghost use Rattle.std.specs.List.{list_all, list_any, range_with_len};
+ghost use Rattle.std.specs.Prelude.{◌≡◌, ◌≢◌, ◌≤◌, ◌<◌, ℕ, true, false, nat_eq, None, Some, IfOk, IfErr, OnOk, length};
+ghost use Rattle.std.specs.List.{list_all, list_any};
 ghost use Rattle.aa_text.specs.ExpansionOrder.{IsOrder, is_part_known, is_text_known};
-ghost use Rattle.aa_text.specs.Expansions.{expansion_refusal, is_cyclic};
-ghost use Rattle.aa_text.specs.SettledVariables.{AllBelow, FirstOutside, is_ready, settled_each, settled_one};
+ghost use Rattle.aa_text.specs.Expansions.{expansion_refusal};
+ghost use Rattle.aa_text.specs.SettledVariables.{AllBelow, is_ready, settled_each, settled_one};
 ghost use Rattle.aa_text.specs.TextParts.{parts_of};
 ghost use Rattle.aa_text.specs.declared.text_error.TextRefusal.TheVariants.{Memory};
 
@@ -68,7 +68,7 @@ impl Variables {
         Ok(())
     }
 
-    // Tries each of some places in turn.
+    // Puts each of some places behind an order in turn, unless it is there or isn't ready when its turn comes.
     fn settle_each(&self, places: &[usize], order: &mut IndexSet<usize>) -> Result<(), TextError>
         ensures ok { OnOk result (order.new.keys ≡ settled_each self.now order.old.keys places.now) }
         ensures memory { IfErr result (λ e. e.refusal ≡ Memory) }
@@ -80,7 +80,7 @@ impl Variables {
         Ok(())
     }
 
-    // An order of places and of those that they lead to, as far as it is found by one walk.
+    // An order of those of some places, and of what they lead to, that lead to no cycle: a walk leaves each behind what its words name.
     fn begun(&self, places: &[usize]) -> Result<IndexSet<usize>, TextError>
         ensures order { IfOk result (λ o. IsOrder self.now o.keys) }
         ensures below { IfOk result (λ o. AllBelow (length self.now) o.keys) }
@@ -94,7 +94,10 @@ impl Variables {
     }
 
     // An order of places, behind which none of the others among them can be put.
-    fn settled(&self, places: &[usize]) -> Result<IndexSet<usize>, TextError>
+    //
+    // Rounds over the places go on until one puts nothing behind the order. Behind a walk the first round is that one already; but the
+    // proof rests on the rounds, and the walk only saves time.
+    pub(super) fn settled(&self, places: &[usize]) -> Result<IndexSet<usize>, TextError>
         requires below { AllBelow (length self.now) places.now }
         ensures order { IfOk result (λ o. IsOrder self.now o.keys) }
         ensures few { IfOk result (λ o. length o.keys ≤ length self.now) }
@@ -128,48 +131,6 @@ impl Variables {
             return Err(refused(TextRefusal::Cycle));
         }
         Ok(order)
-    }
-
-    // The places of all variables.
-    fn places(&self) -> Result<Vec<usize>, TextError>
-        ensures all { IfOk result (λ places. places.items ≡ range_with_len 0 (length self.now)) }
-        ensures memory { IfErr result (λ e. e.refusal ≡ Memory) }
-        ensures place { IfErr result (λ e. e.place ≡ None) }
-    {
-        let mut places = Vec::new(*self.by_name.allocator());
-        for place in 0..self.by_name.len() {
-            places.push(place)?;
-        }
-        Ok(places)
-    }
-
-    // The first place of a variable that isn't in an order.
-    fn first_outside(&self, order: &IndexSet<usize>) -> Option<usize>
-        ensures { FirstOutside (length self.now) order.now.keys result }
-    {
-        for place in 0..self.by_name.len() {
-            if !order.contains(&place) {
-                return Some(place);
-            }
-        }
-        None
-    }
-
-    /// The place, by first definitions, of the first variable that leads to itself, or to one that does.
-    ///
-    /// Names that aren't defined lead nowhere; names before one that isn't closed count.
-    ///
-    /// # Errors
-    ///
-    /// - `Memory`, without a place: memory ran out.
-    pub fn first_cycle(&self) -> Result<Option<usize>, TextError>
-        ensures ok { IfOk result (λ place. place ≡ position (is_cyclic self.now) self.now) }
-        ensures memory { IfErr result (λ e. e.refusal ≡ Memory) }
-        ensures place { IfErr result (λ e. e.place ≡ None) }
-    {
-        let places = self.places()?;
-        let order = self.settled(places.as_slice())?;
-        Ok(self.first_outside(&order))
     }
 }
 

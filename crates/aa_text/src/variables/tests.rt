@@ -66,6 +66,29 @@ fn defines_and_appends(rt: HostRuntime) -> Result<(), Fail> {
     Ok(())
 }
 
+// Names stand at the places of their first definitions, whatever follows.
+#[test]
+fn tells_names_by_place(rt: HostRuntime) -> Result<(), Fail> {
+    let mut variables = Variables::new(rt.alloc());
+    assert!(rt; variables.name(0) == None);
+    variables.define(b"B", &[b"x"])?;
+    variables.define(b"", &[b"@{B}"])?;
+    variables.define(b"B", &[b"x"])?;
+    variables.append(b"B", &[b"y"])?;
+    variables.define(b"A", &[b"x"])?;
+    let rows: [(usize, Option<&[u8]>); 5] = [
+        (0, Some(b"B")),
+        (1, Some(b"")),
+        (2, Some(b"A")),
+        (3, None),
+        (usize::MAX, None),
+    ];
+    for (at, (place, want)) in rows.iter().enumerate() {
+        assert!(rt; variables.name(*place) == *want, "row {at}");
+    }
+    Ok(())
+}
+
 #[test]
 fn tells_names_that_nothing_defines(rt: HostRuntime) -> Result<(), Fail> {
     let mut variables = Variables::new(rt.alloc());

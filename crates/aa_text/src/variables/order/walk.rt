@@ -61,7 +61,8 @@ impl Variables {
         Ok(())
     }
 
-    // Some places and those that they lead to, in the order in which a walk leaves them. A walk that stops early costs time alone.
+    // Some places and those that they lead to, in the order in which a walk leaves them. A walk that stopped early would cost time
+    // alone: `settled` finds the rest of an order in rounds.
     pub(super) fn left(&self, places: &[usize]) -> Result<Vec<usize>, TextError>
         ensures below { IfOk result (λ left. AllBelow (length self.now) left.items) }
         ensures memory { IfErr result (λ e. e.refusal ≡ Memory) }
@@ -74,6 +75,7 @@ impl Variables {
         for place in places {
             tasks.push(Task::Enter(*place))?;
         }
+        // It ends by its `break`: each variable is entered once, and then has one task to leave it, and one for each name in its words.
         for _ in 0..u64::MAX {
             match tasks.pop() {
                 Some(Task::Enter(place)) => {
