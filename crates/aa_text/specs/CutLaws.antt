@@ -1,8 +1,12 @@
 -- Words that the laws of cutting are said in.
-use Rattle.std.specs.Prelude.{ℕ, ◌≡◌, ◌+◌, ◌-◌, ◌<◌, ◌≤◌, Bool, true, false, not, ◌==◌, ◌&&◌, ◌||◌, List, [], ◌∷◌, ◌++◌, length, take, drop}
+use Rattle.std.specs.Prelude.{ℕ, ◌≡◌, ◌+◌, ◌-◌, ◌<◌, ◌≤◌, Bool, true, false, not, ◌==◌, ◌&&◌, ◌||◌, List, [], ◌∷◌, ◌++◌, length, take, drop, Result, Ok, Err, codes, ◌⊎◌}
 use Rattle.std.specs.List.{list_any}
-use Rattle.aa_text.specs.Bytes.{begins, hash, is_blank, line_feed}
-use Rattle.aa_text.specs.Cut.{Seen}
+use Rattle.aa_text.specs.Bytes.{begins, closing_brace, hash, is_blank, line_feed, quote, smaller}
+use Rattle.aa_text.specs.Cut.{Seen, closing, is_assign}
+use Rattle.aa_text.specs.Tokens.{with_tokens}
+use Rattle.aa_text.specs.declared.cut.CutRefusal.{CutRefusal}
+use Rattle.aa_text.specs.declared.cut.TokenKind.{TokenKind}
+use Rattle.aa_text.specs.declared.cut.TokenKind.TheVariants.{Assign, Include, Quoted, Value}
 
 -- A text is made of blanks and comments alone, from outside a comment or from within one. A comment runs to the end of its line; only the
 -- last gap may end within one.
@@ -19,11 +23,15 @@ is_gap text = is_gap_from false false text
 abbrev pub is_last_gap : List ℕ → Bool
 is_last_gap text = is_gap_from true false text
 
--- a text is a part of another
-pub record IsPart (part whole : List ℕ) : Type 0 where
-  pub front : List ℕ
-  pub back : List ℕ
-  pub is : whole ≡ front ++ part ++ back
+-- How a token's span tells its text: an Include's name stands between the byte that opens it and the one that closes it, an Assign's between
+-- `@{` and `}`, and a text in quotes between these. A value may stand in quotes or not. Any other token's text is all of its span.
+abbrev pub IsTextOf : TokenKind → List ℕ → List ℕ → Type 0
+IsTextOf (Include if_exists) text span =
+    (front : List ℕ) × (opener : ℕ) × ((opener == smaller || opener == quote) ≡ true) × (span ≡ front ++ opener ∷ text ++ closing opener ∷ [])
+IsTextOf (Assign append) text span = (back : List ℕ) × (span ≡ codes "@{" ++ text ++ closing_brace ∷ back)
+IsTextOf Value text span = (span ≡ text) ⊎ (span ≡ quote ∷ text ++ quote ∷ [])
+IsTextOf Quoted text span = span ≡ quote ∷ text ++ quote ∷ []
+IsTextOf kind text span = span ≡ text
 
 -- A token is the next one in a text, from a place of its source on.
 pub record IsNext (at : ℕ) (text : List ℕ) (token : Seen) : Type 0 where
@@ -37,8 +45,8 @@ pub record IsNext (at : ℕ) (text : List ℕ) (token : Seen) : Type 0 where
   pub gap : is_gap (take (token.start - at) text) ≡ true
   -- it begins with no blank
   pub black : begins is_blank (drop (token.start - at) text) ≡ false
-  -- its own text is a part of its span
-  pub own : IsPart token.text (take (token.end - token.start) (drop (token.start - at) text))
+  -- its span tells its own text
+  pub own : IsTextOf token.kind token.text (take (token.end - token.start) (drop (token.start - at) text))
 
 -- Tokens cover a text, from a place of its source on: each is the next one behind those before it, and blanks and comments alone stand
 -- behind the last.
@@ -49,3 +57,18 @@ Covers at text (token ∷ tokens) = IsNext at text token × Covers token.end (dr
 -- a line feed stands in a text
 abbrev pub has_line_feed : List ℕ → Bool
 has_line_feed text = list_any (λ b. b == line_feed) text
+
+-- the tokens of a text, and then those of what follows it; or the first fault
+abbrev pub followed_by : Result (List Seen) (CutRefusal × ℕ) → Result (List Seen) (CutRefusal × ℕ) → Result (List Seen) (CutRefusal × ℕ)
+followed_by (Ok tokens) more = with_tokens tokens more
+followed_by (Err fault) more = Err fault
+
+-- a token is a value
+abbrev pub is_value : TokenKind → Bool
+is_value Value = true
+is_value kind = false
+
+-- Behind an Assign each token is a value, and before it none is; or each is from the first on.
+abbrev pub AreValuesPlaced : Bool → List Seen → Type 0
+AreValuesPlaced values [] = Unit {0}
+AreValuesPlaced values (token ∷ tokens) = (is_value token.kind ≡ values) × AreValuesPlaced (values || is_assign token.kind) tokens

@@ -4,6 +4,7 @@ use Rattle.std.specs.List.{list_all, list_any}
 use Rattle.std.specs.Str.{bytes_eq}
 use Rattle.aa_text.specs.Variables.{Part, Byte, Name, Unclosed, parts}
 
+-- a part stands for itself
 abbrev pub is_byte : Part → Bool
 is_byte (Byte b) = true
 is_byte part = false
@@ -12,6 +13,7 @@ is_byte part = false
 abbrev pub names_nothing : List ℕ → Bool
 names_nothing text = list_all is_byte (parts text)
 
+-- a part names the variable of this name
 abbrev pub is_name : List ℕ → Part → Bool
 is_name name (Name other) = bytes_eq name other
 is_name name part = false

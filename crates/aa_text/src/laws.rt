@@ -1,9 +1,10 @@
 //! What holds of tokens, variables and expansions, as laws over their definitions.
 
-ghost use Rattle.std.specs.Prelude.{◌≡◌, ℕ, true, false, List, ◌∷◌, [], None, Ok, Some, find, flat_map, length};
+ghost use Rattle.std.specs.Prelude.{◌≡◌, ◌+◌, ◌++◌, ℕ, Bool, true, false, List, ◌∷◌, [], None, Ok, Some, find, flat_map, length};
 ghost use Rattle.std.specs.List.{list_any};
-ghost use Rattle.aa_text.specs.Cut.{cut, Seen};
-ghost use Rattle.aa_text.specs.CutLaws.{Covers};
+ghost use Rattle.aa_text.specs.Bytes.{line_feed};
+ghost use Rattle.aa_text.specs.Cut.{cut, piece_at, Seen};
+ghost use Rattle.aa_text.specs.CutLaws.{followed_by, has_line_feed, AreValuesPlaced, Covers};
 ghost use Rattle.aa_text.specs.ExpansionLaws.{choice_count, names_nothing, names_variable};
 ghost use Rattle.aa_text.specs.Expansions.{expansions, is_cyclic, leads_to_cycle, leads_to_undefined, values, words_of};
 ghost use Rattle.aa_text.specs.Variables.{Variable, named, names_undefined, parts};
@@ -21,8 +22,8 @@ pub fn what_a_text_leads_to()
 {}
 
 /// A text that names no variable has itself as its one expansion. A text has as many expansions as the product of the counts of its names'
-/// values. The values of a variable that does not lead to itself are the expansions of its words, in order. And the expansions of a text
-/// depend on the values of those names alone that it names.
+/// values, and none if it doesn't close a name. The values of a variable that does not lead to itself are the expansions of its words, in
+/// order. And the expansions of a text depend on the values of those names alone that it names.
 pub fn how_texts_expand()
     ensures plain { (variables : List Variable) (text : List ℕ)
         → names_nothing text ≡ true
@@ -39,9 +40,19 @@ pub fn how_texts_expand()
 {}
 
 /// The tokens of a text cover it from left to right: none overlaps another, what stands between them, before the first and behind the last
-/// is blanks and comments alone, and each token's text is a part of its span.
+/// is blanks and comments alone, and each token's span tells its text. What stands at a place does not depend on what follows its line: it
+/// is what would stand there if the text ended with the line. So a text is cut line by line: up to a line feed as if it ended there, and
+/// what follows as if it began there. In a line each token behind an Assign is a value, and no other is.
 pub fn how_a_text_is_cut()
     ensures covered { (source : List ℕ) (tokens : List Seen)
         → cut 0 0 false source ≡ Ok tokens
         → Covers 0 source tokens }
+    ensures line { (values : Bool) (text rest : List ℕ)
+        → piece_at values (text ++ line_feed ∷ rest) ≡ piece_at values text }
+    ensures lines { (at : ℕ) (values : Bool) (text rest : List ℕ)
+        → cut at 0 values (text ++ line_feed ∷ rest) ≡ followed_by (cut at 0 values text) (cut (at + length text + 1) 0 false rest) }
+    ensures values { (at : ℕ) (line : List ℕ) (tokens : List Seen)
+        → has_line_feed line ≡ false
+        → cut at 0 false line ≡ Ok tokens
+        → AreValuesPlaced false tokens }
 {}
