@@ -4,19 +4,20 @@ use Rattle.std.proofs.lemmas.Bool.{cases_lt, cond-false, lt-leb, cond-true, le-l
 use Rattle.std.proofs.lemmas.List.{drop_more, length_push, take_at, get_or_at}
 use Rattle.aa_set.specs.Command.{Order, Add, Undo, Ask, line_order}
 use Rattle.aa_set.specs.Laws.{AreDistinct, all_sets, is_undo, is_done, NoneGoesBack, changes, GivesBack}
-use Rattle.aa_set.specs.Manager.{Managed, new_manager, with_profile, read_profile, undone, gone_back_by, after_change, changed_by_add}
+use Rattle.aa_set.specs.Manager.{Managed, new_manager, with_profile, undone, gone_back_by, after_change, changed_by_add}
 use Rattle.aa_set.specs.Question.{answer_of}
 use Rattle.aa_set.specs.Reply.{told_lines}
 use Rattle.aa_set.specs.Run.{Answered, answered, obeyed, order_answered, changed, told, refused, takes_memory, after_lines}
 use Rattle.aa_set.specs.Words.{words_of}
-use Rattle.aa_text.specs.Files.{bytes_of}
+use Rattle.aa_set.specs.FileReading.{file_profile}
+use Rattle.aa_set.specs.Refusal.{plain}
 use Rattle.aa_set.specs.PolicySet.{has_name, have_distinct_names}
 use Rattle.aa_set.specs.declared.policy.Entry.{Entry}
 use Rattle.aa_set.specs.declared.policy.Profile.{Profile}
 use Rattle.aa_set.specs.declared.policy.Mode.TheVariants.{Enforce}
 use Rattle.aa_set.proofs.PolicyLemmas.{distinct_with_last}
 use Rattle.aa_set.specs.declared.refusal.Refusal.{Refusal}
-use Rattle.aa_set.specs.declared.refusal.Refusal.TheVariants.{Exists, Memory, LineTooLong}
+use Rattle.aa_set.specs.declared.refusal.RefusalKind.TheVariants.{Exists, Memory, LineTooLong}
 use Rattle.aa_set.specs.declared.reply.Reply.{Reply}
 use Rattle.aa_set.specs.declared.reply.Reply.TheVariants.{Silent, Refused, Told}
 use Rattle.aa_set.specs.Limits.{longest_line}
@@ -54,14 +55,14 @@ order_grows files m flag (Err refusal) h = stays m (Refused refusal) refl
 order_grows files m flag (Ok None) h = stays m Silent refl
 order_grows files m flag (Ok (Some (Undo n))) h = absurd (true≢false h)
 order_grows files m flag (Ok (Some (Add file))) h =
-    either_grows (flag && true) m (refused m Memory) (obeyed files m (Add file)) (stays m (Refused Memory) refl) (change_grows m (changed_by_add files m.machine.now file))
+    either_grows (flag && true) m (refused m (plain Memory)) (obeyed files m (Add file)) (stays m (Refused (plain Memory)) refl) (change_grows m (changed_by_add files m.machine.now file))
 order_grows files m flag (Ok (Some (Ask question))) h =
-    either_grows (flag && takes_memory m (Ask question)) m (refused m Memory) (obeyed files m (Ask question)) (stays m (Refused Memory) refl) (told_grows m (told_lines (answer_of m.machine.now question)))
+    either_grows (flag && takes_memory m (Ask question)) m (refused m (plain Memory)) (obeyed files m (Ask question)) (stays m (Refused (plain Memory)) refl) (told_grows m (told_lines (answer_of m.machine.now question)))
 
 line_grows : (files : Files) (m : Managed) (line : List ℕ) (flag : Bool) → is_undo (line_order (words_of line)) ≡ false → Grows m (answered files m line flag)
 line_grows files m line flag h =
-    either_grows (leb (length line) longest_line) m (order_answered files m flag (line_order (words_of line))) (refused m LineTooLong)
-    (order_grows files m flag (line_order (words_of line)) h) (stays m (Refused LineTooLong) refl)
+    either_grows (leb (length line) longest_line) m (order_answered files m flag (line_order (words_of line))) (refused m (plain LineTooLong))
+    (order_grows files m flag (line_order (words_of line)) h) (stays m (Refused (plain LineTooLong)) refl)
 
 -- lines of which none goes back put as many sets behind the others as they made changes
 lines_grow : (files : Files) (m : Managed) (lines : List (List ℕ × Bool)) → NoneGoesBack lines
@@ -129,8 +130,8 @@ with_profile_distinct : (entries : List Entry) (r : Result Profile Refusal) → 
 with_profile_distinct entries (Err refusal) h = tt
 with_profile_distinct entries (Ok profile) h =
     let entry : Entry = record { profile = profile; mode = Enforce } in
-    let fresh : (t : Bool) → has_name profile.name entries ≡ t → IfOk (cond {A = Result (List Entry) Refusal} t (Err Exists) (Ok (entries ++ entry ∷ []))) (λ set. have_distinct_names set ≡ true)
-    = λ t. elim t as (λ t. has_name profile.name entries ≡ t → IfOk (cond {A = Result (List Entry) Refusal} t (Err Exists) (Ok (entries ++ entry ∷ []))) (λ set. have_distinct_names set ≡ true)) [
+    let fresh : (t : Bool) → has_name profile.name entries ≡ t → IfOk (cond {A = Result (List Entry) Refusal} t (Err (plain Exists)) (Ok (entries ++ entry ∷ []))) (λ set. have_distinct_names set ≡ true)
+    = λ t. elim t as (λ t. has_name profile.name entries ≡ t → IfOk (cond {A = Result (List Entry) Refusal} t (Err (plain Exists)) (Ok (entries ++ entry ∷ []))) (λ set. have_distinct_names set ≡ true)) [
       | true ↦ λ e. tt
       | false ↦ λ e. distinct_with_last entries entry h e
     ] in
@@ -154,18 +155,18 @@ either_distinct false a b p q = q
 order_distinct : (files : Files) (m : Managed) (flag : Bool) (order : Result (Option Order) Refusal) → AreDistinct (all_sets m) → AreDistinct (all_sets (order_answered files m flag order).managed)
 order_distinct files m flag (Err refusal) h = h
 order_distinct files m flag (Ok None) h = h
-order_distinct files m flag (Ok (Some (Undo n))) h = either_distinct (flag && false) (refused m Memory) (obeyed files m (Undo n)) h (undone_distinct m n h)
+order_distinct files m flag (Ok (Some (Undo n))) h = either_distinct (flag && false) (refused m (plain Memory)) (obeyed files m (Undo n)) h (undone_distinct m n h)
 order_distinct files m flag (Ok (Some (Add file))) h =
     let now = distinct-behind m.machine.earlier (m.machine.now ∷ m.machine.later) h in
-    either_distinct (flag && true) (refused m Memory) (obeyed files m (Add file)) h
-    (changed_distinct m (changed_by_add files m.machine.now file) h (with_profile_distinct m.machine.now (read_profile (bytes_of files file)) now.0))
+    either_distinct (flag && true) (refused m (plain Memory)) (obeyed files m (Add file)) h
+    (changed_distinct m (changed_by_add files m.machine.now file) h (with_profile_distinct m.machine.now (file_profile files file) now.0))
 order_distinct files m flag (Ok (Some (Ask question))) h =
-    either_distinct (flag && takes_memory m (Ask question)) (refused m Memory) (obeyed files m (Ask question)) h (told_distinct m (told_lines (answer_of m.machine.now question)) h)
+    either_distinct (flag && takes_memory m (Ask question)) (refused m (plain Memory)) (obeyed files m (Ask question)) h (told_distinct m (told_lines (answer_of m.machine.now question)) h)
 
 lines_distinct : (files : Files) (m : Managed) (lines : List (List ℕ × Bool)) → AreDistinct (all_sets m) → AreDistinct (all_sets (after_lines files m lines))
 lines_distinct files m [] h = h
 lines_distinct files m (line ∷ lines) h = lines_distinct files (answered files m line.0 line.1).managed lines
-    (either_distinct (leb (length line.0) longest_line) (order_answered files m line.1 (line_order (words_of line.0))) (refused m LineTooLong)
+    (either_distinct (leb (length line.0) longest_line) (order_answered files m line.1 (line_order (words_of line.0))) (refused m (plain LineTooLong))
     (order_distinct files m line.1 (line_order (words_of line.0)) h) h)
 
 pub distinct : (files : Files) (force_complain : Bool) (lines : List (List ℕ × Bool)) → AreDistinct (all_sets (after_lines files (new_manager force_complain) lines))

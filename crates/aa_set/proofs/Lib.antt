@@ -1,11 +1,13 @@
 pub mod AccessLemmas
+pub mod AssignmentLemmas
+pub mod FileReadingLemmas
+pub mod FileShapeLemmas
 pub mod LawLemmas
 pub mod LineLemmas
 pub mod MachineLemmas
 pub mod NumberLemmas
 pub mod PieceLemmas
 pub mod PolicyLemmas
-pub mod ReadingLemmas
 pub mod ReplyLemmas
 pub mod RunLemmas
 pub mod StreamLemmas

@@ -102,7 +102,7 @@ module _ (files : Files) (force_complain : Bool) where
   pub IsAfter-more : {before now next : Option (List ℕ)} {s t : Session} {done : Lines} (line : List ℕ) (flag : Bool) (reply : Reply)
       → IsAfter files force_complain before now s done
       → ◌≡◌ {A = Answered} (record { reply = reply; managed = t.manager }) (answered files s.manager line flag)
-      → Tells now next s.waiting.items t.waiting.items (reply_text reply)
+      → Tells now next s.waiting.items t.waiting.items (reply_text files reply)
       → t.summary.accepted ≡ s.summary.accepted + count_by is_acceptance (reply ∷ [])
       → t.summary.refused ≡ s.summary.refused + count_by is_refusal (reply ∷ [])
       → IsAfter files force_complain before next t (done ++ (line, flag) ∷ [])
@@ -114,9 +114,9 @@ module _ (files : Files) (force_complain : Bool) where
       record {
         managed = ap (λ (a : Answered). a.managed) out ∙ sym (after_lines-append files start done ((line, flag) ∷ []));
         told = Tells-same (Tells-trans after.told tells) (
-            ap (λ text. flat_map reply_text (replies_to files start done) ++ text) (sym (append-nil (reply_text reply)))
-            ∙ sym (flat_map-append reply_text (replies_to files start done) (reply ∷ []))
-            ∙ ap (flat_map reply_text) (sym all));
+            ap (λ text. flat_map (reply_text files) (replies_to files start done) ++ text) (sym (append-nil (reply_text files reply)))
+            ∙ sym (flat_map-append (reply_text files) (replies_to files start done) (reply ∷ []))
+            ∙ ap (flat_map (reply_text files)) (sym all));
         summed = record {
           accepted = accepted ∙ ap (λ n. n + count_by is_acceptance (reply ∷ [])) after.summed.accepted
               ∙ sym (sum_by-append (λ r. cond (is_acceptance r) 1 0) (replies_to files start done) (reply ∷ []))
@@ -142,7 +142,7 @@ module _ (files : Files) (force_complain : Bool) where
       = after_lines-append files start done ((front, flag) ∷ []) ∙ ap (λ (a : Answered). a.managed) (same old) ∙ sym (after_lines-append files start done ((line, flag) ∷ [])) in
       record {
         managed = after.managed ∙ manager;
-        told = Tells-same after.told (ap (flat_map reply_text) replies);
+        told = Tells-same after.told (ap (flat_map (reply_text files)) replies);
         summed = record { accepted = after.summed.accepted ∙ ap (count_by is_acceptance) replies; refused = after.summed.refused ∙ ap (count_by is_refusal) replies };
       }
 
@@ -155,7 +155,7 @@ module _ (files : Files) (force_complain : Bool) where
       let replies_are : replies_to files start done ≡ replies files force_complain input flags = ap (replies_to files start) (sym all) in
       record {
         flags = flags;
-        written = subst (Appends before next) (ap (flat_map reply_text) replies_are) (Tells-flushed next after.told flushed);
+        written = subst (Appends before next) (ap (flat_map (reply_text files)) replies_are) (Tells-flushed next after.told flushed);
         summed = record { accepted = after.summed.accepted ∙ ap (count_by is_acceptance) replies_are; refused = after.summed.refused ∙ ap (count_by is_refusal) replies_are };
       }
 
@@ -180,10 +180,10 @@ module _ (files : Files) (force_complain : Bool) where
     lines = follows.lines;
     after = record {
       managed = manager ∙ follows.after.managed;
-      told = subst (λ waits. Tells before next [] waits (flat_map reply_text (replies_to files start follows.lines))) (sym empty) (record {
-        done = flat_map reply_text (replies_to files start follows.lines);
+      told = subst (λ waits. Tells before next [] waits (flat_map (reply_text files) (replies_to files start follows.lines))) (sym empty) (record {
+        done = flat_map (reply_text files) (replies_to files start follows.lines);
         writes = Tells-flushed next follows.after.told flushed;
-        keeps = append-nil (flat_map reply_text (replies_to files start follows.lines));
+        keeps = append-nil (flat_map (reply_text files) (replies_to files start follows.lines));
       });
       summed = record { accepted = ap (λ (s : Summary). s.accepted) summary ∙ follows.after.summed.accepted; refused = ap (λ (s : Summary). s.refused) summary ∙ follows.after.summed.refused };
     };

@@ -1,6 +1,15 @@
 -- Bytes by their kinds, as the definitions of this crate name them.
 use Rattle.std.specs.Prelude.{ℕ, Bool, ◌==◌, ◌||◌, ◌&&◌, nat_le, false, List, [], ◌∷◌}
 
+abbrev pub quote : ℕ
+quote = 34
+
+abbrev pub slash : ℕ
+slash = 47
+
+abbrev pub at_sign : ℕ
+at_sign = 64
+
 -- an ASCII letter or digit
 abbrev pub is_letter_or_digit : ℕ → Bool
 is_letter_or_digit b = (nat_le 97 b && nat_le b 122) || (nat_le 65 b && nat_le b 90) || (nat_le 48 b && nat_le b 57)
@@ -8,14 +17,6 @@ is_letter_or_digit b = (nat_le 97 b && nat_le b 122) || (nat_le 65 b && nat_le b
 -- what a profile's name is made of: letters, digits, `_`, `-` and `.`
 abbrev pub is_name_byte : ℕ → Bool
 is_name_byte b = is_letter_or_digit b || b == 95 || b == 45 || b == 46
-
--- what a pattern is made of in a file: that, `/`, `*`, `?`, `[`, `]`, `^`, `{`, `}` and `,`
-abbrev pub is_pattern_byte : ℕ → Bool
-is_pattern_byte b = is_name_byte b || b == 47 || b == 42 || b == 63 || b == 91 || b == 93 || b == 94 || b == 123 || b == 125 || b == 44
-
--- the blanks of a file: space, tab, line feed, vertical tab, form feed and carriage return
-abbrev pub is_blank : ℕ → Bool
-is_blank b = b == 32 || (nat_le 9 b && nat_le b 13)
 
 -- the blanks of a command line: space, tab and carriage return
 abbrev pub is_command_blank : ℕ → Bool

@@ -5,8 +5,9 @@ use Rattle.std.specs.Str.{bytes_eq}
 use Rattle.aa_set.specs.Question.{Asked, HasKnownNeeds, asked, question_of}
 use Rattle.aa_set.specs.declared.command.Command.{Command}
 use Rattle.aa_set.specs.declared.command.Command.TheVariants.{Add as AddFile, Undo as UndoChanges, Ask as AskQuestion}
+use Rattle.aa_set.specs.Refusal.{plain}
 use Rattle.aa_set.specs.declared.refusal.Refusal.{Refusal}
-use Rattle.aa_set.specs.declared.refusal.Refusal.TheVariants.{BadCommand}
+use Rattle.aa_set.specs.declared.refusal.RefusalKind.TheVariants.{BadCommand}
 
 -- what a command orders: a file to add, changes to undo, or a question to answer
 pub data Order : Type 0 where
@@ -34,16 +35,16 @@ number_of_digits digits = fold (λ number digit. 10 * number + (digit - 48)) 0 d
 
 -- how many changes to undo: 1 to 9 digits, and at least 1
 abbrev pub count_of : List ℕ → Result Order Refusal
-count_of word = if nat_le 1 (length word) && nat_le (length word) 9 && list_all is_digit word && nat_le 1 (number_of_digits word) then Ok (Undo (number_of_digits word)) else Err BadCommand
+count_of word = if nat_le 1 (length word) && nat_le (length word) 9 && list_all is_digit word && nat_le 1 (number_of_digits word) then Ok (Undo (number_of_digits word)) else Err (plain BadCommand)
 
 abbrev pub add_order : List (List ℕ) → Result Order Refusal
 add_order (file ∷ []) = Ok (Add file)
-add_order _ = Err BadCommand
+add_order _ = Err (plain BadCommand)
 
 abbrev pub undo_order : List (List ℕ) → Result Order Refusal
 undo_order [] = Ok (Undo 1)
 undo_order (word ∷ []) = count_of word
-undo_order _ = Err BadCommand
+undo_order _ = Err (plain BadCommand)
 
 abbrev pub ask_order : Result Asked Refusal → Result Order Refusal
 ask_order (Ok question) = Ok (Ask question)
@@ -53,7 +54,7 @@ ask_order (Err refusal) = Err refusal
 abbrev pub order_of : List ℕ → List (List ℕ) → Result Order Refusal
 order_of first rest =
     if bytes_eq first (codes "add") then add_order rest
-    else (if bytes_eq first (codes "undo") then undo_order rest else (if bytes_eq first (codes "ask") then ask_order (question_of rest) else Err BadCommand))
+    else (if bytes_eq first (codes "undo") then undo_order rest else (if bytes_eq first (codes "ask") then ask_order (question_of rest) else Err (plain BadCommand)))
 
 abbrev pub some_order : Result Order Refusal → Result (Option Order) Refusal
 some_order (Ok order) = Ok (Some order)
@@ -61,6 +62,6 @@ some_order (Err refusal) = Err refusal
 
 -- the command of a line's words, if they are any: a line of blanks alone commands nothing
 abbrev pub line_order : Option (List (List ℕ)) → Result (Option Order) Refusal
-line_order None = Err BadCommand
+line_order None = Err (plain BadCommand)
 line_order (Some []) = Ok None
 line_order (Some (first ∷ rest)) = some_order (order_of first rest)

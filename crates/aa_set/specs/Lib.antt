@@ -1,7 +1,11 @@
 pub mod Access
+pub mod Assignments
 pub mod Bytes
 pub mod Command
 pub mod FileReading
+pub mod FileReadingProgress
+pub mod FileShape
+pub mod FileTokens
 pub mod Laws
 pub mod Limits
 pub mod Machine

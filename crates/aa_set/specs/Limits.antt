@@ -1,10 +1,6 @@
 -- The limits, as docs/commands.md and docs/policy.md give them.
 use Rattle.std.specs.Prelude.{ℕ}
 
--- how many bytes a profile's file may have
-abbrev pub longest_file : ℕ
-longest_file = 16777216
-
 -- how many rules a file may have
 abbrev pub most_rules : ℕ
 most_rules = 16384

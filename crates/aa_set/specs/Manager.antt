@@ -1,14 +1,15 @@
 -- The manager: the machine over policy sets, and what each command makes of it (docs/commands.md).
 use Rattle.std.specs.Prelude.{ℕ, Bool, nat_le, if◌then◌else◌, List, [], ◌∷◌, ◌++◌, length, Option, None, Some, Result, Ok, Err}
-use Rattle.aa_text.specs.Files.{bytes_of}
+use Rattle.aa_text.specs.Files.{File}
 use Rattle.aa_set.specs.FileReading.{file_profile}
 use Rattle.aa_set.specs.Machine.{Machine, started, accepted, gone_back}
 use Rattle.aa_set.specs.PolicySet.{has_name}
 use Rattle.aa_set.specs.declared.policy.Entry.{Entry}
 use Rattle.aa_set.specs.declared.policy.Profile.{Profile}
 use Rattle.aa_set.specs.declared.policy.Mode.TheVariants.{Enforce}
+use Rattle.aa_set.specs.Refusal.{plain}
 use Rattle.aa_set.specs.declared.refusal.Refusal.{Refusal}
-use Rattle.aa_set.specs.declared.refusal.Refusal.TheVariants.{NoFile, Exists, NothingToUndo}
+use Rattle.aa_set.specs.declared.refusal.RefusalKind.TheVariants.{Exists, NothingToUndo}
 
 -- a manager, as contracts see it: whether profiles are loaded in complain mode, and the machine
 pub record Managed : Type 0 where
@@ -19,18 +20,14 @@ pub record Managed : Type 0 where
 abbrev pub new_manager : Bool → Managed
 new_manager force_complain = record { force_complain = force_complain; machine = started [] }
 
-abbrev pub read_profile : Option (List ℕ) → Result Profile Refusal
-read_profile None = Err NoFile
-read_profile (Some bytes) = file_profile bytes
-
 -- the policy set with, at its end, a profile that was read, if its name isn't there yet
 abbrev pub with_profile : List Entry → Result Profile Refusal → Result (List Entry) Refusal
 with_profile entries (Err refusal) = Err refusal
-with_profile entries (Ok profile) = if has_name profile.name entries then Err Exists else Ok (entries ++ record { profile = profile; mode = Enforce } ∷ [])
+with_profile entries (Ok profile) = if has_name profile.name entries then Err (plain Exists) else Ok (entries ++ record { profile = profile; mode = Enforce } ∷ [])
 
 -- the policy set after `add FILE`, or its refusal
 abbrev pub changed_by_add : List (List ℕ × List ℕ) → List Entry → List ℕ → Result (List Entry) Refusal
-changed_by_add files entries name = with_profile entries (read_profile (bytes_of files name))
+changed_by_add files entries name = with_profile entries (file_profile files name)
 
 -- after an accepted change to a policy set
 abbrev pub after_commit : Managed → List Entry → Managed
@@ -50,4 +47,4 @@ gone_back_by n managed = record { force_complain = managed.force_complain; machi
 
 -- the manager after `undo N`, or the refusal
 abbrev pub undone : ℕ → Managed → Result Managed Refusal
-undone n managed = if nat_le n (length managed.machine.earlier) then Ok (gone_back_by n managed) else Err NothingToUndo
+undone n managed = if nat_le n (length managed.machine.earlier) then Ok (gone_back_by n managed) else Err (plain NothingToUndo)

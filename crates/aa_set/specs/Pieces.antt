@@ -1,6 +1,5 @@
--- Texts cut at separators: the lines of an input and the words of a file.
+-- Texts cut at separators: the lines of an input.
 use Rattle.std.specs.Prelude.{◌≡◌, ℕ, Bool, true, false, not, ◌==◌, if◌then◌else◌, List, [], ◌∷◌, filter}
-use Rattle.aa_set.specs.Bytes.{is_blank}
 
 -- the pieces, with a byte put before the first
 abbrev pub onto_first : ℕ → List (List ℕ) → List (List ℕ)
@@ -28,17 +27,3 @@ without_empty_last (piece ∷ next ∷ pieces) = piece ∷ without_empty_last (n
 -- the lines of an input: its pieces between line feeds, the last one only where it isn't empty
 abbrev pub lines : List ℕ → List (List ℕ)
 lines input = without_empty_last (pieces is_line_feed input)
-
--- the words of a file: its pieces between blanks that aren't empty
-abbrev pub file_words : List ℕ → List (List ℕ)
-file_words text = filter (λ piece. not (is_empty piece)) (pieces is_blank text)
-
--- a blank comes first
-abbrev pub begins_blank : List ℕ → Bool
-begins_blank [] = false
-begins_blank (b ∷ bs) = is_blank b
-
--- a word that stands directly before this text ends here
-abbrev pub IsWordEnd : List ℕ → Type 0
-IsWordEnd [] = Unit {0}
-IsWordEnd (b ∷ bs) = is_blank b ≡ true

@@ -7,8 +7,10 @@ use Rattle.aa_set.specs.Bytes.{begins_with}
 use Rattle.aa_set.specs.PolicySet.{entry_named}
 use Rattle.aa_set.specs.Verdict.{Request, verdict}
 use Rattle.aa_set.specs.declared.policy.Entry.{Entry}
+use Rattle.aa_set.specs.Refusal.{plain}
 use Rattle.aa_set.specs.declared.refusal.Refusal.{Refusal}
-use Rattle.aa_set.specs.declared.refusal.Refusal.TheVariants.{Absent, BadCommand, BadRequest}
+use Rattle.aa_set.specs.declared.refusal.RefusalKind.{RefusalKind}
+use Rattle.aa_set.specs.declared.refusal.RefusalKind.TheVariants.{Absent, BadCommand, BadRequest}
 use Rattle.aa_set.specs.declared.verdict.Answer.{Answer}
 use Rattle.aa_set.specs.declared.verdict.Answer.TheVariants.{Unconfined}
 use Rattle.aa_set.specs.declared.question.Question.{Question}
@@ -35,24 +37,28 @@ abbrev pub is_path : List ℕ → Bool
 is_path word = begins_with 47 word && not (list_any (λ b. b == 0) word)
 
 abbrev pub file_question : List ℕ → Option ℕ → Option Bool → List ℕ → Result Asked Refusal
-file_question who (Some needs) (Some owned) path = if is_path path then Ok (OfFile who (record { needs = needs; owned = owned; path = path })) else Err BadRequest
-file_question who None owned path = Err BadRequest
-file_question who (Some needs) None path = Err BadRequest
+file_question who (Some needs) (Some owned) path = if is_path path then Ok (OfFile who (record { needs = needs; owned = owned; path = path })) else Err (plain BadRequest)
+file_question who None owned path = Err (plain BadRequest)
+file_question who (Some needs) None path = Err (plain BadRequest)
 
 -- what the words after `ask` ask: `file NAME ACCESS OWNED PATH`
 abbrev pub question_of : List (List ℕ) → Result Asked Refusal
-question_of (kind ∷ who ∷ access ∷ owned ∷ path ∷ []) = if bytes_eq kind (codes "file") then file_question who (needs_of access) (owned_of owned) path else Err BadCommand
-question_of _ = Err BadCommand
+question_of (kind ∷ who ∷ access ∷ owned ∷ path ∷ []) = if bytes_eq kind (codes "file") then file_question who (needs_of access) (owned_of owned) path else Err (plain BadCommand)
+question_of _ = Err (plain BadCommand)
 
 abbrev pub entry_answer : Option Entry → Request → Result Answer Refusal
-entry_answer None request = Err Absent
+entry_answer None request = Err (plain Absent)
 entry_answer (Some entry) request = Ok (verdict entry.mode entry.profile.rules request)
 
 -- the answer of a policy set
 abbrev pub answer_of : List Entry → Asked → Result Answer Refusal
 answer_of entries (OfFile who request) = if bytes_eq who (codes "unconfined") then Ok Unconfined else entry_answer (entry_named who entries) request
 
+abbrev pub is_absence : RefusalKind → Bool
+is_absence Absent = true
+is_absence _ = false
+
 -- no profile of the name is there
 abbrev pub is_absent : Result Answer Refusal → Bool
-is_absent (Err Absent) = true
-is_absent _ = false
+is_absent (Err refusal) = is_absence refusal.refusal
+is_absent (Ok answer) = false

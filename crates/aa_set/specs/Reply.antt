@@ -1,6 +1,10 @@
 -- The texts of replies (docs/commands.md, "Replies").
-use Rattle.std.specs.Prelude.{ℕ, Bool, true, false, Result, Ok, Err, List, [], ◌∷◌, ◌++◌, codes}
+use Rattle.std.specs.Prelude.{ℕ, ◌+◌, ◌/◌, ◌%◌, Bool, true, false, not, ◌&&◌, ◌==◌, nat_le, if◌then◌else◌, Option, None, Some, Result, Ok, Err, List, [], ◌∷◌, ◌++◌, codes}
+use Rattle.std.specs.List.{list_all}
 use Rattle.std.specs.Fmt.{decimal}
+use Rattle.aa_text.specs.Files.{File, name_at}
+use Rattle.aa_text.specs.declared.text_error.Place.{Place}
+use Rattle.aa_set.specs.Bytes.{quote}
 use Rattle.aa_set.specs.Refusal.{number_of, name_of}
 use Rattle.aa_set.specs.declared.refusal.Refusal.{Refusal}
 use Rattle.aa_set.specs.declared.reply.Reply.{Reply}
@@ -25,16 +29,38 @@ abbrev pub told_lines : Result Answer Refusal → Result (List ℕ) Refusal
 told_lines (Ok answer) = Ok (line_with (answer_word answer))
 told_lines (Err refusal) = Err refusal
 
+-- a byte that a text shows as it is: a visible ASCII character, but no quote
+abbrev pub is_shown : ℕ → Bool
+is_shown b = nat_le 33 b && nat_le b 126 && not (b == quote)
+
+-- the hexadecimal digit of a number below 16, in upper case
+abbrev pub hexadecimal_digit : ℕ → ℕ
+hexadecimal_digit n = if nat_le n 9 then 48 + n else 55 + n
+
+-- two hexadecimal digits a byte
+abbrev pub hexadecimal : List ℕ → List ℕ
+hexadecimal [] = []
+hexadecimal (b ∷ bs) = hexadecimal_digit (b / 16) ∷ hexadecimal_digit (b % 16) ∷ hexadecimal bs
+
+-- how a text is told: between quotes, or in hexadecimal where one of its bytes isn't shown
+abbrev pub told_text : List ℕ → List ℕ
+told_text text = if list_all is_shown text then quote ∷ text ++ quote ∷ [] else hexadecimal text
+
+-- how a place is told, behind a blank: the file's name and the offset in bytes
+abbrev pub place_text : List File → Option Place → List ℕ
+place_text files None = []
+place_text files (Some place) = codes " " ++ told_text (name_at files place.file) ++ codes " " ++ decimal place.at
+
 -- the one line that tells a refusal
-abbrev pub refusal_text : Refusal → List ℕ
-refusal_text refusal = line_with (codes "refused " ++ decimal (number_of refusal) ++ codes " " ++ name_of refusal)
+abbrev pub refusal_text : List File → Refusal → List ℕ
+refusal_text files refusal = line_with (codes "refused " ++ decimal (number_of refusal) ++ codes " " ++ name_of refusal ++ place_text files refusal.place)
 
 -- the text of a reply; a blank line has none
-abbrev pub reply_text : Reply → List ℕ
-reply_text Silent = []
-reply_text Done = line_with (codes "ok")
-reply_text (Refused refusal) = refusal_text refusal
-reply_text (Told lines) = lines
+abbrev pub reply_text : List File → Reply → List ℕ
+reply_text files Silent = []
+reply_text files Done = line_with (codes "ok")
+reply_text files (Refused refusal) = refusal_text files refusal
+reply_text files (Told lines) = lines
 
 abbrev pub is_refusal : Reply → Bool
 is_refusal (Refused refusal) = true

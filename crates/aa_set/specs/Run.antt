@@ -12,8 +12,9 @@ use Rattle.aa_set.specs.Words.{words_of}
 use Rattle.aa_set.specs.declared.session.Summary.{Summary}
 use Rattle.aa_set.specs.declared.reply.Reply.{Reply}
 use Rattle.aa_set.specs.declared.reply.Reply.TheVariants.{Silent, Done, Refused, Told}
+use Rattle.aa_set.specs.Refusal.{plain}
 use Rattle.aa_set.specs.declared.refusal.Refusal.{Refusal}
-use Rattle.aa_set.specs.declared.refusal.Refusal.TheVariants.{LineTooLong, Memory}
+use Rattle.aa_set.specs.declared.refusal.RefusalKind.TheVariants.{LineTooLong, Memory}
 use Rattle.aa_set.specs.Limits.{longest_line}
 
 -- the reply to a line, and the manager after it
@@ -46,7 +47,7 @@ takes_memory managed (Ask question) = not (is_absent (answer_of managed.machine.
 
 -- what a command is answered, with the flag that it found no memory; of other commands the flag says nothing
 abbrev pub obeyed_flagged : List (List ℕ × List ℕ) → Managed → Bool → Order → Answered
-obeyed_flagged files managed flag order = if flag && takes_memory managed order then refused managed Memory else obeyed files managed order
+obeyed_flagged files managed flag order = if flag && takes_memory managed order then refused managed (plain Memory) else obeyed files managed order
 
 -- what the command of a line is answered: nothing where there is none
 abbrev pub order_answered : List (List ℕ × List ℕ) → Managed → Bool → Result (Option Order) Refusal → Answered
@@ -56,7 +57,7 @@ order_answered files managed flag (Ok (Some order)) = obeyed_flagged files manag
 
 -- what a line is answered
 abbrev pub answered : List (List ℕ × List ℕ) → Managed → List ℕ → Bool → Answered
-answered files managed line flag = if nat_le (length line) longest_line then order_answered files managed flag (line_order (words_of line)) else refused managed LineTooLong
+answered files managed line flag = if nat_le (length line) longest_line then order_answered files managed flag (line_order (words_of line)) else refused managed (plain LineTooLong)
 
 -- the replies to lines in order, each with its flag
 abbrev pub replies_to : List (List ℕ × List ℕ) → Managed → List (List ℕ × Bool) → List Reply
@@ -80,7 +81,7 @@ replies files force_complain input flags = replies_to files (new_manager force_c
 
 -- what is written for an input: the texts of its replies, joined
 abbrev pub output : List (List ℕ × List ℕ) → Bool → List ℕ → List Bool → List ℕ
-output files force_complain input flags = flat_map reply_text (replies files force_complain input flags)
+output files force_complain input flags = flat_map (reply_text files) (replies files force_complain input flags)
 
 -- a summary counts these replies
 pub record SumsUp (summary : Summary) (all : List Reply) : Type 0 where

@@ -14,7 +14,7 @@ use Rattle.aa_set.specs.declared.session.Session.{Session}
 -- and has `now`.
 pub record IsAfter (files : List (List ℕ × List ℕ)) (force_complain : Bool) (before now : Option (List ℕ)) (session : Session) (lines : List (List ℕ × Bool)) : Type 0 where
   pub managed : session.manager ≡ after_lines files (new_manager force_complain) lines
-  pub told : Tells before now [] session.waiting.items (flat_map reply_text (replies_to files (new_manager force_complain) lines))
+  pub told : Tells before now [] session.waiting.items (flat_map (reply_text files) (replies_to files (new_manager force_complain) lines))
   pub summed : SumsUp session.summary (replies_to files (new_manager force_complain) lines)
 
 -- An input consists of these lines, each ended by a line feed, and then of a line that isn't finished, of which a line

@@ -8,7 +8,7 @@ ghost use Rattle.aa_set.specs.Words.{words_of};
 
 use crate::bytes::is_text;
 use crate::question::Question;
-use crate::refusal::Refusal;
+use crate::refusal::{Refusal, RefusalKind, plain};
 use crate::words::Words;
 
 // The most digits of a number, so few that it fits.
@@ -55,7 +55,7 @@ fn read_words<'a>(first: &[u8], rest: &[&'a [u8]]) -> Result<Command<'a>, Refusa
     } else if is_text(first, b"ask") {
         Ok(Command::Ask(Question::read(rest)?))
     } else {
-        Err(Refusal::BadCommand)
+        Err(plain(RefusalKind::BadCommand))
     }
 }
 
@@ -67,7 +67,7 @@ fn read_add<'a>(rest: &[&'a [u8]]) -> Result<Command<'a>, Refusal>
 {
     match rest {
         [file] => Ok(Command::Add(file)),
-        _ => Err(Refusal::BadCommand),
+        _ => Err(plain(RefusalKind::BadCommand)),
     }
 }
 
@@ -80,7 +80,7 @@ fn read_undo<'a>(rest: &[&'a [u8]]) -> Result<Command<'a>, Refusal>
     match rest {
         [] => Ok(Command::Undo(1)),
         [word] => Ok(Command::Undo(read_count(word)?)),
-        _ => Err(Refusal::BadCommand),
+        _ => Err(plain(RefusalKind::BadCommand)),
     }
 }
 
@@ -89,11 +89,11 @@ fn read_count(word: &[u8]) -> Result<usize, Refusal>
     ensures { MatchResult result (λ count. count_of word.now ≡ Ok (Order.Undo count)) (λ refusal. count_of word.now ≡ Err refusal) }
 {
     if word.is_empty() || word.len() > MOST_DIGITS || !are_digits(word) {
-        return Err(Refusal::BadCommand);
+        return Err(plain(RefusalKind::BadCommand));
     }
     let count = number_of_digits(word);
     if count == 0 {
-        return Err(Refusal::BadCommand);
+        return Err(plain(RefusalKind::BadCommand));
     }
     Ok(count)
 }

@@ -2,8 +2,10 @@
 #![tactic(auto)]
 
 mod access;
+mod assignments;
 mod bytes;
 mod command;
+mod file_shape;
 mod laws;
 mod line;
 mod manager;
@@ -23,6 +25,6 @@ pub use access::Perms;
 pub use laws::the_way_back;
 pub use manager::Manager;
 pub use question::Question;
-pub use refusal::Refusal;
+pub use refusal::{Refusal, RefusalKind};
 pub use session::{RunFault, Summary, run};
 pub use stream::{Failed, FromRead, Sink, Source, ToWrite};

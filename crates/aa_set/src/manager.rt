@@ -3,12 +3,14 @@
 ghost use Rattle.std.specs.Prelude.{◌≡◌, ◌≢◌, ◌<◌, Ok, Err, IfOk, IfErr, OnOk, OnErr, length, false};
 ghost use Rattle.aa_set.specs.Question.{HasKnownNeeds, asked, answer_of, is_absent};
 ghost use Rattle.aa_set.specs.Reply.{answer_word, line_with, told_lines};
-ghost use Rattle.aa_set.specs.declared.refusal.Refusal.TheVariants.{Absent, Memory};
+ghost use Rattle.aa_set.specs.Refusal.{plain};
+ghost use Rattle.aa_set.specs.declared.refusal.RefusalKind.TheVariants.{Absent, Memory};
 
+use crate::file_shape::is_unconfined;
 use crate::policy::{Entry, Mode, PolicySet};
 use crate::question::Question;
-use crate::reading::{is_unconfined, read_profile};
-use crate::refusal::Refusal;
+use crate::reading::read_profile;
+use crate::refusal::{Refusal, RefusalKind, plain};
 use crate::verdict::{Answer, FileRequest, decide};
 use aa_text::Files;
 use std::alloc::{AllocError, Global};
@@ -67,15 +69,12 @@ impl Manager {
     /// `Memory` where memory ran out. The policy set and its history are then as they were.
     pub fn add(&mut self, files: &Files, name: &[u8]) -> Result<(), Refusal>
         ensures ok { OnOk result (added files.now self.old name.now ≡ Ok self.new) }
-        ensures refused { IfErr result (λ refusal. refusal ≢ Memory → added files.now self.old name.now ≡ Err refusal) }
+        ensures refused { IfErr result (λ refusal. refusal ≢ plain Memory → added files.now self.old name.now ≡ Err refusal) }
         ensures unchanged { OnErr result (self.new ≡ self.old) }
     {
-        let Some(text) = files.bytes(name) else {
-            return Err(Refusal::NoFile);
-        };
-        let profile = read_profile(self.alloc, text)?;
+        let profile = read_profile(self.alloc, files, name)?;
         if self.set.has(profile.name.as_slice()) {
-            return Err(Refusal::Exists);
+            return Err(plain(RefusalKind::Exists));
         }
         let mode = Mode::Enforce;
         let set = self.set.try_with(self.alloc, Entry { profile, mode })?;
@@ -113,7 +112,7 @@ impl Manager {
         ensures unchanged { OnErr result (self.new ≡ self.old) }
     {
         if n > self.done {
-            return Err(Refusal::NothingToUndo);
+            return Err(plain(RefusalKind::NothingToUndo));
         }
         for _step in 0..n {
             self.step_back();
@@ -139,9 +138,9 @@ impl Manager {
     pub fn ask(&self, question: &Question<'_>) -> Result<Vec<u8>, Refusal>
         requires { HasKnownNeeds question.now }
         ensures told { IfOk result (λ lines. told_lines (answer_of self.now.machine.now (asked question.entry.now)) ≡ Ok lines.items) }
-        ensures refused { IfErr result (λ refusal. refusal ≢ Memory → answer_of self.now.machine.now (asked question.entry.now) ≡ Err refusal) }
+        ensures refused { IfErr result (λ refusal. refusal ≢ plain Memory → answer_of self.now.machine.now (asked question.entry.now) ≡ Err refusal) }
         // That a profile is absent is found without memory.
-        ensures memory { IfErr result (λ refusal. refusal ≡ Memory → is_absent (answer_of self.now.machine.now (asked question.entry.now)) ≡ false) }
+        ensures memory { IfErr result (λ refusal. refusal ≡ plain Memory → is_absent (answer_of self.now.machine.now (asked question.entry.now)) ≡ false) }
     {
         let answer = answer(&self.set, question)?;
         Ok(answer_line(self.alloc, answer)?)
@@ -151,7 +150,7 @@ impl Manager {
 // The answer of a policy set.
 fn answer(set: &PolicySet, question: &Question<'_>) -> Result<Answer, Refusal>
     ensures told { IfOk result (λ answer. answer_of set.now (asked question.entry.now) ≡ Ok answer) }
-    ensures refused { IfErr result (λ refusal. (refusal ≡ Absent) × (answer_of set.now (asked question.entry.now) ≡ Err Absent)) }
+    ensures refused { IfErr result (λ refusal. (refusal ≡ plain Absent) × (answer_of set.now (asked question.entry.now) ≡ Err (plain Absent))) }
 {
     match question {
         Question::File {
@@ -164,7 +163,7 @@ fn answer(set: &PolicySet, question: &Question<'_>) -> Result<Answer, Refusal>
                 return Ok(Answer::Unconfined);
             }
             let Some(entry) = set.find(who) else {
-                return Err(Refusal::Absent);
+                return Err(plain(RefusalKind::Absent));
             };
             let request = FileRequest {
                 needs: *needs,

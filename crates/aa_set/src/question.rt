@@ -7,7 +7,7 @@ ghost use Rattle.aa_set.specs.Question.{asked, question_of, owned_of, is_path, H
 
 use crate::access::Perms;
 use crate::bytes::{begins_with, is_text};
-use crate::refusal::Refusal;
+use crate::refusal::{Refusal, RefusalKind, plain};
 
 /// A question to a policy set.
 #[derive(Clone, Copy, Debug, PartialEq, Eq)]
@@ -36,19 +36,19 @@ impl<'a> Question<'a> {
         ensures known { IfOk result (λ question. HasKnownNeeds question) }
     {
         let [kind, who, access, owner, path] = words else {
-            return Err(Refusal::BadCommand);
+            return Err(plain(RefusalKind::BadCommand));
         };
         if !is_text(kind, b"file") {
-            return Err(Refusal::BadCommand);
+            return Err(plain(RefusalKind::BadCommand));
         }
         let Some(needs) = Perms::of_letters(access) else {
-            return Err(Refusal::BadRequest);
+            return Err(plain(RefusalKind::BadRequest));
         };
         let Some(owned) = read_owned(owner) else {
-            return Err(Refusal::BadRequest);
+            return Err(plain(RefusalKind::BadRequest));
         };
         if !is_path(path) {
-            return Err(Refusal::BadRequest);
+            return Err(plain(RefusalKind::BadRequest));
         }
         Ok(Question::File {
             who,

@@ -2,8 +2,10 @@
 
 ghost use Rattle.std.specs.Prelude.{◌≡◌, ◌<◌, Bool, true, MatchResult, OnOk, OnErr};
 ghost use Rattle.std.specs.Fmt.{decimal};
+ghost use Rattle.std.specs.List.{list_all};
 ghost use Rattle.aa_set.specs.Command.{ordered, AsksKnownNeeds};
-ghost use Rattle.aa_set.specs.Reply.{reply_text, refusal_text};
+ghost use Rattle.aa_text.specs.Files.{name_at};
+ghost use Rattle.aa_set.specs.Reply.{hexadecimal, hexadecimal_digit, is_shown, place_text, refusal_text, reply_text, told_text};
 ghost use Rattle.aa_set.specs.Streams.{Tells};
 ghost use Rattle.aa_set.specs.Run.{answered, obeyed_flagged};
 ghost use Rattle.aa_set.specs.declared.reply.Reply.TheVariants.{Done, Refused};
@@ -11,11 +13,12 @@ ghost use Rattle.aa_set.specs.declared.reply.Reply.TheVariants.{Done, Refused};
 use crate::command;
 use crate::command::Command;
 use crate::manager::Manager;
-use crate::refusal::Refusal;
+use crate::refusal::{Refusal, RefusalKind, plain};
 use crate::sequence::Sequence;
 use crate::stream::{Failed, Sink};
 use crate::waiting::tell;
-use aa_text::Files;
+use aa_text::{Files, Place};
+use itoa::Buffer;
 
 /// How many bytes a command line may have, without its line feed.
 pub const LONGEST_LINE: usize = 65_536;
@@ -38,7 +41,7 @@ pub fn reply_to(files: &Files, manager: &mut Manager, line: &[u8]) -> Reply
     ensures { (flag : Bool) × (record { reply = result; managed = manager.new } ≡ answered files.now manager.old line.now flag) }
 {
     if line.len() > LONGEST_LINE {
-        return Reply::Refused(Refusal::LineTooLong);
+        return Reply::Refused(plain(RefusalKind::LineTooLong));
     }
     match command::read(line) {
         Ok(Some(command)) => obey(files, manager, command),
@@ -71,7 +74,7 @@ fn done(outcome: Result<(), Refusal>) -> Reply
     }
 }
 
-/// Tells a reply to a writer, behind what waits to be written. It takes no memory.
+/// Tells a reply to a writer, behind what waits to be written. It takes no memory. The places of refusals are those of these files.
 ///
 /// # Errors
 ///
@@ -79,45 +82,133 @@ fn done(outcome: Result<(), Refusal>) -> Reply
 pub fn tell_reply<W: Sink>(
     writer: &mut W,
     waiting: &mut Vec<u8>,
+    files: &Files,
     reply: &Reply,
 ) -> Result<(), Failed>
-    ensures ok { OnOk result (Tells (W.written writer.old) (W.written writer.new) waiting.old.items waiting.new.items (reply_text reply.now)) }
+    ensures ok { OnOk result (Tells (W.written writer.old) (W.written writer.new) waiting.old.items waiting.new.items (reply_text files.now reply.now)) }
     ensures flag { OnOk result (W.failed writer.new ≡ W.failed writer.old) }
     ensures fault { OnErr result (W.failed writer.new ≡ true) }
 {
     match reply {
         Reply::Silent => tell(writer, waiting, b""),
         Reply::Done => tell(writer, waiting, b"ok\n"),
-        Reply::Refused(refusal) => tell_refusal(writer, waiting, *refusal),
+        Reply::Refused(refusal) => tell_refusal(writer, waiting, files, *refusal),
         Reply::Told(lines) => tell(writer, waiting, lines.as_slice()),
     }
 }
 
+// Tells the line of a refusal.
 fn tell_refusal<W: Sink>(
     writer: &mut W,
     waiting: &mut Vec<u8>,
+    files: &Files,
     refusal: Refusal,
 ) -> Result<(), Failed>
-    ensures ok { OnOk result (Tells (W.written writer.old) (W.written writer.new) waiting.old.items waiting.new.items (refusal_text refusal)) }
+    ensures ok { OnOk result (Tells (W.written writer.old) (W.written writer.new) waiting.old.items waiting.new.items (refusal_text files.now refusal)) }
     ensures flag { OnOk result (W.failed writer.new ≡ W.failed writer.old) }
     ensures fault { OnErr result (W.failed writer.new ≡ true) }
 {
     tell(writer, waiting, b"refused ")?;
-    tell_number(writer, waiting, refusal.number())?;
+    tell_number(writer, waiting, usize::from(refusal.number()))?;
     tell(writer, waiting, b" ")?;
     tell(writer, waiting, refusal.name().as_bytes())?;
+    tell_place(writer, waiting, files, refusal.place)?;
     tell(writer, waiting, b"\n")
 }
 
-// Tells a number of at most two digits.
-fn tell_number<W: Sink>(writer: &mut W, waiting: &mut Vec<u8>, number: u8) -> Result<(), Failed>
-    requires { number < 100 }
+// Tells a place, behind a blank: the file's name and the offset in bytes.
+fn tell_place<W: Sink>(
+    writer: &mut W,
+    waiting: &mut Vec<u8>,
+    files: &Files,
+    place: Option<Place>,
+) -> Result<(), Failed>
+    ensures ok { OnOk result (Tells (W.written writer.old) (W.written writer.new) waiting.old.items waiting.new.items (place_text files.now place)) }
+    ensures flag { OnOk result (W.failed writer.new ≡ W.failed writer.old) }
+    ensures fault { OnErr result (W.failed writer.new ≡ true) }
+{
+    let Some(place) = place else {
+        return tell(writer, waiting, b"");
+    };
+    tell(writer, waiting, b" ")?;
+    tell_text(writer, waiting, file_name(files, place.file))?;
+    tell(writer, waiting, b" ")?;
+    tell_number(writer, waiting, place.at)
+}
+
+// The name of the file at a place among the files.
+fn file_name(files: &Files, file: usize) -> &[u8]
+    ensures { result.now ≡ name_at files.now file }
+{
+    match files.name(file) {
+        Some(name) => name,
+        None => b"",
+    }
+}
+
+// Whether a text shows all of its bytes as they are.
+fn are_shown(text: &[u8]) -> bool
+    ensures { result ≡ list_all is_shown text.now }
+{
+    text.iter().all(|byte| is_shown(*byte))
+}
+
+// Tells a text: between quotes, or in hexadecimal where one of its bytes isn't shown.
+fn tell_text<W: Sink>(writer: &mut W, waiting: &mut Vec<u8>, text: &[u8]) -> Result<(), Failed>
+    ensures ok { OnOk result (Tells (W.written writer.old) (W.written writer.new) waiting.old.items waiting.new.items (told_text text.now)) }
+    ensures flag { OnOk result (W.failed writer.new ≡ W.failed writer.old) }
+    ensures fault { OnErr result (W.failed writer.new ≡ true) }
+{
+    if !are_shown(text) {
+        return tell_hexadecimal(writer, waiting, text);
+    }
+    tell(writer, waiting, b"\"")?;
+    tell(writer, waiting, text)?;
+    tell(writer, waiting, b"\"")
+}
+
+// Whether a text shows a byte as it is.
+fn is_shown(byte: u8) -> bool
+    ensures { result ≡ is_shown byte }
+{
+    byte.is_ascii_graphic() && byte != b'"'
+}
+
+// Tells bytes as two hexadecimal digits each.
+fn tell_hexadecimal<W: Sink>(
+    writer: &mut W,
+    waiting: &mut Vec<u8>,
+    bytes: &[u8],
+) -> Result<(), Failed>
+    ensures ok { OnOk result (Tells (W.written writer.old) (W.written writer.new) waiting.old.items waiting.new.items (hexadecimal bytes.now)) }
+    ensures flag { OnOk result (W.failed writer.new ≡ W.failed writer.old) }
+    ensures fault { OnErr result (W.failed writer.new ≡ true) }
+{
+    for byte in bytes {
+        let digits = [hexadecimal_digit(*byte / 16), hexadecimal_digit(*byte % 16)];
+        tell(writer, waiting, &digits)?;
+    }
+    Ok(())
+}
+
+// The hexadecimal digit of a number below 16.
+fn hexadecimal_digit(number: u8) -> u8
+    requires { number < 16 }
+    ensures { result ≡ hexadecimal_digit number }
+{
+    if number < 10 {
+        b'0' + number
+    } else {
+        b'A' + (number - 10)
+    }
+}
+
+// Tells a number in decimal.
+fn tell_number<W: Sink>(writer: &mut W, waiting: &mut Vec<u8>, number: usize) -> Result<(), Failed>
     ensures ok { OnOk result (Tells (W.written writer.old) (W.written writer.new) waiting.old.items waiting.new.items (decimal number)) }
     ensures flag { OnOk result (W.failed writer.new ≡ W.failed writer.old) }
     ensures fault { OnErr result (W.failed writer.new ≡ true) }
 {
-    if number < 10 {
-        return tell(writer, waiting, &[b'0' + number]);
-    }
-    tell(writer, waiting, &[b'0' + number / 10, b'0' + number % 10])
+    let mut digits = Buffer::new();
+    tell(writer, waiting, digits.format(number).as_bytes())
 }

@@ -199,7 +199,7 @@ fn answer<W: Sink>(
 {
     let reply = reply_to(files, &mut session.manager, line);
     count(&mut session.summary, &reply);
-    tell_reply(writer, &mut session.waiting, &reply)
+    tell_reply(writer, &mut session.waiting, files, &reply)
 }
 
 // Counts a reply.

@@ -3,12 +3,13 @@
 ghost use Rattle.std.specs.Prelude.{◌≡◌, ◌<◌, ◌≤◌, ◌∷◌, [], map, length, take, drop, Option, Some, None, MatchOption, IfOk, IfErr, IfSome, false, true};
 ghost use Rattle.std.specs.List.{list_any};
 ghost use Rattle.std.specs.Option.{option_map};
-ghost use Rattle.aa_set.specs.declared.refusal.Refusal.TheVariants.{BadCommand};
+ghost use Rattle.aa_set.specs.Refusal.{plain};
+ghost use Rattle.aa_set.specs.declared.refusal.RefusalKind.TheVariants.{BadCommand};
 ghost use Rattle.aa_set.specs.declared.words.TheConstants.{MOST_WORDS};
 ghost use Rattle.aa_set.specs.Bytes.{begins_with, is_command_blank};
 ghost use Rattle.aa_set.specs.Words.{words_of, words_in_quotes, is_word_end, is_quote};
 
-use crate::refusal::Refusal;
+use crate::refusal::{Refusal, RefusalKind, plain};
 
 // How many words a line may have: no command has as many.
 const MOST_WORDS: usize = 7;
@@ -28,14 +29,14 @@ impl<'a> Words<'a> {
     /// are more words than any command has.
     pub fn cut(line: &'a [u8]) -> Result<Words<'a>, Refusal>
         ensures words { IfOk result (λ words. words_of line.now ≡ Some (texts words)) }
-        ensures refused { IfErr result (λ refusal. (refusal ≡ BadCommand) × IfSome (words_of line.now) (λ words. MOST_WORDS < length words)) }
+        ensures refused { IfErr result (λ refusal. (refusal ≡ plain BadCommand) × IfSome (words_of line.now) (λ words. MOST_WORDS < length words)) }
     {
         let mut words: [&[u8]; MOST_WORDS] = [b""; MOST_WORDS];
         let mut count = 0;
         let mut rest = line;
         while let Some((word, after)) = next_word(rest)? {
             if count == MOST_WORDS {
-                return Err(Refusal::BadCommand);
+                return Err(plain(RefusalKind::BadCommand));
             }
             words[count] = word;
             count += 1;
@@ -58,7 +59,7 @@ fn next_word(line: &[u8]) -> Result<Option<(&[u8], &[u8])>, Refusal>
         (words_of line.now ≡ Some [])
         (λ found. words_of line.now ≡ option_map (λ words. found.0.now ∷ words) (words_of found.1.now))) }
     ensures shorter { IfOk result (λ next. IfSome next (λ found. length found.1.now < length line.now)) }
-    ensures refused { IfErr result (λ refusal. (refusal ≡ BadCommand) × (words_of line.now ≡ None)) }
+    ensures refused { IfErr result (λ refusal. (refusal ≡ plain BadCommand) × (words_of line.now ≡ None)) }
 {
     let text = without_blanks(line);
     let [first, more @ ..] = text else {
@@ -104,14 +105,14 @@ fn word_length(text: &[u8]) -> usize
 fn quoted_word(text: &[u8]) -> Result<(&[u8], &[u8]), Refusal>
     ensures word { IfOk result (λ found. words_in_quotes text.now ≡ option_map (λ words. found.0.now ∷ words) (words_of found.1.now)) }
     ensures shorter { IfOk result (λ found. length found.1.now < length text.now) }
-    ensures refused { IfErr result (λ refusal. (refusal ≡ BadCommand) × (words_in_quotes text.now ≡ None)) }
+    ensures refused { IfErr result (λ refusal. (refusal ≡ plain BadCommand) × (words_in_quotes text.now ≡ None)) }
 {
     let (word, rest) = text.split_at(quoted_length(text));
     let [_, after @ ..] = rest else {
-        return Err(Refusal::BadCommand);
+        return Err(plain(RefusalKind::BadCommand));
     };
     if !is_word_end(after) {
-        return Err(Refusal::BadCommand);
+        return Err(plain(RefusalKind::BadCommand));
     }
     Ok((word, after))
 }

@@ -4,7 +4,7 @@ use super::*;
 use crate::access::Perms;
 use crate::policy::{Entry, Mode, PolicySet, Profile};
 use crate::question::Question;
-use crate::refusal::Refusal;
+use crate::refusal::{Refusal, RefusalKind, plain};
 use crate::sequence::Sequence;
 use crate::stream::{FromRead, ToWrite};
 use std::process::Abort;
@@ -415,7 +415,7 @@ fn finds_memory_where_there_is_some(rt: HostRuntime) -> Result<(), Fail> {
     manager.undo(1)?;
     assert_eq!(rt;
         manager.ask(&question).map(|lines| lines.len()),
-        Err(Refusal::Absent)
+        Err(plain(RefusalKind::Absent))
     );
 
     let name = Sequence::from_bytes(alloc, b"p")?;

@@ -1,8 +1,12 @@
-use Rattle.std.proofs.Common.{◌≡◌, drop, map}
+use Rattle.std.proofs.Common.{◌≡◌, drop, true}
 use Rattle.aa_set.specs.FileReading.{rules_of}
-use Rattle.aa_set.proofs.ReadingLemmas.{with_rules}
+use Rattle.aa_set.specs.FileReadingProgress.{have_expansions, with_rules}
+use Rattle.aa_set.specs.FileTokens.{seen_tokens}
 use Rattle.aa_set.proofs.reading.read_rules.Given as goal
 
--- the rules so far and those of the patterns that are left are those of all
+-- the rules so far, and those of the rest, are all
 abbrev pub invariant-loop-pattern : goal.invariant-loop-pattern
-invariant-loop-pattern l = with_rules l.rules.items (rules_of (map (λ pattern. pattern.now) (drop l.pattern-index l.patterns))) ≡ rules_of (map (λ pattern. pattern.now) l.patterns)
+invariant-loop-pattern l = record {
+  rules : with_rules l.rules.items (rules_of l.variables (seen_tokens (drop l.pattern-index l.patterns))) ≡ rules_of l.variables (seen_tokens l.patterns);
+  expand : have_expansions l.variables (seen_tokens (drop l.pattern-index l.patterns)) ≡ true;
+}

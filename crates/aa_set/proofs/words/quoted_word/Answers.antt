@@ -6,7 +6,7 @@ use Rattle.aa_set.proofs.words.quoted_word.Goals as goal
 pub returns-in_default-clause-refused : goal.returns-in_default-clause-refused
 returns-in_default-clause-refused c =
     let size = c.split_at.ensures.back_len in
-    (refl, words_in_quotes-open c.args.text.now c.quoted_length.result (omega arith) c.quoted_length.ensures.word)
+    (c.plain.ensures, words_in_quotes-open c.args.text.now c.quoted_length.result (omega arith) c.quoted_length.ensures.word)
 
 pub returns-then-not-is_word_end-clause-refused : goal.returns-then-not-is_word_end-clause-refused
 returns-then-not-is_word_end-clause-refused c =
@@ -15,7 +15,7 @@ returns-then-not-is_word_end-clause-refused c =
     let size = c.split_at.ensures.back_len in
     let closes = c.quoted_length.ensures.end (omega arith) in
     let ends : is_word_end (others (drop at text)) ≡ false = ap (λ rest. is_word_end (others rest)) (sym c.split_at.ensures.back) ∙ sym c.if-not-is_word_end.ensures in
-    (refl, words_in_quotes-followed text at c.quoted_length.ensures.word closes ends)
+    (c.plain-then-not-is_word_end.ensures, words_in_quotes-followed text at c.quoted_length.ensures.word closes ends)
 
 pub returns-clause-word : goal.returns-clause-word
 returns-clause-word c =

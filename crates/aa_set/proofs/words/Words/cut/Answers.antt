@@ -16,7 +16,7 @@ returns-then-count-eq-MOST_WORDS-clause-refused c =
     let within : c.loop-word.count ≤ length c.loop-word.words = omega arith in
     let size : length front ≡ MOST_WORDS = rw (length-map, length-take-le) (omega arith) in
     let whole = ap (option_map (λ more. front ++ more)) (sym found) ∙ c.loop-word.invariant.words in
-    (refl, words_many MOST_WORDS front word more (words_of c.args.line.now) size whole)
+    (c.plain.ensures, words_many MOST_WORDS front word more (words_of c.args.line.now) size whole)
 
 pub loop-word-preserved : goal.loop-word-preserved
 loop-word-preserved c =

@@ -1,0 +1,7 @@
+use Rattle.std.proofs.Common.{sym, ap, ◌∙◌}
+use Rattle.std.specs.Option.{option_map}
+use Rattle.aa_set.proofs.ReplyLemmas.{name_at-none}
+use Rattle.aa_set.proofs.reply.file_name.Goals as goal
+
+pub returns-in-None : goal.returns-in-None
+returns-in-None c = name_at-none c.args.files.now c.args.file c.in-None.ensures
