@@ -87,7 +87,7 @@ flat_map-agree test f g h (x ∷ xs) none =
     cc
 
 -- where no word behind parts passes a test, no word of a name among them does
-words-of_named : (variables : List Variable) (test : List ℕ → Bool) (ps : List Part) (name : List ℕ) → list_any test (words_behind_parts variables ps) ≡ false
+pub words-of_named : (variables : List Variable) (test : List ℕ → Bool) (ps : List Part) (name : List ℕ) → list_any test (words_behind_parts variables ps) ≡ false
     → list_any (is_name name) ps ≡ true → list_any test (words_named variables name) ≡ false
 words-of_named variables test [] name h k = absurd cc
 words-of_named variables test (Byte b ∷ ps) name h k = words-of_named variables test ps name h k

@@ -3,6 +3,7 @@ pub mod CountLemmas
 pub mod CutLaws
 pub mod CutLemmas
 pub mod CutLineLaws
+pub mod CycleLaws
 pub mod CycleLemmas
 pub mod ExpandLemmas
 pub mod ExpansionLaws

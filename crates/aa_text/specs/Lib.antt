@@ -2,6 +2,7 @@ pub mod Bytes
 pub mod Cut
 pub mod CutFault
 pub mod CutLaws
+pub mod CycleLaws
 pub mod ExpansionLaws
 pub mod ExpansionOrder
 pub mod ExpansionTables

@@ -1,12 +1,13 @@
 //! What holds of tokens, variables and expansions, as laws over their definitions.
 
-ghost use Rattle.std.specs.Prelude.{◌≡◌, ◌+◌, ◌++◌, ℕ, Bool, true, false, List, ◌∷◌, [], None, Ok, Some, find, flat_map, length};
+ghost use Rattle.std.specs.Prelude.{◌≡◌, ◌+◌, ◌++◌, ℕ, Bool, true, false, ◌↔◌, List, ◌∷◌, [], None, Ok, Some, find, flat_map, length};
 ghost use Rattle.std.specs.List.{list_any};
 ghost use Rattle.aa_text.specs.Bytes.{line_feed};
 ghost use Rattle.aa_text.specs.Cut.{cut, piece_at, Seen};
 ghost use Rattle.aa_text.specs.CutLaws.{followed_by, has_line_feed, AreValuesPlaced, Covers};
+ghost use Rattle.aa_text.specs.CycleLaws.{ReachesCycle};
 ghost use Rattle.aa_text.specs.ExpansionLaws.{choice_count, names_nothing, names_variable};
-ghost use Rattle.aa_text.specs.Expansions.{expansions, is_cyclic, leads_to_cycle, leads_to_undefined, values, words_of};
+ghost use Rattle.aa_text.specs.Expansions.{expansions, has_chain, is_cyclic, leads_to_cycle, leads_to_undefined, values, words_of};
 ghost use Rattle.aa_text.specs.Variables.{Variable, named, names_undefined, parts};
 
 /// Where no word of a variable names one that isn't defined, a text leads to such a name only if it names one itself. Where no variable
@@ -19,6 +20,16 @@ pub fn what_a_text_leads_to()
     ensures acyclic { (variables : List Variable) (text : List ℕ)
         → find (is_cyclic variables) variables ≡ None
         → leads_to_cycle variables text ≡ false }
+{}
+
+/// A chain of more variables than there are is a cycle: a text has one exactly where it leads to some variable that leads to itself. Then it
+/// has chains of any length.
+pub fn what_a_cycle_is()
+    ensures itself { (variables : List Variable) (text : List ℕ)
+        → (leads_to_cycle variables text ≡ true) ↔ ReachesCycle variables text }
+    ensures endless { (variables : List Variable) (text : List ℕ)
+        → leads_to_cycle variables text ≡ true
+        → (size : ℕ) → has_chain variables size text ≡ true }
 {}
 
 /// A text that names no variable has itself as its one expansion. A text has as many expansions as the product of the counts of its names'
