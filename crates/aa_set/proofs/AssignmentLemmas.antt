@@ -1,7 +1,7 @@
 -- What a file's assignments define, and what its names lead to.
-use Rattle.std.proofs.Common.{◌≡◌, ℕ, Bool, true, false, cond, ◌||◌, List, [], ◌∷◌, ◌++◌, map, Option, None, Some, Result, Ok, Err, refl, sym, ap, ◌∙◌, ◌<◌, ◌≤◌, length, append_assoc, arith, ◌⊎◌, inl, inr}
-use Rattle.std.specs.Prelude.{find, is_none, if◌then◌else◌, nat_lt, position, slice_get}
-use Rattle.std.specs.List.{flat_map, list_all, list_any, position_or_len}
+use Rattle.std.proofs.Common.{◌≡◌, ℕ, Bool, true, false, List, [], ◌∷◌, ◌++◌, map, Option, None, Some, Result, Ok, Err, refl, sym, ap, ◌∙◌, ◌<◌, length, append_assoc, arith, inl, inr}
+use Rattle.std.specs.Prelude.{find, nat_lt, position, slice_get}
+use Rattle.std.specs.List.{flat_map, list_any, position_or_len}
 use Rattle.std.specs.Option.{option_map}
 use Rattle.std.specs.Str.{bytes_eq}
 use Rattle.std.proofs.lemmas.Bool.{or_parts}

@@ -1,7 +1,7 @@
 -- Reading a profile's file, in phases each of which goes over the whole file: its text, its shape, its variables, how many rules it
 -- makes, and their patterns (docs/policy.md, "Files").
 use Rattle.std.specs.Option.{option_map}
-use Rattle.std.specs.Prelude.{ℕ, ◌+◌, Bool, false, ◌&&◌, ◌==◌, nat_le, if◌then◌else◌, List, [], ◌∷◌, ◌++◌, length, Option, None, Some, Result, Ok, Err}
+use Rattle.std.specs.Prelude.{ℕ, ◌+◌, false, ◌&&◌, ◌==◌, nat_le, if◌then◌else◌, List, [], ◌∷◌, ◌++◌, length, Option, None, Some, Result, Ok, Err}
 use Rattle.aa_glob.specs.Reading.{longest, reading}
 use Rattle.aa_text.specs.Expansions.{expansions}
 use Rattle.aa_text.specs.Files.{File}

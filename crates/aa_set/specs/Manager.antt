@@ -1,6 +1,5 @@
 -- The manager: the machine over policy sets, and what each command makes of it (docs/commands.md).
-use Rattle.std.specs.Prelude.{ℕ, Bool, nat_le, if◌then◌else◌, List, [], ◌∷◌, ◌++◌, length, Option, None, Some, Result, Ok, Err}
-use Rattle.aa_text.specs.Files.{File}
+use Rattle.std.specs.Prelude.{ℕ, Bool, nat_le, if◌then◌else◌, List, [], ◌∷◌, ◌++◌, length, Result, Ok, Err}
 use Rattle.aa_set.specs.FileReading.{file_profile}
 use Rattle.aa_set.specs.Machine.{Machine, started, accepted, gone_back}
 use Rattle.aa_set.specs.PolicySet.{has_name}

@@ -1,5 +1,5 @@
 -- Texts cut at separators: the lines of an input.
-use Rattle.std.specs.Prelude.{◌≡◌, ℕ, Bool, true, false, not, ◌==◌, if◌then◌else◌, List, [], ◌∷◌, filter}
+use Rattle.std.specs.Prelude.{ℕ, Bool, true, false, ◌==◌, if◌then◌else◌, List, [], ◌∷◌}
 
 -- the pieces, with a byte put before the first
 abbrev pub onto_first : ℕ → List (List ℕ) → List (List ℕ)

@@ -1,5 +1,5 @@
 -- The refusals: each one's number and name, as replies tell them (docs/commands.md).
-use Rattle.std.specs.Prelude.{ℕ, List, codes, Option, None, Some}
+use Rattle.std.specs.Prelude.{ℕ, List, codes, None, Some}
 use Rattle.aa_glob.specs.declared.pattern_error.PatternError.{PatternError}
 use Rattle.aa_glob.specs.declared.pattern_error.PatternError.TheVariants as pattern
 use Rattle.aa_text.specs.declared.text_error.Place.{Place}

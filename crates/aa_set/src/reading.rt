@@ -159,3 +159,6 @@ pub fn read_profile(alloc: Global, files: &Files, name: &[u8]) -> Result<Profile
     let variables = read_variables(alloc, &shape)?;
     read_with(alloc, &shape, &variables)
 }
+
+#[cfg(test)]
+mod tests;

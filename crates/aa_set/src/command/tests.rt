@@ -50,38 +50,43 @@ fn reads_questions(rt: HostRuntime) {
     }
 }
 
+// Why a line is no command, or nothing where it is one or blank.
+fn refusal_of(line: &[u8]) -> Option<RefusalKind> {
+    match read(line) {
+        Ok(_) => None,
+        Err(refusal) => Some(refusal.refusal),
+    }
+}
+
 #[test]
 fn refuses_what_is_no_command(rt: HostRuntime) {
-    let table: [(&[u8], Refusal); 24] = [
-        (b"add", plain(RefusalKind::BadCommand)),
-        (b"add a b", plain(RefusalKind::BadCommand)),
-        (b"Add a", plain(RefusalKind::BadCommand)),
-        (b"undo 0", plain(RefusalKind::BadCommand)),
-        (b"undo x", plain(RefusalKind::BadCommand)),
-        (b"undo \"\"", plain(RefusalKind::BadCommand)),
-        (b"undo 0000000001", plain(RefusalKind::BadCommand)),
-        (b"undo 1 1", plain(RefusalKind::BadCommand)),
-        (b"\"undo\"1", plain(RefusalKind::BadCommand)),
-        (b"undo \"", plain(RefusalKind::BadCommand)),
-        (b"undo \"1\"\"2\"", plain(RefusalKind::BadCommand)),
-        (b"\"\"", plain(RefusalKind::BadCommand)),
-        (b"ask", plain(RefusalKind::BadCommand)),
-        (b"ask file p rr other", plain(RefusalKind::BadCommand)),
-        (b"ask file p r other /a b", plain(RefusalKind::BadCommand)),
-        (b"ask exec p other /a", plain(RefusalKind::BadCommand)),
-        (b"ask exec p r other /a", plain(RefusalKind::BadCommand)),
-        (
-            b"ask file p rr other /a b c",
-            plain(RefusalKind::BadCommand),
-        ),
-        (b"ask file p rr other /a", plain(RefusalKind::BadRequest)),
-        (b"ask file p x other /a", plain(RefusalKind::BadRequest)),
-        (b"ask file p \"\" other /a", plain(RefusalKind::BadRequest)),
-        (b"ask file p r me /a", plain(RefusalKind::BadRequest)),
-        (b"ask file p r other a", plain(RefusalKind::BadRequest)),
-        (b"ask file p r other /a\0", plain(RefusalKind::BadRequest)),
+    let table: [(&[u8], RefusalKind); 24] = [
+        (b"add", RefusalKind::BadCommand),
+        (b"add a b", RefusalKind::BadCommand),
+        (b"Add a", RefusalKind::BadCommand),
+        (b"undo 0", RefusalKind::BadCommand),
+        (b"undo x", RefusalKind::BadCommand),
+        (b"undo \"\"", RefusalKind::BadCommand),
+        (b"undo 0000000001", RefusalKind::BadCommand),
+        (b"undo 1 1", RefusalKind::BadCommand),
+        (b"\"undo\"1", RefusalKind::BadCommand),
+        (b"undo \"", RefusalKind::BadCommand),
+        (b"undo \"1\"\"2\"", RefusalKind::BadCommand),
+        (b"\"\"", RefusalKind::BadCommand),
+        (b"ask", RefusalKind::BadCommand),
+        (b"ask file p rr other", RefusalKind::BadCommand),
+        (b"ask file p r other /a b", RefusalKind::BadCommand),
+        (b"ask exec p other /a", RefusalKind::BadCommand),
+        (b"ask exec p r other /a", RefusalKind::BadCommand),
+        (b"ask file p rr other /a b c", RefusalKind::BadCommand),
+        (b"ask file p rr other /a", RefusalKind::BadRequest),
+        (b"ask file p x other /a", RefusalKind::BadRequest),
+        (b"ask file p \"\" other /a", RefusalKind::BadRequest),
+        (b"ask file p r me /a", RefusalKind::BadRequest),
+        (b"ask file p r other a", RefusalKind::BadRequest),
+        (b"ask file p r other /a\0", RefusalKind::BadRequest),
     ];
     for (at, (line, want)) in table.iter().enumerate() {
-        assert_eq!(rt; read(line), Err(*want), "row {at}");
+        assert_eq!(rt; refusal_of(line), Some(*want), "row {at}");
     }
 }

@@ -10,6 +10,9 @@ use crate::stream::{FromRead, ToWrite};
 use std::process::Abort;
 use std::test::Fail;
 
+mod places;
+mod variables;
+
 // A source that gives as many bytes a read as it is told to, and fails at one of its reads.
 #[derive(Drop)]
 struct Pieces<'a> {
@@ -70,19 +73,33 @@ impl Source for Pieces<'_> {
 // A row of a table: an input, what is written for it, and how many commands are accepted and refused.
 type Row<'a> = (&'a [u8], &'a [u8], u64, u64);
 
+// A file by its name and its bytes.
+type File<'a> = (&'a [u8], &'a [u8]);
+
 // The files that the inputs of the tables name.
-fn known_files(alloc: Global) -> Result<Files, Fail> {
+const KNOWN_FILES: [File<'static>; 6] = [
+    (b"first", b"profile first { /etc/* r, /tmp/a r, }"),
+    (b"second", b"profile second { /b r, }"),
+    (b"third", b"profile third { include <rules> /b r, }"),
+    (b"rules", b"/c r,"),
+    (b"unfinished", b"profile p { /a r, "),
+    (b"d/", b""),
+];
+
+// Files that are handed in.
+fn files_of(alloc: Global, rows: &[File<'_>]) -> Result<Files, Fail> {
     let mut files = Files::new(alloc);
-    let table: [(&[u8], &[u8]); 4] = [
-        (b"first", b"profile first { /etc/* r, /tmp/a r, }"),
-        (b"second", b"profile second { /b r, }"),
-        (b"unfinished", b"profile p { /a r, "),
-        (b"d/", b""),
-    ];
-    for (name, text) in table {
-        files.insert(Vec::from_slice(alloc, name)?, Vec::from_slice(alloc, text)?)?;
+    for (name, bytes) in rows {
+        files.insert(
+            Vec::from_slice(alloc, name)?,
+            Vec::from_slice(alloc, bytes)?,
+        )?;
     }
     Ok(files)
+}
+
+fn known_files(alloc: Global) -> Result<Files, Fail> {
+    files_of(alloc, &KNOWN_FILES)
 }
 
 // Answers an input over files, as it comes from a slice and as it comes byte by byte, and compares what was written and
@@ -106,7 +123,7 @@ fn is_answered(rt: &impl Abort, alloc: Global, files: &Files, row: Row<'_>) -> R
 #[test]
 fn answers_histories(rt: HostRuntime) -> Result<(), Fail> {
     let files = known_files(rt.alloc())?;
-    let table: [Row; 7] = [
+    let table: [Row; 10] = [
         (
             b"add first\n\
             ask file first r other /etc/hosts\n\
@@ -164,6 +181,33 @@ fn answers_histories(rt: HostRuntime) -> Result<(), Fail> {
             refused 63 NothingToUndo\nok\n",
             7,
             2,
+        ),
+        // a file with an include is one change, and taking it back gives the set from before
+        (
+            b"add first\nadd third\n\
+            ask file third r other /b\nask file third r other /c\nundo\n\
+            ask file third r other /c\nask file first r other /tmp/a\nundo\nundo\n",
+            b"ok\nok\nallow\nallow\nok\nrefused 61 Absent\nallow\nok\n\
+            refused 63 NothingToUndo\n",
+            7,
+            2,
+        ),
+        // it stays as it was where a change behind it is taken back
+        (
+            b"add third\nadd second\nundo\n\
+            ask file second r other /b\nask file third r other /c\n\
+            ask file third r other /d\nadd third\nundo\nundo\n",
+            b"ok\nok\nok\nrefused 61 Absent\nallow\nrefuse\nrefused 60 Exists\nok\n\
+            refused 63 NothingToUndo\n",
+            6,
+            3,
+        ),
+        // the part alone is no profile
+        (
+            b"add rules\nadd third\nundo\n",
+            b"refused 40 BadToken\nok\nok\n",
+            2,
+            1,
         ),
     ];
     for row in table {
@@ -249,28 +293,28 @@ fn answers_by_patterns(rt: HostRuntime) -> Result<(), Fail> {
     Ok(())
 }
 
-// A pattern's refusal is told with its number, and makes no change.
+// A pattern's refusal is told with its number and the place of the pattern, and makes no change.
 #[test]
 fn tells_the_refusals_of_patterns(rt: HostRuntime) -> Result<(), Fail> {
     let alloc = rt.alloc();
-    let table: [(&[u8], &[u8]); 9] = [
-        (b"/[", b"refused 2 UnclosedClass\n"),
-        (b"/[]", b"refused 3 EmptyClass\n"),
-        (b"/[b-a]", b"refused 4 BadRange\n"),
-        (b"/{[}]", b"refused 5 UnclosedGroup\n"),
-        (b"/[{]}", b"refused 6 StrayClose\n"),
-        (b"/{a}", b"refused 7 FewAlternatives\n"),
-        (
-            b"/{{{{{{{{{{{{{{{{{}}}}}}}}}}}}}}}}}",
-            b"refused 10 TooDeep\n",
-        ),
-        (b"/[{]", b"refused 40 BadToken\n"),
-        (b"/a\\*", b"refused 40 BadToken\n"),
+    let table: [(&[u8], &[u8]); 12] = [
+        (b"\"x\"", b"refused 1 NotAbsolute \"p\" 12\n"),
+        (b"/[", b"refused 2 UnclosedClass \"p\" 12\n"),
+        (b"/[]", b"refused 3 EmptyClass \"p\" 12\n"),
+        (b"/[b-a]", b"refused 4 BadRange \"p\" 12\n"),
+        (b"\"/{a,b\"", b"refused 5 UnclosedGroup \"p\" 12\n"),
+        (b"/{[}]", b"refused 5 UnclosedGroup \"p\" 12\n"),
+        (b"\"/a}\"", b"refused 6 StrayClose \"p\" 12\n"),
+        (b"/[{]}", b"refused 6 StrayClose \"p\" 12\n"),
+        (b"\"/{a}\"", b"refused 7 FewAlternatives \"p\" 12\n"),
+        (b"/\\n", b"refused 8 BadEscape \"p\" 12\n"),
+        (b"\"/{{{{{{{{{{{{{{{{{\"", b"refused 10 TooDeep \"p\" 12\n"),
+        // a brace that isn't closed in its word is a fault of the text
+        (b"/[{]", b"refused 22 OpenOther \"p\" 12\n"),
     ];
     for (pattern, output) in table {
-        let mut files = Files::new(alloc);
         let text = profile_text(alloc, pattern, 1)?;
-        files.insert(Vec::from_slice(alloc, b"p")?, text)?;
+        let files = files_of(alloc, &[(b"p", &text)])?;
         is_answered(&rt, alloc, &files, (b"add p\n", output, 0, 1))?;
     }
     Ok(())
@@ -342,7 +386,7 @@ fn reads_files_up_to_the_limits(rt: HostRuntime) -> Result<(), Fail> {
         (
             b"/a",
             16_385,
-            b"refused 40 BadToken\nrefused 61 Absent\n",
+            b"refused 30 TooManyRules \"p\" 98316\nrefused 61 Absent\n",
             0,
             2,
         ),
@@ -350,7 +394,7 @@ fn reads_files_up_to_the_limits(rt: HostRuntime) -> Result<(), Fail> {
         (
             too_long.as_slice(),
             1,
-            b"refused 40 BadToken\nrefused 61 Absent\n",
+            b"refused 9 TooLong \"p\" 12\nrefused 61 Absent\n",
             0,
             2,
         ),

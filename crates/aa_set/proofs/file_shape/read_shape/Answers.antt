@@ -1,4 +1,4 @@
-use Rattle.std.proofs.Common.{◌≡◌, ◌-◌, sym, ap, map, ◌∙◌, drop, length, take, Some, None}
+use Rattle.std.proofs.Common.{◌-◌, sym, ap, map, ◌∙◌, drop, length, take, Some, None}
 use Rattle.std.proofs.lemmas.List.{drop-map}
 use Rattle.std.proofs.lemmas.Result.{err_from_is_err_and}
 use Rattle.aa_text.specs.SplicingProgress.{seen_spliced}

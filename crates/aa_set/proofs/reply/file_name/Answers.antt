@@ -1,5 +1,3 @@
-use Rattle.std.proofs.Common.{sym, ap, ◌∙◌}
-use Rattle.std.specs.Option.{option_map}
 use Rattle.aa_set.proofs.ReplyLemmas.{name_at-none}
 use Rattle.aa_set.proofs.reply.file_name.Goals as goal
 

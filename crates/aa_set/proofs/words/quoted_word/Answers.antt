@@ -1,4 +1,4 @@
-use Rattle.std.proofs.Common.{◌≡◌, drop, true, false, refl, sym, ap, ◌∙◌, arith}
+use Rattle.std.proofs.Common.{◌≡◌, drop, true, false, sym, ap, ◌∙◌, arith}
 use Rattle.aa_set.specs.Words.{is_word_end}
 use Rattle.aa_set.proofs.WordLemmas.{others, words_in_quotes-closed, words_in_quotes-followed, words_in_quotes-open}
 use Rattle.aa_set.proofs.words.quoted_word.Goals as goal
