@@ -130,7 +130,7 @@ fn reads_profiles_of_several_files(rt: HostRuntime) -> Result<(), Fail> {
 #[test]
 fn tells_places_in_included_files(rt: HostRuntime) -> Result<(), Fail> {
     let alloc = rt.alloc();
-    let table: [(&[u8], RefusalKind, usize); 19] = [
+    let table: [(&[u8], RefusalKind, usize); 20] = [
         (b"profile z\0", RefusalKind::ZeroByte, 9),
         (b"profile q { \"/a r, }", RefusalKind::OpenQuote, 12),
         (b"profile o { /{a r, }", RefusalKind::OpenOther, 12),
@@ -154,6 +154,11 @@ fn tells_places_in_included_files(rt: HostRuntime) -> Result<(), Fail> {
         (b"profile e { \"/a}\" r, }", RefusalKind::StrayClose, 12),
         (b"profile e { /{a} r, }", RefusalKind::FewAlternatives, 12),
         (b"profile e { /\\n r, }", RefusalKind::BadEscape, 12),
+        (
+            b"profile e { \"/{{{{{{{{{{{{{{{{{\" r, }",
+            RefusalKind::TooDeep,
+            12,
+        ),
     ];
     for (row, (text, refusal, at)) in table.iter().enumerate() {
         let files = files_of(alloc, &[(b"a", b""), (b"p", b"include <i>"), (b"i", text)])?;
@@ -245,26 +250,30 @@ fn tells_the_file_of_the_part_that_is_wrong(rt: HostRuntime) -> Result<(), Fail>
     Ok(())
 }
 
-// A file of a million spaces counts as often as it is entered.
+// A file `p` that includes a file of a million spaces so often.
+fn bomb(alloc: Global, lines: usize) -> Result<Files, Fail> {
+    let mut text = Vec::new(alloc);
+    for _line in 0..lines {
+        text.extend_from_slice(b"include <big>\n")?;
+    }
+    let big = vec![in alloc; b' '; 1_000_000]?;
+    files_of(alloc, &[(b"p", &text), (b"big", &big)])
+}
+
+// A file counts as often as it is entered.
+#[test]
+fn reads_as_much_text_as_there_may_be(rt: HostRuntime) -> Result<(), Fail> {
+    let alloc = rt.alloc();
+    let want = Some((RefusalKind::BadToken, None));
+    assert_eq!(rt; wrong(alloc, &bomb(alloc, 16)?), want);
+    Ok(())
+}
+
 #[test]
 fn refuses_too_much_text(rt: HostRuntime) -> Result<(), Fail> {
     let alloc = rt.alloc();
-    let table: [(usize, Wrong); 2] = [
-        (16, (RefusalKind::BadToken, None)),
-        (17, (RefusalKind::TextTooBig, Some((0, 224)))),
-    ];
-    for (lines, want) in table {
-        let mut text = Vec::new(alloc);
-        for _line in 0..lines {
-            text.extend_from_slice(b"include <big>\n")?;
-        }
-        let mut files = files_of(alloc, &[(b"p", &text)])?;
-        files.insert(
-            Vec::from_slice(alloc, b"big")?,
-            vec![in alloc; b' '; 1_000_000]?,
-        )?;
-        assert_eq!(rt; wrong(alloc, &files), Some(want), "{lines} lines");
-    }
+    let want = Some((RefusalKind::TextTooBig, Some((0, 224))));
+    assert_eq!(rt; wrong(alloc, &bomb(alloc, 17)?), want);
     Ok(())
 }
 

@@ -125,6 +125,14 @@ fn measures_patterns_with_their_runs_of_slashes(rt: HostRuntime) -> Result<(), F
         let want = Some((RefusalKind::TooLong, Some((0, 12))));
         assert_eq!(rt; wrong(alloc, &files), want, "{count} times {byte}");
     }
+    // in an included file
+    let rule = long_rule(alloc, b'/', 4_096)?;
+    let rows: [File<'_>; 2] = [(b"p", b"profile p { include <r> }"), (b"r", &rule)];
+    let files = files_of(alloc, &rows)?;
+    assert_eq!(rt;
+        wrong(alloc, &files),
+        Some((RefusalKind::TooLong, Some((1, 0))))
+    );
     Ok(())
 }
 

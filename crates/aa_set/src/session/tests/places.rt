@@ -209,7 +209,7 @@ fn follows_includes_so_far(rt: HostRuntime) -> Result<(), Fail> {
     Ok(())
 }
 
-// The place of too much text is the include that enters it.
+// Too much text is told at the include that enters it.
 #[test]
 fn tells_the_place_of_too_much_text(rt: HostRuntime) -> Result<(), Fail> {
     let alloc = rt.alloc();
@@ -219,23 +219,21 @@ fn tells_the_place_of_too_much_text(rt: HostRuntime) -> Result<(), Fail> {
     }
     let big = vec![in alloc; b' '; 1_000_000]?;
     let rows: [File<'_>; 3] = [
-        (b"bomb", &text),
         (b"top", b"include <bomb>"),
+        (b"bomb", &text),
         (b"big", &big),
     ];
     let files = files_of(alloc, &rows)?;
     let mut writer = ToWrite::new(Vec::new(alloc));
-    let mut reader = FromRead::new(b"add bomb\nadd top\n".as_slice());
+    let mut reader = FromRead::new(b"add top\n".as_slice());
     let summary = run(alloc, &files, false, &mut reader, &mut writer);
-    assert_eq!(rt;
-        writer.into_inner().as_slice(),
-        b"refused 25 TextTooBig \"bomb\" 224\nrefused 25 TextTooBig \"bomb\" 224\n".as_slice()
-    );
+    let reply = b"refused 25 TextTooBig \"bomb\" 224\n".as_slice();
+    assert_eq!(rt; writer.into_inner().as_slice(), reply);
     assert!(rt; summary.is_ok());
     Ok(())
 }
 
-// How many rules are too many is told at a pattern.
+// Too many rules are told at the pattern that makes them.
 #[test]
 fn tells_the_place_of_too_many_rules(rt: HostRuntime) -> Result<(), Fail> {
     let alloc = rt.alloc();
