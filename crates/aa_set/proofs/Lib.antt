@@ -5,7 +5,6 @@ pub mod FileShapeLemmas
 pub mod LawLemmas
 pub mod LineLemmas
 pub mod MachineLemmas
-pub mod NumberLemmas
 pub mod PieceLemmas
 pub mod PolicyLemmas
 pub mod ReplyLemmas
