@@ -12,10 +12,6 @@ use Rattle.aa_set.specs.FileTokens.{seen_tokens}
 abbrev pub with_patterns : List Placed → Option (List Placed) → Option (List Placed)
 with_patterns front patterns = option_map (λ patterns. front ++ patterns) patterns
 
-pub with_patterns-start : (patterns : Option (List Placed)) → with_patterns [] patterns ≡ patterns
-with_patterns-start None = refl
-with_patterns-start (Some patterns) = refl
-
 pub with_patterns-more : (front : List Placed) (pattern : Placed) (rest : Option (List Placed))
     → with_patterns front (option_map (λ patterns. pattern ∷ patterns) rest) ≡ with_patterns (front ++ pattern ∷ []) rest
 with_patterns-more front pattern None = refl

@@ -74,12 +74,6 @@ without_empty_last-filled [] u h = cond-false (is_empty u) _ _ h
 without_empty_last-filled (l ∷ []) u h = ap (λ zs. l ∷ zs) (cond-false (is_empty u) _ _ h)
 without_empty_last-filled (l ∷ m ∷ ls) u h = ap (λ zs. l ∷ zs) (without_empty_last-filled (m ∷ ls) u h)
 
--- a text up to its first separator
-pub cut_at : (p : ℕ → Bool) (text : List ℕ) (n : ℕ) → n < length text → list_any p (take n text) ≡ false → p (get_or text n 0) ≡ true
-    → text ≡ (take n text ++ get_or text n 0 ∷ []) ++ drop (n + 1) text
-cut_at p text n within before at =
-    sym (take-append-drop n text) ∙ ap (λ rest. take n text ++ rest) (drop_more text n 0 within) ∙ sym (append_assoc (take n text) (get_or text n 0 ∷ []) (drop (n + 1) text))
-
 -- no byte of a front passes where none does at its place
 pub none_before : (p : ℕ → Bool) (text : List ℕ) (n : ℕ) → n ≤ length text → ((k : ℕ) → k < n → p (get_or text k 0) ≡ true → ⊥) → list_any p (take n text) ≡ false
 none_before p text zero within h = refl

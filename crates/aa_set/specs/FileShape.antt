@@ -8,6 +8,7 @@ use Rattle.aa_text.specs.declared.cut.TokenKind.{TokenKind}
 use Rattle.aa_text.specs.declared.cut.TokenKind.TheVariants.{Assign, Value, Quoted, Word, Comma, OpenBrace, CloseBrace}
 use Rattle.aa_text.specs.declared.text_error.Place.{Place}
 use Rattle.aa_set.specs.Bytes.{at_sign, begins_with, is_name_byte, slash}
+use Rattle.aa_set.specs.Pieces.{is_empty}
 
 -- the place of a token
 abbrev pub place_of : Placed → Place
@@ -16,10 +17,6 @@ place_of placed = record { file = placed.file; at = placed.token.start }
 -- the text of a token
 abbrev pub text_of : Placed → List ℕ
 text_of placed = placed.token.text
-
-abbrev pub is_value : TokenKind → Bool
-is_value Value = true
-is_value _ = false
 
 abbrev pub is_word : TokenKind → Bool
 is_word Word = true
@@ -101,10 +98,6 @@ shape_behind assignments tokens = elim (head_name tokens) [
   | None ↦ None
   | Some name ↦ option_map (λ patterns. record { assignments = assignments; name = name; patterns = patterns }) (body_patterns (drop 3 tokens))
 ]
-
-abbrev pub is_empty : {X : Type 0} → List X → Bool
-is_empty [] = true
-is_empty (x ∷ xs) = false
 
 abbrev pub has_no_value : Assignment → Bool
 has_no_value assignment = is_empty assignment.values

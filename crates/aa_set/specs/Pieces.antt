@@ -14,9 +14,9 @@ pieces is_separator (b ∷ bs) = if is_separator b then [] ∷ pieces is_separat
 abbrev pub is_line_feed : ℕ → Bool
 is_line_feed b = b == 10
 
-abbrev pub is_empty : List ℕ → Bool
+abbrev pub is_empty : {X : Type 0} → List X → Bool
 is_empty [] = true
-is_empty (b ∷ bs) = false
+is_empty (x ∷ xs) = false
 
 -- the pieces but for a last one that is empty
 abbrev pub without_empty_last : List (List ℕ) → List (List ℕ)

@@ -1,6 +1,6 @@
 //! Tests of a word's bytes.
 
-ghost use Rattle.std.specs.Prelude.{◌≡◌};
+ghost use Rattle.std.specs.Prelude.{◌≡◌, codes};
 ghost use Rattle.std.specs.Str.{bytes_eq};
 ghost use Rattle.aa_set.specs.Bytes.{begins_with};
 
@@ -9,6 +9,13 @@ pub fn is_text(word: &[u8], text: &[u8]) -> bool
     ensures { result ≡ bytes_eq word.now text.now }
 {
     word == text
+}
+
+/// Whether the word is the one that stands for no profile.
+pub fn is_unconfined(word: &[u8]) -> bool
+    ensures { result ≡ bytes_eq word.now (codes "unconfined") }
+{
+    is_text(word, b"unconfined")
 }
 
 /// Whether the word's first byte is this one.

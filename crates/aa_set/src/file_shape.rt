@@ -11,7 +11,7 @@ ghost use Rattle.aa_set.specs.FileTokens.{seen_assignment, seen_shape, seen_toke
 ghost use Rattle.aa_set.specs.Refusal.{plain};
 ghost use Rattle.aa_set.specs.declared.refusal.RefusalKind.TheVariants.{BadToken, Memory};
 
-use crate::bytes::{begins_with, is_text};
+use crate::bytes::{begins_with, is_text, is_unconfined};
 use crate::refusal::{Refusal, RefusalKind, plain};
 use aa_text::{Place, Spliced, TokenKind};
 use std::alloc::Global;
@@ -120,13 +120,6 @@ fn are_name_bytes(word: &[u8]) -> bool
     ensures { result ≡ list_all is_name_byte word.now }
 {
     word.iter().all(|byte| is_name_byte(*byte))
-}
-
-/// Whether a word is the one that stands for no profile.
-pub fn is_unconfined(word: &[u8]) -> bool
-    ensures { result ≡ bytes_eq word.now (codes "unconfined") }
-{
-    word == b"unconfined".as_slice()
 }
 
 fn is_name(word: &[u8]) -> bool

@@ -6,7 +6,7 @@ ghost use Rattle.aa_set.specs.Reply.{answer_word, line_with, told_lines};
 ghost use Rattle.aa_set.specs.Refusal.{plain};
 ghost use Rattle.aa_set.specs.declared.refusal.RefusalKind.TheVariants.{Absent, Memory};
 
-use crate::file_shape::is_unconfined;
+use crate::bytes::is_unconfined;
 use crate::policy::{Entry, Mode, PolicySet};
 use crate::question::Question;
 use crate::reading::read_profile;
@@ -64,9 +64,17 @@ impl Manager {
     ///
     /// # Errors
     ///
-    /// `NoFile` where no file has the name, `BadToken` where it hasn't the shape of a profile, the refusal of its first
-    /// pattern that is none (as `UnclosedGroup`), `Exists` where a profile of its name is loaded, in this order, and
-    /// `Memory` where memory ran out. The policy set and its history are then as they were.
+    /// Those of reading the file come first, each phase over the whole file before the next (docs/policy.md):
+    /// - `NoFile`, without a place, where no file has the name; else the first fault of the file's text or of its includes' (`ZeroByte`,
+    ///   `OpenQuote`, `OpenOther`, `NoFile`, `IncludeDepth`, `TextTooBig`), at its byte, its token or its include;
+    /// - `BadToken`, without a place, where the tokens haven't the shape of a profile's file;
+    /// - `Redefined` and `AppendUndefined` at the assignment, then `Undefined` at the token that names the variable, then `Cycle` at the
+    ///   variable's first assignment;
+    /// - `TooManyRules` at the pattern with which there are more than 16,384 rules;
+    /// - the refusal of the first expansion that is no pattern (`NotAbsolute` to `TooDeep`), at its pattern.
+    ///
+    /// Then `Exists`, without a place, where a profile of its name is loaded. `Memory`, without a place, may come anywhere: memory ran
+    /// out. After each of these the policy set and its history are as they were.
     pub fn add(&mut self, files: &Files, name: &[u8]) -> Result<(), Refusal>
         ensures ok { OnOk result (added files.now self.old name.now ≡ Ok self.new) }
         ensures refused { IfErr result (λ refusal. refusal ≢ plain Memory → added files.now self.old name.now ≡ Err refusal) }

@@ -7,23 +7,23 @@ use Rattle.std.proofs.lemmas.List.Sums.{sum_by-append, sum_by-cons, sum_by_push}
 use Rattle.std.proofs.lemmas.Option.{slice_get-get_or}
 use Rattle.std.proofs.Math.Nat.{mul-le-mul_left}
 use Rattle.aa_text.specs.Variables.{Variable, Part, Byte, Name, Unclosed, parts}
-use Rattle.aa_text.specs.Expansions.{choices, expansions, most_counted, values}
+use Rattle.aa_text.specs.Expansions.{choice_count, choices, expansions, most_counted, values}
 use Rattle.aa_text.specs.ExpansionOrder.{IsOrder, are_texts_known, is_part_known, is_text_known}
-use Rattle.aa_text.specs.ExpansionTables.{count_at, counted, counted_words, looked_up, product}
+use Rattle.aa_text.specs.ExpansionTables.{count_at, counted, counted_words, looked_up}
 use Rattle.aa_text.specs.VariablePlaces.{words_at}
 use Rattle.aa_text.proofs.TableLemmas.{Settled, map-take-more, name-known}
 
 -- bytes are no choice
-pub product-bytes : (counts : List ℕ → ℕ) (bytes : List ℕ) → 1 ≡ product counts (map Byte bytes)
-product-bytes counts [] = refl
-product-bytes counts (b ∷ bs) = product-bytes counts bs
+pub choices-of_bytes : (counts : List ℕ → ℕ) (bytes : List ℕ) → 1 ≡ choice_count counts (map Byte bytes)
+choices-of_bytes counts [] = refl
+choices-of_bytes counts (b ∷ bs) = choices-of_bytes counts bs
 
 -- the choices of some parts and of others
-pub product-append : (counts : List ℕ → ℕ) (ps qs : List Part) → product counts (ps ++ qs) ≡ product counts ps * product counts qs
-product-append counts [] qs = omega arith
-product-append counts (Byte b ∷ ps) qs = product-append counts ps qs
-product-append counts (Name name ∷ ps) qs = rw (product-append counts ps qs) (omega arith)
-product-append counts (Unclosed ∷ ps) qs = omega arith
+pub choices-append : (counts : List ℕ → ℕ) (ps qs : List Part) → choice_count counts (ps ++ qs) ≡ choice_count counts ps * choice_count counts qs
+choices-append counts [] qs = omega arith
+choices-append counts (Byte b ∷ ps) qs = choices-append counts ps qs
+choices-append counts (Name name ∷ ps) qs = rw (choices-append counts ps qs) (omega arith)
+choices-append counts (Unclosed ∷ ps) qs = omega arith
 
 -- A factor may be cut at the bound.
 pub min-times : (a b most : ℕ) → min (min a most * b) most ≡ min (a * b) most
@@ -47,11 +47,11 @@ min-product a t p most fits h =
     rw (cut, min-times (a * t) p most, same) refl
 
 -- the parts so far, one more part, and the rest
-pub count-part : (counts : List ℕ → ℕ) (so_far times fits : ℕ) (part rest ps : List Part) → part ++ rest ≡ ps → times ≡ product counts part → most_counted ≤ fits
-    → min (min (min (so_far * times) fits) most_counted * product counts rest) most_counted ≡ min (so_far * product counts ps) most_counted
+pub count-part : (counts : List ℕ → ℕ) (so_far times fits : ℕ) (part rest ps : List Part) → part ++ rest ≡ ps → times ≡ choice_count counts part → most_counted ≤ fits
+    → min (min (min (so_far * times) fits) most_counted * choice_count counts rest) most_counted ≡ min (so_far * choice_count counts ps) most_counted
 count-part counts so_far times fits part rest ps e t h =
-    min-product so_far times (product counts rest) most_counted fits h
-    ∙ ap (λ all. min (so_far * all) most_counted) (ap (λ n. n * product counts rest) t ∙ sym (product-append counts part rest) ∙ ap (product counts) e)
+    min-product so_far times (choice_count counts rest) most_counted fits h
+    ∙ ap (λ all. min (so_far * all) most_counted) (ap (λ n. n * choice_count counts rest) t ∙ sym (choices-append counts part rest) ∙ ap (choice_count counts) e)
 
 -- the words so far, and others
 pub count-more : (counts : List ℕ → ℕ) (words more : List (List ℕ)) (fits : ℕ) → most_counted ≤ fits
@@ -83,7 +83,7 @@ module _ (variables : List Variable) (order : List ℕ) (size : ℕ) (settled : 
 
   -- the choices of known parts
   pub parts-counted : (ps : List Part) → list_all (is_part_known variables (take size order)) ps ≡ true
-      → min (product first_counts ps) most_counted ≡ min (length (choices (values variables) ps)) most_counted
+      → min (choice_count first_counts ps) most_counted ≡ min (length (choices (values variables) ps)) most_counted
   parts-counted [] h = refl
   parts-counted (Byte b ∷ ps) h = rw (length-map (choices (values variables) ps) (λ rest. b ∷ rest)) (parts-counted ps h)
   parts-counted (Unclosed ∷ ps) h = refl
@@ -92,7 +92,7 @@ module _ (variables : List Variable) (order : List ℕ) (size : ℕ) (settled : 
       let counts : first_counts name ≡ min (length (values variables name)) most_counted = name-known (λ (texts : List (List ℕ)). min (length texts) most_counted) variables order size settled name both.0 in
       let rest = parts-counted ps both.1 in
       rw (length-pairs (values variables name) (choices (values variables) ps), counts)
-      (min-times (length (values variables name)) (product first_counts ps) most_counted ∙ min-factor (length (values variables name)) _ _ most_counted rest)
+      (min-times (length (values variables name)) (choice_count first_counts ps) most_counted ∙ min-factor (length (values variables name)) _ _ most_counted rest)
 
   -- the expansions of known words
   pub words-counted : (words : List (List ℕ)) → are_texts_known variables (take size order) words ≡ true
@@ -100,7 +100,7 @@ module _ (variables : List Variable) (order : List ℕ) (size : ℕ) (settled : 
   words-counted [] h = refl
   words-counted (word ∷ words) h =
       let both = and_parts (is_text_known variables (take size order) word) (are_texts_known variables (take size order) words) h in
-      let first : min (product first_counts (parts word)) most_counted ≡ min (length (expansions variables word)) most_counted = parts-counted (parts word) both.0 in
+      let first : min (choice_count first_counts (parts word)) most_counted ≡ min (length (expansions variables word)) most_counted = parts-counted (parts word) both.0 in
       let rest = words-counted words both.1 in
       rw (length-append (expansions variables word) (flat_map (expansions variables) words), sum_by-cons (counted first_counts) word words) (omega arith)
 

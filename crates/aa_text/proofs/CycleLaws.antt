@@ -1,5 +1,5 @@
 -- What leads to a cycle: a chain of more variables than there are goes over one of them twice, and one may go round as often as one likes.
-use Rattle.std.proofs.Common.{◌≡◌, ℕ, zero, suc, ◌+◌, ◌<◌, Bool, true, false, List, [], ◌∷◌, ◌++◌, length, arith, length-append, refl, ap, ◌∙◌, ◌⊎◌, inl, inr}
+use Rattle.std.proofs.Common.{◌≡◌, ℕ, zero, suc, ◌+◌, ◌<◌, Bool, true, false, List, [], ◌∷◌, ◌++◌, length, arith, length-append, refl, sym, ap, ◌∙◌, ◌⊎◌, inl, inr}
 use Rattle.std.specs.Prelude.{Option, None, Some, nat_eq}
 use Rattle.std.specs.List.{Contains, IsDistinct, list_any}
 use Rattle.std.proofs.lemmas.Cmp.{nat_eq_equiv}
@@ -14,10 +14,10 @@ use Rattle.aa_text.proofs.PlaceLemmas.{place_of-within, words_named-from_none, w
 use Rattle.aa_text.proofs.TestLemmas.{any-split, or-split, same-from_test}
 use Rattle.aa_text.specs.CycleLaws.{LeadsTo, LeadsToItself, ReachesCycle, at_once, over}
 use Rattle.aa_text.specs.ExpansionLaws.{is_name, names_variable}
-use Rattle.aa_text.specs.Expansions.{has_chain, leads_to_cycle, words_behind_parts, words_named}
+use Rattle.aa_text.specs.Expansions.{has_chain, is_cyclic, leads_to_cycle, words_behind_parts, words_named, words_of}
 use Rattle.aa_text.specs.SettledVariables.{AllBelow}
 use Rattle.aa_text.specs.VariablePlaces.{place_of, words_at}
-use Rattle.aa_text.specs.Variables.{Byte, Name, Part, Unclosed, Variable, parts}
+use Rattle.aa_text.specs.Variables.{Byte, Name, Part, Unclosed, Variable, named, parts}
 
 module _ {X : Type 0} (test : X → Bool) where
   -- one that passes a test, where any does
@@ -155,3 +155,39 @@ module _ (variables : List Variable) where
   -- so behind a text that reaches one are chains of any size
   pub endless-of_long_chain : (text : List ℕ) → leads_to_cycle variables text ≡ true → (size : ℕ) → has_chain variables size text ≡ true
   endless-of_long_chain text h size = chain-of_cycle text (cycle-of_long_chain text h) size
+
+  -- ---- a variable that leads to a cycle
+
+  -- one word of a variable reaches a cycle where behind one stands a chain of as many variables as there are: with its own they are more
+  pub word-of_chain : (variable : Variable) → named variable.name variables ≡ Some variable → is_cyclic variables variable ≡ true
+      → (word : List ℕ) × Contains (words_of variable) word × ReachesCycle variables word
+  word-of_chain variable e h = by (some-element (has_chain variables (length variables)) (words_of variable) h) (place_of variables variable.name) refl
+    where
+      own : words_named variables variable.name ≡ words_of variable
+      own = rw (e, words_named) refl
+
+      by : (found : (word : List ℕ) × Contains (words_of variable) word × (has_chain variables (length variables) word ≡ true)) → (at : Option ℕ) → place_of variables variable.name ≡ at
+          → (word : List ℕ) × Contains (words_of variable) word × ReachesCycle variables word
+      by found None f =
+          let none : Contains {X = List ℕ} [] found.0 = rw (sym own ∙ words_named-from_none variables variable.name f) at found.1 in
+          let within = none.1 in
+          absurd (omega arith)
+      by found (Some place) f =
+          let words : words_of variable ≡ words_at variables place = sym own ∙ words_named-from_some variables variable.name place f in
+          (found.0, found.1,
+            cycle-of_chain found.0 (length variables) (place ∷ []) found.0 (omega arith)
+            (IsDistinct-push nat_eq_equiv [] place distinct-none refl)
+            (λ other h. elim (among-pushed [] place other h) [
+              | inl none ↦ absurd (cc)
+              | inr same ↦ let within = place_of-within variables variable.name place f in omega arith
+            ])
+            (λ other h. elim (among-pushed [] place other h) [
+              | inl none ↦ absurd (cc)
+              | inr same ↦ rw same (found.0, rw words at found.1, λ next led. led)
+            ])
+            (λ name led. led)
+            found.2)
+
+  pub chain-of_word : (variable : Variable) → (word : List ℕ) × Contains (words_of variable) word × ReachesCycle variables word → is_cyclic variables variable ≡ true
+  chain-of_word variable found =
+      any-of_element (has_chain variables (length variables)) (words_of variable) found.0 found.1 (chain-of_cycle found.0 found.2 (length variables))

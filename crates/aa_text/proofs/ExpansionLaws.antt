@@ -8,8 +8,8 @@ use Rattle.std.proofs.lemmas.List.{length-map}
 use Rattle.std.proofs.lemmas.Slice.Eq.{bytes_eq-Decides}
 use Rattle.aa_text.specs.Bytes.{backslash, closing_brace, opening_brace}
 use Rattle.aa_text.specs.Variables.{Variable, Part, Byte, Name, Unclosed, at_sign, named, parts, parts_behind}
-use Rattle.aa_text.specs.Expansions.{choices, expansions, has_chain, is_cyclic, values, values_within, words_behind_parts, words_named, words_of}
-use Rattle.aa_text.specs.ExpansionLaws.{choice_count, is_byte, is_name}
+use Rattle.aa_text.specs.Expansions.{choice_count, choices, expansions, has_chain, is_cyclic, values, values_within, words_behind_parts, words_named, words_of}
+use Rattle.aa_text.specs.ExpansionLaws.{is_byte, is_name}
 use Rattle.aa_text.proofs.PlaceLemmas.{values_within-no_words}
 use Rattle.aa_text.proofs.TestLemmas.{any-neither_left, any-neither_right}
 
@@ -51,11 +51,11 @@ length-flat_map_same f size h (x ∷ xs) =
     omega arith
 
 -- there are as many choices as are counted
-pub choices-count : (values : List ℕ → List (List ℕ)) (ps : List Part) → length (choices values ps) ≡ choice_count values ps
+pub choices-count : (values : List ℕ → List (List ℕ)) (ps : List Part) → length (choices values ps) ≡ choice_count (λ name. length (values name)) ps
 choices-count values [] = refl
 choices-count values (Byte b ∷ ps) = length-map (choices values ps) (λ rest. b ∷ rest) ∙ choices-count values ps
 choices-count values (Name name ∷ ps) =
-    length-flat_map_same (λ value. map (λ rest. value ++ rest) (choices values ps)) (choice_count values ps)
+    length-flat_map_same (λ value. map (λ rest. value ++ rest) (choices values ps)) (choice_count (λ name. length (values name)) ps)
     (λ value. length-map (choices values ps) (λ rest. value ++ rest) ∙ choices-count values ps) (values name)
 choices-count values (Unclosed ∷ ps) = refl
 

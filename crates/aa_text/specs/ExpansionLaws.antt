@@ -1,5 +1,5 @@
 -- Words that the laws of expansions are said in.
-use Rattle.std.specs.Prelude.{ℕ, ◌*◌, Bool, true, false, List, [], ◌∷◌, length}
+use Rattle.std.specs.Prelude.{ℕ, Bool, true, false, List}
 use Rattle.std.specs.List.{list_all, list_any}
 use Rattle.std.specs.Str.{bytes_eq}
 use Rattle.aa_text.specs.Variables.{Part, Byte, Name, Unclosed, parts}
@@ -21,10 +21,3 @@ is_name name part = false
 -- a text names the variable of this name
 abbrev pub names_variable : List ℕ → List ℕ → Bool
 names_variable text name = list_any (is_name name) (parts text)
-
--- how many choices there are: the product of the counts of values of the names
-abbrev pub choice_count : (List ℕ → List (List ℕ)) → List Part → ℕ
-choice_count values [] = 1
-choice_count values (Byte b ∷ ps) = choice_count values ps
-choice_count values (Name name ∷ ps) = length (values name) * choice_count values ps
-choice_count values (Unclosed ∷ ps) = 0

@@ -1,8 +1,8 @@
 -- Tables that stand beside an order of variables: what the variable at each place of the order has.
-use Rattle.std.specs.Prelude.{ℕ, ◌*◌, nat_eq, List, [], ◌∷◌, ◌++◌, length, map, flat_map, min, take, position, slice_index_or, Option, None, Some, Vec}
+use Rattle.std.specs.Prelude.{ℕ, nat_eq, List, [], ◌∷◌, ◌++◌, length, map, flat_map, min, take, position, slice_index_or, Option, None, Some, Vec}
 use Rattle.std.specs.List.{sum_by}
-use Rattle.aa_text.specs.Variables.{Variable, Part, Byte, Name, Unclosed, parts}
-use Rattle.aa_text.specs.Expansions.{choices, expansions, most_counted, most_told}
+use Rattle.aa_text.specs.Variables.{Variable, parts}
+use Rattle.aa_text.specs.Expansions.{choice_count, choices, expansions, most_counted, most_told}
 use Rattle.aa_text.specs.VariablePlaces.{place_of, words_at}
 
 -- the row of a name's variable in each table that stands beside an order
@@ -18,16 +18,9 @@ row_or other table (Some row) = slice_index_or table row other
 abbrev pub looked_up : {A : Type 0} → A → List Variable → List ℕ → List A → List ℕ → A
 looked_up other variables order table name = row_or other table (row_of variables order name)
 
--- how many choices the parts of a text have, where each name has so many values
-abbrev pub product : (List ℕ → ℕ) → List Part → ℕ
-product counts [] = 1
-product counts (Byte b ∷ ps) = product counts ps
-product counts (Name name ∷ ps) = counts name * product counts ps
-product counts (Unclosed ∷ ps) = 0
-
 -- how many expansions a text has by a table of counts, as far as they are counted
 abbrev pub counted : (List ℕ → ℕ) → List ℕ → ℕ
-counted counts text = min (product counts (parts text)) most_counted
+counted counts text = min (choice_count counts (parts text)) most_counted
 
 -- how many expansions words have together, as far as they are counted
 abbrev pub counted_words : (List ℕ → ℕ) → List (List ℕ) → ℕ

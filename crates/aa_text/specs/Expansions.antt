@@ -1,5 +1,5 @@
 -- Expansions: what the names in a text lead to, and the texts that come of putting values in (apparmor.d(5), "Variables"; see docs/policy.md, "Variables").
-use Rattle.std.specs.Prelude.{ℕ, zero, suc, Bool, true, ◌||◌, List, [], ◌∷◌, ◌++◌, length, map, flat_map, Option, None, Some, if◌then◌else◌}
+use Rattle.std.specs.Prelude.{ℕ, zero, suc, ◌*◌, Bool, true, ◌||◌, List, [], ◌∷◌, ◌++◌, length, map, flat_map, Option, None, Some, if◌then◌else◌}
 use Rattle.std.specs.List.{list_any}
 use Rattle.aa_text.specs.Variables.{Variable, named, names_undefined, Part, Byte, Name, Unclosed, parts}
 use Rattle.aa_text.specs.declared.text_error.TextRefusal.{TextRefusal}
@@ -32,6 +32,13 @@ choices values [] = [] ∷ []
 choices values (Byte b ∷ ps) = map (λ rest. b ∷ rest) (choices values ps)
 choices values (Name name ∷ ps) = flat_map (λ value. map (λ rest. value ++ rest) (choices values ps)) (values name)
 choices values (Unclosed ∷ ps) = []
+
+-- how many choices there are, where each name has so many values: the product of the counts
+abbrev pub choice_count : (List ℕ → ℕ) → List Part → ℕ
+choice_count counts [] = 1
+choice_count counts (Byte b ∷ ps) = choice_count counts ps
+choice_count counts (Name name ∷ ps) = counts name * choice_count counts ps
+choice_count counts (Unclosed ∷ ps) = 0
 
 -- The values of a variable: the expansions of its words, in order, where each name leads on over so many variables at most.
 abbrev pub values_within : List Variable → ℕ → List ℕ → List (List ℕ)

@@ -1,13 +1,13 @@
 //! What holds of tokens, variables and expansions, as laws over their definitions.
 
 ghost use Rattle.std.specs.Prelude.{◌≡◌, ◌+◌, ◌++◌, ℕ, Bool, true, false, ◌↔◌, List, ◌∷◌, [], None, Ok, Some, find, flat_map, length};
-ghost use Rattle.std.specs.List.{list_any};
+ghost use Rattle.std.specs.List.{Contains, list_any};
 ghost use Rattle.aa_text.specs.Bytes.{line_feed};
 ghost use Rattle.aa_text.specs.Cut.{cut, piece_at, Seen};
 ghost use Rattle.aa_text.specs.CutLaws.{followed_by, has_line_feed, AreValuesPlaced, Covers};
 ghost use Rattle.aa_text.specs.CycleLaws.{ReachesCycle};
-ghost use Rattle.aa_text.specs.ExpansionLaws.{choice_count, names_nothing, names_variable};
-ghost use Rattle.aa_text.specs.Expansions.{expansions, has_chain, is_cyclic, leads_to_cycle, leads_to_undefined, values, words_of};
+ghost use Rattle.aa_text.specs.ExpansionLaws.{names_nothing, names_variable};
+ghost use Rattle.aa_text.specs.Expansions.{choice_count, expansions, has_chain, is_cyclic, leads_to_cycle, leads_to_undefined, values, words_of};
 ghost use Rattle.aa_text.specs.Variables.{Variable, named, names_undefined, parts};
 
 /// Where no word of a variable names one that isn't defined, a text leads to such a name only if it names one itself. Where no variable
@@ -23,13 +23,16 @@ pub fn what_a_text_leads_to()
 {}
 
 /// A chain of more variables than there are is a cycle: a text has one exactly where it leads to some variable that leads to itself. Then it
-/// has chains of any length.
+/// has chains of any length. A variable is cyclic exactly where one of its words leads to some variable that leads to itself.
 pub fn what_a_cycle_is()
     ensures itself { (variables : List Variable) (text : List ℕ)
         → (leads_to_cycle variables text ≡ true) ↔ ReachesCycle variables text }
     ensures endless { (variables : List Variable) (text : List ℕ)
         → leads_to_cycle variables text ≡ true
         → (size : ℕ) → has_chain variables size text ≡ true }
+    ensures variable { (variables : List Variable) (variable : Variable)
+        → named variable.name variables ≡ Some variable
+        → (is_cyclic variables variable ≡ true) ↔ ((word : List ℕ) × Contains (words_of variable) word × ReachesCycle variables word) }
 {}
 
 /// A text that names no variable has itself as its one expansion. A text has as many expansions as the product of the counts of its names'
@@ -40,7 +43,7 @@ pub fn how_texts_expand()
         → names_nothing text ≡ true
         → expansions variables text ≡ text ∷ [] }
     ensures product { (variables : List Variable) (text : List ℕ)
-        → length (expansions variables text) ≡ choice_count (values variables) (parts text) }
+        → length (expansions variables text) ≡ choice_count (λ name. length (values variables name)) (parts text) }
     ensures values { (variables : List Variable) (name : List ℕ) (variable : Variable)
         → named name variables ≡ Some variable
         → is_cyclic variables variable ≡ false

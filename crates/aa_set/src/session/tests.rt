@@ -444,7 +444,7 @@ fn stops_at_a_write_that_fails(rt: HostRuntime) -> Result<(), Fail> {
 
 // With ample memory the calls that take some succeed.
 #[test]
-fn finds_memory_where_there_is_some(rt: HostRuntime) -> Result<(), Fail> {
+fn finds_memory_for_changes(rt: HostRuntime) -> Result<(), Fail> {
     let alloc = rt.alloc();
     let files = known_files(alloc)?;
     let mut manager = Manager::new(alloc, false);
@@ -457,11 +457,28 @@ fn finds_memory_where_there_is_some(rt: HostRuntime) -> Result<(), Fail> {
     };
     assert_eq!(rt; manager.ask(&question)?.as_slice(), b"allow\n".as_slice());
     manager.undo(1)?;
-    assert_eq!(rt;
-        manager.ask(&question).map(|lines| lines.len()),
-        Err(plain(RefusalKind::Absent))
-    );
+    Ok(())
+}
 
+#[test]
+fn finds_no_profile_before_the_first(rt: HostRuntime) -> Result<(), Fail> {
+    let manager = Manager::new(rt.alloc(), false);
+    let question = Question::File {
+        who: b"first",
+        needs: Perms::READ,
+        owned: false,
+        path: b"/tmp/a",
+    };
+    match manager.ask(&question) {
+        Ok(_) => assert!(rt; false),
+        Err(refusal) => assert_eq!(rt; refusal, plain(RefusalKind::Absent)),
+    }
+    Ok(())
+}
+
+#[test]
+fn finds_memory_for_policy_sets(rt: HostRuntime) -> Result<(), Fail> {
+    let alloc = rt.alloc();
     let name = Sequence::from_bytes(alloc, b"p")?;
     assert_eq!(rt; name.as_slice(), b"p".as_slice());
     let profile = Profile {

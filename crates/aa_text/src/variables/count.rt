@@ -2,8 +2,8 @@
 
 ghost use Rattle.std.specs.Prelude.{◌≡◌, ◌≢◌, ◌≤◌, None, Some, IfOk, IfErr, OnOk, length, map, min};
 ghost use Rattle.aa_text.specs.ExpansionOrder.{IsOrder};
-ghost use Rattle.aa_text.specs.ExpansionTables.{count_at, counted, counted_words, looked_up, product, row_of};
-ghost use Rattle.aa_text.specs.Expansions.{expansion_refusal, expansions, most_counted};
+ghost use Rattle.aa_text.specs.ExpansionTables.{count_at, counted, counted_words, looked_up, row_of};
+ghost use Rattle.aa_text.specs.Expansions.{choice_count, expansion_refusal, expansions, most_counted};
 ghost use Rattle.aa_text.specs.TextParts.{parts_of};
 ghost use Rattle.aa_text.specs.VariablePlaces.{words_at};
 ghost use Rattle.aa_text.specs.declared.text_error.TextRefusal.TheVariants.{Memory};
@@ -100,7 +100,7 @@ impl Variables {
 
     // How many choices a part of a text has by a table of counts.
     fn count_part(&self, order: &IndexSet<usize>, counts: &[usize], part: TextPart<'_>) -> usize
-        ensures { result ≡ product (looked_up 0 self.now order.now.keys counts.now) (parts_of part.entry) }
+        ensures { result ≡ choice_count (looked_up 0 self.now order.now.keys counts.now) (parts_of part.entry) }
     {
         match part {
             TextPart::Text(_) => 1,

@@ -1,5 +1,6 @@
 use super::*;
 use itoa::Buffer;
+use std::process::Abort;
 
 // Puts a number behind a text.
 fn put_number(text: &mut Vec<u8>, number: usize) -> Result<(), Fail> {
@@ -104,6 +105,31 @@ fn counts_rules_by_expansions(rt: HostRuntime) -> Result<(), Fail> {
     Ok(())
 }
 
+// Compares what is wrong with the rules of a file, and how many bytes stand before it behind the file's front.
+fn are_wrong(
+    rt: &impl Abort,
+    alloc: Global,
+    (front, rules): (&[u8], &[u8]),
+    (refusal, behind): (RefusalKind, usize),
+) -> Result<(), Fail> {
+    let (files, at) = with_rules(alloc, front, rules)?;
+    let place = Some((0, at.saturating_add(behind)));
+    assert_eq!(rt; wrong(alloc, &files), Some((refusal, place)));
+    Ok(())
+}
+
+// Compares the patterns that the rules of a file make.
+fn are_read(
+    rt: &impl Abort,
+    alloc: Global,
+    (front, rules): (&[u8], &[u8]),
+    want: &[&[u8]],
+) -> Result<(), Fail> {
+    let (files, _) = with_rules(alloc, front, rules)?;
+    assert!(rt; has_patterns(alloc, &files, want));
+    Ok(())
+}
+
 // A rule of a pattern in quotes: a slash, and so many times another byte.
 fn long_rule(alloc: Global, byte: u8, count: usize) -> Result<Vec<u8>, Fail> {
     let mut text = Vec::from_slice(alloc, b"\"/")?;
@@ -114,65 +140,75 @@ fn long_rule(alloc: Global, byte: u8, count: usize) -> Result<Vec<u8>, Fail> {
 
 // A pattern may have 4,096 bytes, those of its runs of slashes counted.
 #[test]
-fn measures_patterns_with_their_runs_of_slashes(rt: HostRuntime) -> Result<(), Fail> {
+fn reads_patterns_that_are_not_too_long(rt: HostRuntime) -> Result<(), Fail> {
     let alloc = rt.alloc();
-    let (files, _) = with_rules(alloc, b"", &long_rule(alloc, b'/', 4_095)?)?;
-    assert!(rt; has_patterns(alloc, &files, &[b"/"]));
-    let (files, _) = with_rules(alloc, b"", &long_rule(alloc, b'a', 4_095)?)?;
+    let rule = long_rule(alloc, b'/', 4_095)?;
+    are_read(&rt, alloc, (b"", &rule), &[b"/"])?;
+    let rule = long_rule(alloc, b'a', 4_095)?;
+    let (files, _) = with_rules(alloc, b"", &rule)?;
     assert_eq!(rt; rule_count(alloc, &files), Some(1));
-    for (byte, count) in [(b'/', 4_096), (b'a', 4_096), (b'/', 9_000), (b'a', 9_000)] {
-        let (files, _) = with_rules(alloc, b"", &long_rule(alloc, byte, count)?)?;
-        let want = Some((RefusalKind::TooLong, Some((0, 12))));
-        assert_eq!(rt; wrong(alloc, &files), want, "{count} times {byte}");
-    }
-    // in an included file
-    let rule = long_rule(alloc, b'/', 4_096)?;
-    let rows: [File<'_>; 2] = [(b"p", b"profile p { include <r> }"), (b"r", &rule)];
-    let files = files_of(alloc, &rows)?;
-    assert_eq!(rt;
-        wrong(alloc, &files),
-        Some((RefusalKind::TooLong, Some((1, 0))))
-    );
     Ok(())
 }
 
-// Each of 64 variables holds the one before it twice: as two values, or in one.
+#[test]
+fn measures_patterns_with_their_runs_of_slashes(rt: HostRuntime) -> Result<(), Fail> {
+    let alloc = rt.alloc();
+    let table: [(u8, usize); 4] = [(b'/', 4_096), (b'a', 4_096), (b'/', 9_000), (b'a', 9_000)];
+    for (byte, count) in table {
+        let rule = long_rule(alloc, byte, count)?;
+        are_wrong(&rt, alloc, (b"", &rule), (RefusalKind::TooLong, 0))?;
+    }
+    Ok(())
+}
+
+#[test]
+fn measures_patterns_of_included_files(rt: HostRuntime) -> Result<(), Fail> {
+    let alloc = rt.alloc();
+    let rule = long_rule(alloc, b'/', 4_096)?;
+    let rows: [File<'_>; 2] = [(b"p", b"profile p { include <r> }"), (b"r", &rule)];
+    let files = files_of(alloc, &rows)?;
+    let want = Some((RefusalKind::TooLong, Some((1, 0))));
+    assert_eq!(rt; wrong(alloc, &files), want);
+    Ok(())
+}
+
+// Each of 64 variables holds the one before it as two values.
+#[test]
+fn reads_variables_of_two_values(rt: HostRuntime) -> Result<(), Fail> {
+    let alloc = rt.alloc();
+    let front = chain(alloc, b"x", 64, Some(b" "))?;
+    are_wrong(
+        &rt,
+        alloc,
+        (&front, b"/@{A64} r,"),
+        (RefusalKind::TooManyRules, 0),
+    )?;
+    // what no rule names isn't put in
+    are_read(&rt, alloc, (&front, b""), &[])?;
+    are_read(&rt, alloc, (&front, b"/@{A1} r,"), &[b"/x", b"/x"])
+}
+
+// Each of 64 variables holds the one before it twice in its value.
 #[test]
 fn reads_variables_that_double(rt: HostRuntime) -> Result<(), Fail> {
     let alloc = rt.alloc();
+    let front = chain(alloc, b"x", 64, Some(b""))?;
+    are_wrong(
+        &rt,
+        alloc,
+        (&front, b"/@{A64} r,"),
+        (RefusalKind::TooLong, 0),
+    )?;
+    are_read(&rt, alloc, (&front, b"/@{A2} r,"), &[b"/xxxx"])?;
 
-    let text = chain(alloc, b"x", 64, Some(b" "))?;
-    let (files, at) = with_rules(alloc, &text, b"/@{A64} r,")?;
-    let place = Some((0, at));
-    assert_eq!(rt;
-        wrong(alloc, &files),
-        Some((RefusalKind::TooManyRules, place))
-    );
-    // what no rule names isn't put in
-    let (files, _) = with_rules(alloc, &text, b"")?;
-    assert!(rt; has_patterns(alloc, &files, &[]));
-    let (files, _) = with_rules(alloc, &text, b"/@{A1} r,")?;
-    assert!(rt; has_patterns(alloc, &files, &[b"/x", b"/x"]));
-
-    let text = chain(alloc, b"x", 64, Some(b""))?;
-    let (files, at) = with_rules(alloc, &text, b"/@{A64} r,")?;
-    let place = Some((0, at));
-    assert_eq!(rt; wrong(alloc, &files), Some((RefusalKind::TooLong, place)));
-    let (files, _) = with_rules(alloc, &text, b"/@{A2} r,")?;
-    assert!(rt; has_patterns(alloc, &files, &[b"/xxxx"]));
-
-    let text = chain(alloc, b"\"\"", 64, Some(b""))?;
-    let (files, _) = with_rules(alloc, &text, b"/@{A64} r,")?;
-    assert!(rt; has_patterns(alloc, &files, &[b"/"]));
-    Ok(())
+    let front = chain(alloc, b"\"\"", 64, Some(b""))?;
+    are_read(&rt, alloc, (&front, b"/@{A64} r,"), &[b"/"])
 }
 
 // Each of ten thousand variables holds the one before it.
 #[test]
 fn reads_a_long_chain_of_variables(rt: HostRuntime) -> Result<(), Fail> {
     let alloc = rt.alloc();
-    let text = chain(alloc, b"/x", 10_000, None)?;
-    let (files, _) = with_rules(alloc, &text, b"@{A10000} r,")?;
-    assert!(rt; has_patterns(alloc, &files, &[b"/x"]));
-    Ok(())
+    let front = chain(alloc, b"/x", 10_000, None)?;
+    are_read(&rt, alloc, (&front, b"@{A10000} r,"), &[b"/x"])
 }

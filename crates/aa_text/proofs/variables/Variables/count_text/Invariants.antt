@@ -1,13 +1,13 @@
 use Rattle.std.proofs.Common.{◌≡◌, ◌≤◌, ◌*◌, min, length}
-use Rattle.aa_text.specs.Expansions.{most_counted}
-use Rattle.aa_text.specs.ExpansionTables.{looked_up, product}
+use Rattle.aa_text.specs.Expansions.{choice_count, most_counted}
+use Rattle.aa_text.specs.ExpansionTables.{looked_up}
 use Rattle.aa_text.specs.Variables.{parts}
 use Rattle.aa_text.proofs.variables.Variables.count_text.Given as goal
 
 -- the choices so far, times those of the rest, are those of the text
 abbrev pub invariant-loop-part : goal.invariant-loop-part
 invariant-loop-part l = record {
-  same : min (l.so_far * product (looked_up 0 l.self l.order.keys l.counts) (parts l.rest)) most_counted ≡ min (product (looked_up 0 l.self l.order.keys l.counts) (parts l.text)) most_counted;
+  same : min (l.so_far * choice_count (looked_up 0 l.self l.order.keys l.counts) (parts l.rest)) most_counted ≡ min (choice_count (looked_up 0 l.self l.order.keys l.counts) (parts l.text)) most_counted;
   bounded : l.so_far ≤ most_counted;
 }
 
