@@ -22,6 +22,6 @@ pub use cut::{CutFault, CutRefusal, Token, TokenKind, tokens};
 pub use files::{Files, FilesError};
 pub use laws::{how_a_text_is_cut, how_texts_expand, what_a_cycle_is, what_a_text_leads_to};
 pub use spliced_token::Spliced;
-pub use splicing::spliced;
+pub use splicing::{MOST_BYTES, spliced};
 pub use text_error::{Place, TextError, TextRefusal};
 pub use variables::Variables;

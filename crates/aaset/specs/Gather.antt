@@ -2,6 +2,7 @@
 use Rattle.std.specs.Prelude.{◌≡◌, ◌≤◌, ℕ, List, ◌++◌, length, map, false, string_bytes, Contains, Option}
 use Rattle.std.specs.Io.KnownBytes.{Consumes}
 use Rattle.aa_text.specs.Files.{File, is_bad_file}
+use Rattle.aa_text.specs.Splicing.{most_bytes}
 use Rattle.aaset.specs.declared.gather.GatherFault.{GatherFault}
 use Rattle.aaset.specs.declared.gather.GatherFault.TheVariants.{Untaken, Memory}
 
@@ -9,9 +10,9 @@ use Rattle.aaset.specs.declared.gather.GatherFault.TheVariants.{Untaken, Memory}
 abbrev pub names_of : List File → List (List ℕ)
 names_of files = map (λ file. file.0) files
 
--- a file that may be taken: at most 16 MiB, with a good name, and with no bytes where that declares a folder
+-- a file that may be taken: no longer than all files that one reading enters may be together, with a good name, and with no bytes where that declares a folder
 abbrev pub IsTakable : File → Type 0
-IsTakable file = (length file.1 ≤ 16777216) × (is_bad_file file.0 file.1 ≡ false)
+IsTakable file = (length file.1 ≤ most_bytes) × (is_bad_file file.0 file.1 ≡ false)
 
 -- the fault names one of these names, or is about memory
 abbrev pub IsFaultOf : List (List ℕ) → GatherFault → Type 0

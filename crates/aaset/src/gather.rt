@@ -3,6 +3,7 @@ ghost use Rattle.std.specs.Prelude.{◌≡◌, ◌<◌, ◌≤◌, ◌++◌, ◌
 ghost use Rattle.std.specs.List.{All};
 ghost use Rattle.std.specs.Io.KnownBytes.{IsAtEnd};
 ghost use Rattle.aa_text.specs.Files.{is_folder_name};
+ghost use Rattle.aa_text.specs.Splicing.{most_bytes};
 ghost use Rattle.aaset.specs.declared.gather.GatherFault.TheVariants.{Memory};
 ghost use Rattle.aaset.specs.declared.gather.ReadFault.TheVariants as read;
 ghost use Rattle.std.specs.IoError.{error_kind};
@@ -11,7 +12,7 @@ ghost use Rattle.aaset.specs.Texts.{texts};
 ghost use Rattle.aaset.specs.Gather.{names_of, IsTakable, IsFaultOf, ReadsBehind};
 
 use crate::arguments::Plan;
-use aa_text::{Files, FilesError};
+use aa_text::{Files, FilesError, MOST_BYTES};
 use std::alloc::{AllocError, Global};
 use std::io::{ErrorKind, Read};
 use std::{fs, io, rt};
@@ -61,9 +62,6 @@ impl From<io::Error> for ReadFault {
     }
 }
 
-// The longest file that is taken, in bytes.
-const LONGEST: usize = 16_777_216;
-
 // How many bytes a read asks for.
 const PIECE: usize = 65_536;
 
@@ -74,14 +72,14 @@ fn is_read_to_end<F: Read>(
     bytes: &mut Vec<u8>,
 ) -> Result<bool, ReadFault>
     requires room { 0 < length piece.old }
-    requires within { vec_len bytes.old ≤ 16777216 }
-    ensures within { OnOk result (vec_len bytes.new ≤ 16777216) }
+    requires within { vec_len bytes.old ≤ most_bytes }
+    ensures within { OnOk result (vec_len bytes.new ≤ most_bytes) }
     ensures read { OnOk result (ReadsBehind (F.remaining file.old) bytes.old.items (F.remaining file.new) bytes.new.items) }
     ensures grows { IfOk result (λ at_end. IsFalse at_end → vec_len bytes.old < vec_len bytes.new) }
     ensures end { IfOk result (λ at_end. IsTrue at_end → IsAtEnd (F.remaining file.new)) }
 {
     let count = file.read(piece)?;
-    if count > LONGEST - bytes.len() {
+    if count > MOST_BYTES - bytes.len() {
         return Err(ReadFault::Unreadable);
     }
     bytes.extend_from_slice(&piece[..count])?;
@@ -95,15 +93,15 @@ fn piece_room(alloc: Global) -> Result<Vec<u8>, AllocError>
     vec![in alloc; 0; PIECE]
 }
 
-// All the bytes that a reader has left, where they are at most LONGEST.
+// All the bytes that a reader has left, where they are no more than the files of a reading may have together.
 fn read_whole<F: Read>(alloc: Global, file: &mut F) -> Result<Vec<u8>, ReadFault>
-    ensures within { IfOk result (λ bytes. vec_len bytes ≤ 16777216) }
+    ensures within { IfOk result (λ bytes. vec_len bytes ≤ most_bytes) }
     ensures whole { IfOk result (λ bytes. IfSome (F.remaining file.old) (λ left. bytes.items ≡ left)) }
 {
     let mut piece = piece_room(alloc)?;
     let mut bytes = Vec::new(alloc);
     // Even a reader that gives a byte at a time has then come to the end of a file that isn't too long.
-    for _ in 0..16_777_217u64 {
+    for _ in 0..=MOST_BYTES {
         if is_read_to_end(file, piece.as_mut_slice(), &mut bytes)? {
             return Ok(bytes);
         }
@@ -119,7 +117,7 @@ fn bytes_of<R: rt::Files>(
     name: &str,
 ) -> Result<Vec<u8>, ReadFault>
     ensures folder { IsTrue (is_folder_name name.now) → IsOkAnd result (λ bytes. bytes.items ≡ []) }
-    ensures within { IfOk result (λ bytes. vec_len bytes ≤ 16777216) }
+    ensures within { IfOk result (λ bytes. vec_len bytes ≤ most_bytes) }
 {
     if Files::is_folder(name.as_bytes()) {
         return Ok(Vec::new(alloc));
