@@ -1,12 +1,11 @@
 //! The shape of a profile's file, by its tokens: assignments, then one profile whose rules let files be read.
 
-ghost use Rattle.std.specs.Prelude.{◌≡◌, ◌≢◌, ◌+◌, ◌≤◌, ◌∷◌, [], Ok, Err, None, Some, IfOk, IfErr, IfSome, false, MatchOption, length, map, take, drop, codes};
+ghost use Rattle.std.specs.Prelude.{◌≡◌, ◌≢◌, ◌+◌, ◌≤◌, ◌∷◌, [], Ok, Err, None, Some, IfOk, IfErr, IfSome, false, MatchOption, length, map, take, drop};
 ghost use Rattle.std.specs.List.{list_all, list_any};
 ghost use Rattle.std.specs.Option.{option_map};
-ghost use Rattle.std.specs.Str.{bytes_eq};
 ghost use Rattle.aa_text.specs.SplicingProgress.{seen_spliced};
 ghost use Rattle.aa_set.specs.Bytes.{is_name_byte};
-ghost use Rattle.aa_set.specs.FileShape.{body_patterns, has_no_value, head_name, is_close_brace, is_comma, is_name, is_open_brace, is_pattern, is_word, is_word_of, opening, place_of, preamble, shape_of};
+ghost use Rattle.aa_set.specs.FileShape.{body_patterns, has_no_value, head_name, is_name, is_pattern, is_word_of, opening, place_of, preamble, shape_of};
 ghost use Rattle.aa_set.specs.FileTokens.{seen_assignment, seen_shape, seen_tokens};
 ghost use Rattle.aa_set.specs.Refusal.{plain};
 ghost use Rattle.aa_set.specs.declared.refusal.RefusalKind.TheVariants.{BadToken, Memory};

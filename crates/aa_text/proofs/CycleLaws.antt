@@ -173,20 +173,22 @@ module _ (variables : List Variable) where
           let within = none.1 in
           absurd (omega arith)
       by found (Some place) f =
-          let words : words_of variable ≡ words_at variables place = sym own ∙ words_named-from_some variables variable.name place f in
-          (found.0, found.1,
+          let words : words_of variable ≡ words_at variables place = sym own ∙ words_named-from_some variables variable.name place f in (
+            found.0,
+            found.1,
             cycle-of_chain found.0 (length variables) (place ∷ []) found.0 (omega arith)
-            (IsDistinct-push nat_eq_equiv [] place distinct-none refl)
-            (λ other h. elim (among-pushed [] place other h) [
-              | inl none ↦ absurd (cc)
-              | inr same ↦ let within = place_of-within variables variable.name place f in omega arith
-            ])
-            (λ other h. elim (among-pushed [] place other h) [
-              | inl none ↦ absurd (cc)
-              | inr same ↦ rw same (found.0, rw words at found.1, λ next led. led)
-            ])
-            (λ name led. led)
-            found.2)
+                (IsDistinct-push nat_eq_equiv [] place distinct-none refl)
+                (λ other h. elim (among-pushed [] place other h) [
+                  | inl none ↦ absurd (cc)
+                  | inr same ↦ let within = place_of-within variables variable.name place f in omega arith
+                ])
+                (λ other h. elim (among-pushed [] place other h) [
+                  | inl none ↦ absurd (cc)
+                  | inr same ↦ rw same (found.0, rw words at found.1, λ next led. led)
+                ])
+                (λ name led. led)
+                found.2,
+          )
 
   pub chain-of_word : (variable : Variable) → (word : List ℕ) × Contains (words_of variable) word × ReachesCycle variables word → is_cyclic variables variable ≡ true
   chain-of_word variable found =

@@ -2,7 +2,7 @@
 use Rattle.std.specs.Prelude.{ℕ, Bool, true, false, List}
 use Rattle.std.specs.List.{list_all, list_any}
 use Rattle.std.specs.Str.{bytes_eq}
-use Rattle.aa_text.specs.Variables.{Part, Byte, Name, Unclosed, parts}
+use Rattle.aa_text.specs.Variables.{Part, Byte, Name, parts}
 
 -- a part stands for itself
 abbrev pub is_byte : Part → Bool

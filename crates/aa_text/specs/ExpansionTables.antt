@@ -1,5 +1,5 @@
 -- Tables that stand beside an order of variables: what the variable at each place of the order has.
-use Rattle.std.specs.Prelude.{ℕ, nat_eq, List, [], ◌∷◌, ◌++◌, length, map, flat_map, min, take, position, slice_index_or, Option, None, Some, Vec}
+use Rattle.std.specs.Prelude.{ℕ, nat_eq, List, [], ◌++◌, length, map, flat_map, min, take, position, slice_index_or, Option, None, Some, Vec}
 use Rattle.std.specs.List.{sum_by}
 use Rattle.aa_text.specs.Variables.{Variable, parts}
 use Rattle.aa_text.specs.Expansions.{choice_count, choices, expansions, most_counted, most_told}
