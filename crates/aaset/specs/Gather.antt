@@ -10,7 +10,7 @@ use Rattle.aaset.specs.declared.gather.GatherFault.TheVariants.{Untaken, Memory}
 abbrev pub names_of : List File → List (List ℕ)
 names_of files = map (λ file. file.0) files
 
--- a file that may be taken: no longer than all files that one reading enters may be together, with a good name, and with no bytes where that declares a folder
+-- a file that may be taken: with no more bytes than one reading may enter, a good name, and no bytes where that declares a folder
 abbrev pub IsTakable : File → Type 0
 IsTakable file = (length file.1 ≤ most_bytes) × (is_bad_file file.0 file.1 ≡ false)
 

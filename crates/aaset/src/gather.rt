@@ -93,7 +93,7 @@ fn piece_room(alloc: Global) -> Result<Vec<u8>, AllocError>
     vec![in alloc; 0; PIECE]
 }
 
-// All the bytes that a reader has left, where they are no more than the files of a reading may have together.
+// All the bytes that a reader has left, where they are at most MOST_BYTES.
 fn read_whole<F: Read>(alloc: Global, file: &mut F) -> Result<Vec<u8>, ReadFault>
     ensures within { IfOk result (λ bytes. vec_len bytes ≤ most_bytes) }
     ensures whole { IfOk result (λ bytes. IfSome (F.remaining file.old) (λ left. bytes.items ≡ left)) }
