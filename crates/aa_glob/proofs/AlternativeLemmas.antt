@@ -1,13 +1,14 @@
 -- The steps of a group while its alternatives are read: the last fork, and the jump before it, are set right behind each one.
-use Rattle.std.proofs.Common.{◌≡◌, ℕ, suc, ◌+◌, ◌-◌, ◌<◌, List, [], ◌∷◌, ◌++◌, length, take, drop, slice_set, refl, sym, ap, ◌∙◌, arith}
+use Rattle.std.proofs.Common.{◌≡◌, ℕ, suc, true, ◌+◌, ◌-◌, ◌<◌, List, [], ◌∷◌, ◌++◌, length, take, drop, slice_set, refl, sym, ap, ◌∙◌, arith}
+use Rattle.std.proofs.lemmas.Bool.{false≢true}
 use Rattle.std.proofs.Math.Seq.{drop-append-add, set-append_seam, take-append-add}
 use Rattle.std.proofs.lemmas.List.{append_assoc, append-nil, length-append, length-drop, length-set, set_split}
-use Rattle.aa_glob.specs.Items.{End, NoMore, More}
-use Rattle.aa_glob.specs.Layout.{alternative, steps_of, steps_of_each}
-use Rattle.aa_glob.specs.Progress.{ReadsOn, laid_out, stopped}
-use Rattle.aa_glob.specs.Reading.{Pieces, first_of, others_of}
-use Rattle.aa_glob.specs.declared.reading.Stop.{Stop}
-use Rattle.aa_glob.specs.declared.reading.Stop.TheVariants.{End as AtEnd, Comma, Close}
+use Rattle.aa_glob.proofs.ReadLemmas.{ReadsOn-item}
+use Rattle.aa_glob.specs.Items.{End, Group, NoMore, More}
+use Rattle.aa_glob.specs.code.Layout.{alternative, steps_of, steps_of_each}
+use Rattle.aa_glob.specs.code.Alternatives.{IsInGroup, begun, ended, has_more, laid_out}
+use Rattle.aa_glob.specs.code.Progress.{ReadsOn}
+use Rattle.aa_glob.specs.Reading.{Pieces, Cut, Closed, behind_comma, ending_of, first_of, group, others_of}
 use Rattle.aa_glob.specs.declared.step.Step.{Step}
 use Rattle.aa_glob.specs.declared.step.Step.TheVariants.{Fork, Jump}
 
@@ -24,11 +25,11 @@ front-set steps fork within =
 
 -- what the steps are when the next alternative is read, whose own steps are these
 abbrev pub IsRead : List Step → ℕ → List Step → List Step → Type 0
-IsRead steps fork next read = read ≡ ((slice_set steps fork (Fork (length steps - fork)) ++ Jump 0 ∷ []) ++ Fork 0 ∷ []) ++ next
+IsRead steps fork next read = read ≡ begun steps fork ++ next
 
 read-is : (steps : List Step) (fork : ℕ) (next read : List Step) → fork < length steps → IsRead steps fork next read → read ≡ front steps fork ++ Jump 0 ∷ Fork 0 ∷ next
 read-is steps fork next read within is_read =
-    is_read ∙ ap (λ l. ((l ++ Jump 0 ∷ []) ++ Fork 0 ∷ []) ++ next) (front-set steps fork within) ∙ append_assoc (front steps fork ++ Jump 0 ∷ []) (Fork 0 ∷ []) next ∙ append_assoc (front steps fork) (Jump 0 ∷ []) (Fork 0 ∷ next)
+    is_read ∙ ap (λ l. (l ++ Jump 0 ∷ Fork 0 ∷ []) ++ next) (front-set steps fork within) ∙ append_assoc (front steps fork) (Jump 0 ∷ Fork 0 ∷ []) next
 
 front-length : (steps : List Step) (fork : ℕ) → fork < length steps → length (front steps fork) ≡ length steps
 front-length steps fork within = ap length (sym (front-set steps fork within)) ∙ length-set steps fork (Fork (length steps - fork))
@@ -69,32 +70,49 @@ mended-last steps fork next read within is_read =
     rw (mended-take steps fork next read within is_read, mended-drop steps fork next read within is_read)
     (append_assoc (front steps fork) (Jump (length next + 1) ∷ []) (Fork 0 ∷ next) ∙ sym (mended-is steps fork next read within is_read))
 
--- the steps while the next alternative is read: the fork of the one before it is set right, the jump isn't yet
-abbrev begun : List Step → ℕ → ℕ → List Step
-begun steps fork jump = (slice_set steps fork (Fork (jump - fork)) ++ Jump 0 ∷ []) ++ Fork 0 ∷ []
-
-is-read : (steps : List Step) (fork jump : ℕ) (piece left : Pieces) (old read : List Step) → jump ≡ length steps → old ≡ begun steps fork jump → first_of left ≡ End → ReadsOn old piece read left
-    → IsRead steps fork (steps_of (first_of piece)) read
-is-read steps fork jump piece left old read at is_old done on =
-    sym (append-nil read) ∙ ap (λ p. read ++ steps_of p) (sym done) ∙ on.0 ∙ ap (λ l. l ++ steps_of (first_of piece)) (is_old ∙ ap (begun steps fork) at)
+pub is-read : (steps : List Step) (fork : ℕ) (piece left : Pieces) (read : List Step) → first_of left ≡ End → ReadsOn (begun steps fork) piece read left → IsRead steps fork (steps_of (first_of piece)) read
+is-read steps fork piece left read done on = sym (append-nil read) ∙ ap (λ p. read ++ steps_of p) (sym done) ∙ on.0
 
 -- with the alternatives that are left, the steps come to the same as before
-pub laid_out-more : (steps : List Step) (fork jump count : ℕ) (piece left : Pieces) (old read : List Step) → fork < length steps → jump ≡ length steps → count ≡ length read
-    → old ≡ begun steps fork jump → first_of left ≡ End → ReadsOn old piece read left
-    → laid_out (slice_set read jump (Jump (count - jump - 1))) (jump + 1) (others_of left) ≡ laid_out steps fork (More (first_of piece) (others_of piece))
-laid_out-more steps fork jump count piece left old read within at many is_old done on =
-    rw (at, many) (mended-more steps fork (steps_of (first_of piece)) read (steps_of_each (others_of left)) within (is-read steps fork jump piece left old read at is_old done on)
-    ∙ ap (λ o. laid_out steps fork (More (first_of piece) o)) on.1)
+pub laid_out-more : (steps : List Step) (fork : ℕ) (piece left : Pieces) (read : List Step) → fork < length steps → first_of left ≡ End → ReadsOn (begun steps fork) piece read left
+    → laid_out (ended read (length steps)) (length steps + 1) (others_of left) ≡ laid_out steps fork (More (first_of piece) (others_of piece))
+laid_out-more steps fork piece left read within done on =
+    mended-more steps fork (steps_of (first_of piece)) read (steps_of_each (others_of left)) within (is-read steps fork piece left read done on)
+    ∙ ap (λ o. laid_out steps fork (More (first_of piece) o)) on.1
 
 -- and with none left they are whole
-pub laid_out-last : (steps : List Step) (fork jump count : ℕ) (piece left : Pieces) (old read : List Step) → fork < length steps → jump ≡ length steps → count ≡ length read
-    → old ≡ begun steps fork jump → first_of left ≡ End → ReadsOn old piece read left
-    → laid_out (slice_set read jump (Jump (count - jump - 1))) (jump + 1) NoMore ≡ slice_set read jump (Jump (count - jump - 1))
-laid_out-last steps fork jump count piece left old read within at many is_old done on =
-    rw (at, many) (mended-last steps fork (steps_of (first_of piece)) read within (is-read steps fork jump piece left old read at is_old done on))
+pub laid_out-last : (steps : List Step) (fork : ℕ) (piece left : Pieces) (read : List Step) → fork < length steps → first_of left ≡ End → ReadsOn (begun steps fork) piece read left
+    → laid_out (ended read (length steps)) (length steps + 1) NoMore ≡ ended read (length steps)
+laid_out-last steps fork piece left read within done on = mended-last steps fork (steps_of (first_of piece)) read within (is-read steps fork piece left read done on)
 
--- where the items of a piece end, none is left
-pub first_of-stopped : (depth : ℕ) (stop : Stop) → first_of (stopped depth stop) ≡ End
-first_of-stopped depth AtEnd = refl
-first_of-stopped depth (Comma rest) = refl
-first_of-stopped depth (Close rest) = refl
+-- there is a step at the jump and one at the fork
+pub read-longer : (steps : List Step) (fork : ℕ) (piece left : Pieces) (read : List Step) → first_of left ≡ End → ReadsOn (begun steps fork) piece read left → length steps + 1 < length read
+read-longer steps fork piece left read done on =
+    let whole = ap length (is-read steps fork piece left read done on) ∙ length-append (begun steps fork) (steps_of (first_of piece)) in
+    let first = length-append (slice_set steps fork (Fork (length steps - fork))) (Jump 0 ∷ Fork 0 ∷ []) in
+    let same = length-set steps fork (Fork (length steps - fork)) in
+    omega arith
+
+-- the group goes on behind another comma
+pub IsInGroup-more : (before steps begins read ends : List Step) (all left after : Pieces) (fork jump next : ℕ) → IsInGroup before all steps fork left
+    → jump ≡ length steps → begins ≡ begun steps fork → ReadsOn begins left read (behind_comma after) → ends ≡ ended read jump → next ≡ jump + 1 → IsInGroup before all ends next after
+IsInGroup-more before steps begins read ends all left after fork jump next is_in at is_begun on is_ended is_next =
+    let is_on : ReadsOn (begun steps fork) left read (behind_comma after) = rw (← is_begun) on in
+    let longer = read-longer steps fork left (behind_comma after) read refl is_on in
+    let same = length-set read (length steps) (Jump (length read - length steps - 1)) in
+    rw (is_next, is_ended, at) (omega arith, laid_out-more steps fork left (behind_comma after) read is_in.0 refl is_on ∙ is_in.1, is_in.2, on.2 ∙ is_in.3)
+
+-- a whole group was read
+ReadsOn-whole : (before new : List Step) (all after : Pieces) → has_more (others_of all) ≡ true → ending_of all ≡ Closed after
+    → new ≡ before ++ alternative (steps_of (first_of all)) (steps_of_each (others_of all)) → ReadsOn before (group all) new after
+ReadsOn-whole before new (Cut first NoMore ending) after more closed put = absurd (false≢true more)
+ReadsOn-whole before new (Cut first (More second others) ending) after more closed put = rw closed (ReadsOn-item before new (Group first second others) after put)
+
+-- the group is closed
+pub IsInGroup-closed : (before steps begins read ends : List Step) (all left after : Pieces) (fork jump : ℕ) → IsInGroup before all steps fork left
+    → jump ≡ length steps → begins ≡ begun steps fork → ReadsOn begins left read (Cut End NoMore (Closed after)) → ends ≡ ended read jump → ReadsOn before (group all) ends after
+IsInGroup-closed before steps begins read ends all left after fork jump is_in at is_begun on is_ended =
+    let is_on : ReadsOn (begun steps fork) left read (Cut End NoMore (Closed after)) = rw (← is_begun) on in
+    let last = laid_out-last steps fork left (Cut End NoMore (Closed after)) read is_in.0 refl is_on in
+    let same = laid_out-more steps fork left (Cut End NoMore (Closed after)) read is_in.0 refl is_on in
+    ReadsOn-whole before ends all after is_in.2 (sym (on.2 ∙ is_in.3)) (is_ended ∙ ap (ended read) at ∙ sym last ∙ same ∙ is_in.1)

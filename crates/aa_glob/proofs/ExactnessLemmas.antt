@@ -3,8 +3,8 @@ use Rattle.std.proofs.Common.{◌≡◌, ◌+◌, refl, ap}
 use Rattle.std.specs.List.{list_all, prefix_len}
 use Rattle.aa_glob.specs.Exactness.{is_exact, literal_prefix}
 use Rattle.aa_glob.specs.Items.{Pattern, End, Next, Byte, Set, Star, DoubleStar, Group}
-use Rattle.aa_glob.specs.Layout.{steps_of}
-use Rattle.aa_glob.specs.Steps.{is_byte}
+use Rattle.aa_glob.specs.code.Layout.{steps_of}
+use Rattle.aa_glob.specs.code.Steps.{is_byte}
 
 pub is_exact-steps : (items : Pattern) → list_all is_byte (steps_of items) ≡ is_exact items
 is_exact-steps End = refl

@@ -6,4 +6,5 @@ pub mod MatchLemmas
 pub mod MatchingLaws
 pub mod ReadLemmas
 pub mod ReadingLaws
+pub mod SizeLemmas
 pub mod StepLemmas

@@ -1,19 +1,20 @@
 -- The laws of matching: the test is by splits, an exact pattern matches one text, and no pattern matches a zero byte.
-use Rattle.std.proofs.Common.{◌≡◌, ◌≢◌, ℕ, zero, suc, ◌+◌, ◌-◌, ◌≤◌, Bool, true, false, ◌==◌, not, List, [], ◌∷◌, ◌++◌, length, refl, sym, ap, ap₂, ◌∙◌, inl, inr, if◌then◌else◌, nat_le, nat_lt, Result, ◌↔◌, IsTrue}
+use Rattle.std.proofs.Common.{◌≡◌, ◌≢◌, ℕ, ◌+◌, ◌-◌, ◌≤◌, Bool, true, false, ◌==◌, not, List, [], ◌∷◌, ◌++◌, length, refl, sym, ap, ap₂, ◌∙◌, inl, inr, if◌then◌else◌, nat_le, Result, Ok, Err, ◌↔◌, IsTrue}
 use Rattle.std.proofs.lemmas.Bool.{cases_Bool, false≢true, false_from_ne_true, not-true, ne_eqb, and_parts, or_from, or_parts}
 use Rattle.std.proofs.lemmas.List.Folds.{list_any-append, list_any_none}
 use Rattle.std.specs.List.{All}
+use Rattle.aa_bytes.specs.Bytes.{is_letter_or_digit}
 use Rattle.aa_glob.proofs.MatchLemmas.{Decides-matches}
 use Rattle.aa_glob.proofs.ReadingLaws.{reading-quoted}
 use Rattle.aa_glob.specs.ByteSets.{has}
 use Rattle.aa_glob.specs.Items.{Item, Byte, Set, Star, DoubleStar, Group, Pattern, End, Next, Patterns, NoMore, More}
 use Rattle.aa_glob.specs.Exactness.{is_exact}
-use Rattle.aa_glob.specs.Symbols.{is_letter_or_digit, symbols}
-use Rattle.aa_glob.specs.Elements.{Element, Single, Open, Comma, Close, Fault, context_after, begins_plain, is_whole_segment, stars, run, Extent, Alone, UpTo, Unfinished, extent, member, closed_class, elements, in_class}
+use Rattle.aa_glob.specs.Symbols.{symbols}
+use Rattle.aa_glob.specs.Elements.{Element, Single, Open, Comma, Close, Fault, context_after, begins_plain, behind_class, class_element, is_whole_segment, stars, run, elements}
+use Rattle.aa_glob.specs.Classes.{class}
 use Rattle.aa_glob.specs.Reading.{Pieces, Cut, Ending, Ended, Closed, Refused, onto, behind_comma, group, deepest, pieces, whole, longest, begins_with_slash, has_zero, reading, items_read, items_of}
 use Rattle.aa_glob.specs.Matching.{matches, IsOf, Matches, SomeMatches}
 use Rattle.aa_glob.specs.Laws.{quoted, bytes_pattern, bytes_of}
-use Rattle.aa_glob.specs.declared.byte_set.ByteRange.{ByteRange}
 use Rattle.aa_glob.specs.declared.byte_set.ByteSet.{ByteSet}
 use Rattle.aa_glob.specs.declared.byte_set.ByteSet.TheVariants.{Inside, Class}
 use Rattle.aa_glob.specs.declared.symbol.Symbol.{Symbol}
@@ -147,14 +148,9 @@ no_zero-run AfterSlash ls es safe = elim (cases_Bool (is_whole_segment AfterSlas
 ]
 no_zero-run Elsewhere ls es safe = no_zero-stars ls es safe
 
-no_zero-member : (first : ℕ) (reach : Extent) (more : ℕ → ByteRange → List Element) → ((skip : ℕ) (range : ByteRange) → ElementsHaveNoZero (more skip range)) → ElementsHaveNoZero (member first reach more)
-no_zero-member first Alone more each = each _ _
-no_zero-member first (UpTo last) more each = either_way ElementsHaveNoZero (nat_lt last first) tt (each _ _)
-no_zero-member first Unfinished more each = tt
-
-no_zero-closed_class : (negated : Bool) (ranges : List ByteRange) (es : List Element) → ElementsHaveNoZero es → ElementsHaveNoZero (closed_class negated ranges es)
-no_zero-closed_class negated [] es safe = tt
-no_zero-closed_class negated (range ∷ ranges) es safe = (tt, safe)
+no_zero-class : (set : Result ByteSet PatternError) (es : List Element) → ElementsHaveNoZero es → ElementsHaveNoZero (class_element set ∷ es)
+no_zero-class (Ok set) es safe = (tt, safe)
+no_zero-class (Err error) es safe = safe
 
 mutual
   no_zero-elements : (context : Context) (ls : List Symbol) → SymbolsHaveNoZero ls → ElementsHaveNoZero (elements context ls)
@@ -163,24 +159,18 @@ mutual
   no_zero-elements context (Escaped b ∷ ls) safe = (safe.0, no_zero-elements (context_after b) ls safe.1)
   no_zero-elements context (Plain b ∷ ls) safe =
       either_way ElementsHaveNoZero (b == 42) (no_zero-run context ls _ (no_zero-elements AfterStar ls safe.1))
-      (either_way ElementsHaveNoZero (b == 91) (either_way ElementsHaveNoZero (begins_plain 94 ls) (no_zero-in_class 1 true [] ls safe.1) (no_zero-in_class 0 false [] ls safe.1))
+      (either_way ElementsHaveNoZero (b == 91) (no_zero-class (class ls) _ (no_zero-behind_class ls safe.1))
       (either_way ElementsHaveNoZero (b == 63) (tt, no_zero-elements Elsewhere ls safe.1)
       (either_way ElementsHaveNoZero (b == 123) (no_zero-elements Elsewhere ls safe.1)
       (either_way ElementsHaveNoZero (b == 44) (no_zero-elements Elsewhere ls safe.1)
       (either_way ElementsHaveNoZero (b == 125) (no_zero-elements Elsewhere ls safe.1)
       (safe.0, no_zero-elements (context_after b) ls safe.1))))))
 
-  no_zero-in_class : (skip : ℕ) (negated : Bool) (ranges : List ByteRange) (ls : List Symbol) → SymbolsHaveNoZero ls → ElementsHaveNoZero (in_class skip negated ranges ls)
-  no_zero-in_class zero negated ranges [] safe = tt
-  no_zero-in_class (suc skip) negated ranges [] safe = tt
-  no_zero-in_class (suc skip) negated ranges (Plain b ∷ ls) safe = no_zero-in_class skip negated ranges ls safe.1
-  no_zero-in_class (suc skip) negated ranges (Escaped b ∷ ls) safe = no_zero-in_class skip negated ranges ls safe.1
-  no_zero-in_class (suc skip) negated ranges (Broken ∷ ls) safe = no_zero-in_class skip negated ranges ls safe
-  no_zero-in_class zero negated ranges (Broken ∷ ls) safe = tt
-  no_zero-in_class zero negated ranges (Escaped b ∷ ls) safe = no_zero-member b (extent ls) _ (λ skip range. no_zero-in_class skip negated (ranges ++ range ∷ []) ls safe.1)
-  no_zero-in_class zero negated ranges (Plain b ∷ ls) safe =
-      either_way ElementsHaveNoZero (b == 93) (no_zero-closed_class negated ranges _ (no_zero-elements Elsewhere ls safe.1))
-      (no_zero-member b (extent ls) _ (λ skip range. no_zero-in_class skip negated (ranges ++ range ∷ []) ls safe.1))
+  no_zero-behind_class : (ls : List Symbol) → SymbolsHaveNoZero ls → ElementsHaveNoZero (behind_class ls)
+  no_zero-behind_class [] safe = tt
+  no_zero-behind_class (Broken ∷ ls) safe = no_zero-behind_class ls safe
+  no_zero-behind_class (Escaped b ∷ ls) safe = no_zero-behind_class ls safe.1
+  no_zero-behind_class (Plain b ∷ ls) safe = either_way ElementsHaveNoZero (b == 93) (no_zero-elements Elsewhere ls safe.1) (no_zero-behind_class ls safe.1)
 
 -- the same of pieces
 abbrev mutual

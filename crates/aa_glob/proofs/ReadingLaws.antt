@@ -1,13 +1,16 @@
 -- The laws of reading: a text with backslashes reads as its bytes, and a fault is told alike whatever follows it.
-use Rattle.std.proofs.Common.{◌≡◌, ◌≢◌, ℕ, zero, suc, ◌+◌, ◌-◌, ◌≤◌, Bool, true, false, ◌==◌, not, List, [], ◌∷◌, ◌++◌, length, refl, sym, ap, ◌∙◌, arith, inl, inr, if◌then◌else◌, nat_le, nat_lt, Result, Ok, Err}
+use Rattle.std.proofs.Common.{◌≡◌, ◌≢◌, ℕ, zero, suc, ◌+◌, ◌-◌, ◌≤◌, Bool, true, false, ◌==◌, ◌&&◌, not, List, [], ◌∷◌, ◌++◌, length, refl, sym, ap, ◌∙◌, arith, inl, inr, if◌then◌else◌, nat_le, nat_lt, Result, Ok, Err}
 use Rattle.std.proofs.lemmas.Bool.{cases_Bool, cases_eq, false≢true}
 use Rattle.std.proofs.lemmas.Bool.Decides.{nat_tests}
 use Rattle.std.proofs.lemmas.List.Elements.{All-head, All-tail}
 use Rattle.std.proofs.lemmas.List.Folds.{list_any-append}
 use Rattle.std.specs.List.{All, list_any}
+use Rattle.aa_bytes.specs.Bytes.{is_letter_or_digit}
 use Rattle.aa_glob.specs.Items.{Item, Byte, Set, Pattern, Patterns, NoMore, More}
-use Rattle.aa_glob.specs.Symbols.{is_letter_or_digit, symbols}
-use Rattle.aa_glob.specs.Elements.{Element, Single, Open, Comma, Close, Fault, context_after, is_plain, begins_plain, is_whole_segment, run, Extent, Alone, UpTo, Unfinished, extent, member, closed_class, elements, in_class}
+use Rattle.aa_glob.specs.Symbols.{byte_of, is_broken, is_plain, symbols}
+use Rattle.aa_glob.specs.Elements.{Element, Single, Open, Comma, Close, Fault, behind_class, class_element, context_after, is_whole_segment, run, elements}
+use Rattle.aa_glob.specs.Classes.{class, is_range, members, set_of}
+use Rattle.aa_glob.proofs.ClassLemmas.{behind_first, behind_first-alone, is_dash, members-first}
 use Rattle.aa_glob.specs.Reading.{Pieces, Cut, Ended, Closed, Refused, onto, behind_comma, group, deepest, pieces, whole, longest, begins_with_slash, reading}
 use Rattle.aa_glob.specs.Laws.{needs_backslash, quoted, bytes_pattern, ends_with_backslash, is_told_before_end}
 use Rattle.aa_glob.specs.declared.byte_set.ByteRange.{ByteRange}
@@ -15,7 +18,7 @@ use Rattle.aa_glob.specs.declared.byte_set.ByteSet.TheVariants.{Inside}
 use Rattle.aa_glob.specs.declared.symbol.Symbol.{Symbol}
 use Rattle.aa_glob.specs.declared.symbol.Symbol.TheVariants.{Plain, Escaped, Broken}
 use Rattle.aa_glob.specs.declared.pattern_error.PatternError.{PatternError}
-use Rattle.aa_glob.specs.declared.pattern_error.PatternError.TheVariants.{NotAbsolute, UnclosedClass, EmptyClass, BadRange, UnclosedGroup, FewAlternatives, BadEscape, TooLong, TooDeep, ZeroByte}
+use Rattle.aa_glob.specs.declared.pattern_error.PatternError.TheVariants.{NotAbsolute, UnclosedClass, EmptyClass, UnclosedGroup, FewAlternatives, BadEscape, TooLong, TooDeep, ZeroByte}
 use Rattle.aa_glob.specs.declared.context.Context.{Context}
 use Rattle.aa_glob.specs.declared.context.Context.TheVariants.{AfterSlash, AfterStar, Elsewhere}
 
@@ -53,7 +56,7 @@ pieces-quoted context (b ∷ bs) = elim (cases_Bool (needs_backslash b)) [
 ]
 
 -- what a text reads as that has none of the faults that are told first
-reading-whole : (text : List ℕ) → length text ≤ 4096 → list_any (λ b. b == 0) text ≡ false → begins_with_slash text ≡ true → reading text ≡ whole (pieces 0 (elements Elsewhere (symbols text)))
+pub reading-whole : (text : List ℕ) → length text ≤ 4096 → list_any (λ b. b == 0) text ≡ false → begins_with_slash text ≡ true → reading text ≡ whole (pieces 0 (elements Elsewhere (symbols text)))
 reading-whole text short no_zero slash =
     let fits : nat_le (length text) 4096 ≡ true = grind (arith, nat_tests) in
     rw (fits, no_zero, slash) refl
@@ -130,80 +133,68 @@ run-right AfterSlash ls alike = elim (cases_Bool (is_whole_segment AfterSlash ls
 ]
 run-right Elsewhere ls alike = Right _ alike
 
--- a class that its text doesn't close
-class-late : {late : PatternError → Bool} {es : List Element} → late UnclosedClass ≡ true → (skip : ℕ) (negated : Bool) (ranges : List ByteRange) → Alike late (in_class skip negated ranges []) es
-class-late unclosed zero negated ranges = Late UnclosedClass unclosed
-class-late unclosed (suc skip) negated ranges = Late UnclosedClass unclosed
+-- The members of two classes are the same, or those of the first are cut short by a late fault.
+data AgreeMembers (late : PatternError → Bool) : Result (List ByteRange) PatternError → Result (List ByteRange) PatternError → Type 0 where
+  LateMembers : {read : Result (List ByteRange) PatternError} → (error : PatternError) → late error ≡ true → AgreeMembers late (Err error) read
+  SameMembers : (read : Result (List ByteRange) PatternError) → AgreeMembers late read read
 
-class-cut_short : {late : PatternError → Bool} {es : List Element} → late UnclosedClass ≡ true → late BadEscape ≡ true → (skip : ℕ) (negated : Bool) (ranges : List ByteRange) → Alike late (in_class skip negated ranges (Broken ∷ [])) es
-class-cut_short unclosed escape zero negated ranges = Late BadEscape escape
-class-cut_short unclosed escape (suc skip) negated ranges = class-late unclosed skip negated ranges
+agree-members-if : {late : PatternError → Bool} {r s r' s' : Result (List ByteRange) PatternError} → (c : Bool) → AgreeMembers late r s → AgreeMembers late r' s' → AgreeMembers late (if c then r else r') (if c then s else s')
+agree-members-if true then_agree else_agree = then_agree
+agree-members-if false then_agree else_agree = else_agree
 
-class-both_broken : {late : PatternError → Bool} → late UnclosedClass ≡ true → (skip : ℕ) (negated : Bool) (ranges : List ByteRange) → Alike late (in_class skip negated ranges (Broken ∷ [])) (in_class skip negated ranges (Broken ∷ []))
-class-both_broken unclosed zero negated ranges = Same BadEscape
-class-both_broken unclosed (suc skip) negated ranges = class-late unclosed skip negated ranges
+no_range : (l : Symbol) (ls : List Symbol) → is_plain 45 l ≡ false → is_range (l ∷ ls) ≡ false
+no_range l [] other = refl
+no_range l (end ∷ ls) other = rw other refl
 
-member-alike : {late : PatternError → Bool} → (first : ℕ) (reach : Extent) (more more' : ℕ → ByteRange → List Element) → ((skip : ℕ) (range : ByteRange) → Alike late (more skip range) (more' skip range)) → Alike late (member first reach more) (member first reach more')
-member-alike first Alone more more' each = each _ _
-member-alike first (UpTo last) more more' each = alike-if (nat_lt last first) (Same BadRange) (each _ _)
-member-alike first Unfinished more more' each = Same BadEscape
+-- Where a text ends too soon to tell how far a member reaches, its class isn't closed. The length bounds how often this is asked.
+abbrev MembersAgree : (PatternError → Bool) → ℕ → Type 0
+MembersAgree late n = (ls ms : List Symbol) → Goes late ls ms → length ls ≤ n → (before : List ByteRange) → AgreeMembers late (members before ls) (members before ms)
 
-closed_class-alike : {late : PatternError → Bool} {ds es : List Element} → (negated : Bool) (ranges : List ByteRange) → Alike late ds es → Alike late (closed_class negated ranges ds) (closed_class negated ranges es)
-closed_class-alike negated [] alike = Same EmptyClass
-closed_class-alike negated (range ∷ ranges) alike = single _ alike
-
--- how far a member reaches is told by the next two symbols
-extent-no_dash : (l : Symbol) (ls : List Symbol) → is_plain 45 l ≡ false → extent (l ∷ ls) ≡ Alone
-extent-no_dash l [] plain = refl
-extent-no_dash l (Plain last ∷ ls) plain = rw plain refl
-extent-no_dash l (Escaped last ∷ ls) plain = rw plain refl
-extent-no_dash l (Broken ∷ ls) plain = rw plain refl
-
-extent-two : (l m : Symbol) (ls ms : List Symbol) → extent (l ∷ m ∷ ls) ≡ extent (l ∷ m ∷ ms)
-extent-two l (Plain last) ls ms = refl
-extent-two l (Escaped last) ls ms = refl
-extent-two l Broken ls ms = refl
-
--- a member of a class, and what follows it
-abbrev follow : ℕ → Bool → List ByteRange → List Symbol → List Element
-follow b negated ranges ls = member b (extent ls) (λ skip range. in_class skip negated (ranges ++ range ∷ []) ls)
-
--- a member that reaches as far in both texts
-follow-same : {late : PatternError → Bool} → (b : ℕ) (negated : Bool) (ranges : List ByteRange) (ls ms : List Symbol) → extent ls ≡ extent ms → ((skip : ℕ) (ranges : List ByteRange) → Alike late (in_class skip negated ranges ls) (in_class skip negated ranges ms)) → Alike late (follow b negated ranges ls) (follow b negated ranges ms)
-follow-same b negated ranges ls ms same each = rw same (member-alike b (extent ms) _ _ (λ skip range. each skip (ranges ++ range ∷ [])))
-
-is_dash : (l : Symbol) → is_plain 45 l ≡ true → l ≡ Plain 45
-is_dash (Plain c) plain = ap Plain (grind (arith, nat_tests))
-is_dash (Escaped c) plain = absurd (false≢true plain)
-is_dash Broken plain = absurd (false≢true plain)
-
--- Where the text ends too soon to tell how far a member reaches, its class isn't closed.
-follow-alike : {late : PatternError → Bool} {ls ms : List Symbol} → late UnclosedClass ≡ true → (b : ℕ) (negated : Bool) (ranges : List ByteRange) → Goes late ls ms → ((skip : ℕ) (ranges : List ByteRange) → Alike late (in_class skip negated ranges ls) (in_class skip negated ranges ms)) → Alike late (follow b negated ranges ls) (follow b negated ranges ms)
-follow-alike unclosed b negated ranges Out each = Late UnclosedClass unclosed
-follow-alike unclosed b negated ranges (CutShort escape) each = Late BadEscape escape
-follow-alike unclosed b negated ranges BothBroken each = Same BadEscape
-follow-alike unclosed b negated ranges (Along {ms = ms} l Out) each = elim (cases_Bool (is_plain 45 l)) [
-  | inl dash ↦ rw (is_dash l dash) (Late UnclosedClass unclosed)
-  | inr other ↦ follow-same b negated ranges (l ∷ []) (l ∷ ms) (sym (extent-no_dash l ms other)) each
+behind_first-agree : {late : PatternError → Bool} → late UnclosedClass ≡ true → (n : ℕ) → MembersAgree late n → (before : List ByteRange) (first : Symbol) → {ls ms : List Symbol} → Goes late ls ms → length ls ≤ n
+    → AgreeMembers late (behind_first before first ls) (behind_first before first ms)
+behind_first-agree unclosed n each before first Out within = LateMembers UnclosedClass unclosed
+behind_first-agree unclosed n each before first (CutShort escape) within = LateMembers BadEscape escape
+behind_first-agree unclosed n each before first BothBroken within = SameMembers _
+behind_first-agree unclosed n each before first (Along {ms = ms} l Out) within = elim (cases_Bool (is_plain 45 l)) [
+  | inl dash ↦ rw (is_dash l dash) (LateMembers UnclosedClass unclosed)
+  | inr other ↦ rw (behind_first-alone before first (l ∷ ms) (no_range l ms other)) (each _ _ (Along l Out) within _)
 ]
-follow-alike unclosed b negated ranges (Along {ms = ms} l (CutShort escape)) each = elim (cases_Bool (is_plain 45 l)) [
-  | inl dash ↦ rw (is_dash l dash) (Late BadEscape escape)
-  | inr other ↦ follow-same b negated ranges (l ∷ Broken ∷ []) (l ∷ ms) (extent-no_dash l (Broken ∷ []) other ∙ sym (extent-no_dash l ms other)) each
+behind_first-agree unclosed n each before first (Along {ms = ms} l (CutShort escape)) within = elim (cases_Bool (is_plain 45 l)) [
+  | inl dash ↦ rw (is_dash l dash) (LateMembers BadEscape escape)
+  | inr other ↦ rw (behind_first-alone before first (l ∷ Broken ∷ []) (no_range l (Broken ∷ []) other), behind_first-alone before first (l ∷ ms) (no_range l ms other)) (each _ _ (Along l (CutShort escape)) within _)
 ]
-follow-alike unclosed b negated ranges (Along l BothBroken) each = follow-same b negated ranges (l ∷ Broken ∷ []) (l ∷ Broken ∷ []) refl each
-follow-alike unclosed b negated ranges (Along l (Along {ls = ls} {ms = ms} m goes)) each = follow-same b negated ranges (l ∷ m ∷ ls) (l ∷ m ∷ ms) (extent-two l m ls ms) each
+behind_first-agree unclosed n each before first (Along l BothBroken) within = SameMembers _
+behind_first-agree unclosed n each before first (Along l (Along m goes)) within =
+    agree-members-if (is_plain 45 l && not (is_plain 93 m))
+    (agree-members-if (is_broken m) (SameMembers _) (agree-members-if (nat_lt (byte_of m) (byte_of first)) (SameMembers _) (each _ _ goes (omega arith) _)))
+    (each _ _ (Along l (Along m goes)) within _)
 
--- what follows a bracket
-abbrev open_class : List Symbol → List Element
-open_class ls = if begins_plain 94 ls then in_class 1 true [] ls else in_class 0 false [] ls
+members-agree : {late : PatternError → Bool} → late UnclosedClass ≡ true → (n : ℕ) → {ls ms : List Symbol} → Goes late ls ms → length ls ≤ n → (before : List ByteRange) → AgreeMembers late (members before ls) (members before ms)
+members-agree unclosed n Out within before = LateMembers UnclosedClass unclosed
+members-agree unclosed n (CutShort escape) within before = LateMembers BadEscape escape
+members-agree unclosed n BothBroken within before = SameMembers _
+members-agree unclosed zero (Along l goes) within before = absurd (omega arith)
+members-agree unclosed (suc n) (Along {ls = ls} {ms = ms} l goes) within before =
+    rw (members-first before l ls, members-first before l ms)
+    (agree-members-if (is_plain 93 l) (SameMembers _) (agree-members-if (is_broken l) (SameMembers _) (behind_first-agree unclosed n (λ ls ms. members-agree unclosed n) before l goes (omega arith))))
 
-class-alike : {late : PatternError → Bool} {ls ms : List Symbol} → late UnclosedClass ≡ true → Goes late ls ms → ((skip : ℕ) (negated : Bool) → Alike late (in_class skip negated [] ls) (in_class skip negated [] ms)) → Alike late (open_class ls) (open_class ms)
-class-alike unclosed Out each = Late UnclosedClass unclosed
-class-alike unclosed (CutShort escape) each = Late BadEscape escape
-class-alike unclosed BothBroken each = Same BadEscape
-class-alike unclosed (Along l goes) each = alike-if (is_plain 94 l) (each 1 true) (each 0 false)
+set_of-alike : {late : PatternError → Bool} {ds es : List Element} {r s : Result (List ByteRange) PatternError} → (negated : Bool) → AgreeMembers late r s → Alike late ds es
+    → Alike late (class_element (set_of negated r) ∷ ds) (class_element (set_of negated s) ∷ es)
+set_of-alike negated (LateMembers error is_late) alike = Late error is_late
+set_of-alike negated (SameMembers (Err error)) alike = Same error
+set_of-alike negated (SameMembers (Ok [])) alike = Same EmptyClass
+set_of-alike negated (SameMembers (Ok (range ∷ ranges))) alike = single _ alike
 
--- a text of symbols, and a longer one, within a class and outside
+class-alike : {late : PatternError → Bool} {ls ms : List Symbol} {ds es : List Element} → late UnclosedClass ≡ true → Goes late ls ms → Alike late ds es → Alike late (class_element (class ls) ∷ ds) (class_element (class ms) ∷ es)
+class-alike unclosed Out alike = Late UnclosedClass unclosed
+class-alike unclosed (CutShort escape) alike = Late BadEscape escape
+class-alike unclosed BothBroken alike = Same BadEscape
+class-alike unclosed (Along {ls = ls} l goes) alike = elim (cases_Bool (is_plain 94 l)) [
+  | inl negated ↦ rw negated (set_of-alike true (members-agree unclosed (length ls) goes (omega arith) []) alike)
+  | inr listed ↦ rw listed (set_of-alike false (members-agree unclosed (length ls + 1) (Along l goes) (omega arith) []) alike)
+]
+
+-- a text of symbols, and a longer one
 mutual
   elements-alike : {late : PatternError → Bool} → late UnclosedClass ≡ true → (context : Context) → {ls ms : List Symbol} → Goes late ls ms → Alike late (elements context ls) (elements context ms)
   elements-alike unclosed context Out = Stops
@@ -213,23 +204,18 @@ mutual
   elements-alike unclosed context (Along (Escaped b) goes) = single (Byte b) (elements-alike unclosed (context_after b) goes)
   elements-alike unclosed context (Along {ls = ls} {ms = ms} (Plain b) goes) =
       alike-if (b == 42) (run-left context ls (run-right context ms (elements-alike unclosed AfterStar goes)))
-      (alike-if (b == 91) (class-alike unclosed goes (λ skip negated. in_class-alike unclosed skip negated [] goes))
+      (alike-if (b == 91) (class-alike unclosed goes (behind_class-alike unclosed goes))
       (alike-if (b == 63) (single (Set Inside) (elements-alike unclosed Elsewhere goes))
       (alike-if (b == 123) (Opens (elements-alike unclosed Elsewhere goes))
       (alike-if (b == 44) (Commas (elements-alike unclosed Elsewhere goes))
       (alike-if (b == 125) (Closes (elements-alike unclosed Elsewhere goes))
       (single (Byte b) (elements-alike unclosed (context_after b) goes)))))))
 
-  in_class-alike : {late : PatternError → Bool} → late UnclosedClass ≡ true → (skip : ℕ) (negated : Bool) (ranges : List ByteRange) → {ls ms : List Symbol} → Goes late ls ms → Alike late (in_class skip negated ranges ls) (in_class skip negated ranges ms)
-  in_class-alike unclosed skip negated ranges Out = class-late unclosed skip negated ranges
-  in_class-alike unclosed skip negated ranges (CutShort escape) = class-cut_short unclosed escape skip negated ranges
-  in_class-alike unclosed skip negated ranges BothBroken = class-both_broken unclosed skip negated ranges
-  in_class-alike unclosed (suc skip) negated ranges (Along l goes) = in_class-alike unclosed skip negated ranges goes
-  in_class-alike unclosed zero negated ranges (Along Broken goes) = Same BadEscape
-  in_class-alike unclosed zero negated ranges (Along (Escaped b) goes) = follow-alike unclosed b negated ranges goes (λ skip ranges. in_class-alike unclosed skip negated ranges goes)
-  in_class-alike unclosed zero negated ranges (Along (Plain b) goes) =
-      alike-if (b == 93) (closed_class-alike negated ranges (elements-alike unclosed Elsewhere goes))
-      (follow-alike unclosed b negated ranges goes (λ skip ranges. in_class-alike unclosed skip negated ranges goes))
+  behind_class-alike : {late : PatternError → Bool} → late UnclosedClass ≡ true → {ls ms : List Symbol} → Goes late ls ms → Alike late (behind_class ls) (behind_class ms)
+  behind_class-alike unclosed Out = Stops
+  behind_class-alike unclosed (CutShort escape) = Stops
+  behind_class-alike unclosed BothBroken = Stops
+  behind_class-alike unclosed (Along l goes) = alike-if (is_plain 93 l) (elements-alike unclosed Elsewhere goes) (behind_class-alike unclosed goes)
 
 ends-behind : (b : ℕ) (bs : List ℕ) → ends_with_backslash bs ≡ true → ends_with_backslash (b ∷ bs) ≡ true
 ends-behind b [] ends = absurd (false≢true ends)

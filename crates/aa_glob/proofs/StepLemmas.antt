@@ -2,7 +2,7 @@
 use Rattle.std.proofs.Common.{◌≡◌, ℕ, ◌+◌, ◌-◌, ◌<◌, ◌≤◌, Bool, false, ◌||◌, List, ◌∷◌, length, get_or, take, drop, slice_set, refl, sym, ap, ◌∙◌, arith, take_all, subst}
 use Rattle.std.proofs.lemmas.List.{drop-set, drop_more, get_or-drop, get_or-take, length-drop, take-set, take-take}
 use Rattle.std.proofs.Math.Nat.{le_of_eq, add-zero}
-use Rattle.aa_glob.specs.Steps.{leads, takes, accepting_byte}
+use Rattle.aa_glob.specs.code.Steps.{leads, takes, accepting_byte}
 use Rattle.aa_glob.specs.declared.step.Step.{Step}
 
 -- one answer more

@@ -1,7 +1,7 @@
 -- Sets of bytes, of which an item stands for one (apparmor.d(5), "Globbing"). Zero is in none of them.
 use Rattle.std.specs.Prelude.{ℕ, Bool, not, ◌==◌, ◌&&◌, nat_le, if◌then◌else◌, List}
 use Rattle.std.specs.List.{list_any}
-use Rattle.aa_glob.specs.Bytes.{slash}
+use Rattle.aa_bytes.specs.Bytes.{slash}
 use Rattle.aa_glob.specs.declared.byte_set.ByteRange.{ByteRange}
 use Rattle.aa_glob.specs.declared.byte_set.ByteSet.{ByteSet}
 use Rattle.aa_glob.specs.declared.byte_set.ByteSet.TheVariants.{Inside, Class}

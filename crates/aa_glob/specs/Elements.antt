@@ -1,14 +1,16 @@
 -- The elements of a pattern's text, from left to right: items, and the braces and commas of groups (apparmor.d(5),
 -- "Globbing").
-use Rattle.std.specs.Prelude.{ℕ, zero, suc, Bool, true, false, ◌==◌, ◌&&◌, not, nat_lt, if◌then◌else◌, List, [], ◌∷◌, ◌++◌}
-use Rattle.aa_glob.specs.Bytes.{caret, closing_brace, closing_bracket, comma, dash, opening_brace, opening_bracket, question_mark, slash, star}
+use Rattle.std.specs.Prelude.{ℕ, Bool, true, false, ◌==◌, if◌then◌else◌, List, [], ◌∷◌, ◌++◌, Result, Ok, Err}
+use Rattle.aa_bytes.specs.Bytes.{closing_brace, closing_bracket, comma, opening_brace, opening_bracket, question_mark, slash, star}
+use Rattle.aa_glob.specs.Classes.{class}
 use Rattle.aa_glob.specs.Items.{Item, Byte, Set, Star, DoubleStar}
-use Rattle.aa_glob.specs.declared.byte_set.ByteRange.{ByteRange}
-use Rattle.aa_glob.specs.declared.byte_set.ByteSet.TheVariants.{Inside, Class}
+use Rattle.aa_glob.specs.Symbols.{is_plain}
+use Rattle.aa_glob.specs.declared.byte_set.ByteSet.{ByteSet}
+use Rattle.aa_glob.specs.declared.byte_set.ByteSet.TheVariants.{Inside}
 use Rattle.aa_glob.specs.declared.symbol.Symbol.{Symbol}
 use Rattle.aa_glob.specs.declared.symbol.Symbol.TheVariants.{Plain, Escaped, Broken}
 use Rattle.aa_glob.specs.declared.pattern_error.PatternError.{PatternError}
-use Rattle.aa_glob.specs.declared.pattern_error.PatternError.TheVariants.{UnclosedClass, EmptyClass, BadRange, BadEscape}
+use Rattle.aa_glob.specs.declared.pattern_error.PatternError.TheVariants.{BadEscape}
 use Rattle.aa_glob.specs.declared.context.Context.{Context}
 use Rattle.aa_glob.specs.declared.context.Context.TheVariants.{AfterSlash, AfterStar, Elsewhere}
 
@@ -23,11 +25,6 @@ pub data Element : Type 0 where
 -- the context of a symbol that comes after this byte
 abbrev pub context_after : ℕ → Context
 context_after b = if b == slash then AfterSlash else Elsewhere
-
--- the byte that a symbol is, if no backslash stands before it
-abbrev pub is_plain : ℕ → Symbol → Bool
-is_plain b (Plain c) = c == b
-is_plain b _ = false
 
 -- a text of symbols begins with this byte, and no backslash stands before it
 abbrev pub begins_plain : ℕ → List Symbol → Bool
@@ -59,29 +56,10 @@ abbrev pub run : Context → List Symbol → List Element
 run AfterStar ls = []
 run context ls = if is_whole_segment context ls then Single (Set Inside) ∷ stars ls ∷ [] else stars ls ∷ []
 
--- what a member of a class may turn out to be: one byte alone, a range up to another byte, or a range that a broken backslash cuts short
-pub data Extent : Type 0 where
-  Alone : Extent
-  UpTo : (last : ℕ) → Extent
-  Unfinished : Extent
-
--- A member is a range where `-` comes next and then another byte that isn't the closing `]`.
-abbrev pub extent : List Symbol → Extent
-extent (link ∷ Plain last ∷ ls) = if is_plain dash link && not (last == closing_bracket) then UpTo last else Alone
-extent (link ∷ Escaped last ∷ ls) = if is_plain dash link then UpTo last else Alone
-extent (link ∷ Broken ∷ ls) = if is_plain dash link then Unfinished else Alone
-extent _ = Alone
-
--- A member that begins with a byte, and what follows: how many symbols more it takes, and the range.
-abbrev pub member : ℕ → Extent → (ℕ → ByteRange → List Element) → List Element
-member first Alone more = more 0 (record { first = first; last = first })
-member first (UpTo last) more = if nat_lt last first then Fault BadRange ∷ [] else more 2 (record { first = first; last = last })
-member first Unfinished more = Fault BadEscape ∷ []
-
--- a class that ends here, of the members before it
-abbrev pub closed_class : Bool → List ByteRange → List Element → List Element
-closed_class negated [] after = Fault EmptyClass ∷ []
-closed_class negated (range ∷ ranges) after = Single (Set (Class negated (range ∷ ranges))) ∷ after
+-- what a class reads as
+abbrev pub class_element : Result ByteSet PatternError → Element
+class_element (Ok set) = Single (Set set)
+class_element (Err error) = Fault error
 
 -- `[` begins a class, `{` a group; `?` is one byte within a segment; a comma and braces are those of groups.
 abbrev mutual
@@ -92,24 +70,14 @@ abbrev mutual
   elements context (Escaped b ∷ ls) = Single (Byte b) ∷ elements (context_after b) ls
   elements context (Plain b ∷ ls) =
       if b == star then run context ls ++ elements AfterStar ls else
-      if b == opening_bracket then (if begins_plain caret ls then in_class 1 true [] ls else in_class 0 false [] ls) else
+      if b == opening_bracket then class_element (class ls) ∷ behind_class ls else
       if b == question_mark then Single (Set Inside) ∷ elements Elsewhere ls else
       if b == opening_brace then Open ∷ elements Elsewhere ls else
       if b == comma then Comma ∷ elements Elsewhere ls else
       if b == closing_brace then Close ∷ elements Elsewhere ls else
       Single (Byte b) ∷ elements (context_after b) ls
 
-  -- The elements of a text that stands within a class, behind these members. So many symbols were looked at with what stands
-  -- before them: a `^`, or the `-` of a range and its last byte.
-  pub in_class : ℕ → Bool → List ByteRange → List Symbol → List Element
-  in_class _ negated ranges [] = Fault UnclosedClass ∷ []
-  in_class (suc skip) negated ranges (l ∷ ls) = in_class skip negated ranges ls
-  in_class zero negated ranges (Broken ∷ ls) = Fault BadEscape ∷ []
-  in_class zero negated ranges (Escaped b ∷ ls) = member b (extent ls) (λ skip range. in_class skip negated (ranges ++ range ∷ []) ls)
-  in_class zero negated ranges (Plain b ∷ ls) =
-      if b == closing_bracket then closed_class negated ranges (elements Elsewhere ls) else
-      member b (extent ls) (λ skip range. in_class skip negated (ranges ++ range ∷ []) ls)
-
--- a class, from what follows its `[`, as `elements` reads it
-abbrev pub class : List Symbol → List Element
-class ls = if begins_plain caret ls then in_class 1 true [] ls else in_class 0 false [] ls
+  -- the elements behind the class within which a text begins, behind the first `]` without a backslash
+  pub behind_class : List Symbol → List Element
+  behind_class [] = []
+  behind_class (l ∷ ls) = if is_plain closing_bracket l then elements Elsewhere ls else behind_class ls

@@ -1,7 +1,7 @@
 -- What the laws speak of: texts that spell themselves, the one text that an exact pattern matches, and faults that are told
 -- before a text's end.
 use Rattle.std.specs.Prelude.{ℕ, Bool, true, false, ◌==◌, ◌||◌, not, if◌then◌else◌, List, [], ◌∷◌, ◌++◌}
-use Rattle.aa_glob.specs.Bytes.{backslash, closing_brace, opening_brace, opening_bracket, question_mark, star}
+use Rattle.aa_bytes.specs.Bytes.{backslash, closing_brace, opening_brace, opening_bracket, question_mark, star}
 use Rattle.aa_glob.specs.Items.{Byte, Pattern, End, Next}
 use Rattle.aa_glob.specs.declared.pattern_error.PatternError.{PatternError}
 use Rattle.aa_glob.specs.declared.pattern_error.PatternError.TheVariants.{EmptyClass, BadRange, StrayClose, FewAlternatives, BadEscape, TooDeep}

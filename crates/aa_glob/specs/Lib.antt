@@ -1,14 +1,11 @@
 pub mod ByteSets
-pub mod Bytes
-pub mod Compiled
+pub mod Classes
+pub mod code
 pub mod Elements
 pub mod Exactness
 pub mod Items
 pub mod Laws
-pub mod Layout
 pub mod Matching
 pub mod PatternError
-pub mod Progress
 pub mod Reading
-pub mod Steps
 pub mod Symbols

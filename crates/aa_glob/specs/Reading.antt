@@ -1,8 +1,8 @@
 -- Reading of a pattern's text: the items that it spells, or the first fault from the left (apparmor.d(5), "Globbing"; see
 -- docs/policy.md).
-use Rattle.std.specs.Prelude.{ℕ, ◌+◌, ◌-◌, Bool, false, ◌==◌, not, nat_le, if◌then◌else◌, List, [], ◌∷◌, length, Result, Ok, Err}
-use Rattle.std.specs.List.{list_any}
-use Rattle.aa_glob.specs.Bytes.{comma, slash}
+use Rattle.std.specs.Prelude.{◌≡◌, ◌≤◌, ℕ, ◌+◌, ◌-◌, Bool, true, false, ◌==◌, not, nat_le, if◌then◌else◌, List, [], ◌∷◌, length, Result, Ok, Err}
+use Rattle.aa_bytes.specs.Bytes.{comma, slash}
+use Rattle.aa_bytes.specs.Texts.{begins_with_byte, has_byte}
 use Rattle.aa_glob.specs.Items.{Item, Byte, Group, Pattern, End, Next, Patterns, NoMore, More}
 use Rattle.aa_glob.specs.Symbols.{symbols}
 use Rattle.aa_glob.specs.Elements.{Element, Single, Open, Comma, Close, Fault, elements}
@@ -82,12 +82,15 @@ longest = 4096
 
 -- a text begins with `/`
 abbrev pub begins_with_slash : List ℕ → Bool
-begins_with_slash [] = false
-begins_with_slash (b ∷ bs) = b == slash
+begins_with_slash text = begins_with_byte slash text
 
 -- a text holds a zero byte
 abbrev pub has_zero : List ℕ → Bool
-has_zero text = list_any (λ b. b == 0) text
+has_zero text = has_byte 0 text
+
+-- a text has none of the faults that are told before anything is read
+abbrev pub HasNoFirstFault : List ℕ → Type 0
+HasNoFirstFault text = (length text ≤ longest) × (has_zero text ≡ false) × (begins_with_slash text ≡ true)
 
 -- What a text reads as, or why it is refused: its length first, then a zero byte, then its first byte, and then the first
 -- fault from the left.

@@ -3,7 +3,7 @@
 ghost use Rattle.std.specs.Prelude.{◌≡◌, IfOk};
 ghost use Rattle.aa_glob.specs.ByteSets.{is_inside, has, is_listed, lists};
 
-use crate::sequence::Sequence;
+use aa_bytes::Sequence;
 use std::alloc::{AllocError, Global};
 
 /// A member of a class: the bytes from one to another, both among them.

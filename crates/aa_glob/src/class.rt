@@ -1,59 +1,65 @@
 //! Reading of classes, as `[a-c]` and `[^/]`.
 
-ghost use Rattle.std.specs.Prelude.{◌≡◌, ◌≢◌, ◌∷◌, [], ◌++◌, ◌<◌, ◌≤◌, ℕ, Bool, List, length, IfOk, IfErr};
-ghost use Rattle.aa_glob.specs.Elements.{Element, Single, Fault, class, closed_class, elements, extent, in_class, member};
-ghost use Rattle.aa_glob.specs.Items.{Set};
-ghost use Rattle.aa_glob.specs.Symbols.{symbols};
+ghost use Rattle.std.specs.Prelude.{◌≡◌, ◌≢◌, ◌∷◌, [], ◌<◌, ◌≤◌, List, length, false, Ok, Err, IfNone, IfSome, IfOk, IfErr};
+ghost use Rattle.aa_bytes.specs.Bytes.{closing_bracket};
+ghost use Rattle.aa_glob.specs.Classes.{class, is_range, members, range, set_of};
+ghost use Rattle.aa_glob.specs.code.Parts.{IsPart, ReachesTo, bytes_left};
+ghost use Rattle.aa_glob.specs.Elements.{behind_class, elements};
+ghost use Rattle.aa_glob.specs.Symbols.{is_broken, is_plain, symbols};
 ghost use Rattle.aa_glob.specs.declared.byte_set.ByteRange.{ByteRange};
 ghost use Rattle.aa_glob.specs.declared.pattern_error.PatternError.TheVariants.{Memory};
 ghost use Rattle.aa_glob.specs.declared.context.Context.TheVariants.{Elsewhere};
 
 use crate::byte_set::{ByteRange, ByteSet};
 use crate::pattern_error::PatternError;
-use crate::sequence::Sequence;
 use crate::symbol::{Symbol, first_symbol};
+use aa_bytes::Sequence;
 use std::alloc::Global;
+
+/// What comes next in a class.
+pub enum Part<'a> {
+    /// A member, behind which this is left.
+    Member(ByteRange, &'a [u8]),
+    /// The `]` that closes the class, behind which this is left.
+    End(&'a [u8]),
+}
 
 /// Reads a class behind its `[`: the set, and what follows the class.
 pub fn read_class(alloc: Global, text: &[u8]) -> Result<(ByteSet, &[u8]), PatternError>
-    ensures ok { IfOk result (λ read. class (symbols text.now) ≡ Single (Set read.0) ∷ elements Elsewhere (symbols read.1.now)) }
-    ensures refused { IfErr result (λ error. error ≢ Memory → class (symbols text.now) ≡ Fault error ∷ []) }
+    ensures set { IfOk result (λ read. class (symbols text.now) ≡ Ok read.0) }
+    ensures behind { IfOk result (λ read. behind_class (symbols text.now) ≡ elements Elsewhere (symbols read.1.now)) }
+    ensures refused { IfErr result (λ error. error ≢ Memory → class (symbols text.now) ≡ Err error) }
     ensures shorter { IfOk result (λ read. length read.1.now < length text.now) }
 {
     match first_symbol(text) {
-        Some((Symbol::Plain(b'^'), members)) => read_members(alloc, true, members),
+        Some((Symbol::Plain(b'^'), listed)) => read_members(alloc, true, listed),
         _ => read_members(alloc, false, text),
     }
 }
 
 // Reads the members of a class and its `]`.
 fn read_members(alloc: Global, negated: bool, text: &[u8]) -> Result<(ByteSet, &[u8]), PatternError>
-    ensures ok { IfOk result (λ read. in_class 0 negated [] (symbols text.now) ≡ Single (Set read.0) ∷ elements Elsewhere (symbols read.1.now)) }
-    ensures refused { IfErr result (λ error. error ≢ Memory → in_class 0 negated [] (symbols text.now) ≡ Fault error ∷ []) }
+    ensures set { IfOk result (λ read. set_of negated (members [] (symbols text.now)) ≡ Ok read.0) }
+    ensures behind { IfOk result (λ read. behind_class (symbols text.now) ≡ elements Elsewhere (symbols read.1.now)) }
+    ensures refused { IfErr result (λ error. error ≢ Memory → set_of negated (members [] (symbols text.now)) ≡ Err error) }
     ensures shorter { IfOk result (λ read. length read.1.now < length text.now) }
 {
     let mut ranges = Vec::new(alloc);
     let mut rest = text;
-    while let Some((symbol, after)) = first_symbol(rest) {
-        match symbol {
-            Symbol::Broken => return Err(PatternError::BadEscape),
-            Symbol::Plain(byte) => {
-                if byte == b']' {
-                    let set = closed_class(negated, ranges)?;
-                    return Ok((set, after));
-                }
-                rest = push_member(&mut ranges, byte, after)?;
+    loop {
+        match next_part(rest)? {
+            Part::Member(range, after) => {
+                ranges.push(range)?;
+                rest = after;
             }
-            Symbol::Escaped(first) => rest = push_member(&mut ranges, first, after)?,
+            Part::End(after) => return Ok((set_of(negated, ranges)?, after)),
         }
     }
-    Err(PatternError::UnclosedClass)
 }
 
-// The class of these members.
-fn closed_class(negated: bool, ranges: Vec<ByteRange>) -> Result<ByteSet, PatternError>
-    ensures ok { IfOk result (λ set. (after : List Element) → closed_class negated ranges.items after ≡ Single (Set set) ∷ after) }
-    ensures refused { IfErr result (λ error. (after : List Element) → closed_class negated ranges.items after ≡ Fault error ∷ []) }
+// The set of a class of these members.
+fn set_of(negated: bool, ranges: Vec<ByteRange>) -> Result<ByteSet, PatternError>
+    ensures { result ≡ set_of negated (Ok ranges.items) }
 {
     if ranges.is_empty() {
         return Err(PatternError::EmptyClass);
@@ -64,48 +70,65 @@ fn closed_class(negated: bool, ranges: Vec<ByteRange>) -> Result<ByteSet, Patter
     })
 }
 
-// Reads a member of a class behind its first byte, and puts it behind the others.
-fn push_member<'a>(
-    ranges: &mut Vec<ByteRange>,
-    first: u8,
-    text: &'a [u8],
-) -> Result<&'a [u8], PatternError>
-    ensures ok { IfOk result (λ rest. (negated : Bool) →
-        member first (extent (symbols text.now)) (λ skip range. in_class skip negated (ranges.old.items ++ range ∷ []) (symbols text.now))
-        ≡ in_class 0 negated ranges.new.items (symbols rest.now)) }
-    ensures refused { IfErr result (λ error. error ≢ Memory → (negated : Bool) →
-        member first (extent (symbols text.now)) (λ skip range. in_class skip negated (ranges.old.items ++ range ∷ []) (symbols text.now))
-        ≡ Fault error ∷ []) }
-    ensures within { IfOk result (λ rest. length rest.now ≤ length text.now) }
+// Reads what comes next in a class.
+fn next_part(text: &[u8]) -> Result<Part, PatternError>
+    ensures ok { IfOk result (λ part. IsPart (symbols text.now) part) }
+    ensures refused { IfErr result (λ error. (before : List ByteRange) → members before (symbols text.now) ≡ Err error) }
+    ensures shorter { IfOk result (λ part. bytes_left part < length text.now) }
 {
-    let (range, rest) = read_member(first, text)?;
-    ranges.push(range)?;
-    Ok(rest)
+    let Some((first, rest)) = first_symbol(text) else {
+        return Err(PatternError::UnclosedClass);
+    };
+    if first.is_plain(b']') {
+        return Ok(Part::End(rest));
+    }
+    if first.is_broken() {
+        return Err(PatternError::BadEscape);
+    }
+    read_member(first, rest)
 }
 
-// Reads a member of a class behind its first byte.
-fn read_member(first: u8, text: &[u8]) -> Result<(ByteRange, &[u8]), PatternError>
-    ensures ok { IfOk result (λ read. (negated : Bool) (ranges : List ByteRange) →
-        member first (extent (symbols text.now)) (λ skip range. in_class skip negated (ranges ++ range ∷ []) (symbols text.now))
-        ≡ in_class 0 negated (ranges ++ read.0 ∷ []) (symbols read.1.now)) }
-    ensures refused { IfErr result (λ error. (negated : Bool) (ranges : List ByteRange) →
-        member first (extent (symbols text.now)) (λ skip range. in_class skip negated (ranges ++ range ∷ []) (symbols text.now))
-        ≡ Fault error ∷ []) }
-    ensures within { IfOk result (λ read. length read.1.now ≤ length text.now) }
+// Reads a member of a class behind its first symbol.
+fn read_member(first: Symbol, text: &[u8]) -> Result<Part, PatternError>
+    requires opens { is_plain closing_bracket first ≡ false }
+    requires whole { is_broken first ≡ false }
+    ensures ok { IfOk result (λ part. IsPart (first ∷ symbols text.now) part) }
+    ensures refused { IfErr result (λ error. (before : List ByteRange) → members before (first ∷ symbols text.now) ≡ Err error) }
+    ensures within { IfOk result (λ part. bytes_left part ≤ length text.now) }
 {
-    let alone = ByteRange { first, last: first };
-    let Some((Symbol::Plain(b'-'), end)) = first_symbol(text) else {
-        return Ok((alone, text));
+    let Some((end, rest)) = range_end(text) else {
+        return Ok(Part::Member(range(first, first), text));
     };
-    match first_symbol(end) {
-        None | Some((Symbol::Plain(b']'), _)) => Ok((alone, text)),
-        Some((Symbol::Broken, _)) => Err(PatternError::BadEscape),
-        Some((Symbol::Plain(last) | Symbol::Escaped(last), rest)) => {
-            if last < first {
-                Err(PatternError::BadRange)
-            } else {
-                Ok((ByteRange { first, last }, rest))
-            }
-        }
+    if end.is_broken() {
+        return Err(PatternError::BadEscape);
+    }
+    if end.byte() < first.byte() {
+        return Err(PatternError::BadRange);
+    }
+    Ok(Part::Member(range(first, end), rest))
+}
+
+// The symbol up to which a range reaches whose first symbol stands before the text, and what follows it; or nothing, where a
+// member there is one byte alone.
+fn range_end(text: &[u8]) -> Option<(Symbol, &[u8])>
+    ensures alone { IfNone result (is_range (symbols text.now) ≡ false) }
+    ensures range { IfSome result (λ found. ReachesTo found.0 (symbols found.1.now) (symbols text.now)) }
+    ensures within { IfSome result (λ found. length found.1.now ≤ length text.now) }
+{
+    let (link, behind) = first_symbol(text)?;
+    let (end, rest) = first_symbol(behind)?;
+    if link.is_plain(b'-') && !end.is_plain(b']') {
+        Some((end, rest))
+    } else {
+        None
+    }
+}
+
+fn range(first: Symbol, end: Symbol) -> ByteRange
+    ensures { result ≡ range first end }
+{
+    ByteRange {
+        first: first.byte(),
+        last: end.byte(),
     }
 }

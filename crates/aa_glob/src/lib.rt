@@ -1,15 +1,17 @@
 //! AppArmor's path patterns: read exactly, refused exactly, matched exactly.
 #![tactic(auto)]
 
+mod alternative;
 mod byte_set;
 mod class;
 mod context;
+mod item;
 mod laws;
 mod matching;
 mod pattern;
 mod pattern_error;
 mod reading;
-mod sequence;
+mod star;
 mod step;
 mod symbol;
 

@@ -1,7 +1,8 @@
 //! Matching of a text, from its last byte to its first, by the steps that accept what follows.
 
-ghost use Rattle.std.specs.Prelude.{◌≡◌, ◌||◌, ◌+◌, ◌≤◌, [], length, get_or, false};
-ghost use Rattle.aa_glob.specs.Steps.{accepting, accepting_byte, accepting_end, leads, takes};
+ghost use Rattle.std.specs.Prelude.{◌≡◌, ◌||◌, ◌+◌, ◌≤◌, ◌<◌, [], length, get_or, false};
+ghost use Rattle.aa_glob.specs.code.Compiled.{most_answers, most_steps};
+ghost use Rattle.aa_glob.specs.code.Steps.{accepting, accepting_byte, accepting_end, leads, takes};
 
 use crate::byte_set::is_inside;
 use crate::step::Step;
@@ -11,10 +12,25 @@ const MOST_ANSWERS: usize = 8_193;
 
 /// Whether the first step accepts the text. It takes no memory.
 pub fn accepts(steps: &[Step], text: &[u8]) -> bool
-    requires { length steps.now ≤ 8192 }
+    requires { length steps.now ≤ most_steps }
     ensures { result ≡ get_or (accepting steps.now text.now) 0 false }
 {
-    let mut room = [false; MOST_ANSWERS];
+    // The room is cleared at each call, so a short pattern gets a small one.
+    match steps.len() {
+        0..=63 => accepts_within::<64>(steps, text),
+        64..=511 => accepts_within::<512>(steps, text),
+        512..=4_095 => accepts_within::<4_096>(steps, text),
+        _ => accepts_within::<MOST_ANSWERS>(steps, text),
+    }
+}
+
+// The same, with room for so many answers on the stack.
+fn accepts_within<const ROOM: usize>(steps: &[Step], text: &[u8]) -> bool
+    requires room { length steps.now < ROOM }
+    requires fits { ROOM ≤ most_answers }
+    ensures { result ≡ get_or (accepting steps.now text.now) 0 false }
+{
+    let mut room = [false; ROOM];
     let answers = &mut room[..steps.len() + 1];
     answer_end(steps, answers);
     let mut at = text.len();

@@ -1,17 +1,19 @@
 //! Patterns: texts that were read, with the steps by which they are matched.
 
-ghost use Rattle.std.specs.Prelude.{◌≡◌, ◌≢◌, ◌↔◌, ◌≤◌, true, false, length, Ok, Err, IfOk, IfErr, IsTrue};
+ghost use Rattle.std.specs.Prelude.{◌≡◌, ◌≢◌, ◌↔◌, Ok, Err, IfOk, IfErr, IsTrue};
 ghost use Rattle.aa_glob.specs.Exactness.{is_exact, literal_prefix};
 ghost use Rattle.aa_glob.specs.Matching.{Matches, matches};
-ghost use Rattle.aa_glob.specs.Reading.{begins_with_slash, has_zero, items_of, longest, reading};
-ghost use Rattle.aa_glob.specs.Steps.{is_byte};
+ghost use Rattle.aa_glob.specs.Reading.{HasNoFirstFault, items_of, reading};
+ghost use Rattle.aa_glob.specs.code.Steps.{is_byte};
 ghost use Rattle.std.specs.List.{list_all, prefix_len};
 ghost use Rattle.aa_glob.specs.declared.pattern_error.PatternError.TheVariants.{Memory};
 
+use crate::item::Stop;
 use crate::matching::accepts;
 use crate::pattern_error::PatternError;
-use crate::reading::{Stop, read_items};
+use crate::reading::read_items;
 use crate::step::{Step, copied_steps};
+use aa_bytes::{begins_with_byte, has_byte};
 use std::alloc::{AllocError, Global};
 use std::marker::Model;
 
@@ -27,7 +29,7 @@ pub struct Pattern {
 
 impl Model for Pattern {
     ghost use Rattle.std.specs.Prelude.{List, ℕ};
-    ghost use Rattle.aa_glob.specs.Compiled.{IsCompiled};
+    ghost use Rattle.aa_glob.specs.code.Compiled.{IsCompiled};
 
     ghost Value = { List ℕ };
 
@@ -50,15 +52,15 @@ impl Pattern {
         ensures read { IfOk result (λ pattern. reading text.now ≡ Ok (items_of text.now)) }
         ensures refused { IfErr result (λ error. error ≢ Memory → reading text.now ≡ Err error) }
         // What is told before anything is read takes no memory.
-        ensures memory { IfErr result (λ error. error ≡ Memory → (length text.now ≤ longest) × (has_zero text.now ≡ false) × (begins_with_slash text.now ≡ true)) }
+        ensures memory { IfErr result (λ error. error ≡ Memory → HasNoFirstFault text.now) }
     {
         if text.len() > LONGEST_PATTERN {
             return Err(PatternError::TooLong);
         }
-        if has_zero(text) {
+        if has_byte(0, text) {
             return Err(PatternError::ZeroByte);
         }
-        if !begins_with_slash(text) {
+        if !begins_with_byte(b'/', text) {
             return Err(PatternError::NotAbsolute);
         }
         let mut steps = Vec::with_capacity(alloc, text.len())?;
@@ -114,21 +116,6 @@ impl Pattern {
     }
 }
 
-fn has_zero(text: &[u8]) -> bool
-    ensures { result ≡ has_zero text.now }
-{
-    text.iter().any(|byte| *byte == 0)
-}
-
-fn begins_with_slash(text: &[u8]) -> bool
-    ensures { result ≡ begins_with_slash text.now }
-{
-    match text {
-        [first, ..] => *first == b'/',
-        [] => false,
-    }
-}
-
 fn is_byte(step: &Step) -> bool
     ensures { result ≡ is_byte step.now }
 {
@@ -155,6 +142,3 @@ fn leading_bytes(steps: &[Step]) -> usize
     }
     steps.len()
 }
-
-#[cfg(test)]
-mod tests;

@@ -5,46 +5,35 @@ ghost use Rattle.aa_glob.specs.PatternError.{number_of, name_of};
 ghost use Rattle.aa_glob.specs.declared.pattern_error.PatternError.TheVariants.{Memory};
 
 use std::alloc::{AllocError, AllocFailed};
-use thiserror::Error;
+use std::error::Error;
+use std::fmt::{self, Display, Formatter, Write};
 
 /// Why a text is no pattern. `docs/policy.md` has the rules, and in which order they are told.
-#[derive(Clone, Copy, Debug, PartialEq, Eq, Error)]
+#[derive(Clone, Copy, Debug, PartialEq, Eq)]
 pub enum PatternError {
     /// The first byte isn't `/`, or there is none.
-    #[error("the pattern doesn't begin with a slash")]
     NotAbsolute,
     /// A class has no `]` that closes it.
-    #[error("a class of the pattern isn't closed")]
     UnclosedClass,
     /// A class lists no byte.
-    #[error("a class of the pattern lists no byte")]
     EmptyClass,
     /// The first byte of a range is above its last.
-    #[error("a range of the pattern ends before it begins")]
     BadRange,
     /// A group has no `}` that closes it.
-    #[error("a group of the pattern isn't closed")]
     UnclosedGroup,
     /// A `}` closes no group.
-    #[error("a brace of the pattern closes no group")]
     StrayClose,
     /// A group has one alternative alone.
-    #[error("a group of the pattern has one alternative alone")]
     FewAlternatives,
     /// A backslash stands at the end, or before a letter or digit.
-    #[error("a backslash of the pattern stands before a letter, a digit or the end")]
     BadEscape,
     /// The text is longer than 4,096 bytes.
-    #[error("the pattern is longer than 4,096 bytes")]
     TooLong,
     /// More than 16 groups stand one in another.
-    #[error("the groups of the pattern are nested too deep")]
     TooDeep,
     /// The text holds a zero byte.
-    #[error("the pattern holds a zero byte")]
     ZeroByte,
     /// Memory ran out.
-    #[error("no memory is left")]
     Memory,
 }
 
@@ -89,6 +78,28 @@ impl PatternError {
         }
     }
 }
+
+impl Display for PatternError {
+    fn fmt<W: Write>(&self, f: &mut Formatter<W>) -> fmt::Result {
+        f.write_str(match self {
+            PatternError::NotAbsolute => "the pattern doesn't begin with a slash",
+            PatternError::UnclosedClass => "a class of the pattern isn't closed",
+            PatternError::EmptyClass => "a class of the pattern lists no byte",
+            PatternError::BadRange => "a range of the pattern ends before it begins",
+            PatternError::UnclosedGroup => "a group of the pattern isn't closed",
+            PatternError::StrayClose => "a brace of the pattern closes no group",
+            PatternError::FewAlternatives => "a group of the pattern has one alternative alone",
+            PatternError::BadEscape =>
+                "a backslash of the pattern stands before a letter, a digit or the end",
+            PatternError::TooLong => "the pattern is longer than 4,096 bytes",
+            PatternError::TooDeep => "the groups of the pattern are nested too deep",
+            PatternError::ZeroByte => "the pattern holds a zero byte",
+            PatternError::Memory => "no memory is left",
+        })
+    }
+}
+
+impl Error for PatternError {}
 
 impl From<AllocError> for PatternError {
     ghost from_gives = { λ _ refusal. refusal ≡ Memory };

@@ -1,13 +1,8 @@
-pub mod AccessLemmas
-pub mod AssignmentLemmas
-pub mod FileReadingLemmas
-pub mod FileShapeLemmas
 pub mod LawLemmas
 pub mod LineLemmas
+pub mod LinesLemmas
 pub mod MachineLemmas
-pub mod PieceLemmas
 pub mod PolicyLemmas
 pub mod ReplyLemmas
 pub mod RunLemmas
 pub mod StreamLemmas
-pub mod WordLemmas

@@ -1,5 +1,5 @@
 -- Going back change by change.
-use Rattle.std.proofs.Common.{◌≡◌, ℕ, ◌+◌, ◌-◌, ◌<◌, ◌≤◌, List, [], ◌∷◌, ◌++◌, length, take, drop, slice_index_or, sym, ap, ◌∙◌, arith}
+use Rattle.std.proofs.Common.{◌≡◌, ℕ, zero, suc, ◌+◌, ◌-◌, ◌<◌, ◌≤◌, List, [], ◌∷◌, ◌++◌, length, take, drop, slice_index_or, sym, ap, ◌∙◌, arith}
 use Rattle.std.proofs.lemmas.List.{length_push, length-take-le, take-take, take_more, drop_more, drop_at, get_or-take, get_or_default, drop_all, get_or_push, take_at}
 use Rattle.aa_set.specs.Machine.{Machine, gone_back}
 
@@ -46,3 +46,17 @@ pub earlier-gone_back : {S : Type 0} (n : ℕ) (m : Machine S) → n ≤ length 
 earlier-gone_back n m h =
     let longer = length_push m.earlier m.now in
     length-take-le (length m.earlier - n) (m.earlier ++ m.now ∷ []) (omega arith)
+
+-- so many changes back, and then so many more
+pub gone_back-sum : {S : Type 0} (k n : ℕ) (m : Machine S) → k + n ≤ length m.earlier → gone_back n (gone_back k m) ≡ gone_back (k + n) m
+gone_back-sum k zero m h = let none : k + 0 ≡ k = omega arith in gone_back-none (gone_back k m) ∙ ap (λ i. gone_back i m) (sym none)
+gone_back-sum k (suc n) m h =
+    let left = earlier-gone_back k m (omega arith) in
+    let here : n < length (gone_back k m).earlier = omega arith in
+    let one : n + 1 ≡ suc n = omega arith in
+    let more : k + n + 1 ≡ k + suc n = omega arith in
+    ap (λ i. gone_back i (gone_back k m)) (sym one)
+    ∙ sym (gone_back-more n (gone_back k m) here)
+    ∙ ap (gone_back 1) (gone_back-sum k n m (omega arith))
+    ∙ gone_back-more (k + n) m (omega arith)
+    ∙ ap (λ i. gone_back i m) more

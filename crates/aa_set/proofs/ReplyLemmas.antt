@@ -1,19 +1,23 @@
 -- What a command that takes memory is answered.
-use Rattle.std.proofs.Common.{◌≡◌, ◌≢◌, ◌⊎◌, ℕ, zero, suc, ◌/◌, ◌%◌, [], ◌∷◌, ◌++◌, Bool, true, false, List, Option, None, Some, Result, Ok, Err, refl, sym, ap, ◌∙◌, inl, inr}
-use Rattle.std.specs.Prelude.{slice_get}
+use Rattle.std.proofs.Common.{◌≡◌, ◌≢◌, ◌<◌, arith, map, ◌⊎◌, ℕ, zero, suc, ◌/◌, ◌%◌, [], ◌∷◌, ◌++◌, Bool, true, false, List, Option, None, Some, Result, Ok, Err, refl, sym, ap, ◌∙◌, inl, inr}
+use Rattle.std.specs.Prelude.{slice_get, slice_index}
 use Rattle.std.specs.Option.{option_map}
 use Rattle.std.specs.Result.{IfErr, OnOk, OnErr, MatchResult}
-use Rattle.aa_set.specs.Command.{Add, Ask}
+use Rattle.aa_set.specs.Answers.{asks_absent, reply_lines}
+use Rattle.aa_commands.specs.Command.{Add, Ask}
 use Rattle.aa_set.specs.Manager.{Managed, added}
-use Rattle.aa_set.specs.Question.{Asked, answer_of, is_absent}
-use Rattle.aa_set.specs.Refusal.{plain}
+use Rattle.aa_commands.specs.Question.{Asked}
+use Rattle.aa_commands.specs.Refusal.{plain}
 use Rattle.aa_set.specs.Run.{obeyed_flagged}
-use Rattle.aa_set.specs.Reply.{hexadecimal, hexadecimal_digit}
-use Rattle.aa_text.specs.Files.{File, name_at}
-use Rattle.aa_text.specs.declared.text_error.Place.{Place}
-use Rattle.aa_set.specs.declared.refusal.Refusal.{Refusal}
-use Rattle.aa_set.specs.declared.refusal.RefusalKind.{RefusalKind}
-use Rattle.aa_set.specs.declared.refusal.RefusalKind.TheVariants.{Memory}
+use Rattle.std.specs.Char.{to_ascii_uppercase}
+use Rattle.std.proofs.lemmas.List.{get_or-map}
+use Rattle.hex.specs.Hex.{encode_lower, encode_with, lower_digits, upper_digits}
+use Rattle.aa_set.specs.Reply.{hexadecimal}
+use Rattle.aa_files.specs.Files.{File, name_at}
+use Rattle.aa_files.specs.declared.text_error.Place.{Place}
+use Rattle.aa_commands.specs.declared.refusal.Refusal.{Refusal}
+use Rattle.aa_commands.specs.declared.refusal.RefusalKind.{RefusalKind}
+use Rattle.aa_commands.specs.declared.refusal.RefusalKind.TheVariants.{Memory}
 use Rattle.aa_set.specs.declared.reply.Reply.{Reply}
 use Rattle.aa_set.specs.declared.reply.Reply.TheVariants.{Done, Refused}
 
@@ -42,8 +46,8 @@ obeyed-added files managed after file (Err refusal) reply accepted is_refused st
 
 -- a question was answered, refused, or found no memory
 pub obeyed-asked : (files : List (List ℕ × List ℕ)) (managed : Managed) (question : Asked) (refusal : Refusal)
-    → (refusal ≢ plain Memory → answer_of managed.machine.now question ≡ Err refusal)
-    → (refusal ≡ plain Memory → is_absent (answer_of managed.machine.now question) ≡ false)
+    → (refusal ≢ plain Memory → reply_lines managed.machine.now question ≡ Err refusal)
+    → (refusal ≡ plain Memory → asks_absent managed.machine.now question ≡ false)
     → (flag : Bool) × (record { reply = Refused refusal; managed = managed } ≡ obeyed_flagged files managed flag (Ask question))
 obeyed-asked files managed question refusal is_refused memory = elim (memory_or_not refusal) [
   | inl none ↦ (true, rw (memory none, none) refl)
@@ -58,5 +62,22 @@ name_at-none (f ∷ files) (suc file) h = name_at-none files file h
 
 -- the digits of one byte more
 pub hexadecimal-append : (front back : List ℕ) → hexadecimal (front ++ back) ≡ hexadecimal front ++ hexadecimal back
+unfolding encode_with
 hexadecimal-append [] back = refl
-hexadecimal-append (b ∷ front) back = ap (λ rest. hexadecimal_digit (b / 16) ∷ hexadecimal_digit (b % 16) ∷ rest) (hexadecimal-append front back)
+hexadecimal-append (b ∷ front) back = ap (λ rest. slice_index upper_digits (b / 16) ∷ slice_index upper_digits (b % 16) ∷ rest) (hexadecimal-append front back)
+
+-- no digits of no bytes
+pub hexadecimal-none : [] ≡ hexadecimal []
+unfolding encode_with
+hexadecimal-none = refl
+
+-- a digit in lower case is one in upper case
+upper-digit : (n : ℕ) → n < 16 → to_ascii_uppercase (slice_index lower_digits n) ≡ slice_index upper_digits n
+upper-digit n h = sym (get_or-map to_ascii_uppercase lower_digits n 0 0 h)
+
+-- the digits of a byte
+pub hexadecimal-one : (b : ℕ) → b < 256 → map to_ascii_uppercase (encode_lower (b ∷ [])) ≡ hexadecimal (b ∷ [])
+unfolding encode_with
+hexadecimal-one b h =
+    ap (λ digit. digit ∷ to_ascii_uppercase (slice_index lower_digits (b % 16)) ∷ []) (upper-digit (b / 16) (omega arith))
+    ∙ ap (λ digit. slice_index upper_digits (b / 16) ∷ digit ∷ []) (upper-digit (b % 16) (omega arith))

@@ -1,24 +1,25 @@
 -- Runs of lines, one line after another.
 use Rattle.std.proofs.Common.{◌≡◌, ℕ, ◌+◌, Bool, false, cond, List, [], ◌∷◌, ◌++◌, length, take, map, count_by, Option, refl, sym, ap, ◌∙◌, subst, arith, append_assoc, append-nil, inl, inr}
-use Rattle.std.specs.List.{flat_map, list_any}
+use Rattle.std.specs.List.{flat_map, list_any, slice_split}
 use Rattle.std.proofs.lemmas.Bool.{cases_lt, cond-false, lt-leb}
 use Rattle.std.proofs.lemmas.List.{length-take-le, take_all, map_push}
 use Rattle.std.proofs.lemmas.List.Concat.{flat_map-append}
 use Rattle.std.proofs.lemmas.List.Sums.{sum_by-append}
 use Rattle.std.specs.Io.KnownBytes.{Appends}
+use Rattle.aa_bytes.specs.Texts.{is_empty}
 use Rattle.aa_set.specs.Manager.{Managed, new_manager}
-use Rattle.aa_set.specs.Pieces.{pieces, is_line_feed, is_empty, lines, without_empty_last}
+use Rattle.aa_lines.specs.Lines.{is_line_feed, lines, without_empty_last}
 use Rattle.aa_set.specs.Reply.{reply_text, is_refusal, is_acceptance}
-use Rattle.aa_set.specs.Run.{Answered, answered, replies_to, after_lines, flagged, replies, IsAnswered}
-use Rattle.aa_set.specs.Session.{IsAfter, IsCut, Follows}
-use Rattle.aa_set.specs.Streams.{Tells}
+use Rattle.aa_set.specs.Run.{Outcome, line_outcome, replies_to, after_lines, flagged, replies, IsAnswered}
+use Rattle.aa_set.specs.code.Session.{IsAfter, IsCut, Follows}
+use Rattle.aa_lines.specs.Streams.{Tells}
 use Rattle.aa_set.specs.declared.reply.Reply.{Reply}
-use Rattle.aa_set.specs.Limits.{longest_line}
+use Rattle.aa_lines.specs.Limits.{longest_line}
 use Rattle.aa_set.specs.declared.session.Session.{Session}
 use Rattle.aa_set.specs.declared.session.Summary.{Summary}
 use Rattle.aa_set.proofs.StreamLemmas.{Tells-same, Tells-trans, Tells-flushed}
 use Rattle.aa_set.proofs.LineLemmas.{take-of_front, nothing_held}
-use Rattle.aa_set.proofs.PieceLemmas.{joined, pieces-append, pieces-front, pieces-whole, joined-last, without_empty_last-empty, without_empty_last-filled}
+use Rattle.aa_set.proofs.LinesLemmas.{joined, split-append, split-front, split-whole, joined-last, without_empty_last-empty, without_empty_last-filled}
 
 abbrev Files : Type 0
 Files = List (List ℕ × List ℕ)
@@ -29,20 +30,20 @@ Lines = List (List ℕ × Bool)
 -- the replies to further lines come behind those to the first
 pub replies_to-append : (files : Files) (m : Managed) (xs ys : Lines) → replies_to files m (xs ++ ys) ≡ replies_to files m xs ++ replies_to files (after_lines files m xs) ys
 replies_to-append files m [] ys = refl
-replies_to-append files m (x ∷ xs) ys = ap (λ rest. (answered files m x.0 x.1).reply ∷ rest) (replies_to-append files (answered files m x.0 x.1).managed xs ys)
+replies_to-append files m (x ∷ xs) ys = ap (λ rest. (line_outcome files m x.0 x.1).reply ∷ rest) (replies_to-append files (line_outcome files m x.0 x.1).managed xs ys)
 
 -- the manager after further lines is one that went on from the first
 pub after_lines-append : (files : Files) (m : Managed) (xs ys : Lines) → after_lines files m (xs ++ ys) ≡ after_lines files (after_lines files m xs) ys
 after_lines-append files m [] ys = refl
-after_lines-append files m (x ∷ xs) ys = after_lines-append files (answered files m x.0 x.1).managed xs ys
+after_lines-append files m (x ∷ xs) ys = after_lines-append files (line_outcome files m x.0 x.1).managed xs ys
 
 -- of a line that is too long, no byte behind the first that is too many matters
-pub answered-front : (files : Files) (m : Managed) (line : List ℕ) (flag : Bool) → answered files m (take (longest_line + 1) line) flag ≡ answered files m line flag
-answered-front files m line flag = elim (cases_lt longest_line (length line)) [
+pub outcome-front : (files : Files) (m : Managed) (line : List ℕ) (flag : Bool) → line_outcome files m (take (longest_line + 1) line) flag ≡ line_outcome files m line flag
+outcome-front files m line flag = elim (cases_lt longest_line (length line)) [
   | inl longer ↦
       let size = length-take-le (longest_line + 1) line (omega arith) in
       cond-false _ _ _ (lt-leb (length (take (longest_line + 1) line)) longest_line (omega arith)) ∙ sym (cond-false _ _ _ (lt-leb (length line) longest_line longer))
-  | inr shorter ↦ ap (λ text. answered files m text flag) (take_all (longest_line + 1) line (omega arith))
+  | inr shorter ↦ ap (λ text. line_outcome files m text flag) (take_all (longest_line + 1) line (omega arith))
 ]
 
 -- lines and their flags, apart and together again
@@ -58,8 +59,8 @@ pub IsCut-ended : {input : List ℕ} {done : Lines} {buffer : List ℕ} (cut : I
     → list_any is_line_feed last ≡ false → line.0 ≡ cut.unfinished ++ last → IsCut (input ++ (last ++ 10 ∷ [])) (done ++ line ∷ []) []
 IsCut-ended {input} {done} {buffer} cut last line whole is = record {
   unfinished = [];
-  cut = pieces-append is_line_feed input (last ++ 10 ∷ []) ∙ ap (λ xs. joined xs (pieces is_line_feed (last ++ 10 ∷ []))) cut.cut
-      ∙ ap (joined (map (λ l. l.0) done ++ cut.unfinished ∷ [])) (pieces-front is_line_feed last 10 [] whole refl)
+  cut = split-append is_line_feed input (last ++ 10 ∷ []) ∙ ap (λ xs. joined xs (slice_split is_line_feed (last ++ 10 ∷ []))) cut.cut
+      ∙ ap (joined (map (λ l. l.0) done ++ cut.unfinished ∷ [])) (split-front is_line_feed last 10 [] whole refl)
       ∙ joined-last (map (λ l. l.0) done) cut.unfinished last ([] ∷ [])
       ∙ ap (λ text. map (λ l. l.0) done ++ text ∷ [] ∷ []) (sym is)
       ∙ sym (append_assoc (map (λ l. l.0) done) (line.0 ∷ []) ([] ∷ []))
@@ -72,8 +73,8 @@ pub IsCut-more : {input : List ℕ} {done : Lines} {buffer : List ℕ} → IsCut
     → IsCut (input ++ rest) done (take (longest_line + 1) (buffer ++ rest))
 IsCut-more {input} {done} {buffer} cut rest whole = record {
   unfinished = cut.unfinished ++ rest;
-  cut = pieces-append is_line_feed input rest ∙ ap (λ xs. joined xs (pieces is_line_feed rest)) cut.cut
-      ∙ ap (joined (map (λ l. l.0) done ++ cut.unfinished ∷ [])) (pieces-whole is_line_feed rest whole)
+  cut = split-append is_line_feed input rest ∙ ap (λ xs. joined xs (slice_split is_line_feed rest)) cut.cut
+      ∙ ap (joined (map (λ l. l.0) done ++ cut.unfinished ∷ [])) (split-whole is_line_feed rest whole)
       ∙ joined-last (map (λ l. l.0) done) cut.unfinished rest [];
   held = ap (λ text. take (longest_line + 1) (text ++ rest)) cut.held ∙ take-of_front (longest_line + 1) cut.unfinished rest;
 }
@@ -101,18 +102,18 @@ module _ (files : Files) (force_complain : Bool) where
   -- a session after one more line
   pub IsAfter-more : {before now next : Option (List ℕ)} {s t : Session} {done : Lines} (line : List ℕ) (flag : Bool) (reply : Reply)
       → IsAfter files force_complain before now s done
-      → ◌≡◌ {A = Answered} (record { reply = reply; managed = t.manager }) (answered files s.manager line flag)
+      → ◌≡◌ {A = Outcome} (record { reply = reply; managed = t.manager }) (line_outcome files s.manager line flag)
       → Tells now next s.waiting.items t.waiting.items (reply_text files reply)
       → t.summary.accepted ≡ s.summary.accepted + count_by is_acceptance (reply ∷ [])
       → t.summary.refused ≡ s.summary.refused + count_by is_refusal (reply ∷ [])
       → IsAfter files force_complain before next t (done ++ (line, flag) ∷ [])
   IsAfter-more {before} {now} {next} {s} {t} {done} line flag reply after answers tells accepted refused =
       let old : Managed = after_lines files start done in
-      let out : ◌≡◌ {A = Answered} (record { reply = reply; managed = t.manager }) (answered files old line flag) = answers ∙ ap (λ m. answered files m line flag) after.managed in
+      let out : ◌≡◌ {A = Outcome} (record { reply = reply; managed = t.manager }) (line_outcome files old line flag) = answers ∙ ap (λ m. line_outcome files m line flag) after.managed in
       let all : replies_to files start (done ++ (line, flag) ∷ []) ≡ replies_to files start done ++ reply ∷ []
-      = replies_to-append files start done ((line, flag) ∷ []) ∙ ap (λ (a : Answered). replies_to files start done ++ a.reply ∷ []) (sym out) in
+      = replies_to-append files start done ((line, flag) ∷ []) ∙ ap (λ (a : Outcome). replies_to files start done ++ a.reply ∷ []) (sym out) in
       record {
-        managed = ap (λ (a : Answered). a.managed) out ∙ sym (after_lines-append files start done ((line, flag) ∷ []));
+        managed = ap (λ (a : Outcome). a.managed) out ∙ sym (after_lines-append files start done ((line, flag) ∷ []));
         told = Tells-same (Tells-trans after.told tells) (
             ap (λ text. flat_map (reply_text files) (replies_to files start done) ++ text) (sym (append-nil (reply_text files reply)))
             ∙ sym (flat_map-append (reply_text files) (replies_to files start done) (reply ∷ []))
@@ -129,17 +130,17 @@ module _ (files : Files) (force_complain : Bool) where
 
   -- a session that answered a front of a line answered the line
   pub IsAfter-line : {before now : Option (List ℕ)} {s : Session} (done : Lines) (front line : List ℕ) (flag : Bool)
-      → ((m : Managed) → answered files m front flag ≡ answered files m line flag)
+      → ((m : Managed) → line_outcome files m front flag ≡ line_outcome files m line flag)
       → IsAfter files force_complain before now s (done ++ (front, flag) ∷ []) → IsAfter files force_complain before now s (done ++ (line, flag) ∷ [])
   IsAfter-line {before} {now} {s} done front line flag same after =
       let old : Managed = after_lines files start done in
       let by_front : Lines = done ++ (front, flag) ∷ [] in
       let by_line : Lines = done ++ (line, flag) ∷ [] in
       let replies : replies_to files start by_front ≡ replies_to files start by_line
-      = replies_to-append files start done ((front, flag) ∷ []) ∙ ap (λ (a : Answered). replies_to files start done ++ a.reply ∷ []) (same old)
+      = replies_to-append files start done ((front, flag) ∷ []) ∙ ap (λ (a : Outcome). replies_to files start done ++ a.reply ∷ []) (same old)
       ∙ sym (replies_to-append files start done ((line, flag) ∷ [])) in
       let manager : after_lines files start by_front ≡ after_lines files start by_line
-      = after_lines-append files start done ((front, flag) ∷ []) ∙ ap (λ (a : Answered). a.managed) (same old) ∙ sym (after_lines-append files start done ((line, flag) ∷ [])) in
+      = after_lines-append files start done ((front, flag) ∷ []) ∙ ap (λ (a : Outcome). a.managed) (same old) ∙ sym (after_lines-append files start done ((line, flag) ∷ [])) in
       record {
         managed = after.managed ∙ manager;
         told = Tells-same after.told (ap (flat_map (reply_text files)) replies);

@@ -1,38 +1,45 @@
 -- What the laws of the machine speak of: which lines change the policy set, and which ones go back.
-use Rattle.std.specs.Prelude.{◌≡◌, ℕ, ◌+◌, Bool, true, false, if◌then◌else◌, List, [], ◌∷◌, ◌++◌, Option, Some, Result, Ok, Err}
-use Rattle.aa_set.specs.Command.{Order, Undo, Ask, line_order}
+use Rattle.std.specs.Prelude.{◌≡◌, ℕ, ◌+◌, Bool, true, false, not, ◌&&◌, if◌then◌else◌, List, [], ◌∷◌, ◌++◌, Option, Some, Result, Ok, Err}
+use Rattle.aa_files.specs.Files.{File}
+use Rattle.aa_commands.specs.Command.{Add, Ask, Order, Undo, line_order}
 use Rattle.aa_set.specs.Manager.{Managed}
 use Rattle.aa_set.specs.PolicySet.{have_distinct_names}
-use Rattle.aa_set.specs.Run.{answered}
-use Rattle.aa_set.specs.Words.{words_of}
+use Rattle.aa_set.specs.Reply.{is_refusal}
+use Rattle.aa_set.specs.Run.{line_outcome}
+use Rattle.aa_lines.specs.Words.{words_of}
 use Rattle.aa_set.specs.declared.policy.Entry.{Entry}
-use Rattle.aa_set.specs.declared.refusal.Refusal.{Refusal}
-use Rattle.aa_set.specs.declared.reply.Reply.{Reply}
-use Rattle.aa_set.specs.declared.reply.Reply.TheVariants.{Done}
+use Rattle.aa_commands.specs.declared.refusal.Refusal.{Refusal}
 
--- a line's command goes back
-abbrev pub is_undo : Result (Option Order) Refusal → Bool
-is_undo (Ok (Some (Undo n))) = true
-is_undo _ = false
+-- the command in a line
+abbrev pub order_in : List ℕ → Result (Option Order) Refusal
+order_in line = line_order (words_of line)
 
--- a line's command asks
+-- a command changes the policy set, unless it is refused
+abbrev pub is_change : Result (Option Order) Refusal → Bool
+is_change (Ok (Some (Add file))) = true
+is_change _ = false
+
+-- a command goes back
+abbrev pub goes_back : Result (Option Order) Refusal → Bool
+goes_back (Ok (Some (Undo n))) = true
+goes_back _ = false
+
+-- a command asks
 abbrev pub is_question : Result (Option Order) Refusal → Bool
 is_question (Ok (Some (Ask question))) = true
 is_question _ = false
 
-abbrev pub is_done : Reply → Bool
-is_done Done = true
-is_done _ = false
-
 -- none of these lines goes back
 abbrev pub NoneGoesBack : List (List ℕ × Bool) → Type 0
 NoneGoesBack [] = Unit {0}
-NoneGoesBack (line ∷ lines) = (is_undo (line_order (words_of line.0)) ≡ false) × NoneGoesBack lines
+NoneGoesBack (line ∷ lines) = (goes_back (order_in line.0) ≡ false) × NoneGoesBack lines
 
--- how many of these lines, none of which goes back, are accepted changes
-abbrev pub changes : List (List ℕ × List ℕ) → Managed → List (List ℕ × Bool) → ℕ
+-- how many of these lines are accepted changes
+abbrev pub changes : List File → Managed → List (List ℕ × Bool) → ℕ
 changes files managed [] = 0
-changes files managed (line ∷ lines) = let first = answered files managed line.0 line.1 in (if is_done first.reply then 1 else 0) + changes files first.managed lines
+changes files managed (line ∷ lines) =
+    let first = line_outcome files managed line.0 line.1 in
+    (if is_change (order_in line.0) && not (is_refusal first.reply) then 1 else 0) + changes files first.managed lines
 
 -- An undo was accepted, and it gave back the very policy set of another manager, and the sets before it.
 abbrev pub GivesBack : Managed → Result Managed Refusal → Type 0

@@ -2,6 +2,8 @@
 use Rattle.std.specs.Prelude.{ℕ, Bool, true, not, ◌&&◌, List, [], ◌∷◌, Option, find}
 use Rattle.std.specs.List.{list_any}
 use Rattle.std.specs.Str.{bytes_eq}
+use Rattle.aa_profile.specs.declared.profile.Mode.TheVariants.{Enforce}
+use Rattle.aa_profile.specs.declared.profile.Profile.{Profile}
 use Rattle.aa_set.specs.declared.policy.Entry.{Entry}
 
 -- an entry's profile has the name
@@ -15,6 +17,14 @@ has_name name entries = list_any (is_named name) entries
 -- the entry of a name
 abbrev pub entry_named : List ℕ → List Entry → Option Entry
 entry_named name entries = find (is_named name) entries
+
+-- how a profile is loaded: in enforce mode
+abbrev pub loaded : Profile → Entry
+loaded profile = record { profile = profile; mode = Enforce }
+
+-- some of these profiles have a name that is there
+abbrev pub are_there : List Profile → List Entry → Bool
+are_there profiles entries = list_any (λ profile. has_name profile.name entries) profiles
 
 -- no two entries have one name
 abbrev pub have_distinct_names : List Entry → Bool

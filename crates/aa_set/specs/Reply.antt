@@ -1,46 +1,24 @@
 -- The texts of replies (docs/commands.md, "Replies").
-use Rattle.std.specs.Prelude.{ℕ, ◌+◌, ◌/◌, ◌%◌, Bool, true, false, not, ◌&&◌, ◌==◌, nat_le, if◌then◌else◌, Option, None, Some, Result, Ok, Err, List, [], ◌∷◌, ◌++◌, codes}
+use Rattle.std.specs.Prelude.{ℕ, Bool, true, false, not, ◌&&◌, ◌==◌, nat_le, if◌then◌else◌, Option, None, Some, List, [], ◌∷◌, ◌++◌, codes}
 use Rattle.std.specs.List.{list_all}
 use Rattle.std.specs.Fmt.{decimal}
-use Rattle.aa_text.specs.Files.{File, name_at}
-use Rattle.aa_text.specs.declared.text_error.Place.{Place}
-use Rattle.aa_set.specs.Bytes.{quote}
-use Rattle.aa_set.specs.Refusal.{number_of, name_of}
-use Rattle.aa_set.specs.declared.refusal.Refusal.{Refusal}
+use Rattle.aa_set.specs.Answers.{line_with}
+use Rattle.hex.specs.Hex.{encode_upper}
+use Rattle.aa_files.specs.Files.{File, name_at}
+use Rattle.aa_files.specs.declared.text_error.Place.{Place}
+use Rattle.aa_bytes.specs.Bytes.{quote}
+use Rattle.aa_commands.specs.Refusal.{number_of, name_of}
+use Rattle.aa_commands.specs.declared.refusal.Refusal.{Refusal}
 use Rattle.aa_set.specs.declared.reply.Reply.{Reply}
 use Rattle.aa_set.specs.declared.reply.Reply.TheVariants.{Silent, Done, Refused, Told}
-use Rattle.aa_set.specs.declared.verdict.Answer.{Answer}
-use Rattle.aa_set.specs.declared.verdict.Answer.TheVariants.{Unconfined, Allow, Deny, Refuse, Complain as Complained}
-
--- a line: a text, and a line feed
-abbrev pub line_with : List ℕ → List ℕ
-line_with text = text ++ 10 ∷ []
-
--- the word of an answer
-abbrev pub answer_word : Answer → List ℕ
-answer_word Unconfined = codes "unconfined"
-answer_word Allow = codes "allow"
-answer_word Deny = codes "deny"
-answer_word Refuse = codes "refuse"
-answer_word Complained = codes "complain"
-
--- the lines that an answer is told in
-abbrev pub told_lines : Result Answer Refusal → Result (List ℕ) Refusal
-told_lines (Ok answer) = Ok (line_with (answer_word answer))
-told_lines (Err refusal) = Err refusal
 
 -- a byte that a text shows as it is: a visible ASCII character, but no quote
 abbrev pub is_shown : ℕ → Bool
 is_shown b = nat_le 33 b && nat_le b 126 && not (b == quote)
 
--- the hexadecimal digit of a number below 16, in upper case
-abbrev pub hexadecimal_digit : ℕ → ℕ
-hexadecimal_digit n = if nat_le n 9 then 48 + n else 55 + n
-
--- two hexadecimal digits a byte
+-- two hexadecimal digits a byte, in upper case
 abbrev pub hexadecimal : List ℕ → List ℕ
-hexadecimal [] = []
-hexadecimal (b ∷ bs) = hexadecimal_digit (b / 16) ∷ hexadecimal_digit (b % 16) ∷ hexadecimal bs
+hexadecimal bytes = encode_upper bytes
 
 -- how a text is told: between quotes, or in hexadecimal where one of its bytes isn't shown
 abbrev pub told_text : List ℕ → List ℕ

@@ -1,73 +1,74 @@
 -- The run of lines: what an input is answered, line by line, by the machine that keeps whole policy sets
 -- (docs/guarantees.md).
-use Rattle.std.specs.Prelude.{ℕ, Bool, true, false, ◌&&◌, not, nat_le, if◌then◌else◌, List, [], ◌∷◌, length, Option, None, Some, Result, Ok, Err, ◌≡◌, count_by}
+use Rattle.std.specs.Prelude.{ℕ, Bool, true, false, ◌&&◌, not, nat_le, if◌then◌else◌, List, [], ◌∷◌, length, Option, None, Some, Result, Ok, Err, ◌≡◌, ◌≤◌, count_by}
 use Rattle.std.specs.List.{flat_map}
-use Rattle.std.specs.Io.KnownBytes.{Appends}
-use Rattle.aa_set.specs.Command.{Order, Add, Undo, Ask, line_order}
+use Rattle.std.specs.Io.KnownBytes.{Appends, Consumes}
+use Rattle.aa_set.specs.Answers.{asks_absent, reply_lines}
+use Rattle.aa_files.specs.Files.{File}
+use Rattle.aa_commands.specs.Command.{Order, Add, Undo, Ask, line_order}
 use Rattle.aa_set.specs.Manager.{Managed, new_manager, added, undone}
-use Rattle.aa_set.specs.Pieces.{lines}
-use Rattle.aa_set.specs.Question.{answer_of, is_absent}
-use Rattle.aa_set.specs.Reply.{reply_text, told_lines, is_refusal, is_acceptance}
-use Rattle.aa_set.specs.Words.{words_of}
+use Rattle.aa_lines.specs.Lines.{lines}
+use Rattle.aa_set.specs.Reply.{reply_text, is_refusal, is_acceptance}
+use Rattle.aa_lines.specs.Words.{words_of}
 use Rattle.aa_set.specs.declared.session.Summary.{Summary}
 use Rattle.aa_set.specs.declared.reply.Reply.{Reply}
 use Rattle.aa_set.specs.declared.reply.Reply.TheVariants.{Silent, Done, Refused, Told}
-use Rattle.aa_set.specs.Refusal.{plain}
-use Rattle.aa_set.specs.declared.refusal.Refusal.{Refusal}
-use Rattle.aa_set.specs.declared.refusal.RefusalKind.TheVariants.{LineTooLong, Memory}
-use Rattle.aa_set.specs.Limits.{longest_line}
+use Rattle.aa_commands.specs.Refusal.{plain}
+use Rattle.aa_commands.specs.declared.refusal.Refusal.{Refusal}
+use Rattle.aa_commands.specs.declared.refusal.RefusalKind.TheVariants.{LineTooLong, Memory}
+use Rattle.aa_lines.specs.Limits.{longest_line}
 
 -- the reply to a line, and the manager after it
-pub record Answered : Type 0 where
+pub record Outcome : Type 0 where
   pub reply : Reply
   pub managed : Managed
 
-abbrev pub refused : Managed → Refusal → Answered
+abbrev pub refused : Managed → Refusal → Outcome
 refused managed refusal = record { reply = Refused refusal; managed = managed }
 
-abbrev pub changed : Managed → Result Managed Refusal → Answered
+abbrev pub changed : Managed → Result Managed Refusal → Outcome
 changed managed (Ok after) = record { reply = Done; managed = after }
 changed managed (Err refusal) = refused managed refusal
 
-abbrev pub told : Managed → Result (List ℕ) Refusal → Answered
+abbrev pub told : Managed → Result (List ℕ) Refusal → Outcome
 told managed (Ok lines) = record { reply = Told lines; managed = managed }
 told managed (Err refusal) = refused managed refusal
 
 -- what a command is answered where memory suffices
-abbrev pub obeyed : List (List ℕ × List ℕ) → Managed → Order → Answered
+abbrev pub obeyed : List File → Managed → Order → Outcome
 obeyed files managed (Add file) = changed managed (added files managed file)
 obeyed files managed (Undo n) = changed managed (undone n managed)
-obeyed files managed (Ask question) = told managed (told_lines (answer_of managed.machine.now question))
+obeyed files managed (Ask question) = told managed (reply_lines managed.machine.now question)
 
 -- A command may find no memory: `add`, and a question but of a profile that isn't there.
 abbrev pub takes_memory : Managed → Order → Bool
 takes_memory managed (Add file) = true
 takes_memory managed (Undo n) = false
-takes_memory managed (Ask question) = not (is_absent (answer_of managed.machine.now question))
+takes_memory managed (Ask question) = not (asks_absent managed.machine.now question)
 
 -- what a command is answered, with the flag that it found no memory; of other commands the flag says nothing
-abbrev pub obeyed_flagged : List (List ℕ × List ℕ) → Managed → Bool → Order → Answered
+abbrev pub obeyed_flagged : List File → Managed → Bool → Order → Outcome
 obeyed_flagged files managed flag order = if flag && takes_memory managed order then refused managed (plain Memory) else obeyed files managed order
 
 -- what the command of a line is answered: nothing where there is none
-abbrev pub order_answered : List (List ℕ × List ℕ) → Managed → Bool → Result (Option Order) Refusal → Answered
-order_answered files managed flag (Err refusal) = refused managed refusal
-order_answered files managed flag (Ok None) = record { reply = Silent; managed = managed }
-order_answered files managed flag (Ok (Some order)) = obeyed_flagged files managed flag order
+abbrev pub order_outcome : List File → Managed → Bool → Result (Option Order) Refusal → Outcome
+order_outcome files managed flag (Err refusal) = refused managed refusal
+order_outcome files managed flag (Ok None) = record { reply = Silent; managed = managed }
+order_outcome files managed flag (Ok (Some order)) = obeyed_flagged files managed flag order
 
 -- what a line is answered
-abbrev pub answered : List (List ℕ × List ℕ) → Managed → List ℕ → Bool → Answered
-answered files managed line flag = if nat_le (length line) longest_line then order_answered files managed flag (line_order (words_of line)) else refused managed (plain LineTooLong)
+abbrev pub line_outcome : List File → Managed → List ℕ → Bool → Outcome
+line_outcome files managed line flag = if nat_le (length line) longest_line then order_outcome files managed flag (line_order (words_of line)) else refused managed (plain LineTooLong)
 
 -- the replies to lines in order, each with its flag
-abbrev pub replies_to : List (List ℕ × List ℕ) → Managed → List (List ℕ × Bool) → List Reply
+abbrev pub replies_to : List File → Managed → List (List ℕ × Bool) → List Reply
 replies_to files managed [] = []
-replies_to files managed (line ∷ lines) = let first = answered files managed line.0 line.1 in first.reply ∷ replies_to files first.managed lines
+replies_to files managed (line ∷ lines) = let first = line_outcome files managed line.0 line.1 in first.reply ∷ replies_to files first.managed lines
 
 -- the manager after lines in order, each with its flag
-abbrev pub after_lines : List (List ℕ × List ℕ) → Managed → List (List ℕ × Bool) → Managed
+abbrev pub after_lines : List File → Managed → List (List ℕ × Bool) → Managed
 after_lines files managed [] = managed
-after_lines files managed (line ∷ lines) = after_lines files (answered files managed line.0 line.1).managed lines
+after_lines files managed (line ∷ lines) = after_lines files (line_outcome files managed line.0 line.1).managed lines
 
 -- lines with their flags; one without a flag found its memory
 abbrev pub flagged : List (List ℕ) → List Bool → List (List ℕ × Bool)
@@ -76,11 +77,11 @@ flagged (line ∷ lines) [] = (line, false) ∷ flagged lines []
 flagged (line ∷ lines) (flag ∷ flags) = (line, flag) ∷ flagged lines flags
 
 -- the replies to an input, from the empty policy set on
-abbrev pub replies : List (List ℕ × List ℕ) → Bool → List ℕ → List Bool → List Reply
+abbrev pub replies : List File → Bool → List ℕ → List Bool → List Reply
 replies files force_complain input flags = replies_to files (new_manager force_complain) (flagged (lines input) flags)
 
 -- what is written for an input: the texts of its replies, joined
-abbrev pub output : List (List ℕ × List ℕ) → Bool → List ℕ → List Bool → List ℕ
+abbrev pub output : List File → Bool → List ℕ → List Bool → List ℕ
 output files force_complain input flags = flat_map (reply_text files) (replies files force_complain input flags)
 
 -- a summary counts these replies
@@ -89,7 +90,11 @@ pub record SumsUp (summary : Summary) (all : List Reply) : Type 0 where
   pub refused : summary.refused ≡ count_by is_refusal all
 
 -- An input was answered: for some flags on its lines the output was written, and the summary counts the replies.
-pub record IsAnswered (files : List (List ℕ × List ℕ)) (force_complain : Bool) (before now : Option (List ℕ)) (summary : Summary) (input : List ℕ) : Type 0 where
+pub record IsAnswered (files : List File) (force_complain : Bool) (before now : Option (List ℕ)) (summary : Summary) (input : List ℕ) : Type 0 where
   pub flags : List Bool
   pub written : Appends before now (output files force_complain input flags)
   pub summed : SumsUp summary (replies files force_complain input flags)
+
+-- a reader gave so many bytes, where its bytes are known
+abbrev pub HasGiven : ℕ → Option (List ℕ) → Option (List ℕ) → Type 0
+HasGiven size before now = (input : List ℕ) × Consumes before now input × (size ≤ length input)

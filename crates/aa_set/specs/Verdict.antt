@@ -1,21 +1,16 @@
 -- What a profile's rules say of a file request: cover, applicability, masks and the verdict (apparmor.d(5), "Rule
 -- Qualifiers" and "Access Permission Accumulation"; see docs/policy.md).
 use Rattle.std.specs.Prelude.{ℕ, Bool, not, ◌&&◌, ◌||◌, ◌==◌, if◌then◌else◌, List, filter, fold}
+use Rattle.aa_commands.specs.Question.{Request}
 use Rattle.aa_glob.specs.Matching.{matches}
 use Rattle.aa_glob.specs.Reading.{items_of}
-use Rattle.aa_set.specs.Access.{common, union, without, covered}
-use Rattle.aa_set.specs.declared.policy.FileRule.{FileRule}
-use Rattle.aa_set.specs.declared.policy.Mode.{Mode}
-use Rattle.aa_set.specs.declared.policy.Mode.TheVariants.{Enforce, Complain}
+use Rattle.aa_access.specs.Access.{common, union, without, covered}
+use Rattle.aa_profile.specs.declared.profile.FileRule.{FileRule}
+use Rattle.aa_profile.specs.declared.profile.Mode.{Mode}
+use Rattle.aa_profile.specs.declared.profile.Mode.TheVariants.{Enforce, Complain}
 use Rattle.aa_set.specs.declared.verdict.FileRequest.{FileRequest}
 use Rattle.aa_set.specs.declared.verdict.Answer.{Answer}
 use Rattle.aa_set.specs.declared.verdict.Answer.TheVariants.{Allow, Deny, Refuse, Complain as Complained}
-
--- what is asked of a file: the needs, whether the task's user owns it, and its path
-pub record Request : Type 0 where
-  pub needs : ℕ
-  pub owned : Bool
-  pub path : List ℕ
 
 -- the request of the code's value
 abbrev pub request_of : FileRequest → Request

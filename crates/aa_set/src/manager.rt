@@ -1,18 +1,16 @@
 //! The manager: a policy set with its history.
 
 ghost use Rattle.std.specs.Prelude.{◌≡◌, ◌≢◌, ◌<◌, Ok, Err, IfOk, IfErr, OnOk, OnErr, length, false};
-ghost use Rattle.aa_set.specs.Question.{HasKnownNeeds, asked, answer_of, is_absent};
-ghost use Rattle.aa_set.specs.Reply.{answer_word, line_with, told_lines};
-ghost use Rattle.aa_set.specs.Refusal.{plain};
-ghost use Rattle.aa_set.specs.declared.refusal.RefusalKind.TheVariants.{Absent, Memory};
+ghost use Rattle.aa_commands.specs.Question.{IsWellFormed, asked};
+ghost use Rattle.aa_commands.specs.Refusal.{plain};
+ghost use Rattle.aa_commands.specs.declared.refusal.RefusalKind.TheVariants.{Absent, Memory};
+ghost use Rattle.aa_set.specs.Answers.{answer_of, answer_word, asks_absent, line_with, reply_lines};
 
-use crate::bytes::is_unconfined;
-use crate::policy::{Entry, Mode, PolicySet};
-use crate::question::Question;
-use crate::reading::read_profile;
-use crate::refusal::{Refusal, RefusalKind, plain};
+use crate::policy::PolicySet;
 use crate::verdict::{Answer, FileRequest, decide};
-use aa_text::Files;
+use aa_commands::{Question, Refusal, RefusalKind, plain};
+use aa_files::Files;
+use aa_profile::read_file;
 use std::alloc::{AllocError, Global};
 use std::marker::Model;
 use std::mem;
@@ -59,7 +57,7 @@ impl Manager {
         }
     }
 
-    /// Adds the profile of a file at the end of the policy set. At `Ok` that is one change, and the sets that `undo` had
+    /// Adds the profiles of a file at the end of the policy set, in its order. At `Ok` that is one change, and the sets that `undo` had
     /// left can't be gone forward to any more.
     ///
     /// # Errors
@@ -73,19 +71,18 @@ impl Manager {
     /// - `TooManyRules` at the pattern with which there are more than 16,384 rules;
     /// - the refusal of the first expansion that is no pattern (`NotAbsolute` to `TooDeep`), at its pattern.
     ///
-    /// Then `Exists`, without a place, where a profile of its name is loaded. `Memory`, without a place, may come anywhere: memory ran
+    /// Then `Exists`, without a place, where a profile of one of their names is loaded. `Memory`, without a place, may come anywhere: memory ran
     /// out. After each of these the policy set and its history are as they were.
     pub fn add(&mut self, files: &Files, name: &[u8]) -> Result<(), Refusal>
         ensures ok { OnOk result (added files.now self.old name.now ≡ Ok self.new) }
         ensures refused { IfErr result (λ refusal. refusal ≢ plain Memory → added files.now self.old name.now ≡ Err refusal) }
         ensures unchanged { OnErr result (self.new ≡ self.old) }
     {
-        let profile = read_profile(self.alloc, files, name)?;
-        if self.set.has(profile.name.as_slice()) {
+        let profiles = read_file(self.alloc, files, name)?;
+        if self.set.has_one_of(&profiles) {
             return Err(plain(RefusalKind::Exists));
         }
-        let mode = Mode::Enforce;
-        let set = self.set.try_with(self.alloc, Entry { profile, mode })?;
+        let set = self.set.try_with(self.alloc, profiles)?;
         self.commit(set)?;
         Ok(())
     }
@@ -138,17 +135,17 @@ impl Manager {
     }
 
     /// The lines of the reply to a question: so far one line, the word of the answer and a line feed. The caller sees to it
-    /// that the question needs known letters alone, as `Question::read` does.
+    /// that the question is well-formed, as one of `Question::read` is: it needs known letters alone.
     ///
     /// # Errors
     ///
     /// `Absent` where no profile of the name is loaded, and `Memory` where memory ran out.
     pub fn ask(&self, question: &Question<'_>) -> Result<Vec<u8>, Refusal>
-        requires { HasKnownNeeds question.now }
-        ensures told { IfOk result (λ lines. told_lines (answer_of self.now.machine.now (asked question.entry.now)) ≡ Ok lines.items) }
-        ensures refused { IfErr result (λ refusal. refusal ≢ plain Memory → answer_of self.now.machine.now (asked question.entry.now) ≡ Err refusal) }
+        requires { IsWellFormed question.now }
+        ensures told { IfOk result (λ lines. reply_lines self.now.machine.now (asked question.entry.now) ≡ Ok lines.items) }
+        ensures refused { IfErr result (λ refusal. refusal ≢ plain Memory → reply_lines self.now.machine.now (asked question.entry.now) ≡ Err refusal) }
         // That a profile is absent is found without memory.
-        ensures memory { IfErr result (λ refusal. refusal ≡ plain Memory → is_absent (answer_of self.now.machine.now (asked question.entry.now)) ≡ false) }
+        ensures memory { IfErr result (λ refusal. refusal ≡ plain Memory → asks_absent self.now.machine.now (asked question.entry.now) ≡ false) }
     {
         let answer = answer(&self.set, question)?;
         Ok(answer_line(self.alloc, answer)?)
@@ -167,7 +164,7 @@ fn answer(set: &PolicySet, question: &Question<'_>) -> Result<Answer, Refusal>
             owned,
             path,
         } => {
-            if is_unconfined(who) {
+            if *who == b"unconfined".as_slice() {
                 return Ok(Answer::Unconfined);
             }
             let Some(entry) = set.find(who) else {

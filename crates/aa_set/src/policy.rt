@@ -1,45 +1,13 @@
 //! Policy sets: profiles in the order in which they were loaded.
 
-ghost use Rattle.std.specs.Prelude.{◌≡◌, [], ◌∷◌, ◌++◌, IfOk, OnOk, OnErr, IsTrue, false};
+ghost use Rattle.std.specs.Prelude.{◌≡◌, [], ◌++◌, IfOk, OnOk, false, map, true};
 ghost use Rattle.std.specs.Option.{option_copied};
-ghost use Rattle.aa_set.specs.PolicySet.{entry_named, has_name, have_distinct_names};
+ghost use Rattle.aa_profile.specs.Profile.{are_distinct};
+ghost use Rattle.aa_set.specs.PolicySet.{are_there, entry_named, has_name, loaded};
 
-use crate::access::Perms;
-use crate::sequence::Sequence;
-use aa_glob::Pattern;
-use std::alloc::{AllocError, Global};
+use aa_profile::{Mode, Profile};
+use std::alloc::{AllocError, AllocFailed, Global};
 use std::marker::Model;
-
-/// Whether what the rules don't allow is refused, or let through and logged.
-#[derive(Clone, Copy, Debug, PartialEq, Eq)]
-pub enum Mode {
-    /// What the rules don't allow is refused.
-    Enforce,
-    /// What the rules don't allow is let through, unless a rule denies it.
-    Complain,
-}
-
-/// A rule on files.
-#[derive(Debug, Drop)]
-pub struct FileRule {
-    /// The pattern of the paths that it is about.
-    pub pattern: Pattern,
-    /// The access letters.
-    pub access: Perms,
-    /// Whether it applies only where the task's user owns the file.
-    pub owner: bool,
-    /// Whether it denies what it covers.
-    pub deny: bool,
-}
-
-/// A profile: a name and rules, in the order of its file.
-#[derive(Debug, Drop)]
-pub struct Profile {
-    /// The name.
-    pub name: Sequence<u8>,
-    /// The rules.
-    pub rules: Sequence<FileRule>,
-}
 
 /// A loaded profile and its mode.
 #[derive(Debug, Drop)]
@@ -48,44 +16,6 @@ pub struct Entry {
     pub profile: Profile,
     /// Its mode.
     pub mode: Mode,
-}
-
-impl FileRule {
-    // An equal rule.
-    fn try_copy(&self, alloc: Global) -> Result<FileRule, AllocError>
-        ensures { IfOk result (λ copy. copy ≡ self.now) }
-    {
-        Ok(FileRule {
-            pattern: self.pattern.try_copy(alloc)?,
-            access: self.access,
-            owner: self.owner,
-            deny: self.deny,
-        })
-    }
-}
-
-impl Profile {
-    // An equal profile.
-    fn try_copy(&self, alloc: Global) -> Result<Profile, AllocError>
-        ensures { IfOk result (λ copy. copy ≡ self.now) }
-    {
-        let name = Sequence::from_bytes(alloc, self.name.as_slice())?;
-        let rules = copied_rules(alloc, self.rules.as_slice())?;
-        Ok(Profile {
-            name,
-            rules: Sequence::from_vec(rules),
-        })
-    }
-}
-
-fn copied_rules(alloc: Global, rules: &[FileRule]) -> Result<Vec<FileRule>, AllocError>
-    ensures { IfOk result (λ copies. copies.items ≡ rules.now) }
-{
-    let mut copies = Vec::with_capacity(alloc, rules.len())?;
-    for rule in rules {
-        copies.push(rule.try_copy(alloc)?)?;
-    }
-    Ok(copies)
 }
 
 impl Entry {
@@ -100,15 +30,28 @@ impl Entry {
     }
 }
 
-// Equal entries, with room for one more.
-fn copied_entries(alloc: Global, entries: &[Entry]) -> Result<Vec<Entry>, AllocError>
+// Equal entries, with room for so many more.
+fn copied_entries(alloc: Global, entries: &[Entry], more: usize) -> Result<Vec<Entry>, AllocError>
     ensures { IfOk result (λ copies. copies.items ≡ entries.now) }
 {
-    let mut copies = Vec::with_capacity(alloc, entries.len() + 1)?;
+    let mut copies = Vec::with_capacity(alloc, entries.len().saturating_add(more))?;
     for entry in entries {
         copies.push(entry.try_copy(alloc)?)?;
     }
     Ok(copies)
+}
+
+// Puts an entry for each profile behind others.
+fn load(entries: &mut Vec<Entry>, profiles: Vec<Profile>) -> Result<(), AllocFailed<Entry>>
+    ensures { OnOk result (entries.new.items ≡ entries.old.items ++ map loaded profiles.items) }
+{
+    for profile in profiles {
+        entries.push(Entry {
+            profile,
+            mode: Mode::Enforce,
+        })?;
+    }
+    Ok(())
 }
 
 fn some_has_name(entries: &[Entry], name: &[u8]) -> bool
@@ -167,20 +110,21 @@ impl PolicySet {
         None
     }
 
-    /// Whether a profile has the name.
-    pub fn has(&self, name: &[u8]) -> bool
-        ensures { result ≡ has_name name.now self.now }
+    /// Whether one of these profiles has a name that is there.
+    pub fn has_one_of(&self, profiles: &[Profile]) -> bool
+        ensures { result ≡ are_there profiles.now self.now }
     {
-        some_has_name(&self.entries, name)
+        profiles.iter().any(|profile| some_has_name(&self.entries, profile.name.as_slice()))
     }
 
-    /// A set of the same entries and one more behind them, whose profile has a name of its own.
-    pub fn try_with(&self, alloc: Global, entry: Entry) -> Result<PolicySet, AllocError>
-        requires { has_name entry.profile.name self.now ≡ false }
-        ensures { IfOk result (λ set. set ≡ self.now ++ entry ∷ []) }
+    /// A set of the same entries, and behind them these profiles, whose names are their own.
+    pub fn try_with(&self, alloc: Global, profiles: Vec<Profile>) -> Result<PolicySet, AllocError>
+        requires apart { are_there profiles.items self.now ≡ false }
+        requires distinct { are_distinct profiles.items ≡ true }
+        ensures { IfOk result (λ set. set ≡ self.now ++ map loaded profiles.items) }
     {
-        let mut entries = copied_entries(alloc, &self.entries)?;
-        entries.push(entry)?;
+        let mut entries = copied_entries(alloc, &self.entries, profiles.len())?;
+        load(&mut entries, profiles)?;
         Ok(PolicySet { entries })
     }
 }

@@ -3,19 +3,20 @@
 ghost use Rattle.std.specs.Prelude.{◌≡◌, ◌+◌, ◌^◌, ◌<◌, ◌≤◌, ◌++◌, ◌∷◌, [], ℕ, Bool, Option, List, length, vec_len, count_by, false, true, OnOk, OnErr, IfOk, IfSome, IfNone, IsErrOf, ◌⊎◌};
 ghost use Rattle.std.specs.List.{list_any};
 ghost use Rattle.std.specs.Io.KnownBytes.{IsAtEnd};
-ghost use Rattle.aa_set.specs.Pieces.{is_line_feed};
+ghost use Rattle.aa_bytes.specs.Bytes.{line_feed};
+ghost use Rattle.aa_lines.specs.Lines.{is_line_feed};
 ghost use Rattle.aa_set.specs.Reply.{is_acceptance, is_refusal};
+ghost use Rattle.aa_files.specs.Files.{File};
+ghost use Rattle.aa_set.specs.Answers.{line_with};
 ghost use Rattle.aa_set.specs.Limits.{most_reads};
-ghost use Rattle.aa_set.specs.Run.{IsAnswered};
-ghost use Rattle.aa_set.specs.Session.{IsAfter, Follows};
+ghost use Rattle.aa_set.specs.Run.{HasGiven, IsAnswered};
+ghost use Rattle.aa_set.specs.code.Session.{AnswersLine, Follows, Feeds, counted, piece_size};
 
-use crate::line::LineBuffer;
 use crate::manager::Manager;
-use crate::reply::{Reply, reply_to, tell_reply};
-use crate::stream::{Failed, Sink, Source};
-use crate::waiting::{flush, tell};
-use aa_text::Files;
-use memchr::memchr;
+use crate::reply::{Reply, reply_to};
+use crate::telling::tell_reply;
+use aa_files::Files;
+use aa_lines::{Failed, LineBuffer, Sink, Source, first_line, flush};
 use std::alloc::{AllocError, Global};
 use thiserror::Error;
 
@@ -66,7 +67,7 @@ const PIECE: usize = 65_536;
 /// # Errors
 ///
 /// - `Memory`: no memory was left for the buffers. Nothing was read or written.
-/// - `Read`: a read failed, or the input didn't end within 2,147,483,648 reads. An unfinished line has no reply.
+/// - `Read`: a read failed, or 2,147,483,648 reads were made and each gave at least one byte. An unfinished line has no reply.
 /// - `Write`: a write failed.
 pub fn run<S: Source, W: Sink>(
     alloc: Global,
@@ -90,6 +91,7 @@ pub fn run<S: Source, W: Sink>(
 
     // When each fault comes.
     ensures read { IsErrOf result RunFault.Read → (S.failed reader.new ≡ true) ⊎ (S.reads reader.new ≡ S.reads reader.old + most_reads) }
+    ensures given { IsErrOf result RunFault.Read → S.failed reader.new ≡ false → HasGiven most_reads (S.left reader.old) (S.left reader.new) }
     ensures write { IsErrOf result RunFault.Write → W.failed writer.new ≡ true }
     ensures memory { IsErrOf result RunFault.Memory → (reader.new ≡ reader.old) × (writer.new ≡ writer.old) }
 {
@@ -109,8 +111,8 @@ fn serve<S: Source, W: Sink>(
     writer: &mut W,
     piece: &mut [u8],
 ) -> Result<(), RunFault>
-    requires fresh { session.old.summary.accepted + session.old.summary.refused ≡ 0 }
-    requires piece { length piece.old ≡ 65536 }
+    requires fresh { counted session.old ≡ 0 }
+    requires piece { length piece.old ≡ piece_size }
     requires whole_reader { S.failed reader.old ≡ false }
     requires whole_writer { W.failed writer.old ≡ false }
     requires reads { S.reads reader.old ≤ 2 ^ 63 }
@@ -120,6 +122,7 @@ fn serve<S: Source, W: Sink>(
     ensures ended { OnOk result (IsAtEnd (S.left reader.new)) }
     ensures whole { OnOk result ((S.failed reader.new ≡ false) × (W.failed writer.new ≡ false)) }
     ensures read { IsErrOf result RunFault.Read → (S.failed reader.new ≡ true) ⊎ (S.reads reader.new ≡ S.reads reader.old + most_reads) }
+    ensures given { IsErrOf result RunFault.Read → S.failed reader.new ≡ false → HasGiven most_reads (S.left reader.old) (S.left reader.new) }
     ensures write { IsErrOf result RunFault.Write → W.failed writer.new ≡ true }
     ensures memory { IsErrOf result RunFault.Memory → ⊥ }
     ensures bound { S.reads reader.new ≤ S.reads reader.old + most_reads }
@@ -146,9 +149,9 @@ fn prepared(
     alloc: Global,
     force_complain: bool,
 ) -> Result<(Session, LineBuffer, Vec<u8>), AllocError>
-    ensures session { IfOk result (λ made. (before : Option (List ℕ)) → (files : List (List ℕ × List ℕ)) → Follows files force_complain before before made.0 made.1 []) }
-    ensures counted { IfOk result (λ made. made.0.summary.accepted + made.0.summary.refused ≡ 0) }
-    ensures piece { IfOk result (λ made. vec_len made.2 ≡ 65536) }
+    ensures session { IfOk result (λ made. (before : Option (List ℕ)) → (files : List File) → Follows files force_complain before before made.0 made.1 []) }
+    ensures counted { IfOk result (λ made. counted made.0 ≡ 0) }
+    ensures piece { IfOk result (λ made. vec_len made.2 ≡ piece_size) }
 {
     let session = Session {
         manager: Manager::new(alloc, force_complain),
@@ -170,11 +173,11 @@ fn turn<W: Sink>(
     writer: &mut W,
     piece: &[u8],
 ) -> Result<(), Failed>
-    requires room { session.old.summary.accepted + session.old.summary.refused + length piece.now < 2 ^ 64 }
-    ensures ok { OnOk result ((force_complain : Bool) (before : Option (List ℕ)) (input : List ℕ)
-        → Follows files.now force_complain before (W.written writer.old) session.old held.old input
-        → Follows files.now force_complain before (W.written writer.new) session.new held.new (input ++ piece.now)) }
-    ensures counted { session.new.summary.accepted + session.new.summary.refused ≤ session.old.summary.accepted + session.old.summary.refused + length piece.now }
+    requires room { counted session.old + length piece.now < 2 ^ 64 }
+    ensures ok { OnOk result (Feeds files.now (W.written writer.old) (W.written writer.new) session.old session.new held.old held.new piece.now) }
+    // No reply waits for the next read.
+    ensures written { OnOk result (session.new.waiting.items ≡ []) }
+    ensures counted { counted session.new ≤ counted session.old + length piece.now }
     ensures flag { OnOk result (W.failed writer.new ≡ W.failed writer.old) }
     ensures fault { OnErr result (W.failed writer.new ≡ true) }
 {
@@ -189,11 +192,9 @@ fn answer<W: Sink>(
     writer: &mut W,
     line: &[u8],
 ) -> Result<(), Failed>
-    requires { session.old.summary.accepted + session.old.summary.refused + 1 < 2 ^ 64 }
-    ensures ok { OnOk result ((force_complain : Bool) (before : Option (List ℕ)) (lines : List (List ℕ × Bool))
-        → IsAfter files.now force_complain before (W.written writer.old) session.old lines
-        → (flag : Bool) × IsAfter files.now force_complain before (W.written writer.new) session.new (lines ++ (line.now, flag) ∷ [])) }
-    ensures counted { session.new.summary.accepted + session.new.summary.refused ≤ session.old.summary.accepted + session.old.summary.refused + 1 }
+    requires { counted session.old + 1 < 2 ^ 64 }
+    ensures ok { OnOk result (AnswersLine files.now (W.written writer.old) (W.written writer.new) session.old session.new line.now) }
+    ensures counted { counted session.new ≤ counted session.old + 1 }
     ensures flag { OnOk result (W.failed writer.new ≡ W.failed writer.old) }
     ensures fault { OnErr result (W.failed writer.new ≡ true) }
 {
@@ -225,12 +226,10 @@ fn end_line<W: Sink>(
     writer: &mut W,
     last: &[u8],
 ) -> Result<(), Failed>
-    requires room { session.old.summary.accepted + session.old.summary.refused + 1 < 2 ^ 64 }
+    requires room { counted session.old + 1 < 2 ^ 64 }
     requires one_line { list_any is_line_feed last.now ≡ false }
-    ensures ok { OnOk result ((force_complain : Bool) (before : Option (List ℕ)) (input : List ℕ)
-        → Follows files.now force_complain before (W.written writer.old) session.old held.old input
-        → Follows files.now force_complain before (W.written writer.new) session.new held.new (input ++ (last.now ++ 10 ∷ []))) }
-    ensures counted { session.new.summary.accepted + session.new.summary.refused ≤ session.old.summary.accepted + session.old.summary.refused + 1 }
+    ensures ok { OnOk result (Feeds files.now (W.written writer.old) (W.written writer.new) session.old session.new held.old held.new (line_with last.now)) }
+    ensures counted { counted session.new ≤ counted session.old + 1 }
     ensures flag { OnOk result (W.failed writer.new ≡ W.failed writer.old) }
     ensures fault { OnErr result (W.failed writer.new ≡ true) }
 {
@@ -251,11 +250,9 @@ fn feed<W: Sink>(
     writer: &mut W,
     piece: &[u8],
 ) -> Result<(), Failed>
-    requires room { session.old.summary.accepted + session.old.summary.refused + length piece.now < 2 ^ 64 }
-    ensures ok { OnOk result ((force_complain : Bool) (before : Option (List ℕ)) (input : List ℕ)
-        → Follows files.now force_complain before (W.written writer.old) session.old held.old input
-        → Follows files.now force_complain before (W.written writer.new) session.new held.new (input ++ piece.now)) }
-    ensures counted { session.new.summary.accepted + session.new.summary.refused ≤ session.old.summary.accepted + session.old.summary.refused + length piece.now }
+    requires room { counted session.old + length piece.now < 2 ^ 64 }
+    ensures ok { OnOk result (Feeds files.now (W.written writer.old) (W.written writer.new) session.old session.new held.old held.new piece.now) }
+    ensures counted { counted session.new ≤ counted session.old + length piece.now }
     ensures flag { OnOk result (W.failed writer.new ≡ W.failed writer.old) }
     ensures fault { OnErr result (W.failed writer.new ≡ true) }
 {
@@ -268,18 +265,6 @@ fn feed<W: Sink>(
     Ok(())
 }
 
-// What stands before the first line feed, and what stands behind it.
-fn first_line(bytes: &[u8]) -> Option<(&[u8], &[u8])>
-    ensures line { IfSome result (λ found. list_any is_line_feed found.0.now ≡ false) }
-    ensures whole { IfSome result (λ found. bytes.now ≡ (found.0.now ++ 10 ∷ []) ++ found.1.now) }
-    ensures none { IfNone result (list_any is_line_feed bytes.now ≡ false) }
-{
-    match memchr(b'\n', bytes) {
-        Some(end) => Some((&bytes[..end], &bytes[end + 1..])),
-        None => None,
-    }
-}
-
 // Answers a line that the input's end leaves unfinished, and writes all that waits.
 fn finish<W: Sink>(
     files: &Files,
@@ -287,7 +272,7 @@ fn finish<W: Sink>(
     held: &LineBuffer,
     writer: &mut W,
 ) -> Result<(), Failed>
-    requires { session.old.summary.accepted + session.old.summary.refused + 1 < 2 ^ 64 }
+    requires { counted session.old + 1 < 2 ^ 64 }
     ensures ok { OnOk result ((force_complain : Bool) (before : Option (List ℕ)) (input : List ℕ)
         → Follows files.now force_complain before (W.written writer.old) session.old held.now input
         → IsAnswered files.now force_complain before (W.written writer.new) session.new.summary input) }
@@ -300,6 +285,3 @@ fn finish<W: Sink>(
     answer(files, session, writer, held.as_slice())?;
     flush(writer, &mut session.waiting)
 }
-
-#[cfg(test)]
-mod tests;

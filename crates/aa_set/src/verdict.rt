@@ -1,11 +1,10 @@
 //! What a profile's rules say of a request.
 
 ghost use Rattle.std.specs.Prelude.{◌≡◌};
-ghost use Rattle.aa_set.specs.Reply.{answer_word};
+ghost use Rattle.aa_set.specs.Answers.{answer_word};
 ghost use Rattle.aa_set.specs.Verdict.{request_of, applies, denied, granted, verdict};
 
-use crate::access::Perms;
-use crate::policy::{FileRule, Mode};
+use aa_profile::{FileRule, Mode, Perms};
 use bitflags::Flags;
 
 /// The answer to a request, by a word of its own in the reply.
@@ -72,8 +71,8 @@ fn covers(rules: &[FileRule], request: FileRequest<'_>) -> (Perms, Perms)
     ensures denied { result.0.0 ≡ denied (request_of request.entry) rules.now }
     ensures granted { result.1.0 ≡ granted (request_of request.entry) rules.now }
 {
-    let mut denied = Perms::none();
-    let mut granted = Perms::none();
+    let mut denied = Perms::empty();
+    let mut granted = Perms::empty();
     for rule in rules {
         if is_applying(rule, request) {
             let covered = request.needs.intersection(rule.access.covered());

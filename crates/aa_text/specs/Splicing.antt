@@ -1,17 +1,18 @@
 -- Splicing: a file's tokens, with those of the files that it includes in the place of each Include (apparmor.d(5), "#include
 -- mechanism"; see docs/policy.md, "Includes").
 use Rattle.std.specs.Prelude.{ℕ, zero, suc, ◌+◌, ◌-◌, Bool, false, not, ◌==◌, nat_le, if◌then◌else◌, List, [], ◌∷◌, ◌++◌, length, take, Option, None, Some, Result, Ok, Err}
-use Rattle.std.specs.List.{list_any, prefix_len}
-use Rattle.aa_text.specs.Bytes.{slash}
-use Rattle.aa_text.specs.Cut.{Seen, cut}
-use Rattle.aa_text.specs.Files.{File, bytes_at, file_at, has_file, is_folder_name}
-use Rattle.aa_text.specs.Members.{members}
-use Rattle.aa_text.specs.declared.cut.CutRefusal.{CutRefusal}
-use Rattle.aa_text.specs.declared.cut.CutRefusal.TheVariants as cut_refusal
-use Rattle.aa_text.specs.declared.cut.TokenKind.TheVariants.{Include}
-use Rattle.aa_text.specs.declared.text_error.Place.{Place}
-use Rattle.aa_text.specs.declared.text_error.TextRefusal.{TextRefusal}
-use Rattle.aa_text.specs.declared.text_error.TextRefusal.TheVariants.{ZeroByte, OpenQuote, OpenOther, NoFile, IncludeDepth, TextTooBig, Memory}
+use Rattle.std.specs.List.{prefix_len}
+use Rattle.aa_bytes.specs.Bytes.{slash}
+use Rattle.aa_bytes.specs.Texts.{has_byte}
+use Rattle.aa_tokens.specs.Cut.{Seen, cut}
+use Rattle.aa_files.specs.Files.{File, bytes_at, file_at, has_file, is_folder_name}
+use Rattle.aa_files.specs.Folder.{members}
+use Rattle.aa_tokens.specs.declared.cut.CutRefusal.{CutRefusal}
+use Rattle.aa_tokens.specs.declared.cut.CutRefusal.TheVariants as cut_refusal
+use Rattle.aa_tokens.specs.declared.cut.TokenKind.TheVariants.{Include}
+use Rattle.aa_files.specs.declared.text_error.Place.{Place}
+use Rattle.aa_files.specs.declared.text_error.TextRefusal.{TextRefusal}
+use Rattle.aa_files.specs.declared.text_error.TextRefusal.TheVariants.{ZeroByte, OpenQuote, OpenOther, NoFile, IncludeDepth, TextTooBig, Memory}
 
 -- how many bytes the files that are entered may have together, each counted as often as it is entered
 abbrev pub most_bytes : ℕ
@@ -100,7 +101,7 @@ unfoldable pub entered : List File → Way → ℕ → ℕ → Option Place → 
 entered files way file total place =
     let bytes = bytes_at files file in
     if not (nat_le (total + length bytes) most_bytes) then Err (TextTooBig, place) else
-    if list_any (λ b. b == 0) bytes then Err (ZeroByte, Some (record { file = file; at = prefix_len (λ b. not (b == 0)) bytes })) else
+    if has_byte 0 bytes then Err (ZeroByte, Some (record { file = file; at = prefix_len (λ b. not (b == 0)) bytes })) else
     elim (cut 0 0 false bytes) [
       | Err fault ↦ Err (refusal_of fault.0, Some (record { file = file; at = fault.1 }))
       | Ok tokens ↦ walked files way file tokens (total + length bytes)

@@ -1,6 +1,6 @@
 //! Tokens of several files.
 
-use crate::cut::Token;
+use aa_tokens::Token;
 
 /// A token, and the file that it stands in.
 #[derive(Clone, Copy, Debug)]

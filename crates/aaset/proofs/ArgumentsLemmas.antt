@@ -1,7 +1,6 @@
 -- What `clap` makes of the words is what they ask for.
-use Rattle.std.proofs.Common.{◌≡◌, ◌⊎◌, inl, inr, ◌∙◌, ◌++◌, ◌≤◌, ◌<◌, ℕ, Bool, true, false, not, List, [], ◌∷◌, length, Option, Some, None, length-append, append-nil, append_assoc, refl, sym, ap, ap₂, eqb, suc, ◌+◌, true≢false, subst, arith, codes}
-use Rattle.std.specs.Prelude.{nat_lt, if◌then◌else◌, fold, ◌==◌, slice_get, is_some}
-use Rattle.std.specs.Option.{option_map_or}
+use Rattle.std.proofs.Common.{◌≡◌, ◌≢◌, ◌⊎◌, inl, inr, ◌∙◌, ◌++◌, ◌≤◌, ◌<◌, ℕ, Bool, true, false, not, List, [], ◌∷◌, length, Option, Some, None, length-append, append-nil, append_assoc, refl, sym, ap, ap₂, eqb, suc, ◌+◌, true≢false, subst, arith, codes}
+use Rattle.std.specs.Prelude.{nat_lt, if◌then◌else◌, fold, ◌==◌, drop, slice_get, is_some}
 use Rattle.std.specs.List.{before_first, prefix_len}
 use Rattle.std.specs.Str.{bytes_eq, chars}
 use Rattle.std.proofs.lemmas.Slice.Eq.{bytes_eq-Decides}
@@ -23,8 +22,8 @@ use Rattle.aaset.specs.Texts.{words_of}
 use Rattle.aaset.specs.CommandLine.{command_line}
 use Rattle.aaset.specs.Plan.{IsPlanFor, IsFaultFor}
 use Rattle.aaset.specs.declared.arguments.ArgFault.{ArgFault}
-use Rattle.aaset.specs.declared.arguments.ArgFault.TheVariants.{Help, Bad, Memory}
-use Rattle.aaset.specs.Arguments.{Asked, Names, ForHelp, Nothing, is_option, is_help_option, asked_at_end, asked_behind, asked}
+use Rattle.aaset.specs.declared.arguments.ArgFault.TheVariants.{Help, Version, Bad, Memory}
+use Rattle.aaset.specs.Arguments.{Asked, ForRun, ForHelp, ForVersion, Nothing, help_letter, version_letter, is_option, asked_by, plain_run, asked_at_end, asked_behind, asked}
 
 abbrev the_shape : Shape
 the_shape = (built command_line).top
@@ -100,54 +99,74 @@ texts_pass (v ∷ vs) = texts_pass vs
 use_passes : (n : Text) (ns : List Text) → length (n ∷ ns) ≤ usize_max → settle_fault the_shape.rules false (state_of false (n ∷ ns)).held ≡ []
 use_passes n ns fits = ap₂ or_else (range_fits (length (n ∷ ns)) (omega arith) fits) (texts_pass (n ∷ ns))
 
+-- two numbers are the same or not, as their comparison tells
+abbrev Compared : ℕ → ℕ → Type 0
+Compared a b = ((eqb a b ≡ true) × (a ≡ b)) ⊎ ((eqb a b ≡ false) × (a ≢ b))
+
 abbrev short_fault_of : ℕ → Kinds
-short_fault_of x = if x == 104 then kind.DisplayHelp ∷ [] else kind.UnknownArgument ∷ []
+short_fault_of x = if x == help_letter then kind.DisplayHelp ∷ []
+    else if x == version_letter then kind.DisplayVersion ∷ []
+    else kind.UnknownArgument ∷ []
 
 short_option : (ns : List Text) (word : Text) (c : ℕ) (cs : List ℕ) (x : ℕ) → length ns ≤ usize_max → bytes_eq word (codes "--") ≡ false → long_of word ≡ None → short_of word ≡ Some (c ∷ cs)
     → slice_get (chars (c ∷ cs)) 0 ≡ Some x → turn_fault the_shape [] (state_of false ns) word ≡ short_fault_of x
 unfolding clap_on_literals
-short_option [] word c cs x fits d l s e = elim (eqb_tells x 104) [
-  | inl h ↦ rw (d, l, s, e, h.1) refl
-  | inr h ↦
-      let other : eqb 104 x ≡ false = grind (arith, nat_tests, h.1) in
-      rw (d, l, s, e, h.0, other) refl
-]
-short_option (n ∷ ns) word c cs x fits d l s e =
-    let used = use_passes n ns fits in
-    elim (eqb_tells x 104) [
-      | inl h ↦ rw (d, l, s, e, h.1, used) refl
-      | inr h ↦
-          let other : eqb 104 x ≡ false = grind (arith, nat_tests, h.1) in
-          rw (d, l, s, e, h.0, other) refl
-    ]
+short_option ns word c cs x fits d l s e = by ns fits (eqb_tells x help_letter) (eqb_tells x version_letter)
+  where
+    by : (ns : List Text) → length ns ≤ usize_max → Compared x help_letter → Compared x version_letter → turn_fault the_shape [] (state_of false ns) word ≡ short_fault_of x
+    by [] fits (inl h) v = rw (d, l, s, e, h.1) refl
+    by (n ∷ ns) fits (inl h) v = let used = use_passes n ns fits in rw (d, l, s, e, h.1, used) refl
+    by [] fits (inr h) (inl v) = rw (d, l, s, e, v.1) refl
+    by (n ∷ ns) fits (inr h) (inl v) = let used = use_passes n ns fits in rw (d, l, s, e, v.1, used) refl
+    by [] fits (inr h) (inr v) =
+        let no_help : eqb 104 x ≡ false = grind (arith, nat_tests, h.1) in
+        let no_version : eqb 86 x ≡ false = grind (arith, nat_tests, v.1) in
+        rw (d, l, s, e, h.0, v.0, no_help, no_version) refl
+    by (n ∷ ns) fits (inr h) (inr v) =
+        let no_help : eqb 104 x ≡ false = grind (arith, nat_tests, h.1) in
+        let no_version : eqb 86 x ≡ false = grind (arith, nat_tests, v.1) in
+        rw (d, l, s, e, h.0, v.0, no_help, no_version) refl
+
+-- an option that asks for something takes no value
+abbrev request_fault : ErrorKind → Option Text → Kinds
+request_fault k v = if is_some v then kind.TooManyValues ∷ [] else k ∷ []
 
 abbrev long_fault_of : Text → Option Text → Kinds
-long_fault_of name v = if bytes_eq (codes "help") name then (if is_some v then kind.TooManyValues ∷ [] else kind.DisplayHelp ∷ []) else kind.UnknownArgument ∷ []
+long_fault_of name v = if bytes_eq (codes "help") name then request_fault kind.DisplayHelp v
+    else if bytes_eq (codes "version") name then request_fault kind.DisplayVersion v
+    else kind.UnknownArgument ∷ []
 
 long_option : (ns : List Text) (word name : Text) (v : Option Text) → length ns ≤ usize_max → bytes_eq word (codes "--") ≡ false → long_of word ≡ Some (name, v)
     → turn_fault the_shape [] (state_of false ns) word ≡ long_fault_of name v
 unfolding clap_on_literals
-long_option ns word name v fits d l = by ns fits (bytes_eq (codes "help") name) refl v l
+long_option ns word name v fits d l = by ns fits (bytes_eq (codes "help") name) refl (bytes_eq (codes "version") name) refl v l
   where
-    by : (ns : List Text) → length ns ≤ usize_max → (b : Bool) → bytes_eq (codes "help") name ≡ b → (v : Option Text) → long_of word ≡ Some (name, v)
-        → turn_fault the_shape [] (state_of false ns) word ≡ long_fault_of name v
-    by [] fits false h v l = rw (d, l, h) refl
-    by (n ∷ ns) fits false h v l = rw (d, l, h) refl
-    by [] fits true h None l = rw (d, l, h) refl
-    by (n ∷ ns) fits true h None l = let used = use_passes n ns fits in rw (d, l, h, used) refl
-    by [] fits true h (Some x) l = rw (d, l, h) refl
-    by (n ∷ ns) fits true h (Some x) l = rw (d, l, h) refl
+    by : (ns : List Text) → length ns ≤ usize_max → (help : Bool) → bytes_eq (codes "help") name ≡ help → (version : Bool) → bytes_eq (codes "version") name ≡ version
+        → (v : Option Text) → long_of word ≡ Some (name, v) → turn_fault the_shape [] (state_of false ns) word ≡ long_fault_of name v
+    by [] fits false h false g v l = rw (d, l, h, g) refl
+    by (n ∷ ns) fits false h false g v l = rw (d, l, h, g) refl
+    by [] fits false h true g None l = rw (d, l, h, g) refl
+    by (n ∷ ns) fits false h true g None l = let used = use_passes n ns fits in rw (d, l, h, g, used) refl
+    by [] fits false h true g (Some x) l = rw (d, l, h, g) refl
+    by (n ∷ ns) fits false h true g (Some x) l = rw (d, l, h, g) refl
+    by [] fits true h version g None l = rw (d, l, h) refl
+    by (n ∷ ns) fits true h version g None l = let used = use_passes n ns fits in rw (d, l, h, used) refl
+    by [] fits true h version g (Some x) l = rw (d, l, h) refl
+    by (n ∷ ns) fits true h version g (Some x) l = rw (d, l, h) refl
 
 -- ---- each word
 
--- the kinds of a word that is an option
-abbrev Stops : Bool → Kinds → Type 0
-Stops true kinds = kinds ≡ kind.DisplayHelp ∷ []
-Stops false kinds = (kinds ≡ kind.UnknownArgument ∷ []) ⊎ (kinds ≡ kind.TooManyValues ∷ [])
+-- the kinds of a word that is an option, by what it asks for
+abbrev Stops : Asked → Kinds → Type 0
+Stops (ForRun run) kinds = ⊥
+Stops ForHelp kinds = kinds ≡ kind.DisplayHelp ∷ []
+Stops ForVersion kinds = kinds ≡ kind.DisplayVersion ∷ []
+Stops Nothing kinds = (kinds ≡ kind.UnknownArgument ∷ []) ⊎ (kinds ≡ kind.TooManyValues ∷ [])
 
 -- what the walk makes of a word is what it asks for
 abbrev IsMet : List Text → Text → Type 0
-IsMet ns word = (is_option word ≡ false → IsTaken ns word) × (is_option word ≡ true → Stops (is_help_option word) (turn_fault the_shape [] (state_of false ns) word))
+IsMet ns word = (is_option word ≡ false → IsTaken ns word)
+    × (is_option word ≡ true → Stops (asked_by (drop 1 word)) (turn_fault the_shape [] (state_of false ns) word))
 
 -- all of a text stands before the first `=`, where there is none
 before_none : (text : Text) → has_byte 61 text ≡ false → before_first (λ x. x == 61) text ≡ text
@@ -172,49 +191,63 @@ differs s t h = by (bytes_eq s t) refl
         cc
 
 -- no option takes a value
-with_value : (name text : Text) → has_byte 61 text ≡ true → Stops false (long_fault_of name (name_and_value text).1)
-with_value name text v = by (bytes_eq (codes "help") name) refl
+with_value : (name text : Text) → has_byte 61 text ≡ true → Stops Nothing (long_fault_of name (name_and_value text).1)
+with_value name text v = by (bytes_eq (codes "help") name) refl (bytes_eq (codes "version") name) refl
   where
-    by : (b : Bool) → bytes_eq (codes "help") name ≡ b → Stops false (long_fault_of name (name_and_value text).1)
-    by true e = rw (e, v) (inr refl)
-    by false e = rw e (inl refl)
+    by : (help : Bool) → bytes_eq (codes "help") name ≡ help → (version : Bool) → bytes_eq (codes "version") name ≡ version
+        → Stops Nothing (long_fault_of name (name_and_value text).1)
+    by true h version g = rw (h, v) (inr refl)
+    by false h true g = rw (h, g, v) (inr refl)
+    by false h false g = rw (h, g) (inl refl)
 
--- an option of one letter
-stops : (x : ℕ) → Stops (x == 104) (short_fault_of x)
-stops x = by (x == 104) refl
+-- what an option of one letter asks for
+abbrev asked_by_letter : ℕ → Asked
+asked_by_letter x = if x == help_letter then ForHelp else if x == version_letter then ForVersion else Nothing
+
+stops : (x : ℕ) → Stops (asked_by_letter x) (short_fault_of x)
+stops x = by (x == help_letter) refl (x == version_letter) refl
   where
-    by : (b : Bool) → (x == 104) ≡ b → Stops (x == 104) (short_fault_of x)
-    by true e = rw e refl
-    by false e = rw e (inl refl)
+    by : (help : Bool) → (x == help_letter) ≡ help → (version : Bool) → (x == version_letter) ≡ version → Stops (asked_by_letter x) (short_fault_of x)
+    by true h version g = rw h refl
+    by false h true g = rw (h, g) refl
+    by false h false g = rw (h, g) (inl refl)
+
+-- a text without `=` isn't one with it
+without_equals : (text name : Text) → has_byte 61 text ≡ true → bytes_eq text name ≡ true → has_byte 61 name ≡ false → ⊥
+without_equals text name v same none =
+    let at : has_byte 61 name ≡ true = subst (λ t. has_byte 61 t ≡ true) ((bytes_eq-Decides text name).0 same) v in
+    let bad : true ≡ false = sym at ∙ none in
+    cc
 
 met_long : (ns : List Text) (d : ℕ) (ds : List ℕ) → length ns ≤ usize_max → IsMet ns (45 ∷ 45 ∷ d ∷ ds)
 unfolding chars
-met_long ns d ds fits = (λ h. absurd (letter (d ∷ ds) h), λ _. by (has_byte 61 (d ∷ ds)) refl (bytes_eq (d ∷ ds) (codes "help")) refl)
+met_long ns d ds fits = (
+  λ h. absurd (letter (d ∷ ds) h),
+  λ _. by (has_byte 61 (d ∷ ds)) refl (bytes_eq (d ∷ ds) (codes "help")) refl (bytes_eq (d ∷ ds) (codes "version")) refl,
+)
   where
     letter : (ds : List ℕ) → is_some (slice_get (chars (45 ∷ ds)) 0) ≡ false → ⊥
     letter [] h = cc
     letter (d ∷ ds) h = cc
 
-    no_short : (ds : List ℕ) → option_map_or (λ c. c == 104) (slice_get (chars (45 ∷ ds)) 0) false ≡ false
-    no_short [] = refl
-    no_short (d ∷ ds) = refl
-
     option : turn_fault the_shape [] (state_of false ns) (45 ∷ 45 ∷ d ∷ ds) ≡ long_fault_of (name_and_value (d ∷ ds)).0 (name_and_value (d ∷ ds)).1
     option = long_option ns (45 ∷ 45 ∷ d ∷ ds) (name_and_value (d ∷ ds)).0 (name_and_value (d ∷ ds)).1 fits refl refl
 
-    by : (v : Bool) → has_byte 61 (d ∷ ds) ≡ v → (same : Bool) → bytes_eq (d ∷ ds) (codes "help") ≡ same
-        → Stops (is_help_option (45 ∷ 45 ∷ d ∷ ds)) (turn_fault the_shape [] (state_of false ns) (45 ∷ 45 ∷ d ∷ ds))
-    by true v true same =
-        let text = (bytes_eq-Decides (d ∷ ds) (codes "help")).0 same in
-        let bad : has_byte 61 (codes "help") ≡ true = subst (λ t. has_byte 61 t ≡ true) text v in
-        cc
-    by true v false same = rw (same, option) (with_value (before_first (λ x. x == 61) (d ∷ ds)) (d ∷ ds) v)
-    by false v true same =
-        let text = (bytes_eq-Decides (d ∷ ds) (codes "help")).0 same in
-        rw (same, option) (subst (λ t. long_fault_of (name_and_value t).0 (name_and_value t).1 ≡ kind.DisplayHelp ∷ []) (sym text) refl)
-    by false v false same =
-        let other : bytes_eq (codes "help") (d ∷ ds) ≡ false = differs (codes "help") (d ∷ ds) same in
-        rw (same, option, before_none (d ∷ ds) v, other) (inl refl)
+    by : (v : Bool) → has_byte 61 (d ∷ ds) ≡ v → (help : Bool) → bytes_eq (d ∷ ds) (codes "help") ≡ help → (version : Bool) → bytes_eq (d ∷ ds) (codes "version") ≡ version
+        → Stops (asked_by (45 ∷ d ∷ ds)) (turn_fault the_shape [] (state_of false ns) (45 ∷ 45 ∷ d ∷ ds))
+    by true v true h version g = absurd (without_equals (d ∷ ds) (codes "help") v h refl)
+    by true v false h true g = absurd (without_equals (d ∷ ds) (codes "version") v g refl)
+    by true v false h false g = rw (h, g, option) (with_value (before_first (λ x. x == 61) (d ∷ ds)) (d ∷ ds) v)
+    by false v true h version g =
+        let text = (bytes_eq-Decides (d ∷ ds) (codes "help")).0 h in
+        rw (h, option) (subst (λ t. long_fault_of (name_and_value t).0 (name_and_value t).1 ≡ kind.DisplayHelp ∷ []) (sym text) refl)
+    by false v false h true g =
+        let text = (bytes_eq-Decides (d ∷ ds) (codes "version")).0 g in
+        rw (h, g, option) (subst (λ t. long_fault_of (name_and_value t).0 (name_and_value t).1 ≡ kind.DisplayVersion ∷ []) (sym text) refl)
+    by false v false h false g =
+        let no_help : bytes_eq (codes "help") (d ∷ ds) ≡ false = differs (codes "help") (d ∷ ds) h in
+        let no_version : bytes_eq (codes "version") (d ∷ ds) ≡ false = differs (codes "version") (d ∷ ds) g in
+        rw (h, g, option, before_none (d ∷ ds) v, no_help, no_version) (inl refl)
 
 met_short : (ns : List Text) (c : ℕ) (cs : List ℕ) → length ns ≤ usize_max → eqb c 45 ≡ false → IsMet ns (45 ∷ c ∷ cs)
 met_short ns c cs fits other =
@@ -258,22 +291,24 @@ Passes ns w words = (walk_fault the_shape [] w words ≡ []) × ((trailing : Boo
 
 -- the walk over the words ends as they ask
 abbrev Ends : Asked → Walk → List Text → Type 0
-Ends (Names ns) w words = Passes ns w words × (0 < length ns) × (length ns ≤ usize_max)
+Ends (ForRun run) w words = Passes run.names w words × (run ≡ plain_run run.names) × (0 < length run.names) × (length run.names ≤ usize_max)
 Ends ForHelp w words = walk_fault the_shape [] w words ≡ kind.DisplayHelp ∷ []
-Ends Nothing w words = Passes [] w words ⊎ Stops false (walk_fault the_shape [] w words)
+Ends ForVersion w words = walk_fault the_shape [] w words ≡ kind.DisplayVersion ∷ []
+Ends Nothing w words = Passes [] w words ⊎ Stops Nothing (walk_fault the_shape [] w words)
 
 -- the same at the next word
 step_ends : (a : Asked) (w next : Walk) (word : Text) (words : List Text) → walked the_shape.rules [] w word ≡ next → turn_fault the_shape [] w word ≡ []
     → Ends a next words → Ends a w (word ∷ words)
 unfolding walk_fault
-step_ends (Names ns) w next word words e f h = rw (f, e) h
+step_ends (ForRun run) w next word words e f h = rw (f, e) h
 step_ends ForHelp w next word words e f h = rw (f, e) h
+step_ends ForVersion w next word words e f h = rw (f, e) h
 step_ends Nothing w next word words e f h = rw (f, e) h
 
 at_end : (trailing : Bool) (ns : List Text) → length ns ≤ usize_max → Ends (asked_at_end ns) (state_of trailing ns) []
 unfolding walk_fault
 at_end trailing [] fits = inl (refl, (trailing, refl))
-at_end trailing (n ∷ ns) fits = ((refl, (trailing, refl)), omega arith, fits)
+at_end trailing (n ∷ ns) fits = ((refl, (trailing, refl)), refl, omega arith, fits)
 
 trailing_ends : (ns words : List Text) → length ns + length words ≤ usize_max → Ends (asked_at_end (ns ++ words)) (state_of true ns) words
 trailing_ends ns [] fits = subst (λ l. Ends (asked_at_end l) (state_of true ns) []) (sym (append-nil ns)) (at_end true ns (omega arith))
@@ -283,11 +318,13 @@ trailing_ends ns (word ∷ words) fits =
     (subst (λ l. Ends (asked_at_end l) (state_of true (ns ++ word ∷ [])) words) (append_assoc ns (word ∷ []) words) (trailing_ends (ns ++ word ∷ []) words more))
 
 -- a word that stops the walk
-stopped_ends : (help : Bool) (w : Walk) (word : Text) (words : List Text) → Stops help (turn_fault the_shape [] w word) → Ends (if help then ForHelp else Nothing) w (word ∷ words)
+stopped_ends : (a : Asked) (w : Walk) (word : Text) (words : List Text) → Stops a (turn_fault the_shape [] w word) → Ends a w (word ∷ words)
 unfolding walk_fault
-stopped_ends true w word words h = rw h refl
-stopped_ends false w word words (inl h) = inr (inl (rw h refl))
-stopped_ends false w word words (inr h) = inr (inr (rw h refl))
+stopped_ends (ForRun run) w word words h = absurd h
+stopped_ends ForHelp w word words h = rw h refl
+stopped_ends ForVersion w word words h = rw h refl
+stopped_ends Nothing w word words (inl h) = inr (inl (rw h refl))
+stopped_ends Nothing w word words (inr h) = inr (inr (rw h refl))
 
 ends : (ns words : List Text) → length ns + length words ≤ usize_max → Ends (asked_behind ns words) (state_of false ns) words
 ends ns [] fits = at_end false ns (omega arith)
@@ -306,7 +343,7 @@ ends ns (word ∷ words) fits =
         (trailing_ends ns words (omega arith)))
     by false d true o rest =
         let m = met ns word (omega arith) d in
-        rw (d, o) (stopped_ends (is_help_option word) (state_of false ns) word words (m.1 o))
+        rw (d, o) (stopped_ends (asked_by (drop 1 word)) (state_of false ns) word words (m.1 o))
     by false d false o rest =
         let m = met ns word (omega arith) d in
         let taken = m.0 o in
@@ -337,8 +374,9 @@ end_names trailing n ns = refl
 
 -- the kinds of error, by what is asked for
 abbrev pub AreKindsFor : Asked → Kinds → Type 0
-AreKindsFor (Names ns) kinds = kinds ≡ []
+AreKindsFor (ForRun run) kinds = kinds ≡ []
 AreKindsFor ForHelp kinds = kinds ≡ kind.DisplayHelp ∷ []
+AreKindsFor ForVersion kinds = kinds ≡ kind.DisplayVersion ∷ []
 AreKindsFor Nothing kinds = (kinds ≡ kind.MissingRequiredArgument ∷ []) ⊎ (kinds ≡ kind.UnknownArgument ∷ []) ⊎ (kinds ≡ kind.TooManyValues ∷ [])
 
 kinds_for : (words : List Text) → length words ≤ usize_max → AreKindsFor (asked words) (fault_of command_line words)
@@ -349,15 +387,16 @@ kinds_for words fits = by (asked words) (ends [] words (omega arith))
     passes (n ∷ ns) trailing some most = end_passes trailing n ns most
 
     by : (a : Asked) → Ends a (state_of false []) words → AreKindsFor a (fault_of command_line words)
-    by (Names ns) e = rw (fault_is words, e.0.0, e.0.1.1) (passes ns e.0.1.0 e.1 e.2)
+    by (ForRun run) e = rw (fault_is words, e.0.0, e.0.1.1) (passes run.names e.0.1.0 e.2 e.3)
     by ForHelp e = rw (fault_is words, e) refl
+    by ForVersion e = rw (fault_is words, e) refl
     by Nothing (inl e) = inl (rw (fault_is words, e.0, e.1.1) (end_misses e.1.0))
     by Nothing (inr (inl e)) = inr (inl (rw (fault_is words, e) refl))
     by Nothing (inr (inr e)) = inr (inr (rw (fault_is words, e) refl))
 
--- where there is no fault, the matches have the names that are asked for
+-- where there is no fault, the matches have the names of the run that is asked for
 pub names_matched : (words : List Text) → length words ≤ usize_max → fault_of command_line words ≡ []
-    → (ns : List Text) × (asked words ≡ Names ns) × (all_of (codes "NAME") (matches_of command_line words) ≡ Some ns)
+    → (ns : List Text) × (asked words ≡ ForRun (plain_run ns)) × (all_of (codes "NAME") (matches_of command_line words) ≡ Some ns)
 names_matched words fits none = by (asked words) refl (ends [] words (omega arith)) (kinds_for words fits)
   where
     matched : (ns : List Text) (trailing : Bool) → 0 < length ns → all_of (codes "NAME") (finished the_shape.rules (state_of trailing ns).held) ≡ Some ns
@@ -365,17 +404,23 @@ names_matched words fits none = by (asked words) refl (ends [] words (omega arit
     matched (n ∷ ns) trailing some = end_names trailing n ns
 
     by : (a : Asked) → asked words ≡ a → Ends a (state_of false []) words → AreKindsFor a (fault_of command_line words)
-        → (ns : List Text) × (asked words ≡ Names ns) × (all_of (codes "NAME") (matches_of command_line words) ≡ Some ns)
-    by (Names ns) is e k = (ns, is, ap (λ (w : Walk). all_of (codes "NAME") (finished the_shape.rules w.held)) e.0.1.1 ∙ matched ns e.0.1.0 e.1)
+        → (ns : List Text) × (asked words ≡ ForRun (plain_run ns)) × (all_of (codes "NAME") (matches_of command_line words) ≡ Some ns)
+    by (ForRun run) is e k = (
+      run.names,
+      is ∙ ap ForRun e.1,
+      ap (λ (w : Walk). all_of (codes "NAME") (finished the_shape.rules w.held)) e.0.1.1 ∙ matched run.names e.0.1.0 e.2,
+    )
     by ForHelp is e k = absurd (let bad : kind.DisplayHelp ∷ [] ≡ [] = sym k ∙ none in cc)
+    by ForVersion is e k = absurd (let bad : kind.DisplayVersion ∷ [] ≡ [] = sym k ∙ none in cc)
     by Nothing is e (inl k) = absurd (let bad : kind.MissingRequiredArgument ∷ [] ≡ [] = sym k ∙ none in cc)
     by Nothing is e (inr (inl k)) = absurd (let bad : kind.UnknownArgument ∷ [] ≡ [] = sym k ∙ none in cc)
     by Nothing is e (inr (inr k)) = absurd (let bad : kind.TooManyValues ∷ [] ≡ [] = sym k ∙ none in cc)
 
 -- the kinds that an error has, by what is asked for
 abbrev pub IsKindFor : Asked → ErrorKind → Type 0
-IsKindFor (Names ns) k = k ≡ kind.OutOfMemory
+IsKindFor (ForRun run) k = k ≡ kind.OutOfMemory
 IsKindFor ForHelp k = (k ≡ kind.OutOfMemory) ⊎ (k ≡ kind.DisplayHelp)
+IsKindFor ForVersion k = (k ≡ kind.OutOfMemory) ⊎ (k ≡ kind.DisplayVersion)
 IsKindFor Nothing k = (k ≡ kind.OutOfMemory) ⊎ (k ≡ kind.MissingRequiredArgument) ⊎ (k ≡ kind.UnknownArgument) ⊎ (k ≡ kind.TooManyValues)
 
 pub kind_for : (words : List Text) → length words ≤ usize_max → (k : ErrorKind) → (k ≡ kind.OutOfMemory) ⊎ IsAmong k (fault_of command_line words) → IsKindFor (asked words) k
@@ -387,56 +432,62 @@ kind_for words fits k h = by (asked words) (fault_of command_line words) (kinds_
     one x (inr (inr none)) = absurd none
 
     by : (a : Asked) (kinds : Kinds) → AreKindsFor a kinds → (k ≡ kind.OutOfMemory) ⊎ IsAmong k kinds → IsKindFor a k
-    by (Names ns) kinds e h = elim (rw e at h) [ inl o ↦ o | inr none ↦ absurd none ]
+    by (ForRun run) kinds e h = elim (rw e at h) [ inl o ↦ o | inr none ↦ absurd none ]
     by ForHelp kinds e h = one kind.DisplayHelp (rw e at h)
+    by ForVersion kinds e h = one kind.DisplayVersion (rw e at h)
     by Nothing kinds (inl e) h = elim (one kind.MissingRequiredArgument (rw e at h)) [ inl o ↦ inl o | inr m ↦ inr (inl m) ]
     by Nothing kinds (inr (inl e)) h = elim (one kind.UnknownArgument (rw e at h)) [ inl o ↦ inl o | inr m ↦ inr (inr (inl m)) ]
     by Nothing kinds (inr (inr e)) h = elim (one kind.TooManyValues (rw e at h)) [ inl o ↦ inl o | inr m ↦ inr (inr (inr m)) ]
 
+-- memory may run out whatever is asked for
+pub memory_ran_out : (a : Asked) → IsPlanFor a (Err Memory)
+memory_ran_out (ForRun run) = tt
+memory_ran_out ForHelp = tt
+memory_ran_out ForVersion = tt
+memory_ran_out Nothing = tt
+
+-- want of memory may be answered whatever is asked for
+memory_answers : (a : Asked) (fault : ArgFault) → IsFaultFor kind.OutOfMemory fault → IsPlanFor a (Err fault)
+memory_answers a Memory f = memory_ran_out a
+memory_answers a (Help text) f = absurd f
+memory_answers a (Version text) f = absurd f
+memory_answers a Bad f = absurd f
+
 -- an error of a kind that comes where this is asked for is a fault that may be answered there
 pub answered : (a : Asked) (k : ErrorKind) (fault : ArgFault) → IsKindFor a k → IsFaultFor k fault → IsPlanFor a (Err fault)
-answered (Names ns) k fault h f = memory fault (subst (λ k. IsFaultFor k fault) h f)
-  where
-    memory : (fault : ArgFault) → IsFaultFor kind.OutOfMemory fault → IsPlanFor (Names ns) (Err fault)
-    memory Memory f = tt
-    memory (Help text) f = f
-    memory Bad f = f
+answered (ForRun run) k fault h f = memory_answers (ForRun run) fault (subst (λ k. IsFaultFor k fault) h f)
 answered ForHelp k fault h f = elim h [
-  | inl o ↦ memory fault (subst (λ k. IsFaultFor k fault) o f)
+  | inl o ↦ memory_answers ForHelp fault (subst (λ k. IsFaultFor k fault) o f)
   | inr e ↦ help fault (subst (λ k. IsFaultFor k fault) e f)
 ]
   where
-    memory : (fault : ArgFault) → IsFaultFor kind.OutOfMemory fault → IsPlanFor ForHelp (Err fault)
-    memory Memory f = tt
-    memory (Help text) f = tt
-    memory Bad f = f
-
     help : (fault : ArgFault) → IsFaultFor kind.DisplayHelp fault → IsPlanFor ForHelp (Err fault)
     help Memory f = tt
     help (Help text) f = tt
+    help (Version text) f = f
     help Bad f = f
+answered ForVersion k fault h f = elim h [
+  | inl o ↦ memory_answers ForVersion fault (subst (λ k. IsFaultFor k fault) o f)
+  | inr e ↦ version fault (subst (λ k. IsFaultFor k fault) e f)
+]
+  where
+    version : (fault : ArgFault) → IsFaultFor kind.DisplayVersion fault → IsPlanFor ForVersion (Err fault)
+    version Memory f = tt
+    version (Version text) f = tt
+    version (Help text) f = f
+    version Bad f = f
 answered Nothing k fault h f = elim h [
-  | inl o ↦ memory fault (subst (λ k. IsFaultFor k fault) o f)
+  | inl o ↦ memory_answers Nothing fault (subst (λ k. IsFaultFor k fault) o f)
   | inr (inl e) ↦ bad fault (subst (λ k. IsFaultFor k fault) e f)
   | inr (inr (inl e)) ↦ bad fault (subst (λ k. IsFaultFor k fault) e f)
   | inr (inr (inr e)) ↦ bad fault (subst (λ k. IsFaultFor k fault) e f)
 ]
   where
-    memory : (fault : ArgFault) → IsFaultFor kind.OutOfMemory fault → IsPlanFor Nothing (Err fault)
-    memory Memory f = tt
-    memory (Help text) f = f
-    memory Bad f = tt
-
     bad : (fault : ArgFault) → IsFaultFor kind.UnknownArgument fault → IsPlanFor Nothing (Err fault)
     bad Memory f = tt
     bad (Help text) f = f
+    bad (Version text) f = f
     bad Bad f = tt
-
--- memory may run out whatever is asked for
-pub memory_ran_out : (a : Asked) → IsPlanFor a (Err Memory)
-memory_ran_out (Names ns) = tt
-memory_ran_out ForHelp = tt
-memory_ran_out Nothing = tt
 
 -- what is given, where it is some, or in its place
 pub given_is : (found : Option (Bor (List (Bor Text)))) (other : Bor (List (Bor Text))) (ns : List Text) → option_map (λ given. words_of given.now) found ≡ Some ns

@@ -1,7 +1,7 @@
 -- The command line, as `clap` is told of it.
 use Rattle.std.specs.Prelude.{true, Some, codes}
 use Rattle.clap.specs.Lexer.{usize_max}
-use Rattle.clap.specs.Words.{App, Rule, new_app, new_rule, with_rule}
+use Rattle.clap.specs.Words.{App, Rule, Shape, new_app, new_rule, with_rule}
 use Rattle.clap.specs.Simple.{on_top}
 use Rattle.clap.specs.declared.builder.ArgAction.TheVariants.{Append}
 
@@ -14,5 +14,12 @@ name_rule = record (new_rule (codes "NAME")) {
 }
 
 -- the words come without the program's name
+abbrev pub without_own_name : Shape → Shape
+without_own_name top = record top { no_binary_name = true }
+
+-- the program tells its version
+abbrev pub with_version : Shape → Shape
+with_version top = record top { has_version = true }
+
 abbrev pub command_line : App
-command_line = with_rule (on_top (λ top. record top { no_binary_name = true }) (new_app (codes "aaset"))) name_rule
+command_line = with_rule (on_top with_version (on_top without_own_name (new_app (codes "aaset")))) name_rule

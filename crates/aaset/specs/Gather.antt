@@ -1,7 +1,7 @@
 -- The files that a run begins with.
 use Rattle.std.specs.Prelude.{◌≡◌, ◌≤◌, ℕ, List, ◌++◌, length, map, false, string_bytes, Contains, Option}
 use Rattle.std.specs.Io.KnownBytes.{Consumes}
-use Rattle.aa_text.specs.Files.{File, is_bad_file}
+use Rattle.aa_files.specs.Files.{File, is_bad_file}
 use Rattle.aa_text.specs.Splicing.{most_bytes}
 use Rattle.aaset.specs.declared.gather.GatherFault.{GatherFault}
 use Rattle.aaset.specs.declared.gather.GatherFault.TheVariants.{Untaken, Memory}

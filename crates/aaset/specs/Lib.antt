@@ -1,5 +1,6 @@
 pub mod Arguments
 pub mod CommandLine
+pub mod Fault
 pub mod Gather
 pub mod Plan
 pub mod ReadFault

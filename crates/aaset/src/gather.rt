@@ -2,7 +2,7 @@
 ghost use Rattle.std.specs.Prelude.{◌≡◌, ◌<◌, ◌≤◌, ◌++◌, ◌∷◌, [], ℕ, List, IsFalse, IsTrue, IfOk, IfErr, IfSome, OnOk, IsOkAnd, length, vec_len};
 ghost use Rattle.std.specs.List.{All};
 ghost use Rattle.std.specs.Io.KnownBytes.{IsAtEnd};
-ghost use Rattle.aa_text.specs.Files.{is_folder_name};
+ghost use Rattle.aa_files.specs.Files.{is_folder_name};
 ghost use Rattle.aa_text.specs.Splicing.{most_bytes};
 ghost use Rattle.aaset.specs.declared.gather.GatherFault.TheVariants.{Memory};
 ghost use Rattle.aaset.specs.declared.gather.ReadFault.TheVariants as read;

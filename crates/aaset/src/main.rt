@@ -3,79 +3,28 @@
 #![tactic(auto)]
 
 ghost use Rattle.std.specs.Prelude.{◌≡◌};
-ghost use Rattle.aaset.specs.declared.Stop.TheVariants.{NoMemory};
-ghost use Rattle.aaset.specs.Stop.{status_of, stop_at_arguments, stop_at_files};
+ghost use Rattle.aaset.specs.Fault.{status_of};
 
 mod arguments;
+mod fault;
 mod gather;
 mod plan;
 mod status;
+mod stop;
 
-use aa_set::{FromRead, RunFault, ToWrite};
+use aa_set::{FromRead, ToWrite};
 use aa_text::Files;
-use arguments::ArgFault;
-use gather::GatherFault;
-use std::alloc::{AllocError, AllocFailed, Global};
+use fault::Fault;
 use std::process::ExitCode;
 use std::rt::Env;
 use std::{env, io, rt};
+use stop::Stop;
 
-// Why the program ends before it reads a command.
-#[derive(Debug, Drop)]
-enum Stop {
-    // help was asked for, and this is its text
-    Help(String),
-    BadArguments,
-    // the first NAME that can't be taken
-    Untaken(String),
-    NoMemory,
-}
-
-impl From<AllocError> for Stop {
-    ghost from_gives = { λ _ stop. stop ≡ NoMemory };
-
-    fn from(_error: AllocError) -> Stop {
-        Stop::NoMemory
-    }
-}
-
-impl<T: Drop> From<AllocFailed<T>> for Stop {
-    ghost from_gives = { λ _ stop. stop ≡ NoMemory };
-
-    fn from(_error: AllocFailed<T>) -> Stop {
-        Stop::NoMemory
-    }
-}
-
-impl From<ArgFault> for Stop {
-    ghost from_gives = { λ fault stop. stop ≡ stop_at_arguments fault };
-
-    fn from(fault: ArgFault) -> Stop {
-        match fault {
-            ArgFault::Help(text) => Stop::Help(text),
-            ArgFault::Bad => Stop::BadArguments,
-            ArgFault::Memory => Stop::NoMemory,
-        }
-    }
-}
-
-impl From<GatherFault> for Stop {
-    ghost from_gives = { λ fault stop. stop ≡ stop_at_files fault };
-
-    fn from(fault: GatherFault) -> Stop {
-        match fault {
-            GatherFault::Untaken(name) => Stop::Untaken(name),
-            GatherFault::Memory => Stop::NoMemory,
-        }
-    }
-}
-
-// The arguments after the program's name.
-fn given_words<R: Env + AllocGlobal>(rt: &R) -> Result<Vec<String>, Stop> {
+// The words that the program was started with, its own name first.
+fn words_of_start<R: Env + AllocGlobal>(rt: &R) -> Result<Vec<String>, Stop> {
     match env::args(rt) {
-        Ok(all) => Ok(all.skip(1).collect(rt.alloc())?),
-        Err(error) if error.kind() == io::ErrorKind::OutOfMemory => Err(Stop::NoMemory),
-        Err(_) => Err(Stop::BadArguments),
+        Ok(words) => Ok(words.collect(rt.alloc())?),
+        Err(error) => Err(Stop::Failed(fault::fault_of_words(&error))),
     }
 }
 
@@ -88,11 +37,8 @@ struct Ready {
 
 fn prepare<R: rt::Files + Env + AllocGlobal>(rt: &R) -> Result<Ready, Stop> {
     let alloc = rt.alloc();
-    let given = given_words(rt)?;
-    let mut words = Vec::with_capacity(alloc, given.len())?;
-    for word in &given {
-        words.push(word.as_str())?;
-    }
+    let all = words_of_start(rt)?;
+    let words = arguments::arguments_behind_the_name(alloc, all.as_slice())?;
     let plan = plan::plan(alloc, words.as_slice())?;
     let files = gather::gather(rt, alloc, &plan)?;
     Ok(Ready {
@@ -101,61 +47,46 @@ fn prepare<R: rt::Files + Env + AllocGlobal>(rt: &R) -> Result<Ready, Stop> {
     })
 }
 
-// The exit status where no command was read.
-fn stop_status(stop: &Stop) -> u8
-    ensures { result ≡ status_of stop.now }
+// Tells a fault on standard error, and gives its exit status, which alone tells it where that can't be written.
+fn tell<R: Eprint>(rt: &R, fault: &Fault) -> u8
+    ensures { result ≡ status_of fault.now }
 {
-    match stop {
-        Stop::Help(_) => 0,
-        Stop::BadArguments | Stop::Untaken(_) => 2,
-        Stop::NoMemory => 3,
+    let text = fault::fault_text(fault);
+    let _ = eprintln!(rt; "{}{}", text.words, text.name);
+    fault::fault_status(fault)
+}
+
+// Shows a text that was asked for.
+fn show<R: Print + Eprint>(rt: &R, text: &str) -> u8 {
+    match print!(rt; "{text}") {
+        Ok(()) => 0,
+        Err(_) => tell(rt, &Fault::Write),
     }
-}
-
-// Says why no command is read. Where even that can't be written, the exit status alone tells.
-fn tell<R: Print + Eprint>(rt: &R, stop: &Stop) {
-    let _ = match stop {
-        Stop::Help(text) => print!(rt; "{text}"),
-        Stop::BadArguments => eprintln!(rt; "aaset: bad arguments"),
-        Stop::Untaken(name) => eprintln!(rt; "aaset: cannot take {name}"),
-        Stop::NoMemory => eprintln!(rt; "aaset: no memory"),
-    };
-}
-
-// Says why the commands ended early.
-fn tell_fault<R: Eprint>(rt: &R, fault: RunFault) {
-    let _ = match fault {
-        RunFault::Read => eprintln!(rt; "aaset: read fault"),
-        RunFault::Write => eprintln!(rt; "aaset: write fault"),
-        RunFault::Memory => eprintln!(rt; "aaset: no memory"),
-    };
 }
 
 // Answers the commands of standard input, each before the next is read: nothing stands between the reader and
 // the terminal, or between the writer and the terminal.
-fn answer<R: Input + Print + Eprint>(rt: &R, alloc: Global, ready: &Ready) -> u8 {
+fn answer<R: Input + Print + Eprint + AllocGlobal>(rt: &R, ready: &Ready) -> u8 {
     let mut reader = FromRead::new(rt.reader());
     let mut writer = ToWrite::new(io::writer(rt));
     let outcome = aa_set::run(
-        alloc,
+        rt.alloc(),
         &ready.files,
         ready.force_complain,
         &mut reader,
         &mut writer,
     );
     if let Err(fault) = &outcome {
-        tell_fault(rt, *fault);
+        tell(rt, &Fault::from(*fault));
     }
     status::status(&outcome)
 }
 
 fn main(rt: HostRuntime) -> ExitCode {
     let status = match prepare(&rt) {
-        Ok(ready) => answer(&rt, rt.alloc(), &ready),
-        Err(stop) => {
-            tell(&rt, &stop);
-            stop_status(&stop)
-        }
+        Ok(ready) => answer(&rt, &ready),
+        Err(Stop::Shown(text)) => show(&rt, text.as_str()),
+        Err(Stop::Failed(fault)) => tell(&rt, &fault),
     };
     ExitCode::from(status)
 }

@@ -1,9 +1,9 @@
 //! Reading of the arguments, by `clap`.
-ghost use Rattle.std.specs.Prelude.{◌≡◌, false, length, IfOk, string_bytes, codes};
-ghost use Rattle.clap.specs.Words.{app_of, kind_of};
-ghost use Rattle.aaset.specs.Arguments.{asked};
-ghost use Rattle.aaset.specs.CommandLine.{command_line};
-ghost use Rattle.aaset.specs.Plan.{IsPlanFor, IsFaultFor};
+ghost use Rattle.std.specs.Prelude.{◌≡◌, false, length, IfOk};
+ghost use Rattle.clap.specs.Words.{app_of, kind_of, rule_of};
+ghost use Rattle.aaset.specs.Arguments.{asked, plain_run};
+ghost use Rattle.aaset.specs.CommandLine.{command_line, name_rule};
+ghost use Rattle.aaset.specs.Plan.{IsPlanFor, IsFaultFor, run_of};
 ghost use Rattle.aaset.specs.Texts.{texts, words_of};
 
 use crate::arguments::{ArgFault, Plan};
@@ -11,19 +11,51 @@ use clap::error::ErrorKind;
 use clap::{Arg, ArgAction, Command, Error};
 use std::alloc::{AllocError, Global};
 
+/// The program's version.
+pub const VERSION: &str = "0.1.0";
+
+// The folder below which NAMEs lie.
+const DEFAULT_BASE: &str = "/etc/apparmor.d";
+
+// What help says behind the arguments and options.
+const MORE_HELP: &str = "\
+A NAME that begins with / is read as it stands, and any other one below /etc/apparmor.d.
+Files that others include have to be named too: includes are looked up among the NAMEs.
+
+Commands, one a line:
+  add FILE                             Adds the profile of a FILE, which is one of the NAMEs
+  undo [N]                             Takes the last N accepted changes back, 1 without N
+  ask file NAME ACCESS OWNED PATH      Tells what the profile NAME answers to a request: ACCESS
+                                       is letters of rwalkm, OWNED is `owner` or `other`
+
+Exit status:
+  0  Each command was accepted
+  1  Some command was refused
+  2  The arguments are bad, or a NAME can't be taken
+  3  Reading or writing failed, or there was no memory to begin";
+
+// The argument for the names.
+fn name_argument<'a>(alloc: Global) -> Arg<'a>
+    ensures rule { rule_of result ≡ name_rule }
+    ensures local { result.global ≡ false }
+{
+    Arg::new(alloc, "NAME")
+        .required(true)
+        .num_args(1..)
+        .action(ArgAction::Append)
+        .help("A file of profiles, or a folder where it ends in `/`")
+}
+
 // The command line as `clap` is to read it.
 fn command<'a>(alloc: Global) -> Result<Command<'a>, AllocError>
     ensures { IfOk result (λ command. app_of command ≡ command_line) }
 {
-    let name = Arg::new(alloc, "NAME")
-        .required(true)
-        .num_args(1..)
-        .action(ArgAction::Append)
-        .help("A file of profiles, or a folder where it ends in `/`");
     Command::new(alloc, "aaset")
         .no_binary_name(true)
+        .version(VERSION)
         .about("Answers requests to a set of AppArmor profiles, with commands from standard input")
-        .arg(name)
+        .after_help(MORE_HELP)
+        .arg(name_argument(alloc))
 }
 
 // What a parse that gave no matches means for the program.
@@ -33,6 +65,10 @@ fn fault(alloc: Global, error: &Error) -> ArgFault
     match error.kind() {
         ErrorKind::DisplayHelp => match error.to_string(alloc) {
             Ok(text) => ArgFault::Help(text),
+            Err(_) => ArgFault::Memory,
+        },
+        ErrorKind::DisplayVersion => match error.to_string(alloc) {
+            Ok(text) => ArgFault::Version(text),
             Err(_) => ArgFault::Memory,
         },
         ErrorKind::OutOfMemory => ArgFault::Memory,
@@ -49,9 +85,7 @@ fn count(words: &[&str]) -> usize
 
 // A plan with these names.
 fn planned(alloc: Global, given: &[&str]) -> Result<Plan, AllocError>
-    ensures names { IfOk result (λ plan. texts plan.names ≡ words_of given.now) }
-    ensures complain { IfOk result (λ plan. plan.force_complain ≡ false) }
-    ensures base { IfOk result (λ plan. string_bytes plan.base ≡ codes "/etc/apparmor.d") }
+    ensures { IfOk result (λ plan. run_of plan ≡ plain_run (words_of given.now)) }
 {
     let mut names = Vec::with_capacity(alloc, given.len())?;
     for name in given {
@@ -59,24 +93,23 @@ fn planned(alloc: Global, given: &[&str]) -> Result<Plan, AllocError>
     }
     Ok(Plan {
         force_complain: false,
-        base: String::from_str(alloc, "/etc/apparmor.d")?,
+        base: String::from_str(alloc, DEFAULT_BASE)?,
         names,
     })
 }
 
-/// What the arguments ask for, which are `words` without the program's name.
+/// The run that the arguments ask for, which are `words` without the program's name.
 ///
 /// A word is a NAME, unless it is an option: a hyphen and more behind it. Behind the word `--` each word is a NAME.
 ///
 /// # Errors
 ///
 /// - `Help` where the first option is `--help`, or `-h` with or without other letters behind it.
+/// - `Version` where the first option is `--version`, or `-V` with or without other letters behind it.
 /// - `Bad` where the first option is another one, or there is no option and no NAME.
 /// - `Memory` where memory ran out.
 pub fn plan(alloc: Global, words: &[&str]) -> Result<Plan, ArgFault>
-    ensures asked { IsPlanFor (asked (words_of words.now)) result }
-    ensures complain { IfOk result (λ plan. plan.force_complain ≡ false) }
-    ensures base { IfOk result (λ plan. string_bytes plan.base ≡ codes "/etc/apparmor.d") }
+    ensures { IsPlanFor (asked (words_of words.now)) result }
 {
     let _count = count(words);
     let command = match command(alloc) {
@@ -96,60 +129,82 @@ pub fn plan(alloc: Global, words: &[&str]) -> Result<Plan, ArgFault>
 #[cfg(test)]
 mod tests {
     use super::*;
-    use std::test::Fail;
+
+    // What words are to be answered with.
+    #[derive(Clone, Copy)]
+    enum Want {
+        Names(&'static [&'static str]),
+        // each of these stands in the help
+        Help(&'static [&'static str]),
+        Version(&'static str),
+        Bad,
+    }
+
+    fn is_for(plan: &Plan, names: &[&str]) -> bool {
+        !plan.force_complain
+            && plan.base.as_str() == "/etc/apparmor.d"
+            && plan.names.len() == names.len()
+            && plan
+                .names
+                .iter()
+                .zip(names)
+                .all(|(name, want)| { name.as_str() == *want })
+    }
+
+    fn is_answered(alloc: Global, words: &[&str], want: Want) -> bool {
+        match (plan(alloc, words), want) {
+            (Ok(plan), Want::Names(names)) => is_for(&plan, names),
+            (Err(ArgFault::Help(text)), Want::Help(parts)) => {
+                parts.iter().all(|part| { text.as_str().contains(*part) })
+            }
+            (Err(ArgFault::Version(text)), Want::Version(line)) => text.as_str() == line,
+            (Err(ArgFault::Bad), Want::Bad) => true,
+            _ => false,
+        }
+    }
 
     #[test]
-    fn takes_names(rt: HostRuntime) -> Result<(), Fail> {
-        let rows: [(&[&str], &[&str]); 6] = [
-            (&["none/"], &["none/"]),
+    fn answers_words(rt: HostRuntime) {
+        let version = Want::Version("aaset 0.1.0\n");
+        let help = Want::Help(&[
+            "Usage: aaset <NAME>...",
+            "add FILE ",
+            "undo [N] ",
+            "ask file NAME ACCESS OWNED PATH ",
+            "below /etc/apparmor.d",
+            "  0  ",
+            "  1  ",
+            "  2  ",
+            "  3  ",
+        ]);
+        let rows: [(&[&str], Want); 21] = [
+            (&["none/"], Want::Names(&["none/"])),
             (
                 &["usr.bin.man", "local/", "/tmp/x"],
-                &["usr.bin.man", "local/", "/tmp/x"],
+                Want::Names(&["usr.bin.man", "local/", "/tmp/x"]),
             ),
-            (&["a", "a"], &["a", "a"]),
-            (&["--", "-odd", "--help"], &["-odd", "--help"]),
-            (&["-", "help", ""], &["-", "help", ""]),
-            (&["a", "--", "b"], &["a", "b"]),
+            (&["a", "a"], Want::Names(&["a", "a"])),
+            (&["--", "-odd", "-V"], Want::Names(&["-odd", "-V"])),
+            (&["-", "help", ""], Want::Names(&["-", "help", ""])),
+            (&["a", "--", "b"], Want::Names(&["a", "b"])),
+            (&["--help"], help),
+            (&["-h"], help),
+            (&["a", "-hx", "-x"], help),
+            (&["--version"], version),
+            (&["-V"], version),
+            (&["a", "-Vx", "--help"], version),
+            (&[], Want::Bad),
+            (&["--"], Want::Bad),
+            (&["--base", "x"], Want::Bad),
+            (&["a", "-x"], Want::Bad),
+            (&["-v"], Want::Bad),
+            (&["--version=1"], Want::Bad),
+            (&["--versio"], Want::Bad),
+            (&["-Ch", "a"], Want::Bad),
+            (&["-x", "--version"], Want::Bad),
         ];
         for (words, want) in rows {
-            let plan = plan(rt.alloc(), words).map_err(|_| "a plan")?;
-            assert!(rt; !plan.force_complain && plan.base.as_str() == "/etc/apparmor.d");
-            assert_eq!(rt; plan.names.len(), want.len());
-            for (name, want) in plan.names.iter().zip(want) {
-                assert!(rt; name.as_str() == *want);
-            }
-        }
-        Ok(())
-    }
-
-    #[test]
-    fn refuses_other_words(rt: HostRuntime) {
-        let rows: [&[&str]; 6] = [
-            &[],
-            &["--"],
-            &["--base", "x"],
-            &["a", "-x"],
-            &["--version"],
-            &["-Ch", "a"],
-        ];
-        for words in rows {
-            assert!(rt;
-                matches!(plan(rt.alloc(), words), Err(ArgFault::Bad)),
-                "{words:?}"
-            );
-        }
-    }
-
-    #[test]
-    fn shows_help(rt: HostRuntime) {
-        let rows: [&[&str]; 3] = [&["--help"], &["-h"], &["a", "--help", "-x"]];
-        for words in rows {
-            let outcome = plan(rt.alloc(), words);
-            let is_shown = match &outcome {
-                Err(ArgFault::Help(text)) => text.as_str().contains("NAME"),
-                _ => false,
-            };
-            assert!(rt; is_shown, "{words:?}");
+            assert!(rt; is_answered(rt.alloc(), words, want), "{words:?}");
         }
     }
 }

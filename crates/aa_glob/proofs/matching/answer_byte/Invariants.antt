@@ -1,5 +1,5 @@
 use Rattle.std.proofs.Common.{◌≡◌, ◌+◌, ◌≤◌, length, drop, take, get_or, false}
-use Rattle.aa_glob.specs.Steps.{accepting_byte}
+use Rattle.aa_glob.specs.code.Steps.{accepting_byte}
 use Rattle.aa_glob.proofs.matching.answer_byte.Given as goal
 
 -- the answers from here on are written, and those before are as they were

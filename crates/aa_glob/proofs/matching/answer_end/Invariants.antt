@@ -1,5 +1,5 @@
 use Rattle.std.proofs.Common.{◌≡◌, ◌+◌, ◌≤◌, length, drop}
-use Rattle.aa_glob.specs.Steps.{accepting_end}
+use Rattle.aa_glob.specs.code.Steps.{accepting_end}
 use Rattle.aa_glob.proofs.matching.answer_end.Given as goal
 
 -- the answers from here on are written

@@ -1,6 +1,6 @@
 use Rattle.std.proofs.Common.{◌≡◌, ◌+◌, drop}
 use Rattle.std.specs.List.{prefix_len}
-use Rattle.aa_glob.specs.Steps.{is_byte}
+use Rattle.aa_glob.specs.code.Steps.{is_byte}
 use Rattle.aa_glob.proofs.pattern.leading_bytes.Given as goal
 
 -- the steps so far are bytes

@@ -1,21 +1,15 @@
-use Rattle.std.proofs.Common.{◌∙◌, ◌++◌, ◌∷◌, [], ap}
-use Rattle.aa_glob.specs.Symbols.{symbols}
-use Rattle.aa_glob.specs.Elements.{elements}
-use Rattle.aa_glob.specs.Progress.{pieces_of, stopped}
-use Rattle.aa_glob.specs.declared.context.Context.TheVariants.{Elsewhere}
-use Rattle.aa_glob.specs.declared.step.Step.TheVariants.{Fork}
-use Rattle.aa_glob.proofs.AlternativeLemmas.{first_of-stopped, laid_out-last, laid_out-more}
-use Rattle.aa_glob.proofs.ReadLemmas.{ReadsOn-group}
+use Rattle.std.proofs.Common.{◌-◌, arith}
+use Rattle.aa_glob.specs.code.Progress.{pieces_of}
+use Rattle.aa_glob.proofs.AlternativeLemmas.{IsInGroup-closed, IsInGroup-more}
 use Rattle.aa_glob.proofs.reading.+reading.Goals as goal
 
-pub read_alternative-returns-clause-ok : goal.read_alternative-returns-clause-ok
-read_alternative-returns-clause-ok t c =
-    laid_out-more c.args.steps.now.items c.args.fork c.len-jump.result c.len.result (pieces_of c.args.depth c.args.text.now) (stopped c.args.depth c.in_ok-stop.stop) c.push-2.new.self.items c.read_items.new.steps.items c.requires.fork (c.len-jump.ensures ∙ c.args.steps.now.ok.0) (c.len.ensures ∙ c.read_items.new.steps.ok.0) (c.in_ok-push-2.ensures.items ∙ ap (λ l. l ++ Fork 0 ∷ []) c.in_ok-push.ensures.items) (first_of-stopped c.args.depth c.in_ok-stop.stop) c.in_ok-stop.ensures.ok
+pub read_group-returns-in-Close-stop-clause-ok : goal.read_group-returns-in-Close-stop-clause-ok
+read_group-returns-in-Close-stop-clause-ok t c =
+    IsInGroup-closed c.args.steps.now.items c.loop-jump.steps.items c.begin_alternative.new.steps.items c.read_items-in-loop-jump.new.steps.items c.end_alternative-fork.new.steps.items (pieces_of c.args.depth c.args.text.now) (pieces_of c.args.depth c.loop-jump.rest.now) (pieces_of (c.args.depth - 1) c.in-Close-stop.after.now) c.loop-jump.fork c.in_ok-jump.jump c.loop-jump.invariant.0 c.in_ok-jump.ensures.jump c.in_ok-jump.ensures.steps (rw c.in-Close-stop.is at c.in_ok-stop.ensures.ok) c.end_alternative-fork.ensures.steps
 
-pub read_alternative-returns-clause-last : goal.read_alternative-returns-clause-last
-read_alternative-returns-clause-last t c =
-    laid_out-last c.args.steps.now.items c.args.fork c.len-jump.result c.len.result (pieces_of c.args.depth c.args.text.now) (stopped c.args.depth c.in_ok-stop.stop) c.push-2.new.self.items c.read_items.new.steps.items c.requires.fork (c.len-jump.ensures ∙ c.args.steps.now.ok.0) (c.len.ensures ∙ c.read_items.new.steps.ok.0) (c.in_ok-push-2.ensures.items ∙ ap (λ l. l ++ Fork 0 ∷ []) c.in_ok-push.ensures.items) (first_of-stopped c.args.depth c.in_ok-stop.stop) c.in_ok-stop.ensures.ok
-
-pub read_plain-returns-in_ok-rest-in-123-clause-ok :
-    goal.read_plain-returns-in_ok-rest-in-123-clause-ok
-read_plain-returns-in_ok-rest-in-123-clause-ok t c = ReadsOn-group c.args.steps.now.items c.read_group.new.steps.items c.args.depth c.args.context c.args.byte (symbols c.args.text.now) (elements Elsewhere (symbols c.in_ok-rest-in-123.rest.now)) c.in-123.is c.if-depth-eq-DEEPEST.false c.in_ok-rest-in-123.ensures.ok
+pub read_group-loop-jump-preserved : goal.read_group-loop-jump-preserved
+read_group-loop-jump-preserved t c =
+    let shorter = rw c.in-Comma-stop.is at c.in_ok-stop.ensures.shorter in (
+      IsInGroup-more c.args.steps.now.items c.loop-jump.steps.items c.begin_alternative.new.steps.items c.read_items-in-loop-jump.new.steps.items c.end_alternative-fork.new.steps.items (pieces_of c.args.depth c.args.text.now) (pieces_of c.args.depth c.loop-jump.rest.now) (pieces_of c.args.depth c.in-Comma-stop.after.now) c.loop-jump.fork c.in_ok-jump.jump c.end_alternative-fork.result c.loop-jump.invariant.0 c.in_ok-jump.ensures.jump c.in_ok-jump.ensures.steps (rw c.in-Comma-stop.is at c.in_ok-stop.ensures.ok) c.end_alternative-fork.ensures.steps c.end_alternative-fork.ensures.fork,
+      omega (arith, shorter, c.loop-jump.invariant.1),
+    )

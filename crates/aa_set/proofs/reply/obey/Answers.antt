@@ -1,4 +1,4 @@
-use Rattle.aa_set.specs.Question.{asked}
+use Rattle.aa_commands.specs.Question.{asked}
 use Rattle.aa_set.proofs.ReplyLemmas.{obeyed-added, obeyed-asked}
 use Rattle.aa_set.proofs.reply.obey.Goals as goal
 

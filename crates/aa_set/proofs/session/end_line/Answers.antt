@@ -2,10 +2,10 @@ use Rattle.std.proofs.Common.{ℕ, ◌∷◌, [], ◌++◌, List, length, take, 
 use Rattle.std.proofs.lemmas.Bool.{eqb-true}
 use Rattle.std.proofs.lemmas.List.{nil_from_length}
 use Rattle.std.proofs.lemmas.Result.{on_ok_weaker}
-use Rattle.aa_set.specs.Run.{answered}
-use Rattle.aa_set.specs.Session.{IsCut}
+use Rattle.aa_set.specs.Run.{line_outcome}
+use Rattle.aa_set.specs.code.Session.{IsCut}
 use Rattle.aa_set.proofs.LineLemmas.{nothing_held, take-of_front}
-use Rattle.aa_set.proofs.RunLemmas.{IsCut-ended, IsAfter-line, answered-front}
+use Rattle.aa_set.proofs.RunLemmas.{IsCut-ended, IsAfter-line, outcome-front}
 use Rattle.aa_set.proofs.session.end_line.Goals as goal
 
 pub returns-then-is_empty-clause-ok : goal.returns-then-is_empty-clause-ok
@@ -33,7 +33,7 @@ returns-clause-ok g c =
     record {
       lines = follows.lines ++ (line, next.0) ∷ [];
       after = IsAfter-line c.args.files.now force_complain follows.lines c.as_slice.result.now line next.0
-          (λ m. ap (λ (text : List ℕ). answered c.args.files.now m text next.0) front ∙ answered-front c.args.files.now m line next.0) next.1;
+          (λ m. ap (λ (text : List ℕ). line_outcome c.args.files.now m text next.0) front ∙ outcome-front c.args.files.now m line next.0) next.1;
       cut = subst (λ (buffer : List ℕ). IsCut (input ++ (c.args.last.now ++ 10 ∷ [])) (follows.lines ++ (line, next.0) ∷ []) buffer) (sym c.clear.ensures) cut;
     })
     c.answer-told.ensures.ok

@@ -1,5 +1,5 @@
 use Rattle.std.proofs.Common.{◌≡◌, ℕ, ◌+◌, ◌≤◌, ◌++◌, Bool, List, Option, length}
-use Rattle.aa_set.specs.Session.{Follows}
+use Rattle.aa_set.specs.code.Session.{Follows}
 use Rattle.aa_set.proofs.session.feed.Given as goal
 
 -- what stood before the rest was fed, and each of its lines was counted at most once

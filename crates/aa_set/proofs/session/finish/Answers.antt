@@ -1,8 +1,8 @@
 use Rattle.std.proofs.Common.{ℕ, List, length, sym, ap, ◌∙◌}
 use Rattle.std.proofs.lemmas.Bool.{eqb-true, eqb-false}
 use Rattle.std.proofs.lemmas.Result.{on_ok_weaker}
-use Rattle.aa_set.specs.Run.{answered}
-use Rattle.aa_set.proofs.RunLemmas.{IsAfter-line, IsAnswered-all, answered-front, lines-ended, lines-unfinished}
+use Rattle.aa_set.specs.Run.{line_outcome}
+use Rattle.aa_set.proofs.RunLemmas.{IsAfter-line, IsAnswered-all, outcome-front, lines-ended, lines-unfinished}
 use Rattle.aa_set.proofs.session.finish.Goals as goal
 
 pub returns-then-is_empty-clause-ok : goal.returns-then-is_empty-clause-ok
@@ -20,6 +20,6 @@ returns-clause-ok g c =
     let line = follows.cut.unfinished in
     let front = c.as_slice.ensures ∙ follows.cut.held in
     let after = IsAfter-line c.args.files.now force_complain follows.lines c.as_slice.result.now line next.0
-    (λ m. ap (λ (text : List ℕ). answered c.args.files.now m text next.0) front ∙ answered-front c.args.files.now m line next.0) next.1 in
+    (λ m. ap (λ (text : List ℕ). line_outcome c.args.files.now m text next.0) front ∙ outcome-front c.args.files.now m line next.0) next.1 in
     IsAnswered-all c.args.files.now force_complain input (lines-unfinished follows.cut next.0 some) after flushed)
     c.flush-2.ensures.ok

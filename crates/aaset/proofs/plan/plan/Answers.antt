@@ -4,15 +4,15 @@ use Rattle.std.proofs.lemmas.List.{length-map}
 use Rattle.clap.specs.Lexer.{usize_max}
 use Rattle.clap.specs.Words.{App, HasKind, kind_of, all_of, app_of, fault_of, found_of, is_simple, is_simple_and_free, matches_of, rows_of}
 use Rattle.clap.proofs.WalkLemmas.{raw_values-rows}
-use Rattle.aaset.specs.Arguments.{Asked, asked}
+use Rattle.aaset.specs.Arguments.{Asked, asked, plain_run}
 use Rattle.aaset.specs.CommandLine.{command_line}
 use Rattle.aaset.specs.Plan.{IsPlanFor}
 use Rattle.aaset.specs.Texts.{words_of}
 use Rattle.aaset.proofs.ArgumentsLemmas.{answered, given_is, is_simple_app, is_simple_line, kind_for, memory_ran_out, names_matched}
 use Rattle.aaset.proofs.plan.plan.Goals as goal
 
-pub returns-in-Err-try_get_matches_from-clause-asked : goal.returns-in-Err-try_get_matches_from-clause-asked
-returns-in-Err-try_get_matches_from-clause-asked c =
+pub returns-in-Err-try_get_matches_from : goal.returns-in-Err-try_get_matches_from
+returns-in-Err-try_get_matches_from c =
     let words = words_of c.args.words.now in
     let line : app_of c.in-Ok.command ≡ command_line = c.in-Ok.ensures in
     let kinds = c.in-Err-try_get_matches_from.ensures.kinds (ap is_simple_and_free line ∙ is_simple_app) in
@@ -22,8 +22,8 @@ returns-in-Err-try_get_matches_from-clause-asked c =
     (subst (λ (app : App). HasKind (fault_of app words) c.in-Err-try_get_matches_from.error) line kinds) in
     answered (asked words) (kind_of c.in-Err-try_get_matches_from.error) c.fault.result kind c.fault.ensures
 
-pub returns-in-Ok-planned-clause-asked : goal.returns-in-Ok-planned-clause-asked
-returns-in-Ok-planned-clause-asked c =
+pub returns-in-Ok-planned : goal.returns-in-Ok-planned
+returns-in-Ok-planned c =
     let words = words_of c.args.words.now in
     let line : app_of c.in-Ok.command ≡ command_line = c.in-Ok.ensures in
     let counted : length words ≡ length c.args.words.now = length-map c.args.words.now (λ word. word.now) in
@@ -35,7 +35,7 @@ returns-in-Ok-planned-clause-asked c =
     let strs : option_map (λ given. words_of given.now) c.get_strs.result ≡ Some named.0 = c.get_strs.ensures ∙ raw_values-rows found (codes "NAME")
     ∙ ap (all_of (codes "NAME")) (rows ∙ ap (λ (app : App). matches_of app words) line) ∙ named.2 in
     let given : words_of c.unwrap_or.result.now ≡ named.0 = ap (λ given. words_of given.now) c.unwrap_or.ensures ∙ given_is c.get_strs.result _ named.0 strs in
-    subst (λ (a : Asked). IsPlanFor a (Ok c.in-Ok-planned.plan)) (sym named.1) (c.in-Ok-planned.ensures.names ∙ given)
+    subst (λ (a : Asked). IsPlanFor a (Ok c.in-Ok-planned.plan)) (sym named.1) (c.in-Ok-planned.ensures ∙ ap plain_run given)
 
-pub returns-clause-asked : goal.returns-clause-asked
-returns-clause-asked c = memory_ran_out (asked (words_of c.args.words.now))
+pub returns : goal.returns
+returns c = memory_ran_out (asked (words_of c.args.words.now))

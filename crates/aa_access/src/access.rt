@@ -1,0 +1,92 @@
+//! Sets of access letters.
+
+ghost use Rattle.std.specs.Prelude.{⊤, ◌≡◌, ◌<◌, [], ◌∷◌, codes, IfSome};
+ghost use Rattle.std.specs.Option.{option_map};
+ghost use Rattle.aa_access.specs.Access.{all_letters, bit_of, covered, needs_of};
+
+use bitflags::{Flag, Flags, bitflag_items};
+
+/// A set of the access letters `r w a l k m` of a rule or a request: read, write, append, link, lock and map into
+/// memory as code (apparmor.d(5), "File Permission Access Modes").
+#[derive(Clone, Copy, PartialEq, Eq, Debug)]
+pub struct Perms(u8);
+
+bitflag_items! {
+    impl Perms: u8 {
+        const READ = 1;
+        const WRITE = 2;
+        const APPEND = 4;
+        const LINK = 8;
+        const LOCK = 16;
+        const MAP = 32;
+    }
+}
+
+impl Flags for Perms {
+    type Bits = u8;
+
+    ghost exact = { ⊤ };
+
+    ghost table = { (codes "READ", 1) ∷ (codes "WRITE", 2) ∷ (codes "APPEND", 4) ∷ (codes "LINK", 8) ∷ (codes "LOCK", 16) ∷ (codes "MAP", 32) ∷ [] };
+
+    ghost set_of = { λ p. p.0 };
+
+    fn flags<'a>() -> &'a [Flag<Perms>] {
+        Perms::FLAGS
+    }
+
+    fn bits(&self) -> u8 {
+        self.0
+    }
+
+    fn from_bits_retain(bits: u8) -> Perms {
+        Perms(bits)
+    }
+}
+
+impl Perms {
+    /// The set of one letter, or none where the byte is no access letter.
+    pub fn of_letter(letter: u8) -> Option<Perms>
+        ensures { option_map (λ p. p.0) result ≡ bit_of letter }
+    {
+        match letter {
+            b'r' => Some(Perms::READ),
+            b'w' => Some(Perms::WRITE),
+            b'a' => Some(Perms::APPEND),
+            b'l' => Some(Perms::LINK),
+            b'k' => Some(Perms::LOCK),
+            b'm' => Some(Perms::MAP),
+            _ => None,
+        }
+    }
+
+    /// The set of access letters that a request needs: at least one, each known and none twice. None for other bytes.
+    pub fn of_letters(letters: &[u8]) -> Option<Perms>
+        ensures needs { option_map (λ p. p.0) result ≡ needs_of letters.now }
+        ensures known { IfSome result (λ p. p.0 < all_letters) }
+    {
+        if letters.is_empty() {
+            return None;
+        }
+        let mut set = Perms::empty();
+        for letter in letters {
+            let letter = Perms::of_letter(*letter)?;
+            if set.contains(letter) {
+                return None;
+            }
+            set = set.union(letter);
+        }
+        Some(set)
+    }
+
+    /// What a rule with these letters covers: each letter itself, and `w` covers `a` too.
+    pub fn covered(self) -> Perms
+        ensures { result.0 ≡ covered self.0 }
+    {
+        if self.contains(Perms::WRITE) {
+            self.union(Perms::APPEND)
+        } else {
+            self
+        }
+    }
+}

@@ -1,0 +1,6 @@
+//! Access letters, and sets of them.
+#![tactic(auto)]
+
+mod access;
+
+pub use access::Perms;

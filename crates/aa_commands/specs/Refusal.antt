@@ -1,0 +1,80 @@
+-- The refusals: each one's number and name, as replies tell them (docs/commands.md).
+use Rattle.std.specs.Prelude.{ℕ, List, codes, None}
+use Rattle.aa_profile.specs.declared.profile_error.ProfileError.{ProfileError}
+use Rattle.aa_profile.specs.declared.profile_error.ProfileRefusal.{ProfileRefusal}
+use Rattle.aa_profile.specs.declared.profile_error.ProfileRefusal.TheVariants as profile
+use Rattle.aa_commands.specs.declared.refusal.Refusal.{Refusal}
+use Rattle.aa_commands.specs.declared.refusal.RefusalKind.{RefusalKind}
+use Rattle.aa_commands.specs.declared.refusal.RefusalKind.TheVariants.{NotAbsolute, UnclosedClass, EmptyClass, BadRange, UnclosedGroup, StrayClose, FewAlternatives, BadEscape, TooLong, TooDeep, ZeroByte, OpenQuote, OpenOther, NoFile, IncludeDepth, TextTooBig, Undefined, Redefined, AppendUndefined, Cycle, TooManyRules, BadToken, Exists, Absent, NothingToUndo, BadCommand, LineTooLong, BadRequest, Memory}
+
+-- the one table of numbers and names
+abbrev pub described : RefusalKind → ℕ × List ℕ
+described NotAbsolute = (1, codes "NotAbsolute")
+described UnclosedClass = (2, codes "UnclosedClass")
+described EmptyClass = (3, codes "EmptyClass")
+described BadRange = (4, codes "BadRange")
+described UnclosedGroup = (5, codes "UnclosedGroup")
+described StrayClose = (6, codes "StrayClose")
+described FewAlternatives = (7, codes "FewAlternatives")
+described BadEscape = (8, codes "BadEscape")
+described TooLong = (9, codes "TooLong")
+described TooDeep = (10, codes "TooDeep")
+described ZeroByte = (20, codes "ZeroByte")
+described OpenQuote = (21, codes "OpenQuote")
+described OpenOther = (22, codes "OpenOther")
+described NoFile = (23, codes "NoFile")
+described IncludeDepth = (24, codes "IncludeDepth")
+described TextTooBig = (25, codes "TextTooBig")
+described Undefined = (26, codes "Undefined")
+described Redefined = (27, codes "Redefined")
+described AppendUndefined = (28, codes "AppendUndefined")
+described Cycle = (29, codes "Cycle")
+described TooManyRules = (30, codes "TooManyRules")
+described BadToken = (40, codes "BadToken")
+described Exists = (60, codes "Exists")
+described Absent = (61, codes "Absent")
+described NothingToUndo = (63, codes "NothingToUndo")
+described BadCommand = (65, codes "BadCommand")
+described LineTooLong = (66, codes "LineTooLong")
+described BadRequest = (67, codes "BadRequest")
+described Memory = (99, codes "Memory")
+
+abbrev pub number_of : Refusal → ℕ
+number_of r = (described r.refusal).0
+
+abbrev pub name_of : Refusal → List ℕ
+name_of r = (described r.refusal).1
+
+-- a refusal without a place
+abbrev pub plain : RefusalKind → Refusal
+plain kind = record { refusal = kind; place = None }
+
+-- the refusal of a command whose file is refused
+abbrev pub kind_of_profile : ProfileRefusal → RefusalKind
+kind_of_profile profile.NotAbsolute = NotAbsolute
+kind_of_profile profile.UnclosedClass = UnclosedClass
+kind_of_profile profile.EmptyClass = EmptyClass
+kind_of_profile profile.BadRange = BadRange
+kind_of_profile profile.UnclosedGroup = UnclosedGroup
+kind_of_profile profile.StrayClose = StrayClose
+kind_of_profile profile.FewAlternatives = FewAlternatives
+kind_of_profile profile.BadEscape = BadEscape
+kind_of_profile profile.TooLong = TooLong
+kind_of_profile profile.TooDeep = TooDeep
+kind_of_profile profile.ZeroByte = ZeroByte
+kind_of_profile profile.OpenQuote = OpenQuote
+kind_of_profile profile.OpenOther = OpenOther
+kind_of_profile profile.NoFile = NoFile
+kind_of_profile profile.IncludeDepth = IncludeDepth
+kind_of_profile profile.TextTooBig = TextTooBig
+kind_of_profile profile.Undefined = Undefined
+kind_of_profile profile.Redefined = Redefined
+kind_of_profile profile.AppendUndefined = AppendUndefined
+kind_of_profile profile.Cycle = Cycle
+kind_of_profile profile.TooManyRules = TooManyRules
+kind_of_profile profile.BadToken = BadToken
+kind_of_profile profile.Memory = Memory
+
+-- at the place that the file's refusal has
+abbrev pub refusal_of_profile : ProfileError → Refusal
+refusal_of_profile error = record { refusal = kind_of_profile error.refusal; place = error.place }

@@ -1,0 +1,10 @@
+//! Commands and questions, read from their lines, and why they are refused.
+#![tactic(auto)]
+
+mod command;
+mod question;
+mod refusal;
+
+pub use command::{Command, read};
+pub use question::Question;
+pub use refusal::{Refusal, RefusalKind, plain};

@@ -1,0 +1,2 @@
+pub mod FilesLemmas
+pub mod FolderLemmas

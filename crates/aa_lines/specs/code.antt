@@ -1,0 +1,2 @@
+-- What is about the code: the words that it cuts from a line.
+pub mod Texts

@@ -1,0 +1,3 @@
+pub mod AssignmentLemmas
+pub mod FileReadingLemmas
+pub mod FileShapeLemmas

@@ -1,0 +1,59 @@
+-- The variables of a file: what its assignments define, and which of them can't be worked out (docs/policy.md, "Variables").
+use Rattle.std.specs.Prelude.{ℕ, if◌then◌else◌, List, [], ◌∷◌, ◌++◌, map, find, Option, None, Some, Result, Ok, Err}
+use Rattle.std.specs.List.{flat_map}
+use Rattle.std.specs.Option.{option_map}
+use Rattle.std.specs.Str.{bytes_eq}
+use Rattle.aa_variables.specs.Expansions.{is_cyclic}
+use Rattle.aa_text.specs.Splicing.{Placed}
+use Rattle.aa_variables.specs.Variables.{Variable, after_append, after_define, names_undefined}
+use Rattle.aa_files.specs.declared.text_error.TextRefusal.{TextRefusal}
+use Rattle.aa_profile.specs.FileShape.{Assignment, Shape, place_of, text_of}
+use Rattle.aa_profile.specs.ProfileError.{refusal_of_text, placed}
+use Rattle.aa_profile.specs.declared.profile_error.ProfileError.{ProfileError}
+use Rattle.aa_profile.specs.declared.profile_error.ProfileRefusal.TheVariants.{Cycle, Undefined}
+
+-- the variables after an assignment
+abbrev pub assigned : List Variable → Assignment → Result (List Variable) TextRefusal
+assigned variables assignment =
+    if assignment.append
+    then after_append variables (text_of assignment.sign) (map text_of assignment.values)
+    else after_define variables (text_of assignment.sign) (map text_of assignment.values)
+
+-- the variables after assignments in order, or the first refusal, at its assignment
+abbrev pub all_assigned : List Variable → List Assignment → Result (List Variable) ProfileError
+all_assigned variables [] = Ok variables
+all_assigned variables (assignment ∷ assignments) = elim (assigned variables assignment) [
+  | Err refusal ↦ Err (placed (refusal_of_text refusal) (place_of assignment.sign))
+  | Ok next ↦ all_assigned next assignments
+]
+
+-- the tokens in which names of variables count: the values of the assignments, then the patterns
+abbrev pub naming : Shape → List Placed
+naming shape = flat_map (λ assignment. assignment.values) shape.assignments ++ shape.patterns
+
+-- the first of these tokens that names a variable that isn't defined
+abbrev pub first_undefined : List Variable → List Placed → Option Placed
+first_undefined variables tokens = find (λ token. names_undefined variables (text_of token)) tokens
+
+-- its refusal, at this token
+abbrev pub undefined_name : List Variable → Shape → Option ProfileError
+undefined_name variables shape = option_map (λ token. placed Undefined (place_of token)) (first_undefined variables (naming shape))
+
+-- the first assignment of a variable
+abbrev pub first_of : List ℕ → List Assignment → Option Assignment
+first_of name assignments = find (λ assignment. bytes_eq name (text_of assignment.sign)) assignments
+
+-- the refusal of the first variable that leads to itself or to one that does, at its first assignment
+abbrev pub cycle : List Variable → List Assignment → Option ProfileError
+cycle variables assignments =
+    option_map (λ variable. record { refusal = Cycle; place = option_map (λ assignment. place_of assignment.sign) (first_of variable.name assignments) }) (find (is_cyclic variables) variables)
+
+-- The variables of a file. All assignments are made before names are looked up, and these before cycles are looked for.
+abbrev pub variables_of : Shape → Result (List Variable) ProfileError
+variables_of shape = elim (all_assigned [] shape.assignments) [
+  | Err refusal ↦ Err refusal
+  | Ok variables ↦ elim (undefined_name variables shape) [
+    | Some refusal ↦ Err refusal
+    | None ↦ elim (cycle variables shape.assignments) [ Some refusal ↦ Err refusal | None ↦ Ok variables ]
+  ]
+]

@@ -1,8 +1,0 @@
-use Rattle.std.proofs.Common.{◌≡◌, drop}
-use Rattle.aa_set.specs.Assignments.{first_undefined}
-use Rattle.aa_set.specs.FileTokens.{seen_tokens}
-use Rattle.aa_set.proofs.assignments.first_undefined.Given as goal
-
--- the first is none of the tokens so far
-abbrev pub invariant-loop-spliced : goal.invariant-loop-spliced
-invariant-loop-spliced l = first_undefined l.variables (seen_tokens (drop l.spliced-index l.tokens)) ≡ first_undefined l.variables (seen_tokens l.tokens)

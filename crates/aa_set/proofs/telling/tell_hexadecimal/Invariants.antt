@@ -1,0 +1,11 @@
+use Rattle.std.proofs.Common.{◌≡◌, take}
+use Rattle.aa_set.specs.Reply.{hexadecimal}
+use Rattle.aa_lines.specs.Streams.{Tells}
+use Rattle.aa_set.proofs.telling.tell_hexadecimal.Given as goal
+
+-- the bytes so far are told
+abbrev pub invariant-loop-byte : goal.invariant-loop-byte
+invariant-loop-byte g l = record {
+  told : Tells (g.W.Sink.written l.initial.writer) (g.W.Sink.written l.writer) l.initial.waiting.items l.waiting.items (hexadecimal (take l.byte-index l.bytes));
+  flag : g.W.Sink.failed l.writer ≡ g.W.Sink.failed l.initial.writer;
+}

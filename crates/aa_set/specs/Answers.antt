@@ -1,0 +1,55 @@
+-- Answers: what a policy set says to a question, and the lines that tell it (docs/commands.md).
+use Rattle.std.specs.Prelude.{ℕ, Bool, true, false, if◌then◌else◌, List, [], ◌∷◌, ◌++◌, Option, None, Some, Result, Ok, Err, codes}
+use Rattle.std.specs.Str.{bytes_eq}
+use Rattle.aa_bytes.specs.Bytes.{line_feed}
+use Rattle.aa_commands.specs.Question.{Asked, OfFile, Request}
+use Rattle.aa_commands.specs.Refusal.{plain}
+use Rattle.aa_commands.specs.declared.refusal.Refusal.{Refusal}
+use Rattle.aa_commands.specs.declared.refusal.RefusalKind.{RefusalKind}
+use Rattle.aa_commands.specs.declared.refusal.RefusalKind.TheVariants.{Absent}
+use Rattle.aa_set.specs.PolicySet.{entry_named}
+use Rattle.aa_set.specs.Verdict.{verdict}
+use Rattle.aa_set.specs.declared.policy.Entry.{Entry}
+use Rattle.aa_set.specs.declared.verdict.Answer.{Answer}
+use Rattle.aa_set.specs.declared.verdict.Answer.TheVariants.{Unconfined, Allow, Deny, Refuse, Complain}
+
+abbrev pub entry_answer : Option Entry → Request → Result Answer Refusal
+entry_answer None request = Err (plain Absent)
+entry_answer (Some entry) request = Ok (verdict entry.mode entry.profile.rules request)
+
+-- the answer of a policy set
+abbrev pub answer_of : List Entry → Asked → Result Answer Refusal
+answer_of entries (OfFile who request) = if bytes_eq who (codes "unconfined") then Ok Unconfined else entry_answer (entry_named who entries) request
+
+-- a line: a text, and a line feed
+abbrev pub line_with : List ℕ → List ℕ
+line_with text = text ++ line_feed ∷ []
+
+-- the word of an answer
+abbrev pub answer_word : Answer → List ℕ
+answer_word Unconfined = codes "unconfined"
+answer_word Allow = codes "allow"
+answer_word Deny = codes "deny"
+answer_word Refuse = codes "refuse"
+answer_word Complain = codes "complain"
+
+-- the lines that an answer is told in
+abbrev pub told_lines : Result Answer Refusal → Result (List ℕ) Refusal
+told_lines (Ok answer) = Ok (line_with (answer_word answer))
+told_lines (Err refusal) = Err refusal
+
+-- the lines of the reply to a question
+abbrev pub reply_lines : List Entry → Asked → Result (List ℕ) Refusal
+reply_lines entries asked = told_lines (answer_of entries asked)
+
+abbrev pub is_absence : RefusalKind → Bool
+is_absence Absent = true
+is_absence _ = false
+
+abbrev pub is_absent : Result Answer Refusal → Bool
+is_absent (Err refusal) = is_absence refusal.refusal
+is_absent (Ok answer) = false
+
+-- a question is asked of a profile that isn't there
+abbrev pub asks_absent : List Entry → Asked → Bool
+asks_absent entries asked = is_absent (answer_of entries asked)

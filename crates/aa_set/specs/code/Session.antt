@@ -1,0 +1,54 @@
+-- What the code's loop over pieces of an input keeps true: the lines so far, their replies, and what is left of the
+-- last line. What `run` promises is in `Run`.
+use Rattle.std.specs.Prelude.{◌≡◌, ℕ, ◌+◌, Bool, List, [], ◌∷◌, ◌++◌, map, take, Option}
+use Rattle.std.specs.List.{flat_map, slice_split}
+use Rattle.aa_files.specs.Files.{File}
+use Rattle.aa_set.specs.Manager.{new_manager}
+use Rattle.aa_lines.specs.Lines.{is_line_feed}
+use Rattle.aa_set.specs.Reply.{reply_text}
+use Rattle.aa_set.specs.Run.{replies_to, after_lines, SumsUp}
+use Rattle.aa_lines.specs.Streams.{Tells}
+use Rattle.aa_lines.specs.Limits.{longest_line}
+use Rattle.aa_set.specs.declared.session.Session.{Session}
+
+-- A session is one after these lines, each with its flag; the text of the replies was told to a writer that had `before`
+-- and has `now`.
+pub record IsAfter (files : List File) (force_complain : Bool) (before now : Option (List ℕ)) (session : Session) (lines : List (List ℕ × Bool)) : Type 0 where
+  pub managed : session.manager ≡ after_lines files (new_manager force_complain) lines
+  pub told : Tells before now [] session.waiting.items (flat_map (reply_text files) (replies_to files (new_manager force_complain) lines))
+  pub summed : SumsUp session.summary (replies_to files (new_manager force_complain) lines)
+
+-- An input consists of these lines, each ended by a line feed, and then of a line that isn't finished, of which a line
+-- buffer holds as much as matters.
+pub record IsCut (input : List ℕ) (lines : List (List ℕ × Bool)) (buffer : List ℕ) : Type 0 where
+  pub unfinished : List ℕ
+  pub cut : slice_split is_line_feed input ≡ map (λ line. line.0) lines ++ unfinished ∷ []
+  pub held : buffer ≡ take (longest_line + 1) unfinished
+
+-- a session and its line buffer are those after an input
+pub record Follows (files : List File) (force_complain : Bool) (before now : Option (List ℕ)) (session : Session) (held input : List ℕ) : Type 0 where
+  pub lines : List (List ℕ × Bool)
+  pub after : IsAfter files force_complain before now session lines
+  pub cut : IsCut input lines held
+
+-- how many bytes a read asks for
+abbrev pub piece_size : ℕ
+piece_size = 65536
+
+-- how many lines a summary counts
+abbrev pub counted : Session → ℕ
+counted session = session.summary.accepted + session.summary.refused
+
+-- how feeding bytes leads from one session to the next, whatever was fed before
+abbrev pub Feeds : List File → (old new : Option (List ℕ)) → Session → Session → List ℕ → List ℕ → List ℕ → Type 0
+Feeds files old new before after held left more =
+    (force_complain : Bool) (start : Option (List ℕ)) (input : List ℕ)
+    → Follows files force_complain start old before held input
+    → Follows files force_complain start new after left (input ++ more)
+
+-- how answering a line leads from one session to the next, whatever was answered before: with a flag where it found no memory
+abbrev pub AnswersLine : List File → (old new : Option (List ℕ)) → Session → Session → List ℕ → Type 0
+AnswersLine files old new before after line =
+    (force_complain : Bool) (start : Option (List ℕ)) (lines : List (List ℕ × Bool))
+    → IsAfter files force_complain start old before lines
+    → (flag : Bool) × IsAfter files force_complain start new after (lines ++ (line, flag) ∷ [])

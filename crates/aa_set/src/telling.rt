@@ -1,0 +1,154 @@
+//! The texts of replies, told to a writer without memory.
+
+ghost use Rattle.std.specs.Prelude.{◌≡◌, ◌∷◌, [], true, OnOk, OnErr};
+ghost use Rattle.std.specs.Fmt.{decimal};
+ghost use Rattle.std.specs.List.{list_all};
+ghost use Rattle.aa_files.specs.Files.{name_at};
+ghost use Rattle.aa_lines.specs.Streams.{Tells};
+ghost use Rattle.aa_set.specs.Reply.{hexadecimal, is_shown, place_text, refusal_text, reply_text, told_text};
+
+use crate::reply::Reply;
+use aa_commands::Refusal;
+use aa_files::{Files, Place};
+use aa_lines::{Failed, Sink, tell};
+use hex::encode_to_slice;
+use itoa::Buffer;
+
+/// Tells a reply to a writer, behind what waits to be written. It takes no memory. The places of refusals are those of these files.
+///
+/// # Errors
+///
+/// `Failed` where the writer has a fault.
+pub fn tell_reply<W: Sink>(
+    writer: &mut W,
+    waiting: &mut Vec<u8>,
+    files: &Files,
+    reply: &Reply,
+) -> Result<(), Failed>
+    ensures ok { OnOk result (Tells (W.written writer.old) (W.written writer.new) waiting.old.items waiting.new.items (reply_text files.now reply.now)) }
+    ensures flag { OnOk result (W.failed writer.new ≡ W.failed writer.old) }
+    ensures fault { OnErr result (W.failed writer.new ≡ true) }
+{
+    match reply {
+        Reply::Silent => tell(writer, waiting, b""),
+        Reply::Done => tell(writer, waiting, b"ok\n"),
+        Reply::Refused(refusal) => tell_refusal(writer, waiting, files, *refusal),
+        Reply::Told(lines) => tell(writer, waiting, lines.as_slice()),
+    }
+}
+
+// Tells the line of a refusal.
+fn tell_refusal<W: Sink>(
+    writer: &mut W,
+    waiting: &mut Vec<u8>,
+    files: &Files,
+    refusal: Refusal,
+) -> Result<(), Failed>
+    ensures ok { OnOk result (Tells (W.written writer.old) (W.written writer.new) waiting.old.items waiting.new.items (refusal_text files.now refusal)) }
+    ensures flag { OnOk result (W.failed writer.new ≡ W.failed writer.old) }
+    ensures fault { OnErr result (W.failed writer.new ≡ true) }
+{
+    tell(writer, waiting, b"refused ")?;
+    tell_number(writer, waiting, usize::from(refusal.number()))?;
+    tell(writer, waiting, b" ")?;
+    tell(writer, waiting, refusal.name().as_bytes())?;
+    tell_place(writer, waiting, files, refusal.place)?;
+    tell(writer, waiting, b"\n")
+}
+
+// Tells a place, behind a blank: the file's name and the offset in bytes.
+fn tell_place<W: Sink>(
+    writer: &mut W,
+    waiting: &mut Vec<u8>,
+    files: &Files,
+    place: Option<Place>,
+) -> Result<(), Failed>
+    ensures ok { OnOk result (Tells (W.written writer.old) (W.written writer.new) waiting.old.items waiting.new.items (place_text files.now place)) }
+    ensures flag { OnOk result (W.failed writer.new ≡ W.failed writer.old) }
+    ensures fault { OnErr result (W.failed writer.new ≡ true) }
+{
+    let Some(place) = place else {
+        return tell(writer, waiting, b"");
+    };
+    tell(writer, waiting, b" ")?;
+    tell_text(writer, waiting, file_name(files, place.file))?;
+    tell(writer, waiting, b" ")?;
+    tell_number(writer, waiting, place.at)
+}
+
+// The name of the file at a place among the files.
+fn file_name(files: &Files, file: usize) -> &[u8]
+    ensures { result.now ≡ name_at files.now file }
+{
+    match files.name(file) {
+        Some(name) => name,
+        None => b"",
+    }
+}
+
+// Whether a text shows all of its bytes as they are.
+fn are_shown(text: &[u8]) -> bool
+    ensures { result ≡ list_all is_shown text.now }
+{
+    text.iter().all(|byte| is_shown(*byte))
+}
+
+// Tells a text: between quotes, or in hexadecimal where one of its bytes isn't shown.
+fn tell_text<W: Sink>(writer: &mut W, waiting: &mut Vec<u8>, text: &[u8]) -> Result<(), Failed>
+    ensures ok { OnOk result (Tells (W.written writer.old) (W.written writer.new) waiting.old.items waiting.new.items (told_text text.now)) }
+    ensures flag { OnOk result (W.failed writer.new ≡ W.failed writer.old) }
+    ensures fault { OnErr result (W.failed writer.new ≡ true) }
+{
+    if !are_shown(text) {
+        return tell_hexadecimal(writer, waiting, text);
+    }
+    tell(writer, waiting, b"\"")?;
+    tell(writer, waiting, text)?;
+    tell(writer, waiting, b"\"")
+}
+
+// Whether a text shows a byte as it is.
+fn is_shown(byte: u8) -> bool
+    ensures { result ≡ is_shown byte }
+{
+    byte.is_ascii_graphic() && byte != b'"'
+}
+
+// Tells bytes as two hexadecimal digits each.
+fn tell_hexadecimal<W: Sink>(
+    writer: &mut W,
+    waiting: &mut Vec<u8>,
+    bytes: &[u8],
+) -> Result<(), Failed>
+    ensures ok { OnOk result (Tells (W.written writer.old) (W.written writer.new) waiting.old.items waiting.new.items (hexadecimal bytes.now)) }
+    ensures flag { OnOk result (W.failed writer.new ≡ W.failed writer.old) }
+    ensures fault { OnErr result (W.failed writer.new ≡ true) }
+{
+    for byte in bytes {
+        tell(writer, waiting, &two_digits(*byte))?;
+    }
+    Ok(())
+}
+
+// The two hexadecimal digits of a byte.
+fn two_digits(byte: u8) -> [u8; 2]
+    ensures { result ≡ hexadecimal (byte ∷ []) }
+{
+    let mut digits = [0; 2];
+    match encode_to_slice([byte], &mut digits) {
+        Ok(()) => {}
+        Err(_) => unreachable!(),
+    }
+    digits.make_ascii_uppercase();
+    digits
+}
+
+// Tells a number in decimal.
+fn tell_number<W: Sink>(writer: &mut W, waiting: &mut Vec<u8>, number: usize) -> Result<(), Failed>
+    ensures ok { OnOk result (Tells (W.written writer.old) (W.written writer.new) waiting.old.items waiting.new.items (decimal number)) }
+    ensures flag { OnOk result (W.failed writer.new ≡ W.failed writer.old) }
+    ensures fault { OnErr result (W.failed writer.new ≡ true) }
+{
+    let mut digits = Buffer::new();
+    tell(writer, waiting, digits.format(number).as_bytes())
+}

@@ -1,8 +1,0 @@
-use Rattle.std.proofs.Common.{◌≡◌, ◌+◌, drop}
-use Rattle.std.specs.List.{prefix_len}
-use Rattle.aa_text.specs.Bytes.{is_name_byte}
-use Rattle.aa_text.proofs.front.name_size.Given as goal
-
--- the bytes so far, and those of the rest, are all
-abbrev pub invariant-loop-at : goal.invariant-loop-at
-invariant-loop-at l = prefix_len is_name_byte l.text ≡ l.at + prefix_len is_name_byte (drop l.at l.text)

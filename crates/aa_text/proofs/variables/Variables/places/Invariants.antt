@@ -1,7 +1,0 @@
-use Rattle.std.proofs.Common.{◌≡◌}
-use Rattle.std.specs.List.{range_with_len}
-use Rattle.aa_text.proofs.variables.Variables.places.Given as goal
-
--- the places so far are those of the variables so far
-abbrev pub invariant-loop-place : goal.invariant-loop-place
-invariant-loop-place l = l.places.items ≡ range_with_len 0 l.place

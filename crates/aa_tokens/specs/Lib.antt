@@ -1,0 +1,4 @@
+pub mod Cut
+pub mod CutFault
+pub mod CutLaws
+pub mod code

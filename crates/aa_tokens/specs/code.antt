@@ -1,0 +1,3 @@
+-- What is about the code: how its tokens and the pieces that it cuts stand to the definitions.
+pub mod Pieces
+pub mod Tokens

@@ -1,0 +1,22 @@
+use Rattle.std.proofs.Common.{◌≡◌, ◌<◌, min, length, arith}
+use Rattle.aa_variables.specs.Expansions.{expansions, most_counted}
+use Rattle.aa_variables.proofs.CountLemmas.{text-counted}
+use Rattle.aa_variables.proofs.OrderLemmas.{values-settled}
+use Rattle.aa_variables.proofs.variables.Variables.count.Goals as goal
+
+pub returns-clause-count : goal.returns-clause-count
+returns-clause-count c =
+    let variables = c.args.self.now in
+    let order = c.in_ok-order.order.keys in
+    let settled = values-settled variables order c.in_ok-order.ensures.order c.in_ok-order.ensures.few in
+    rw (c.count_text.ensures, c.as_slice.ensures.value) (text-counted variables order settled c.args.text.now c.in_ok-counts.counts.items c.in_ok-counts.ensures c.in_ok-order.ensures.named)
+
+pub returns-clause-some : goal.returns-clause-some
+returns-clause-some c =
+    let variables = c.args.self.now in
+    let order = c.in_ok-order.order.keys in
+    let settled = values-settled variables order c.in_ok-order.ensures.order c.in_ok-order.ensures.few in
+    let counted : c.count_text.result ≡ min (length (expansions variables c.args.text.now)) most_counted =
+    rw (c.count_text.ensures, c.as_slice.ensures.value) (text-counted variables order settled c.args.text.now c.in_ok-counts.counts.items c.in_ok-counts.ensures c.in_ok-order.ensures.named) in
+    let some : 0 < length (expansions variables c.args.text.now) = c.in_ok-order.ensures.some in
+    omega arith

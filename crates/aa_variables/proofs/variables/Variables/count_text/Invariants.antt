@@ -1,0 +1,15 @@
+use Rattle.std.proofs.Common.{◌≡◌, ◌≤◌, ◌*◌, min, length}
+use Rattle.aa_variables.specs.Expansions.{choice_count, most_counted}
+use Rattle.aa_variables.specs.code.ExpansionTables.{looked_up}
+use Rattle.aa_variables.specs.Variables.{parts}
+use Rattle.aa_variables.proofs.variables.Variables.count_text.Given as goal
+
+-- the choices so far, times those of the rest, are those of the text
+abbrev pub invariant-loop-part : goal.invariant-loop-part
+invariant-loop-part l = record {
+  same : min (l.so_far * choice_count (looked_up 0 l.self l.order.keys l.counts) (parts l.rest)) most_counted ≡ min (choice_count (looked_up 0 l.self l.order.keys l.counts) (parts l.text)) most_counted;
+  bounded : l.so_far ≤ most_counted;
+}
+
+abbrev pub decreases-loop-part : goal.decreases-loop-part
+decreases-loop-part l = length l.rest

@@ -1,0 +1,17 @@
+use Rattle.std.proofs.Common.{refl}
+use Rattle.aa_variables.specs.code.ExpansionTables.{cut_off_by, texts_of}
+use Rattle.aa_variables.proofs.ExpandLemmas.{choices-bytes, joined-nil, joined-none}
+use Rattle.aa_variables.proofs.variables.Variables.expand_part.Goals as goal
+
+pub returns-in-Text : goal.returns-in-Text
+returns-in-Text c =
+    let values = cut_off_by c.args.self.now c.args.order.now.keys c.args.table.now in
+    rw (c.in-Text.is, choices-bytes values c.in-Text.bytes.now) c.with_bytes.ensures
+
+pub returns-in-Name : goal.returns-in-Name
+returns-in-Name c =
+    let values = cut_off_by c.args.self.now c.args.order.now.keys c.args.table.now in
+    rw (c.in-Name.is, joined-nil (values c.in-Name.name.now)) (rw (c.as_slice.ensures.value, c.values-values.ensures) at c.with_ends.ensures)
+
+pub returns-in-Unclosed : goal.returns-in-Unclosed
+returns-in-Unclosed c = rw (c.in-Unclosed.is, c.new.ensures.items, joined-none (texts_of c.args.texts)) refl

@@ -1,0 +1,15 @@
+use Rattle.std.proofs.Common.{◌≡◌, length}
+use Rattle.aa_variables.specs.Expansions.{choices}
+use Rattle.aa_variables.specs.code.ExpansionTables.{joined, texts_of, cut_off, cut_off_by}
+use Rattle.aa_variables.specs.Variables.{parts}
+use Rattle.aa_variables.proofs.variables.Variables.expand_text.Given as goal
+
+-- the texts so far, with the choices of the rest behind them, are those of the text
+abbrev pub invariant-loop-part : goal.invariant-loop-part
+invariant-loop-part l = record {
+  same : cut_off (joined (texts_of l.texts) (choices (cut_off_by l.self l.order.keys l.table) (parts l.rest))) ≡ cut_off (choices (cut_off_by l.self l.order.keys l.table) (parts l.text));
+  short : cut_off (texts_of l.texts) ≡ texts_of l.texts;
+}
+
+abbrev pub decreases-loop-part : goal.decreases-loop-part
+decreases-loop-part l = length l.rest

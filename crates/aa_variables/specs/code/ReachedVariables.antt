@@ -1,0 +1,66 @@
+-- The variables that a text leads to, as the code gathers them: a list of indexes, each of which is looked at in turn.
+use Rattle.std.specs.Prelude.{ℕ, Bool, suc, true, false, ◌≡◌, ◌+◌, ◌<◌, ◌≤◌, nat_eq, List, [], ◌∷◌, ◌++◌, length, slice_get, None, Some, if◌then◌else◌}
+use Rattle.std.specs.List.{list_any, IsDistinct}
+use Rattle.aa_variables.specs.Variables.{Variable, names_undefined, Part, Byte, Name, Unclosed, parts}
+use Rattle.aa_variables.specs.Expansions.{leads_to_undefined_within}
+use Rattle.aa_variables.specs.code.ExpansionOrder.{are_texts_known}
+use Rattle.aa_files.specs.declared.text_error.TextRefusal.{TextRefusal}
+use Rattle.aa_files.specs.declared.text_error.TextRefusal.TheVariants.{Undefined}
+use Rattle.aa_variables.specs.code.VariableIndexes.{index_of, words_at}
+
+-- the indexes of the variables that parts name, as far as they are defined
+abbrev pub indexes_of : List Variable → List Part → List ℕ
+indexes_of variables [] = []
+indexes_of variables (Byte b ∷ ps) = indexes_of variables ps
+indexes_of variables (Name name ∷ ps) = elim (index_of variables name) [
+  | None ↦ indexes_of variables ps
+  | Some index ↦ index ∷ indexes_of variables ps
+]
+indexes_of variables (Unclosed ∷ ps) = indexes_of variables ps
+
+-- the indexes of the variables that a text names
+abbrev pub indexes_in : List Variable → List ℕ → List ℕ
+indexes_in variables text = indexes_of variables (parts text)
+
+-- the indexes of the variables that texts name
+abbrev pub indexes_within : List Variable → List (List ℕ) → List ℕ
+indexes_within variables [] = []
+indexes_within variables (text ∷ texts) = indexes_in variables text ++ indexes_within variables texts
+
+-- indexes with one more, which goes last unless it is there
+abbrev pub with_index : List ℕ → ℕ → List ℕ
+with_index known index = if list_any (nat_eq index) known then known else known ++ index ∷ []
+
+-- indexes with each of others in turn
+abbrev pub with_indexes : List ℕ → List ℕ → List ℕ
+with_indexes known [] = known
+with_indexes known (index ∷ indexes) = with_indexes (with_index known index) indexes
+
+-- all that the words at some indexes name is among them
+abbrev pub IsClosed : List Variable → List ℕ → Type 0
+IsClosed variables indexes = (index : ℕ) → list_any (nat_eq index) indexes ≡ true → are_texts_known variables indexes (words_at variables index) ≡ true
+
+-- a refusal says that something undefined was found, and it was
+abbrev pub SaysUndefined : TextRefusal → Bool → Type 0
+SaysUndefined refusal found = (refusal ≡ Undefined) × (found ≡ true)
+
+-- What is known of the gathered indexes once the words of the first so many were looked at.
+pub record IsReachedSoFar (variables : List Variable) (text : List ℕ) (reached : List ℕ) (at : ℕ) : Type 0 where
+  -- what the text names is gathered
+  pub named : (index : ℕ) → list_any (nat_eq index) (indexes_in variables text) ≡ true → list_any (nat_eq index) reached ≡ true
+  -- so is what the words name that were looked at
+  pub closed : (before of index : ℕ) → before < at → slice_get reached before ≡ Some of → list_any (nat_eq index) (indexes_within variables (words_at variables of)) ≡ true
+      → list_any (nat_eq index) reached ≡ true
+  -- the text itself names nothing undefined
+  pub start : names_undefined variables text ≡ false
+  -- nor do the words that were looked at
+  pub fine : (before of : ℕ) → before < at → slice_get reached before ≡ Some of → list_any (names_undefined variables) (words_at variables of) ≡ false
+  -- they are indexes of variables
+  pub below : (index : ℕ) → list_any (nat_eq index) reached ≡ true → index < length variables
+  -- no two are the same
+  pub distinct : IsDistinct nat_eq reached
+  -- no more were looked at than there are
+  pub within : at ≤ length reached
+  -- the text leads to the words of each, over no more variables than stand before it
+  pub led : (before of depth : ℕ) → slice_get reached before ≡ Some of → list_any (leads_to_undefined_within variables depth) (words_at variables of) ≡ true
+      → leads_to_undefined_within variables (suc (before + depth)) text ≡ true

@@ -1,0 +1,220 @@
+//! The expansions of a text: one for each choice of a value for each of its names.
+
+ghost use Rattle.std.specs.Prelude.{◌≡◌, ◌≢◌, ◌<◌, ◌≤◌, ◌++◌, ◌∷◌, [], None, Some, IfOk, IfErr, OnOk, length, map, take};
+ghost use Rattle.aa_variables.specs.code.ExpansionOrder.{IsOrder};
+ghost use Rattle.aa_variables.specs.code.ExpansionTables.{as_texts, cut_off, cut_off_at, cut_off_by, expanded_words, extended, joined, texts_of};
+ghost use Rattle.aa_variables.specs.Expansions.{choices, expansion_refusal, expansions, most_kept};
+ghost use Rattle.aa_variables.specs.code.TextParts.{parts_of};
+ghost use Rattle.aa_variables.specs.code.VariableIndexes.{words_at};
+ghost use Rattle.aa_variables.specs.Variables.{parts};
+ghost use Rattle.aa_files.specs.declared.text_error.TextRefusal.TheVariants.{Memory};
+
+use crate::parts::{TextPart, first_part};
+use crate::variables::Variables;
+use aa_bytes::Sequence;
+use aa_files::TextError;
+use indexmap::IndexSet;
+use std::alloc::{AllocError, Global};
+
+// How many bytes of an expansion are kept.
+const MOST_KEPT: usize = 4_097;
+
+// A text, cut off.
+fn cut(text: &[u8]) -> &[u8]
+    ensures { result.now ≡ take most_kept text.now }
+{
+    &text[..text.len().min(MOST_KEPT)]
+}
+
+// A text with another behind it, cut off.
+fn joined_text(alloc: Global, text: &[u8], end: &[u8]) -> Result<Vec<u8>, AllocError>
+    ensures { IfOk result (λ all. all.items ≡ take most_kept (text.now ++ end.now)) }
+{
+    let text = cut(text);
+    let room = MOST_KEPT - text.len();
+    let end = &end[..end.len().min(room)];
+    let mut all = Vec::with_capacity(alloc, text.len() + end.len())?;
+    all.extend_from_slice(text)?;
+    all.extend_from_slice(end)?;
+    Ok(all)
+}
+
+// A text with each end behind it, each cut off.
+fn with_each(alloc: Global, text: &[u8], ends: &[Vec<u8>]) -> Result<Vec<Vec<u8>>, AllocError>
+    ensures { IfOk result (λ all. texts_of all ≡ cut_off (map (λ end. text.now ++ end) (as_texts ends.now))) }
+{
+    let mut all = Vec::with_capacity(alloc, ends.len())?;
+    for end in ends {
+        all.push(joined_text(alloc, text, end)?)?;
+    }
+    Ok(all)
+}
+
+// Each text with each end behind it, each cut off.
+fn with_ends(alloc: Global, texts: &[Vec<u8>], ends: &[Vec<u8>]) -> Result<Vec<Vec<u8>>, AllocError>
+    ensures { IfOk result (λ all. texts_of all ≡ cut_off (joined (as_texts texts.now) (as_texts ends.now))) }
+{
+    let mut all = Vec::new(alloc);
+    for text in texts {
+        let mut more = with_each(alloc, text, ends)?;
+        all.append(&mut more)?;
+    }
+    Ok(all)
+}
+
+// Puts bytes behind a text, and cuts it off.
+fn put_behind(text: &mut Vec<u8>, bytes: &[u8]) -> Result<(), AllocError>
+    ensures { OnOk result (text.new.items ≡ take most_kept (text.old.items ++ bytes.now)) }
+{
+    text.truncate(MOST_KEPT);
+    let room = MOST_KEPT - text.len();
+    text.extend_from_slice(&bytes[..bytes.len().min(room)])?;
+    Ok(())
+}
+
+// Each text with the same bytes behind it, each cut off.
+fn with_bytes(texts: Vec<Vec<u8>>, bytes: &[u8]) -> Result<Vec<Vec<u8>>, AllocError>
+    ensures { IfOk result (λ all. texts_of all ≡ cut_off (joined (texts_of texts) (bytes.now ∷ []))) }
+{
+    let mut texts = texts;
+    for text in texts.iter_mut() {
+        put_behind(text, bytes)?;
+    }
+    Ok(texts)
+}
+
+impl Variables {
+    /// The expansions of a text, at least one: one for each choice of a value for each name, the first name changing slowest. Of each,
+    /// the first 4,097 bytes are kept.
+    ///
+    /// A caller asks `count` before: there may be more expansions than memory holds.
+    ///
+    /// # Errors
+    ///
+    /// The first of these that applies, without a place.
+    /// - `Undefined`: the text leads to a name that isn't defined or isn't closed.
+    /// - `Cycle`: the text leads to a variable that leads to itself.
+    /// - `Memory`: memory ran out.
+    pub fn expand(&self, text: &[u8]) -> Result<Vec<Vec<u8>>, TextError>
+        ensures fine { OnOk result (expansion_refusal self.now text.now ≡ None) }
+        ensures some { IfOk result (λ texts. 0 < length texts.items) }
+        ensures texts { IfOk result (λ texts. map (λ t. t.items) texts.items ≡ map (take most_kept) (expansions self.now text.now)) }
+        ensures refused { IfErr result (λ e. e.refusal ≢ Memory → expansion_refusal self.now text.now ≡ Some e.refusal) }
+        ensures place { IfErr result (λ e. e.place ≡ None) }
+    {
+        let order = self.order(text)?;
+        let table = self.table(&order)?;
+        Ok(self.expand_text(&order, table.as_slice(), text)?)
+    }
+
+    // The values of each variable of an order.
+    fn table(&self, order: &IndexSet<usize>) -> Result<Vec<Vec<Vec<u8>>>, AllocError>
+        requires order { IsOrder self.now order.now.keys }
+        requires few { length order.now.keys ≤ length self.now }
+        ensures { IfOk result (λ table. map texts_of table.items ≡ map (cut_off_at self.now) order.now.keys) }
+    {
+        let indexes = order.as_slice();
+        let mut table = Vec::with_capacity(*self.by_name.allocator(), indexes.len())?;
+        for index in indexes {
+            let texts = self.expand_variable(order, table.as_slice(), *index)?;
+            table.push(texts)?;
+        }
+        Ok(table)
+    }
+
+    // The values of the variable at an index, by a table of values.
+    fn expand_variable(
+        &self,
+        order: &IndexSet<usize>,
+        table: &[Vec<Vec<u8>>],
+        index: usize,
+    ) -> Result<Vec<Vec<u8>>, AllocError>
+        ensures { IfOk result (λ texts. texts_of texts ≡ expanded_words (cut_off_by self.now order.now.keys table.now) (words_at self.now index)) }
+    {
+        match self.by_name.get_index(index) {
+            Some((_, values)) => {
+                let mut texts = self.expand_words(order, table, values.defined.as_slice())?;
+                let mut added = self.expand_words(order, table, values.added.as_slice())?;
+                texts.append(&mut added)?;
+                Ok(texts)
+            }
+            None => Ok(Vec::new(*self.by_name.allocator())),
+        }
+    }
+
+    // The expansions of words, by a table of values, one list behind the other.
+    fn expand_words(
+        &self,
+        order: &IndexSet<usize>,
+        table: &[Vec<Vec<u8>>],
+        words: &[Sequence<u8>],
+    ) -> Result<Vec<Vec<u8>>, AllocError>
+        ensures { IfOk result (λ texts. texts_of texts ≡ expanded_words (cut_off_by self.now order.now.keys table.now) words.now) }
+    {
+        let mut texts = Vec::new(*self.by_name.allocator());
+        for word in words {
+            let mut more = self.expand_text(order, table, word.as_slice())?;
+            texts.append(&mut more)?;
+        }
+        Ok(texts)
+    }
+
+    // The expansions of a text, by a table of values.
+    fn expand_text(
+        &self,
+        order: &IndexSet<usize>,
+        table: &[Vec<Vec<u8>>],
+        text: &[u8],
+    ) -> Result<Vec<Vec<u8>>, AllocError>
+        ensures { IfOk result (λ texts. texts_of texts ≡ cut_off (choices (cut_off_by self.now order.now.keys table.now) (parts text.now))) }
+    {
+        let alloc = *self.by_name.allocator();
+        let mut texts = Vec::with_capacity(alloc, 1)?;
+        texts.push(Vec::new(alloc))?;
+        let mut rest = text;
+        while let Some((part, after)) = first_part(rest) {
+            texts = self.expand_part(order, table, part, texts)?;
+            rest = after;
+        }
+        Ok(texts)
+    }
+
+    // Texts with the expansions of a part behind them, by a table of values.
+    fn expand_part(
+        &self,
+        order: &IndexSet<usize>,
+        table: &[Vec<Vec<u8>>],
+        part: TextPart<'_>,
+        texts: Vec<Vec<u8>>,
+    ) -> Result<Vec<Vec<u8>>, AllocError>
+        ensures { IfOk result (λ all. texts_of all ≡ extended (cut_off_by self.now order.now.keys table.now) (texts_of texts) (parts_of part.entry)) }
+    {
+        let alloc = *self.by_name.allocator();
+        match part {
+            TextPart::Text(bytes) => with_bytes(texts, bytes),
+            TextPart::Name(name) => {
+                let values = self.values(order, table, name);
+                with_ends(alloc, texts.as_slice(), values)
+            }
+            TextPart::Unclosed => Ok(Vec::new(alloc)),
+        }
+    }
+
+    // The values of a name, by a table of values.
+    fn values<'a>(
+        &self,
+        order: &IndexSet<usize>,
+        table: &'a [Vec<Vec<u8>>],
+        name: &[u8],
+    ) -> &'a [Vec<u8>]
+        ensures { as_texts result.now ≡ cut_off_by self.now order.now.keys table.now name.now }
+    {
+        match self.row(order, name) {
+            Some(row) => match table.get(row) {
+                Some(values) => values.as_slice(),
+                None => &[],
+            },
+            None => &[],
+        }
+    }
+}

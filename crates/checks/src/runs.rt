@@ -1,0 +1,109 @@
+//! Runs over readers and writers of few bytes a call, and over some that fail.
+
+use crate::fakes::{Slow, Small, Undoing};
+use aa_set::{FromRead, RunFault, Sink, Source, Summary, ToWrite, run};
+use aa_text::Files;
+use std::alloc::Global;
+
+// The reply to each line: nothing was changed.
+const REPLY: &[u8] = b"refused 63 NothingToUndo\n";
+
+// Whether bytes are so many replies.
+fn are_replies(written: &[u8], count: usize) -> bool {
+    written.chunks(REPLY.len()).all(|reply| reply == REPLY) && written.len() / REPLY.len() == count
+}
+
+// Whether a reader of so many bytes, one a read, is answered line by line, by so many reads.
+fn answers_bytes(alloc: Global, count: usize, lines: u64, reads: u64) -> bool {
+    let files = Files::new(alloc);
+    let mut reader = FromRead::new(Undoing {
+        at: 0,
+        count,
+        fails: false,
+    });
+    let mut writer = ToWrite::new(Vec::new(alloc));
+    let outcome = run(alloc, &files, false, &mut reader, &mut writer);
+    let want = Summary {
+        accepted: 0,
+        refused: lines,
+    };
+    outcome == Ok(want) && reader.reads() == reads
+}
+
+#[test]
+fn seventy_thousand_reads_of_a_byte_are_answered(rt: HostRuntime) {
+    assert!(rt; answers_bytes(rt.alloc(), 70_000, 14_000, 70_001));
+}
+
+// The replies that are written where a reader fails behind so many bytes.
+fn answers_until_the_fault(alloc: Global, count: usize, lines: usize) -> bool {
+    let files = Files::new(alloc);
+    let mut reader = FromRead::new(Undoing {
+        at: 0,
+        count,
+        fails: true,
+    });
+    let mut writer = ToWrite::new(Vec::new(alloc));
+    let outcome = run(alloc, &files, false, &mut reader, &mut writer);
+    outcome == Err(RunFault::Read)
+        && reader.failed()
+        && are_replies(writer.into_inner().as_slice(), lines)
+}
+
+#[test]
+fn whole_lines_before_a_fault_are_answered(rt: HostRuntime) {
+    assert!(rt; answers_until_the_fault(rt.alloc(), 69_999, 13_999));
+}
+
+#[test]
+fn nothing_is_answered_where_the_first_read_fails(rt: HostRuntime) {
+    assert!(rt; answers_until_the_fault(rt.alloc(), 0, 0));
+}
+
+// A slice as a writer has room for five bytes: the front that fits is written.
+fn fills_a_slice(alloc: Global) -> bool {
+    let files = Files::new(alloc);
+    let mut room = [b'.'; 5];
+    let mut writer = ToWrite::new(room.as_mut_slice());
+    let mut reader = FromRead::new(b"undo\nundo\n".as_slice());
+    let outcome = run(alloc, &files, false, &mut reader, &mut writer);
+    outcome == Err(RunFault::Write) && writer.failed() && reader.reads() == 1 && room == *b"refus"
+}
+
+#[test]
+fn a_slice_is_filled(rt: HostRuntime) {
+    assert!(rt; fills_a_slice(rt.alloc()));
+}
+
+// A sink that takes a byte a call, and then fails.
+fn fills_a_slow_sink(alloc: Global) -> bool {
+    let files = Files::new(alloc);
+    let mut writer = Slow::new();
+    let mut reader = FromRead::new(b"undo\n".as_slice());
+    let outcome = run(alloc, &files, false, &mut reader, &mut writer);
+    outcome == Err(RunFault::Write) && writer.failed() && writer.taken == *b"refused "
+}
+
+#[test]
+fn a_slow_sink_is_filled(rt: HostRuntime) {
+    assert!(rt; fills_a_slow_sink(rt.alloc()));
+}
+
+// A writer that takes a byte a write, and then fails or takes nothing.
+fn fills_a_small_writer(alloc: Global, fails: bool) -> bool {
+    let files = Files::new(alloc);
+    let mut writer = ToWrite::new(Small::new(fails));
+    let mut reader = FromRead::new(b"undo\n".as_slice());
+    let outcome = run(alloc, &files, false, &mut reader, &mut writer);
+    outcome == Err(RunFault::Write) && writer.into_inner().taken == *b"refused "
+}
+
+#[test]
+fn a_writer_that_fails_is_filled(rt: HostRuntime) {
+    assert!(rt; fills_a_small_writer(rt.alloc(), true));
+}
+
+#[test]
+fn a_writer_that_takes_nothing_is_filled(rt: HostRuntime) {
+    assert!(rt; fills_a_small_writer(rt.alloc(), false));
+}

@@ -1,0 +1,36 @@
+//! Rows of one line: a question, the word `gives`, and the answer that is wanted.
+
+use crate::row_error::RowError;
+use crate::words::number_of;
+
+/// What stands before and behind the first of these signs. A text without them can't be read.
+pub fn split_at<'a>(text: &'a str, signs: &str) -> Result<(&'a str, &'a str), RowError> {
+    match text.split_once(signs) {
+        Some(parts) => Ok(parts),
+        None => Err(RowError::Unreadable("a part of the row is missing")),
+    }
+}
+
+/// The question of a line and the answer that is wanted: `ok` where the line has none.
+pub fn question_of(line: &str) -> (&str, &str) {
+    match line.split_once(" gives ") {
+        Some((question, wanted)) => (question, wanted),
+        None => (line, "ok"),
+    }
+}
+
+/// How often a line is done, and the line: `repeat TIMES` may stand before it.
+pub fn turns_of(line: &str) -> Result<(usize, &str), RowError> {
+    match line.strip_prefix("repeat ") {
+        Some(rest) => {
+            let (times, line) = split_at(rest, " ")?;
+            Ok((number_of(times)?, line))
+        }
+        None => Ok((1, line)),
+    }
+}
+
+/// The word of an answer.
+pub fn yes_or_no(answer: bool) -> &'static [u8] {
+    if answer { b"yes" } else { b"no" }
+}

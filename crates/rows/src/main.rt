@@ -1,0 +1,37 @@
+//! Asks the rows of patterns, tokens, splicings, variables and files.
+#![tactic(auto)]
+
+mod files;
+mod patterns;
+mod splicings;
+mod tokens;
+mod variables;
+
+use anyhow::Result;
+use row_texts::{Asks, Part, RowError, Tally, ask_files};
+
+// What asks rows of the texts of files and of patterns.
+struct Texts;
+
+impl Asks for Texts {
+    fn ask(
+        &self,
+        tally: &mut Tally,
+        kind: &str,
+        common: &[Part<'_>],
+        parts: &[Part<'_>],
+    ) -> Result<(), RowError> {
+        match kind {
+            "patterns" => patterns::ask(tally, parts),
+            "tokens" => tokens::ask(tally, parts),
+            "splicings" => splicings::ask(tally, common, parts),
+            "variables" => variables::ask(tally, parts),
+            "files" => files::ask(tally, parts),
+            _ => Err(RowError::Unreadable("no rows are of this kind")),
+        }
+    }
+}
+
+fn main(rt: HostRuntime) -> Result<()> {
+    ask_files(&rt, &Texts)
+}

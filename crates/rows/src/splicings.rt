@@ -1,0 +1,75 @@
+//! Rows of spliced files.
+
+use aa_text::{Files, Spliced, TextError, spliced};
+use row_texts::{
+    Part, RowError, Tally, find, put_lines, put_number_word, put_word, take_files, word_bytes,
+};
+
+// Puts the name of a file behind a line.
+fn put_name(told: &mut Vec<u8>, files: &Files, file: usize) -> Result<(), RowError> {
+    put_word(told, files.name(file).unwrap_or(b"no file"))
+}
+
+// Puts the line of a token behind others.
+fn put_token(told: &mut Vec<u8>, files: &Files, token: &Spliced<'_>) -> Result<(), RowError> {
+    put_word(told, b"token")?;
+    put_name(told, files, token.file)?;
+    put_word(told, token.token.text)?;
+    put_number_word(told, token.token.start)?;
+    told.extend_from_slice(b"\n")?;
+    Ok(())
+}
+
+// Puts the line of a refusal behind others.
+fn put_refusal(told: &mut Vec<u8>, files: &Files, error: TextError) -> Result<(), RowError> {
+    put_word(told, b"refused")?;
+    put_word(told, error.name().as_bytes())?;
+    if let Some(place) = error.place {
+        put_name(told, files, place.file)?;
+        put_number_word(told, place.at)?;
+    }
+    told.extend_from_slice(b"\n")?;
+    Ok(())
+}
+
+// Puts the lines of tokens behind others.
+fn put_tokens(told: &mut Vec<u8>, files: &Files, found: &[Spliced<'_>]) -> Result<(), RowError> {
+    for token in found {
+        put_token(told, files, token)?;
+    }
+    Ok(())
+}
+
+// What is told of a file.
+fn put_answer(told: &mut Vec<u8>, files: &Files, name: &[u8]) -> Result<(), RowError> {
+    match spliced(*told.allocator(), files, name) {
+        Ok(found) => put_tokens(told, files, &found),
+        Err(error) => put_refusal(told, files, error),
+    }
+}
+
+// What is told of the file that a paragraph names.
+fn put_told(told: &mut Vec<u8>, files: &Files, parts: &[Part<'_>]) -> Result<(), RowError> {
+    let (name, _) = find(parts, "splice ")?;
+    let name = word_bytes(*told.allocator(), name, 0)?;
+    put_answer(told, files, &name)
+}
+
+// Asks a row over the files of the paragraphs above it.
+fn ask_parts(tally: &mut Tally, files: &mut Files, parts: &[Part<'_>]) -> Result<(), RowError> {
+    take_files(tally.alloc(), files, parts)?;
+    put_lines(&mut tally.wanted, parts)?;
+    put_told(&mut tally.told, files, parts)?;
+    tally.settle("spliced")
+}
+
+/// Asks the row that a paragraph is.
+pub fn ask(tally: &mut Tally, common: &[Part<'_>], parts: &[Part<'_>]) -> Result<(), RowError> {
+    let Some(first) = parts.first() else {
+        return Ok(());
+    };
+    tally.begin(first.line);
+    let mut files = Files::new(tally.alloc());
+    take_files(tally.alloc(), &mut files, common)?;
+    ask_parts(tally, &mut files, parts)
+}

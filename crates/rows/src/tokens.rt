@@ -1,0 +1,68 @@
+//! Rows of tokens.
+
+use aa_text::{CutFault, Token, TokenKind, tokens};
+use row_texts::{Part, RowError, Tally, put_lines, put_number_word, put_word};
+
+// The word for a kind of tokens.
+fn kind_word(kind: TokenKind) -> &'static str {
+    match kind {
+        TokenKind::Include { if_exists: false } => "include",
+        TokenKind::Include { if_exists: true } => "include-if-exists",
+        TokenKind::Assign { append: false } => "assign",
+        TokenKind::Assign { append: true } => "append",
+        TokenKind::Value => "value",
+        TokenKind::Quoted => "quoted",
+        TokenKind::Word => "word",
+        TokenKind::Comma => "comma",
+        TokenKind::OpenBrace => "open",
+        TokenKind::CloseBrace => "close",
+    }
+}
+
+// Puts the line of a token behind others.
+fn put_token(told: &mut Vec<u8>, token: &Token<'_>) -> Result<(), RowError> {
+    put_word(told, kind_word(token.kind).as_bytes())?;
+    put_word(told, token.text)?;
+    put_number_word(told, token.start)?;
+    put_number_word(told, token.end)?;
+    told.extend_from_slice(b"\n")?;
+    Ok(())
+}
+
+// Puts the line of a fault behind others.
+fn put_fault(told: &mut Vec<u8>, fault: CutFault) -> Result<(), RowError> {
+    put_word(told, b"refused")?;
+    put_word(told, fault.name().as_bytes())?;
+    if let Some(at) = fault.at {
+        put_number_word(told, at)?;
+    }
+    told.extend_from_slice(b"\n")?;
+    Ok(())
+}
+
+// Puts the lines of tokens behind others.
+fn put_tokens(told: &mut Vec<u8>, found: &[Token<'_>]) -> Result<(), RowError> {
+    for token in found {
+        put_token(told, token)?;
+    }
+    Ok(())
+}
+
+// What is told of a text.
+fn put_answer(told: &mut Vec<u8>, source: &[u8]) -> Result<(), RowError> {
+    match tokens(*told.allocator(), source) {
+        Ok(found) => put_tokens(told, &found),
+        Err(fault) => put_fault(told, fault),
+    }
+}
+
+/// Asks the row that a paragraph is.
+pub fn ask(tally: &mut Tally, parts: &[Part<'_>]) -> Result<(), RowError> {
+    let [source, lines @ ..] = parts else {
+        return Ok(());
+    };
+    tally.begin(source.line);
+    put_lines(&mut tally.wanted, lines)?;
+    put_answer(&mut tally.told, &source.bytes)?;
+    tally.settle("tokens")
+}

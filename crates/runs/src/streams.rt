@@ -1,0 +1,114 @@
+//! Readers and writers that take so many bytes a call, and may fail.
+
+ghost use Rattle.std.specs.Prelude.{◌≡◌, false};
+
+use aa_set::{Failed, Sink, Source};
+
+/// A source that gives so many bytes a read, and fails at one of its reads.
+#[derive(Drop)]
+pub struct Pieces<'a> {
+    rest: &'a [u8],
+    size: usize,
+    failing: u64,
+    reads: u64,
+    failed: bool,
+}
+
+impl<'a> Pieces<'a> {
+    /// A source of these bytes that has not been read. No read fails where `failing` is 0.
+    pub fn new(rest: &'a [u8], size: usize, failing: u64) -> Self
+        ensures reads { ⟦<Pieces<'a> as Source>⟧.reads result ≡ 0 }
+        ensures failed { ⟦<Pieces<'a> as Source>⟧.failed result ≡ false }
+    {
+        Pieces {
+            rest,
+            size,
+            failing,
+            reads: 0,
+            failed: false,
+        }
+    }
+}
+
+impl Source for Pieces<'_> {
+    ghost use Rattle.std.specs.Prelude.{None};
+
+    ghost left = { λ _. None };
+
+    ghost reads = { λ s. s.reads };
+
+    ghost failed = { λ s. s.failed };
+
+    fn read(&mut self, buffer: &mut [u8]) -> Result<usize, Failed> {
+        self.reads += 1;
+        if self.reads == self.failing {
+            self.failed = true;
+            return Err(Failed);
+        }
+        let count = self.size.min(self.rest.len()).min(buffer.len());
+        let (piece, rest) = self.rest.split_at(count);
+        buffer[..count].copy_from_slice(piece);
+        self.rest = rest;
+        Ok(count)
+    }
+
+    fn reads(&self) -> u64 {
+        self.reads
+    }
+
+    fn failed(&self) -> bool {
+        self.failed
+    }
+}
+
+/// A sink that takes so many bytes a write, and fails at one of its writes.
+#[derive(Drop)]
+pub struct Takes {
+    written: Vec<u8>,
+    size: usize,
+    failing: u64,
+    writes: u64,
+    failed: bool,
+}
+
+impl Takes {
+    /// A sink behind these bytes that has not been written to.
+    pub fn new(written: Vec<u8>, size: usize, failing: u64) -> Self
+        ensures failed { ⟦<Takes as Sink>⟧.failed result ≡ false }
+    {
+        Takes {
+            written,
+            size,
+            failing,
+            writes: 0,
+            failed: false,
+        }
+    }
+
+    /// What was written.
+    pub fn written(&self) -> &[u8] {
+        self.written.as_slice()
+    }
+}
+
+impl Sink for Takes {
+    ghost use Rattle.std.specs.Prelude.{None};
+
+    ghost written = { λ _. None };
+
+    ghost failed = { λ s. s.failed };
+
+    fn write(&mut self, bytes: &[u8]) -> Result<usize, Failed> {
+        self.writes = self.writes.saturating_add(1);
+        let count = self.size.max(1).min(bytes.len());
+        if self.writes == self.failing || self.written.extend_from_slice(&bytes[..count]).is_err() {
+            self.failed = true;
+            return Err(Failed);
+        }
+        Ok(count)
+    }
+
+    fn failed(&self) -> bool {
+        self.failed
+    }
+}
