@@ -4,17 +4,12 @@ use Rattle.std.specs.Str.{bytes_eq}
 use Rattle.aa_bytes.specs.Bytes.{slash}
 use Rattle.aa_bytes.specs.Texts.{begins_with_byte, has_byte}
 use Rattle.aa_access.specs.Access.{all_letters, needs_of}
+use Rattle.aa_access.specs.Request.{Request}
 use Rattle.aa_commands.specs.Refusal.{plain}
 use Rattle.aa_commands.specs.declared.question.Question.{Question}
 use Rattle.aa_commands.specs.declared.question.Question.TheVariants.{File}
 use Rattle.aa_commands.specs.declared.refusal.Refusal.{Refusal}
 use Rattle.aa_commands.specs.declared.refusal.RefusalKind.TheVariants.{BadCommand, BadRequest}
-
--- what is asked of a file: the needs, whether the task's user owns it, and its path
-pub record Request : Type 0 where
-  pub needs : ℕ
-  pub owned : Bool
-  pub path : List ℕ
 
 -- what is asked, and of whom: of a profile by its full name, or of the word `unconfined`
 pub data Asked : Type 0 where

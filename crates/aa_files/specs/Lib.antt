@@ -1,3 +1,4 @@
 pub mod Files
 pub mod Folder
+pub mod Limit
 pub mod TextError

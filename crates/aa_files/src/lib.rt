@@ -3,8 +3,10 @@
 
 mod files;
 mod folder;
+mod limit;
 mod text_error;
 
 pub use files::{Files, FilesError};
 pub use folder::members;
+pub use limit::MOST_BYTES;
 pub use text_error::{Place, TextError, TextRefusal, plain};

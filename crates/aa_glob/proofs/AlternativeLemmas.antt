@@ -2,13 +2,15 @@
 use Rattle.std.proofs.Common.{◌≡◌, ℕ, suc, true, ◌+◌, ◌-◌, ◌<◌, List, [], ◌∷◌, ◌++◌, length, take, drop, slice_set, refl, sym, ap, ◌∙◌, arith}
 use Rattle.std.proofs.lemmas.Bool.{false≢true}
 use Rattle.std.proofs.Math.Seq.{drop-append-add, set-append_seam, take-append-add}
-use Rattle.std.proofs.lemmas.List.{append_assoc, append-nil, length-append, length-drop, length-set, set_split}
+use Rattle.std.proofs.lemmas.List.{append_assoc, append-nil, length-append, length-drop, length-set, set_split, take_at}
 use Rattle.aa_glob.proofs.ReadLemmas.{ReadsOn-item}
 use Rattle.aa_glob.specs.Items.{End, Group, NoMore, More}
 use Rattle.aa_glob.specs.code.Layout.{alternative, steps_of, steps_of_each}
 use Rattle.aa_glob.specs.code.Alternatives.{IsInGroup, begun, ended, has_more, laid_out}
-use Rattle.aa_glob.specs.code.Progress.{ReadsOn}
+use Rattle.aa_glob.specs.code.Progress.{ReadsOn, stopped}
 use Rattle.aa_glob.specs.Reading.{Pieces, Cut, Closed, behind_comma, ending_of, first_of, group, others_of}
+use Rattle.aa_glob.specs.declared.item.Stop.{Stop}
+use Rattle.aa_glob.specs.declared.item.Stop.TheVariants.{End as AtEnd, Comma, Close}
 use Rattle.aa_glob.specs.declared.step.Step.{Step}
 use Rattle.aa_glob.specs.declared.step.Step.TheVariants.{Fork, Jump}
 
@@ -92,6 +94,30 @@ read-longer steps fork piece left read done on =
     let first = length-append (slice_set steps fork (Fork (length steps - fork))) (Jump 0 ∷ Fork 0 ∷ []) in
     let same = length-set steps fork (Fork (length steps - fork)) in
     omega arith
+
+-- no item is left where the items of a piece end
+stopped-first : (depth : ℕ) (stop : Stop) → first_of (stopped depth stop) ≡ End
+stopped-first depth AtEnd = refl
+stopped-first depth (Comma rest) = refl
+stopped-first depth (Close rest) = refl
+
+-- wherever an alternative ended, the jump before it is one of the steps
+pub jump-within : (steps begins read : List Step) (fork jump depth : ℕ) (piece : Pieces) (stop : Stop)
+    → jump ≡ length steps → begins ≡ begun steps fork → ReadsOn begins piece read (stopped depth stop) → jump < length read
+jump-within steps begins read fork jump depth piece stop at is_begun on =
+    let longer = read-longer steps fork piece (stopped depth stop) read (stopped-first depth stop) (rw (← is_begun) on) in
+    omega (arith, at, longer)
+
+-- the first alternative was read, up to a comma
+pub IsInGroup-first : (before begins read : List Step) (all after : Pieces) (fork : ℕ) → fork ≡ length before → begins ≡ before ++ Fork 0 ∷ []
+    → ReadsOn begins all read (behind_comma after) → IsInGroup before all read fork after
+IsInGroup-first before begins read all after fork at is_begun on =
+    let own = steps_of (first_of all) in
+    let is_read : read ≡ before ++ Fork 0 ∷ own = sym (append-nil read) ∙ on.0 ∙ ap (λ l. l ++ own) is_begun ∙ append_assoc before (Fork 0 ∷ []) own in
+    let longer = ap length is_read ∙ length-append before (Fork 0 ∷ own) in
+    let front : take fork read ≡ before = rw (at, is_read) (take_at before (Fork 0 ∷ own) _ refl) in
+    let behind : drop (fork + 1) read ≡ own = rw (at, is_read) (drop-append-add before (Fork 0 ∷ own) 1) in
+    (omega (arith, at, longer), rw (front, behind) (ap (λ o. before ++ alternative own (steps_of_each o)) on.1), ap has_more (sym on.1), on.2)
 
 -- the group goes on behind another comma
 pub IsInGroup-more : (before steps begins read ends : List Step) (all left after : Pieces) (fork jump next : ℕ) → IsInGroup before all steps fork left

@@ -7,7 +7,7 @@ use Rattle.aa_glob.specs.Classes.{behind_range, is_range, members, range}
 use Rattle.aa_glob.specs.Elements.{behind_class}
 use Rattle.aa_glob.specs.Symbols.{byte_of, is_broken, is_plain}
 use Rattle.aa_glob.specs.code.Parts.{ReachesTo}
-use Rattle.aa_glob.specs.declared.byte_set.ByteRange.{ByteRange}
+use Rattle.aa_bytes.specs.declared.byte_set.ByteRange.{ByteRange}
 use Rattle.aa_glob.specs.declared.pattern_error.PatternError.{PatternError}
 use Rattle.aa_glob.specs.declared.pattern_error.PatternError.TheVariants.{BadEscape}
 use Rattle.aa_glob.specs.declared.symbol.Symbol.{Symbol}

@@ -4,8 +4,8 @@ use Rattle.std.proofs.Math.Bool.{or-false, or_self}
 use Rattle.std.proofs.Math.Path.{fun_ext}
 use Rattle.std.specs.Str.{bytes_eq}
 use Rattle.aa_glob.proofs.MatchLemmas.{before, nothing-before, before-nothing, either-before, before-before, byte-before, set-before, star-before, double_star-before}
-use Rattle.aa_glob.specs.ByteSets.{has, is_inside}
-use Rattle.aa_glob.specs.declared.byte_set.ByteSet.{ByteSet}
+use Rattle.aa_bytes.specs.ByteSets.{has, is_inside}
+use Rattle.aa_bytes.specs.declared.byte_set.ByteSet.{ByteSet}
 use Rattle.aa_glob.specs.declared.step.Step.{Step}
 use Rattle.aa_glob.specs.declared.step.Step.TheVariants.{Byte as ByteStep, One, Star as StarStep, DoubleStar as DoubleStarStep, Fork, Jump}
 use Rattle.aa_glob.specs.Items.{Item, Byte, Set, Star, DoubleStar, Group, Pattern, End, Next, Patterns, NoMore, More}

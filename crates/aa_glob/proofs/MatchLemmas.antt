@@ -6,8 +6,8 @@ use Rattle.std.proofs.lemmas.Bool.{or_cases, or_right, and_parts, and_from, fals
 use Rattle.std.proofs.lemmas.Slice.Eq.{bytes_eq-Decides}
 use Rattle.std.specs.List.{list_all}
 use Rattle.std.specs.Str.{bytes_eq}
-use Rattle.aa_glob.specs.ByteSets.{has, is_inside}
-use Rattle.aa_glob.specs.declared.byte_set.ByteSet.{ByteSet}
+use Rattle.aa_bytes.specs.ByteSets.{has, is_inside}
+use Rattle.aa_bytes.specs.declared.byte_set.ByteSet.{ByteSet}
 use Rattle.aa_glob.specs.Items.{Item, Byte, Set, Star, DoubleStar, Group, Pattern, End, Next, Patterns, NoMore, More}
 use Rattle.aa_glob.specs.Matching.{some_split, is_one_of, is_of, matches, some_matches, IsInside, IsOf, Matches, SomeMatches}
 

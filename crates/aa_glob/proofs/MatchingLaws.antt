@@ -1,22 +1,22 @@
 -- The laws of matching: the test is by splits, an exact pattern matches one text, and no pattern matches a zero byte.
-use Rattle.std.proofs.Common.{◌≡◌, ◌≢◌, ℕ, ◌+◌, ◌-◌, ◌≤◌, Bool, true, false, ◌==◌, not, List, [], ◌∷◌, ◌++◌, length, refl, sym, ap, ap₂, ◌∙◌, inl, inr, if◌then◌else◌, nat_le, Result, Ok, Err, ◌↔◌, IsTrue}
+use Rattle.std.proofs.Common.{◌≡◌, ◌≢◌, ℕ, ◌+◌, ◌-◌, Bool, true, false, ◌==◌, not, List, [], ◌∷◌, ◌++◌, length, refl, sym, ap, ap₂, ◌∙◌, inl, inr, if◌then◌else◌, nat_le, Result, Ok, Err, ◌↔◌, IsTrue}
 use Rattle.std.proofs.lemmas.Bool.{cases_Bool, false≢true, false_from_ne_true, not-true, ne_eqb, and_parts, or_from, or_parts}
 use Rattle.std.proofs.lemmas.List.Folds.{list_any-append, list_any_none}
 use Rattle.std.specs.List.{All}
 use Rattle.aa_bytes.specs.Bytes.{is_letter_or_digit}
 use Rattle.aa_glob.proofs.MatchLemmas.{Decides-matches}
 use Rattle.aa_glob.proofs.ReadingLaws.{reading-quoted}
-use Rattle.aa_glob.specs.ByteSets.{has}
+use Rattle.aa_bytes.specs.ByteSets.{has}
 use Rattle.aa_glob.specs.Items.{Item, Byte, Set, Star, DoubleStar, Group, Pattern, End, Next, Patterns, NoMore, More}
 use Rattle.aa_glob.specs.Exactness.{is_exact}
 use Rattle.aa_glob.specs.Symbols.{symbols}
 use Rattle.aa_glob.specs.Elements.{Element, Single, Open, Comma, Close, Fault, context_after, begins_plain, behind_class, class_element, is_whole_segment, stars, run, elements}
 use Rattle.aa_glob.specs.Classes.{class}
-use Rattle.aa_glob.specs.Reading.{Pieces, Cut, Ending, Ended, Closed, Refused, onto, behind_comma, group, deepest, pieces, whole, longest, begins_with_slash, has_zero, reading, items_read, items_of}
+use Rattle.aa_glob.specs.Reading.{Pieces, Cut, Ending, Ended, Closed, Refused, onto, behind_comma, group, deepest, pieces, whole, longest, begins_with_slash, has_zero, reading, items_read, items_of, HasNoFirstFault}
 use Rattle.aa_glob.specs.Matching.{matches, IsOf, Matches, SomeMatches}
 use Rattle.aa_glob.specs.Laws.{quoted, bytes_pattern, bytes_of}
-use Rattle.aa_glob.specs.declared.byte_set.ByteSet.{ByteSet}
-use Rattle.aa_glob.specs.declared.byte_set.ByteSet.TheVariants.{Inside, Class}
+use Rattle.aa_bytes.specs.declared.byte_set.ByteSet.{ByteSet}
+use Rattle.aa_bytes.specs.declared.byte_set.ByteSet.TheVariants.{Inside, Class}
 use Rattle.aa_glob.specs.declared.symbol.Symbol.{Symbol}
 use Rattle.aa_glob.specs.declared.symbol.Symbol.TheVariants.{Plain, Escaped, Broken}
 use Rattle.aa_glob.specs.declared.pattern_error.PatternError.{PatternError}
@@ -54,9 +54,9 @@ bytes_of-bytes_pattern [] = refl
 bytes_of-bytes_pattern (b ∷ bs) = ap (λ l. b ∷ l) (bytes_of-bytes_pattern bs)
 
 -- A text with a backslash before each byte that needs one matches itself alone.
-pub matches-quoted : (text path : List ℕ) → begins_with_slash text ≡ true → All (λ b. b ≢ 0) text → length (quoted text) ≤ 4096 → (IsTrue (matches (items_of (quoted text)) path) ↔ (path ≡ text))
-matches-quoted text path slash each short =
-    let reads : items_of (quoted text) ≡ bytes_pattern text = ap items_read (reading-quoted text slash each short) in
+pub matches-quoted : (text path : List ℕ) → HasNoFirstFault (quoted text) → (IsTrue (matches (items_of (quoted text)) path) ↔ (path ≡ text))
+matches-quoted text path fine =
+    let reads : items_of (quoted text) ≡ bytes_pattern text = ap items_read (reading-quoted text fine) in
     let one = matches-exact (bytes_pattern text) path (bytes_pattern-exact text) in
     let spelled = bytes_of-bytes_pattern text in
     (λ h. one.0 (ap (λ items. matches items path) (sym reads) ∙ h) ∙ spelled, λ same. ap (λ items. matches items path) reads ∙ one.1 (same ∙ sym spelled))

@@ -1,9 +1,8 @@
 -- The laws of reading: a text with backslashes reads as its bytes, and a fault is told alike whatever follows it.
-use Rattle.std.proofs.Common.{◌≡◌, ◌≢◌, ℕ, zero, suc, ◌+◌, ◌-◌, ◌≤◌, Bool, true, false, ◌==◌, ◌&&◌, not, List, [], ◌∷◌, ◌++◌, length, refl, sym, ap, ◌∙◌, arith, inl, inr, if◌then◌else◌, nat_le, nat_lt, Result, Ok, Err}
+use Rattle.std.proofs.Common.{◌≡◌, ℕ, zero, suc, ◌+◌, ◌-◌, ◌≤◌, Bool, true, false, ◌==◌, ◌&&◌, not, List, [], ◌∷◌, ◌++◌, length, refl, sym, ap, subst, ◌∙◌, arith, inl, inr, if◌then◌else◌, nat_le, nat_lt, Result, Ok, Err}
 use Rattle.std.proofs.lemmas.Bool.{cases_Bool, cases_eq, false≢true}
 use Rattle.std.proofs.lemmas.Bool.Decides.{nat_tests}
 use Rattle.std.proofs.lemmas.List.Elements.{All-head, All-tail}
-use Rattle.std.proofs.lemmas.List.Folds.{list_any-append}
 use Rattle.std.specs.List.{All, list_any}
 use Rattle.aa_bytes.specs.Bytes.{is_letter_or_digit}
 use Rattle.aa_glob.specs.Items.{Item, Byte, Set, Pattern, Patterns, NoMore, More}
@@ -11,10 +10,10 @@ use Rattle.aa_glob.specs.Symbols.{byte_of, is_broken, is_plain, symbols}
 use Rattle.aa_glob.specs.Elements.{Element, Single, Open, Comma, Close, Fault, behind_class, class_element, context_after, is_whole_segment, run, elements}
 use Rattle.aa_glob.specs.Classes.{class, is_range, members, set_of}
 use Rattle.aa_glob.proofs.ClassLemmas.{behind_first, behind_first-alone, is_dash, members-first}
-use Rattle.aa_glob.specs.Reading.{Pieces, Cut, Ended, Closed, Refused, onto, behind_comma, group, deepest, pieces, whole, longest, begins_with_slash, reading}
-use Rattle.aa_glob.specs.Laws.{needs_backslash, quoted, bytes_pattern, ends_with_backslash, is_told_before_end}
-use Rattle.aa_glob.specs.declared.byte_set.ByteRange.{ByteRange}
-use Rattle.aa_glob.specs.declared.byte_set.ByteSet.TheVariants.{Inside}
+use Rattle.aa_glob.specs.Reading.{Pieces, Cut, Ended, Closed, Refused, onto, behind_comma, group, deepest, pieces, whole, longest, begins_with_slash, HasNoFirstFault, reading}
+use Rattle.aa_glob.specs.Laws.{needs_backslash, quoted, bytes_pattern, ends_with_backslash, is_told_before_end, IsRefusedBeforeEnd, IsRefusedHoweverItEnds}
+use Rattle.aa_bytes.specs.declared.byte_set.ByteRange.{ByteRange}
+use Rattle.aa_bytes.specs.declared.byte_set.ByteSet.TheVariants.{Inside}
 use Rattle.aa_glob.specs.declared.symbol.Symbol.{Symbol}
 use Rattle.aa_glob.specs.declared.symbol.Symbol.TheVariants.{Plain, Escaped, Broken}
 use Rattle.aa_glob.specs.declared.pattern_error.PatternError.{PatternError}
@@ -56,39 +55,25 @@ pieces-quoted context (b ∷ bs) = elim (cases_Bool (needs_backslash b)) [
 ]
 
 -- what a text reads as that has none of the faults that are told first
-pub reading-whole : (text : List ℕ) → length text ≤ 4096 → list_any (λ b. b == 0) text ≡ false → begins_with_slash text ≡ true → reading text ≡ whole (pieces 0 (elements Elsewhere (symbols text)))
-reading-whole text short no_zero slash =
+pub reading-whole : (text : List ℕ) → HasNoFirstFault text → reading text ≡ whole (pieces 0 (elements Elsewhere (symbols text)))
+reading-whole text fine =
+    let short : length text ≤ 4096 = fine.0 in
     let fits : nat_le (length text) 4096 ≡ true = grind (arith, nat_tests) in
-    rw (fits, no_zero, slash) refl
-
-no_zero-quoted : (text : List ℕ) → All (λ b. b ≢ 0) text → list_any (λ b. b == 0) (quoted text) ≡ false
-no_zero-quoted [] each = refl
-no_zero-quoted (b ∷ bs) each =
-    let first : b ≢ 0 = All-head (λ b. b ≢ 0) b bs each in
-    let no_zero : (b == 0) ≡ false = grind (arith, nat_tests) in
-    let others = no_zero-quoted bs (All-tail (λ b. b ≢ 0) b bs each) in
-    elim (cases_Bool (needs_backslash b)) [
-      | inl marked ↦ rw (marked, no_zero) others
-      | inr plain ↦ rw (plain, no_zero) others
-    ]
-
-begins-quoted : (text : List ℕ) → begins_with_slash text ≡ true → begins_with_slash (quoted text) ≡ true
-begins-quoted [] slash = slash
-begins-quoted (b ∷ bs) slash = let same : b ≡ 47 = grind (arith, nat_tests) in rw same refl
+    rw (fits, fine.1, fine.2) refl
 
 -- A text with a backslash before each byte that needs one reads as its bytes.
-pub reading-quoted : (text : List ℕ) → begins_with_slash text ≡ true → All (λ b. b ≢ 0) text → length (quoted text) ≤ 4096 → reading (quoted text) ≡ Ok (bytes_pattern text)
-reading-quoted text slash each short = reading-whole (quoted text) short (no_zero-quoted text each) (begins-quoted text slash) ∙ ap whole (pieces-quoted Elsewhere text)
+pub reading-quoted : (text : List ℕ) → HasNoFirstFault (quoted text) → reading (quoted text) ≡ Ok (bytes_pattern text)
+reading-quoted text fine = reading-whole (quoted text) fine ∙ ap whole (pieces-quoted Elsewhere text)
 
-quoted-plain : (text : List ℕ) → All (λ b. (b ≢ 0) × (needs_backslash b ≡ false)) text → quoted text ≡ text
+quoted-plain : (text : List ℕ) → All (λ b. needs_backslash b ≡ false) text → quoted text ≡ text
 quoted-plain [] each = refl
-quoted-plain (b ∷ bs) each = rw ((All-head (λ b. (b ≢ 0) × (needs_backslash b ≡ false)) b bs each).1) (ap (λ l. b ∷ l) (quoted-plain bs (All-tail (λ b. (b ≢ 0) × (needs_backslash b ≡ false)) b bs each)))
+quoted-plain (b ∷ bs) each = rw (All-head (λ b. needs_backslash b ≡ false) b bs each) (ap (λ l. b ∷ l) (quoted-plain bs (All-tail (λ b. needs_backslash b ≡ false) b bs each)))
 
 -- A text of bytes that need none reads as itself.
-pub reading-plain : (text : List ℕ) → begins_with_slash text ≡ true → All (λ b. (b ≢ 0) × (needs_backslash b ≡ false)) text → length text ≤ 4096 → reading text ≡ Ok (bytes_pattern text)
-reading-plain text slash each short =
+pub reading-plain : (text : List ℕ) → HasNoFirstFault text → All (λ b. needs_backslash b ≡ false) text → reading text ≡ Ok (bytes_pattern text)
+reading-plain text fine each =
     let same = quoted-plain text each in
-    ap reading (sym same) ∙ reading-quoted text slash (λ k d within. (each k d within).0) (rw same short)
+    ap reading (sym same) ∙ reading-quoted text (subst HasNoFirstFault (sym same) fine)
 
 -- Symbols begin like others: these end first, or with a backslash that the others may tell apart, or both break off.
 data Goes (late : PatternError → Bool) : List Symbol → List Symbol → Type 0 where
@@ -297,42 +282,25 @@ whole-agree error early (BothRefused other) refuses = refuses
 whole-agree error early (BothAlone agree) refuses = refuses
 whole-agree error early (BothMore agree) refuses = refuses
 
-no_zero-all : (text : List ℕ) → All (λ b. b ≢ 0) text → list_any (λ b. b == 0) text ≡ false
-no_zero-all [] each = refl
-no_zero-all (b ∷ bs) each =
-    let first : b ≢ 0 = All-head (λ b. b ≢ 0) b bs each in
-    let no_zero : (b == 0) ≡ false = grind (arith, nat_tests) in
-    rw no_zero (no_zero-all bs (All-tail (λ b. b ≢ 0) b bs each))
-
-begins-append : (front more : List ℕ) → begins_with_slash front ≡ true → begins_with_slash (front ++ more) ≡ true
-begins-append [] more slash = absurd (false≢true slash)
-begins-append (b ∷ bs) more slash = slash
-
 -- a fault that is told before the end is none of those that are told first
-told-behind : (text : List ℕ) (error : PatternError) (test : Bool) (first : PatternError) (rest : Result Pattern PatternError) → is_told_before_end text first ≡ false → is_told_before_end text error ≡ true → (if test then Err first else rest) ≡ Err error → (test ≡ false) × (rest ≡ Err error)
+told-behind : (text : List ℕ) (error : PatternError) (test : Bool) (first : PatternError) (rest : Result Pattern PatternError) → is_told_before_end text first ≡ false → is_told_before_end text error ≡ true → (if test then Err first else rest) ≡ Err error → rest ≡ Err error
 told-behind text error true first rest untold told refuses =
     let same : first ≡ error = cc in
     absurd (false≢true (sym untold ∙ ap (is_told_before_end text) same ∙ told))
-told-behind text error false first rest untold told refuses = (refl, refuses)
+told-behind text error false first rest untold told refuses = refuses
 
-not_false : (c : Bool) → not c ≡ false → c ≡ true
-not_false true e = refl
-not_false false e = sym e
-
--- A text that is refused by a fault that is told before its end has none of the faults that are told first.
-reading-refused : (text : List ℕ) (error : PatternError) → is_told_before_end text error ≡ true → reading text ≡ Err error → (list_any (λ b. b == 0) text ≡ false) × (begins_with_slash text ≡ true) × (whole (pieces 0 (elements Elsewhere (symbols text))) ≡ Err error)
-reading-refused text error told refuses =
-    let behind_length = told-behind text error (not (nat_le (length text) longest)) TooLong _ refl told refuses in
-    let behind_zero = told-behind text error (list_any (λ b. b == 0) text) ZeroByte _ refl told behind_length.1 in
-    let behind_slash = told-behind text error (not (begins_with_slash text)) NotAbsolute _ refl told behind_zero.1 in
-    (behind_zero.0, not_false (begins_with_slash text) behind_slash.0, behind_slash.1)
+-- A text that is refused by a fault that is told before its end is refused behind the faults that are told first.
+reading-refused : (text : List ℕ) (error : PatternError) → IsRefusedBeforeEnd text error → whole (pieces 0 (elements Elsewhere (symbols text))) ≡ Err error
+reading-refused text error refused =
+    let behind_length = told-behind text error (not (nat_le (length text) longest)) TooLong _ refl refused.1 refused.0 in
+    let behind_zero = told-behind text error (list_any (λ b. b == 0) text) ZeroByte _ refl refused.1 behind_length in
+    told-behind text error (not (begins_with_slash text)) NotAbsolute _ refl refused.1 behind_zero
 
 -- A fault that is told before the end of a text is told alike, whatever follows.
-pub reading-first_fault : (front more : List ℕ) (error : PatternError) → reading front ≡ Err error → is_told_before_end front error ≡ true → length (front ++ more) ≤ 4096 → All (λ b. b ≢ 0) more → reading (front ++ more) ≡ Err error
-reading-first_fault front more error refuses told short each =
+pub reading-first_fault : (front : List ℕ) (error : PatternError) → IsRefusedBeforeEnd front error → IsRefusedHoweverItEnds front error
+reading-first_fault front error refused more fine =
+    let told = refused.1 in
     let late = λ (e : PatternError). not (is_told_before_end front e) in
-    let facts = reading-refused front error told refuses in
-    let no_zero : list_any (λ b. b == 0) (front ++ more) ≡ false = list_any-append (λ b. b == 0) front more ∙ rw (facts.0, no_zero-all more each) refl in
     let goes = symbols-goes {late = late} front more (λ ends. rw ends refl) in
     let agree = pieces-agree {late = late} refl 0 (elements-alike refl Elsewhere goes) in
-    reading-whole (front ++ more) short no_zero (begins-append front more facts.1) ∙ whole-agree error (rw told refl) agree facts.2
+    reading-whole (front ++ more) fine ∙ whole-agree error (rw told refl) agree (reading-refused front error refused)

@@ -10,9 +10,9 @@ use Rattle.aa_glob.proofs.ReadingLaws.{reading-whole}
 use Rattle.aa_glob.specs.code.Layout.{alternative, steps_of, steps_of_each, steps_of_item}
 use Rattle.aa_glob.specs.Elements.{Element, Single, Open, Comma, Close, Fault, begins_plain, behind_class, class_element, context_after, elements, is_whole_segment, run, stars}
 use Rattle.aa_glob.specs.Items.{Item, Byte, Star, DoubleStar, Group, Pattern, End, Patterns, NoMore, More}
-use Rattle.aa_glob.specs.Reading.{Pieces, Cut, Ending, Ended, Closed, Refused, begins_with_slash, behind_comma, deepest, first_of, group, has_zero, items_of, items_read, longest, onto, pieces, reading, whole}
+use Rattle.aa_glob.specs.Reading.{Pieces, Cut, Ending, Ended, Closed, Refused, begins_with_slash, behind_comma, deepest, first_of, group, has_zero, items_of, items_read, longest, onto, pieces, reading, whole, HasNoFirstFault}
 use Rattle.aa_glob.specs.Symbols.{is_plain, symbols}
-use Rattle.aa_glob.specs.declared.byte_set.ByteSet.{ByteSet}
+use Rattle.aa_bytes.specs.declared.byte_set.ByteSet.{ByteSet}
 use Rattle.aa_glob.specs.declared.context.Context.{Context}
 use Rattle.aa_glob.specs.declared.context.Context.TheVariants.{AfterSlash, AfterStar, Elsewhere}
 use Rattle.aa_glob.specs.declared.pattern_error.PatternError.{PatternError}
@@ -158,13 +158,13 @@ few_steps text =
     (few-if count (2 * length text) (not (begins_with_slash text)) (omega arith) (omega arith)))
 
 -- what was read to its end is a pattern that is compiled
-pub IsCompiled-read : (text kept : List ℕ) (none steps : List Step) → length text ≤ longest → has_zero text ≡ false → begins_with_slash text ≡ true
+pub IsCompiled-read : (text kept : List ℕ) (none steps : List Step) → HasNoFirstFault text
     → none ≡ [] → ReadsOn none (pieces_of 0 text) steps (Cut End NoMore Ended) → kept ≡ text → IsCompiled steps kept
-IsCompiled-read text kept none steps short no_zero slash is_none on same =
+IsCompiled-read text kept none steps fine is_none on same =
     let p = pieces_of 0 text in
     let ends : whole p ≡ Ok (first_of p) = rw (sym on.2) refl in
-    let is_read : reading text ≡ Ok (first_of p) = reading-whole text short no_zero slash ∙ ends in
+    let is_read : reading text ≡ Ok (first_of p) = reading-whole text fine ∙ ends in
     let items : items_of text ≡ first_of p = ap items_read is_read in
     let is_steps : steps ≡ steps_of (items_of text) = sym (append-nil steps) ∙ on.0 ∙ ap (λ l. l ++ steps_of (first_of p)) is_none ∙ ap steps_of (sym items) in
     let few = few_steps text in
-    rw same (is_read ∙ ap Ok (sym items), is_steps, subst (λ l. length l ≤ 2 * length text) (sym is_steps) few, short)
+    rw same (is_read ∙ ap Ok (sym items), is_steps, subst (λ l. length l ≤ 2 * length text) (sym is_steps) few, fine.0)

@@ -2,9 +2,9 @@
 use Rattle.std.specs.Prelude.{Bool, true, false, ◌&&◌, not, nat_lt, if◌then◌else◌, List, [], ◌∷◌, ◌++◌, Result, Ok, Err}
 use Rattle.aa_bytes.specs.Bytes.{caret, closing_bracket, dash}
 use Rattle.aa_glob.specs.Symbols.{byte_of, is_broken, is_plain}
-use Rattle.aa_glob.specs.declared.byte_set.ByteRange.{ByteRange}
-use Rattle.aa_glob.specs.declared.byte_set.ByteSet.{ByteSet}
-use Rattle.aa_glob.specs.declared.byte_set.ByteSet.TheVariants.{Class}
+use Rattle.aa_bytes.specs.declared.byte_set.ByteRange.{ByteRange}
+use Rattle.aa_bytes.specs.declared.byte_set.ByteSet.{ByteSet}
+use Rattle.aa_bytes.specs.declared.byte_set.ByteSet.TheVariants.{Class}
 use Rattle.aa_glob.specs.declared.symbol.Symbol.{Symbol}
 use Rattle.aa_glob.specs.declared.pattern_error.PatternError.{PatternError}
 use Rattle.aa_glob.specs.declared.pattern_error.PatternError.TheVariants.{UnclosedClass, EmptyClass, BadRange, BadEscape}

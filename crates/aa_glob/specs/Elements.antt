@@ -5,8 +5,8 @@ use Rattle.aa_bytes.specs.Bytes.{closing_brace, closing_bracket, comma, opening_
 use Rattle.aa_glob.specs.Classes.{class}
 use Rattle.aa_glob.specs.Items.{Item, Byte, Set, Star, DoubleStar}
 use Rattle.aa_glob.specs.Symbols.{is_plain}
-use Rattle.aa_glob.specs.declared.byte_set.ByteSet.{ByteSet}
-use Rattle.aa_glob.specs.declared.byte_set.ByteSet.TheVariants.{Inside}
+use Rattle.aa_bytes.specs.declared.byte_set.ByteSet.{ByteSet}
+use Rattle.aa_bytes.specs.declared.byte_set.ByteSet.TheVariants.{Inside}
 use Rattle.aa_glob.specs.declared.symbol.Symbol.{Symbol}
 use Rattle.aa_glob.specs.declared.symbol.Symbol.TheVariants.{Plain, Escaped, Broken}
 use Rattle.aa_glob.specs.declared.pattern_error.PatternError.{PatternError}

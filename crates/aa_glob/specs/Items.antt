@@ -1,6 +1,6 @@
 -- Pattern items: what the text of a pattern reads as (apparmor.d(5), "Globbing").
 use Rattle.std.specs.Prelude.{ℕ}
-use Rattle.aa_glob.specs.declared.byte_set.ByteSet.{ByteSet}
+use Rattle.aa_bytes.specs.declared.byte_set.ByteSet.{ByteSet}
 
 mutual
   -- An item: a byte that stands for itself, one byte of a set, any bytes within a segment, any bytes, or a group, which

@@ -1,8 +1,9 @@
 -- What the laws speak of: texts that spell themselves, the one text that an exact pattern matches, and faults that are told
 -- before a text's end.
-use Rattle.std.specs.Prelude.{ℕ, Bool, true, false, ◌==◌, ◌||◌, not, if◌then◌else◌, List, [], ◌∷◌, ◌++◌}
+use Rattle.std.specs.Prelude.{◌≡◌, ℕ, Bool, true, false, ◌==◌, ◌||◌, not, if◌then◌else◌, List, [], ◌∷◌, ◌++◌, Err}
 use Rattle.aa_bytes.specs.Bytes.{backslash, closing_brace, opening_brace, opening_bracket, question_mark, star}
 use Rattle.aa_glob.specs.Items.{Byte, Pattern, End, Next}
+use Rattle.aa_glob.specs.Reading.{HasNoFirstFault, reading}
 use Rattle.aa_glob.specs.declared.pattern_error.PatternError.{PatternError}
 use Rattle.aa_glob.specs.declared.pattern_error.PatternError.TheVariants.{EmptyClass, BadRange, StrayClose, FewAlternatives, BadEscape, TooDeep}
 
@@ -42,3 +43,11 @@ is_told_before_end text FewAlternatives = true
 is_told_before_end text TooDeep = true
 is_told_before_end text BadEscape = not (ends_with_backslash text)
 is_told_before_end text _ = false
+
+-- a text is refused by a fault that is met before its end
+abbrev pub IsRefusedBeforeEnd : List ℕ → PatternError → Type 0
+IsRefusedBeforeEnd text error = (reading text ≡ Err error) × (is_told_before_end text error ≡ true)
+
+-- whatever follows a text, it is refused by this fault, unless it then has one of those that are told first
+abbrev pub IsRefusedHoweverItEnds : List ℕ → PatternError → Type 0
+IsRefusedHoweverItEnds text error = (more : List ℕ) → HasNoFirstFault (text ++ more) → reading (text ++ more) ≡ Err error

@@ -1,4 +1,3 @@
-pub mod ByteSets
 pub mod Classes
 pub mod code
 pub mod Elements

@@ -2,7 +2,7 @@
 use Rattle.std.specs.Prelude.{◌≡◌, ◌≢◌, ℕ, Bool, true, false, ◌==◌, ◌||◌, ◌&&◌, not, List, [], ◌∷◌, ◌++◌, ◌⊎◌}
 use Rattle.std.specs.List.{list_all, All}
 use Rattle.std.specs.Str.{bytes_eq}
-use Rattle.aa_glob.specs.ByteSets.{has, is_inside}
+use Rattle.aa_bytes.specs.ByteSets.{has, is_inside}
 use Rattle.aa_bytes.specs.Bytes.{slash}
 use Rattle.aa_glob.specs.Items.{Item, Byte, Set, Star, DoubleStar, Group, Pattern, End, Next, Patterns, NoMore, More}
 

@@ -6,14 +6,13 @@ ghost use Rattle.aa_glob.specs.Classes.{class, is_range, members, range, set_of}
 ghost use Rattle.aa_glob.specs.code.Parts.{IsPart, ReachesTo, bytes_left};
 ghost use Rattle.aa_glob.specs.Elements.{behind_class, elements};
 ghost use Rattle.aa_glob.specs.Symbols.{is_broken, is_plain, symbols};
-ghost use Rattle.aa_glob.specs.declared.byte_set.ByteRange.{ByteRange};
+ghost use Rattle.aa_bytes.specs.declared.byte_set.ByteRange.{ByteRange};
 ghost use Rattle.aa_glob.specs.declared.pattern_error.PatternError.TheVariants.{Memory};
 ghost use Rattle.aa_glob.specs.declared.context.Context.TheVariants.{Elsewhere};
 
-use crate::byte_set::{ByteRange, ByteSet};
 use crate::pattern_error::PatternError;
 use crate::symbol::{Symbol, first_symbol};
-use aa_bytes::Sequence;
+use aa_bytes::{ByteRange, ByteSet, Sequence};
 use std::alloc::Global;
 
 /// What comes next in a class.

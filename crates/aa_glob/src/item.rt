@@ -1,17 +1,17 @@
 //! Reading of what comes next in a piece: an item, a group's beginning or the piece's end.
 
-ghost use Rattle.std.specs.Prelude.{◌≡◌, ◌≢◌, ◌≤◌, ◌+◌, ℕ, false, length, IfOk, IfErr};
+ghost use Rattle.std.specs.Prelude.{◌≡◌, ◌≢◌, ◌≤◌, ◌==◌, ◌+◌, ℕ, false, length, IfOk, IfErr};
 ghost use Rattle.aa_glob.specs.code.Progress.{IsNested, ReadsItem, ReadsOn, found, is_of_groups, least_length, pieces_behind, pieces_in};
 ghost use Rattle.aa_glob.specs.Reading.{Refused, deepest, ending_of};
 ghost use Rattle.aa_glob.specs.declared.pattern_error.PatternError.TheVariants.{Memory};
 
-use crate::byte_set::ByteSet;
 use crate::class::read_class;
 use crate::context::{Context, context_after};
 use crate::pattern_error::PatternError;
 use crate::star::read_star;
 use crate::step::Step;
 use crate::symbol::{Symbol, first_symbol};
+use aa_bytes::ByteSet;
 use std::alloc::Global;
 
 // How deep groups may stand in one another.
@@ -62,6 +62,13 @@ pub fn read_next<'a>(
     }
 }
 
+// Whether no group may stand in so many others.
+fn is_deepest(depth: usize) -> bool
+    ensures { result ≡ (depth == deepest) }
+{
+    depth == DEEPEST
+}
+
 // The same behind a byte without a backslash.
 fn read_plain<'a>(
     alloc: Global,
@@ -79,7 +86,7 @@ fn read_plain<'a>(
 {
     match byte {
         b'{' => {
-            if depth == DEEPEST {
+            if is_deepest(depth) {
                 Err(PatternError::TooDeep)
             } else {
                 Ok(Found::Group(text))

@@ -1,35 +1,29 @@
 //! What holds of reading and matching: which texts spell themselves, which faults are told whatever follows them, and which
 //! texts match.
 
-ghost use Rattle.std.specs.Prelude.{◌≡◌, ◌≢◌, ◌≤◌, ◌↔◌, ℕ, true, false, List, ◌++◌, length, Ok, Err, IsTrue};
+ghost use Rattle.std.specs.Prelude.{◌≡◌, ◌↔◌, ℕ, true, false, List, Ok, IsTrue};
 ghost use Rattle.std.specs.List.{All};
 ghost use Rattle.aa_glob.specs.Exactness.{is_exact};
 ghost use Rattle.aa_glob.specs.Items.{Pattern};
-ghost use Rattle.aa_glob.specs.Laws.{bytes_of, bytes_pattern, is_told_before_end, needs_backslash, quoted};
+ghost use Rattle.aa_glob.specs.Laws.{bytes_of, bytes_pattern, IsRefusedBeforeEnd, IsRefusedHoweverItEnds, needs_backslash, quoted};
 ghost use Rattle.aa_glob.specs.Matching.{matches, Matches};
-ghost use Rattle.aa_glob.specs.Reading.{begins_with_slash, has_zero, items_of, longest, reading};
+ghost use Rattle.aa_glob.specs.Reading.{HasNoFirstFault, has_zero, items_of, reading};
 ghost use Rattle.aa_glob.specs.declared.pattern_error.PatternError.{PatternError};
 
-/// A text of bytes that need no backslash reads as these bytes.
+/// A text of bytes that need no backslash reads as these bytes, if it has none of the faults that are told first.
 pub fn plain_text_reads_as_itself()
     ensures { (text : List ℕ)
-        → begins_with_slash text ≡ true → All (λ b. (b ≢ 0) × (needs_backslash b ≡ false)) text → length text ≤ longest
-        → reading text ≡ Ok (bytes_pattern text) }
+        → HasNoFirstFault text → All (λ b. needs_backslash b ≡ false) text → reading text ≡ Ok (bytes_pattern text) }
 {}
 
-/// A text with a backslash before each byte that needs one reads as these bytes.
+/// A text with a backslash before each byte that needs one reads as these bytes, if it has none of the faults that are told first.
 pub fn quoted_text_reads_as_itself()
-    ensures { (text : List ℕ)
-        → begins_with_slash text ≡ true → All (λ b. b ≢ 0) text → length (quoted text) ≤ longest
-        → reading (quoted text) ≡ Ok (bytes_pattern text) }
+    ensures { (text : List ℕ) → HasNoFirstFault (quoted text) → reading (quoted text) ≡ Ok (bytes_pattern text) }
 {}
 
 /// A fault that is met before a text's end is told alike whatever follows, so texts that agree up to it are refused alike.
 pub fn first_fault_is_told()
-    ensures { (front more : List ℕ) (error : PatternError)
-        → reading front ≡ Err error → is_told_before_end front error ≡ true
-        → length (front ++ more) ≤ longest → All (λ b. b ≢ 0) more
-        → reading (front ++ more) ≡ Err error }
+    ensures { (text : List ℕ) (error : PatternError) → IsRefusedBeforeEnd text error → IsRefusedHoweverItEnds text error }
 {}
 
 /// The test that contracts name says that the text can be cut into one text for each item.
@@ -51,6 +45,5 @@ pub fn no_text_with_a_zero_byte_matches()
 /// A text with a backslash before each byte that needs one matches itself alone.
 pub fn quoted_text_matches_itself()
     ensures { (text path : List ℕ)
-        → begins_with_slash text ≡ true → All (λ b. b ≢ 0) text → length (quoted text) ≤ longest
-        → (IsTrue (matches (items_of (quoted text)) path) ↔ (path ≡ text)) }
+        → HasNoFirstFault (quoted text) → (IsTrue (matches (items_of (quoted text)) path) ↔ (path ≡ text)) }
 {}

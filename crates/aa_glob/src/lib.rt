@@ -2,7 +2,6 @@
 #![tactic(auto)]
 
 mod alternative;
-mod byte_set;
 mod class;
 mod context;
 mod item;

@@ -1,11 +1,11 @@
 //! Matching of a text, from its last byte to its first, by the steps that accept what follows.
 
-ghost use Rattle.std.specs.Prelude.{◌≡◌, ◌||◌, ◌+◌, ◌≤◌, ◌<◌, [], length, get_or, false};
+ghost use Rattle.std.specs.Prelude.{◌≡◌, ◌||◌, ◌+◌, ◌*◌, ◌≤◌, ◌<◌, [], length, get_or, false};
 ghost use Rattle.aa_glob.specs.code.Compiled.{most_answers, most_steps};
 ghost use Rattle.aa_glob.specs.code.Steps.{accepting, accepting_byte, accepting_end, leads, takes};
 
-use crate::byte_set::is_inside;
 use crate::step::Step;
+use aa_bytes::is_inside;
 
 // How many answers there may be: two steps for each byte of the longest pattern, and the end behind them.
 const MOST_ANSWERS: usize = 8_193;
@@ -15,23 +15,35 @@ pub fn accepts(steps: &[Step], text: &[u8]) -> bool
     requires { length steps.now ≤ most_steps }
     ensures { result ≡ get_or (accepting steps.now text.now) 0 false }
 {
-    // The room is cleared at each call, so a short pattern gets a small one.
+    // The room is cleared at each call, so a pattern gets one of about its size.
     match steps.len() {
         0..=63 => accepts_within::<64>(steps, text),
-        64..=511 => accepts_within::<512>(steps, text),
-        512..=4_095 => accepts_within::<4_096>(steps, text),
+        64..=127 => accepts_within::<128>(steps, text),
+        128..=255 => accepts_within::<256>(steps, text),
+        256..=511 => accepts_within::<512>(steps, text),
+        512..=1_023 => accepts_within::<1_024>(steps, text),
+        1_024..=2_047 => accepts_within::<2_048>(steps, text),
+        2_048..=4_095 => accepts_within::<4_096>(steps, text),
         _ => accepts_within::<MOST_ANSWERS>(steps, text),
     }
 }
 
-// The same, with room for so many answers on the stack.
+// The same, with room for so many answers on the stack, which is cleared: at most twice as many as there are steps, or 64.
 fn accepts_within<const ROOM: usize>(steps: &[Step], text: &[u8]) -> bool
     requires room { length steps.now < ROOM }
+    requires near { ROOM ≤ 2 * length steps.now + 64 }
     requires fits { ROOM ≤ most_answers }
     ensures { result ≡ get_or (accepting steps.now text.now) 0 false }
 {
     let mut room = [false; ROOM];
-    let answers = &mut room[..steps.len() + 1];
+    accepts_in(&mut room[..steps.len() + 1], steps, text)
+}
+
+// The same, in the room of these answers.
+fn accepts_in(answers: &mut [bool], steps: &[Step], text: &[u8]) -> bool
+    requires { length answers.now ≡ length steps.now + 1 }
+    ensures { result ≡ get_or (accepting steps.now text.now) 0 false }
+{
     answer_end(steps, answers);
     let mut at = text.len();
     while at > 0 {

@@ -1,6 +1,6 @@
 //! Patterns: texts that were read, with the steps by which they are matched.
 
-ghost use Rattle.std.specs.Prelude.{◌≡◌, ◌≢◌, ◌↔◌, Ok, Err, IfOk, IfErr, IsTrue};
+ghost use Rattle.std.specs.Prelude.{◌≡◌, ◌≢◌, ◌↔◌, Ok, Err, IfOk, IfErr, IsTrue, OnOk};
 ghost use Rattle.aa_glob.specs.Exactness.{is_exact, literal_prefix};
 ghost use Rattle.aa_glob.specs.Matching.{Matches, matches};
 ghost use Rattle.aa_glob.specs.Reading.{HasNoFirstFault, items_of, reading};
@@ -54,15 +54,7 @@ impl Pattern {
         // What is told before anything is read takes no memory.
         ensures memory { IfErr result (λ error. error ≡ Memory → HasNoFirstFault text.now) }
     {
-        if text.len() > LONGEST_PATTERN {
-            return Err(PatternError::TooLong);
-        }
-        if has_byte(0, text) {
-            return Err(PatternError::ZeroByte);
-        }
-        if !begins_with_byte(b'/', text) {
-            return Err(PatternError::NotAbsolute);
-        }
+        check_text(text)?;
         let mut steps = Vec::with_capacity(alloc, text.len())?;
         match read_items(alloc, &mut steps, 0, text)? {
             Stop::End => {}
@@ -114,6 +106,24 @@ impl Pattern {
             steps: copied_steps(alloc, &self.steps)?,
         })
     }
+}
+
+// Refuses a text with one of the faults that are told before anything is read.
+fn check_text(text: &[u8]) -> Result<(), PatternError>
+    ensures fine { OnOk result (HasNoFirstFault text.now) }
+    ensures refused { IfErr result (λ error. reading text.now ≡ Err error) }
+    ensures memory { IfErr result (λ error. error ≢ Memory) }
+{
+    if text.len() > LONGEST_PATTERN {
+        return Err(PatternError::TooLong);
+    }
+    if has_byte(0, text) {
+        return Err(PatternError::ZeroByte);
+    }
+    if !begins_with_byte(b'/', text) {
+        return Err(PatternError::NotAbsolute);
+    }
+    Ok(())
 }
 
 fn is_byte(step: &Step) -> bool

@@ -8,11 +8,11 @@ ghost use Rattle.aa_glob.specs.Symbols.{symbols};
 ghost use Rattle.aa_glob.specs.declared.pattern_error.PatternError.TheVariants.{Memory};
 ghost use Rattle.aa_glob.specs.declared.step.Step.TheVariants.{DoubleStar, Star};
 
-use crate::byte_set::ByteSet;
 use crate::context::Context;
 use crate::pattern_error::PatternError;
 use crate::step::Step;
 use crate::symbol::{Symbol, first_symbol};
+use aa_bytes::ByteSet;
 
 /// Reads a star, which stands in the context and before the text.
 pub fn read_star(steps: &mut Vec<Step>, context: Context, text: &[u8]) -> Result<(), PatternError>

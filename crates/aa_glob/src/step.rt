@@ -2,7 +2,7 @@
 
 ghost use Rattle.std.specs.Prelude.{◌≡◌, IfOk};
 
-use crate::byte_set::ByteSet;
+use aa_bytes::ByteSet;
 use std::alloc::{AllocError, Global};
 
 /// A state of a pattern's automaton. Each one leads to the one behind it, unless it says otherwise; what leads on

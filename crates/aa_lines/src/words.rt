@@ -5,6 +5,7 @@ ghost use Rattle.std.specs.List.{prefix_len};
 ghost use Rattle.std.specs.Option.{option_map};
 ghost use Rattle.aa_bytes.specs.Texts.{begins_with};
 ghost use Rattle.aa_lines.specs.declared.words.TheConstants.{MOST_WORDS};
+ghost use Rattle.aa_lines.specs.code.FirstWord.{IsFirstWord};
 ghost use Rattle.aa_lines.specs.Words.{words_of, words_in_quotes, is_word_end, is_quote, is_command_blank};
 
 use aa_bytes::length_while;
@@ -62,9 +63,7 @@ impl<'a> Words<'a> {
 
 // The next word of a line and what follows it, or nothing where blanks alone are left.
 fn next_word(line: &[u8]) -> Result<Option<(&[u8], &[u8])>, BadWords>
-    ensures word { IfOk result (λ next. MatchOption next
-        (words_of line.now ≡ Some [])
-        (λ found. words_of line.now ≡ option_map (λ words. found.0.now ∷ words) (words_of found.1.now))) }
+    ensures word { IfOk result (IsFirstWord line.now) }
     ensures shorter { IfOk result (λ next. IfSome next (λ found. length found.1.now < length line.now)) }
     ensures refused { OnErr result (words_of line.now ≡ None) }
 {

@@ -6,7 +6,7 @@ ghost use Rattle.std.specs.Option.{option_map};
 ghost use Rattle.aa_text.specs.code.SplicingProgress.{seen_spliced};
 ghost use Rattle.aa_profile.specs.FileShape.{is_name_byte};
 ghost use Rattle.aa_profile.specs.FileShape.{body_patterns, has_no_value, head_name, is_name, is_pattern, is_word_of, opening, place_of, preamble, shape_of};
-ghost use Rattle.aa_profile.specs.code.FileTokens.{seen_assignment, seen_shape, seen_tokens};
+ghost use Rattle.aa_profile.specs.code.FileTokens.{IsFirstAssignment, IsFirstPattern, seen_assignment, seen_shape, seen_tokens};
 ghost use Rattle.aa_profile.specs.ProfileError.{plain};
 ghost use Rattle.aa_profile.specs.declared.profile_error.ProfileRefusal.TheVariants.{BadToken, Memory};
 
@@ -65,9 +65,7 @@ fn value_count(tokens: &[Spliced<'_>]) -> usize
 
 // The assignment that tokens begin with, or nothing where none begins.
 fn next_assignment<'a>(tokens: &'a [Spliced<'a>]) -> Result<Option<Assignment<'a>>, ProfileError>
-    ensures found { IfOk result (λ next. MatchOption next
-        (opening (seen_tokens tokens.now) ≡ Some ([], seen_tokens tokens.now))
-        (λ assignment. opening (seen_tokens tokens.now) ≡ option_map (λ front. (seen_assignment assignment ∷ front.0, front.1)) (opening (seen_tokens (drop (1 + length assignment.values.now) tokens.now))))) }
+    ensures found { IfOk result (IsFirstAssignment tokens.now) }
     ensures within { IfOk result (λ next. IfSome next (λ assignment. 1 + length assignment.values.now ≤ length tokens.now)) }
     ensures refused { IfErr result (λ refusal. (refusal ≡ plain BadToken) × (opening (seen_tokens tokens.now) ≡ None)) }
 {
@@ -148,9 +146,7 @@ fn is_pattern(spliced: Spliced<'_>) -> bool
 
 // The pattern that a profile's body begins with, or nothing where the body ends.
 fn next_pattern<'a>(body: &'a [Spliced<'a>]) -> Result<Option<Spliced<'a>>, ProfileError>
-    ensures pattern { IfOk result (λ next. MatchOption next
-        (body_patterns (seen_tokens body.now) ≡ Some [])
-        (λ pattern. body_patterns (seen_tokens body.now) ≡ option_map (λ patterns. seen_spliced pattern ∷ patterns) (body_patterns (seen_tokens (drop 3 body.now))))) }
+    ensures pattern { IfOk result (IsFirstPattern body.now) }
     ensures within { IfOk result (λ next. IfSome next (λ pattern. 3 ≤ length body.now)) }
     ensures refused { IfErr result (λ refusal. (refusal ≡ plain BadToken) × (body_patterns (seen_tokens body.now) ≡ None)) }
 {

@@ -2,16 +2,18 @@
 use Rattle.std.specs.Prelude.{ℕ, Bool, true, false, if◌then◌else◌, List, [], ◌∷◌, ◌++◌, Option, None, Some, Result, Ok, Err, codes}
 use Rattle.std.specs.Str.{bytes_eq}
 use Rattle.aa_bytes.specs.Bytes.{line_feed}
-use Rattle.aa_commands.specs.Question.{Asked, OfFile, Request}
+use Rattle.aa_access.specs.Request.{Request}
+use Rattle.aa_commands.specs.Question.{Asked, OfFile}
 use Rattle.aa_commands.specs.Refusal.{plain}
 use Rattle.aa_commands.specs.declared.refusal.Refusal.{Refusal}
 use Rattle.aa_commands.specs.declared.refusal.RefusalKind.{RefusalKind}
 use Rattle.aa_commands.specs.declared.refusal.RefusalKind.TheVariants.{Absent}
+use Rattle.aa_decide.specs.Answer.{answer_word}
+use Rattle.aa_decide.specs.Verdict.{verdict}
+use Rattle.aa_decide.specs.declared.verdict.Answer.{Answer}
+use Rattle.aa_decide.specs.declared.verdict.Answer.TheVariants.{Unconfined}
 use Rattle.aa_set.specs.PolicySet.{entry_named}
-use Rattle.aa_set.specs.Verdict.{verdict}
 use Rattle.aa_set.specs.declared.policy.Entry.{Entry}
-use Rattle.aa_set.specs.declared.verdict.Answer.{Answer}
-use Rattle.aa_set.specs.declared.verdict.Answer.TheVariants.{Unconfined, Allow, Deny, Refuse, Complain}
 
 abbrev pub entry_answer : Option Entry → Request → Result Answer Refusal
 entry_answer None request = Err (plain Absent)
@@ -24,14 +26,6 @@ answer_of entries (OfFile who request) = if bytes_eq who (codes "unconfined") th
 -- a line: a text, and a line feed
 abbrev pub line_with : List ℕ → List ℕ
 line_with text = text ++ line_feed ∷ []
-
--- the word of an answer
-abbrev pub answer_word : Answer → List ℕ
-answer_word Unconfined = codes "unconfined"
-answer_word Allow = codes "allow"
-answer_word Deny = codes "deny"
-answer_word Refuse = codes "refuse"
-answer_word Complain = codes "complain"
 
 -- the lines that an answer is told in
 abbrev pub told_lines : Result Answer Refusal → Result (List ℕ) Refusal

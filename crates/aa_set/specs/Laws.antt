@@ -1,11 +1,11 @@
--- What the laws of the machine speak of: which lines change the policy set, and which ones go back.
+-- The laws of the machine, and what they speak of: which lines change the policy set, and which ones go back.
 use Rattle.std.specs.Prelude.{◌≡◌, ℕ, ◌+◌, Bool, true, false, not, ◌&&◌, if◌then◌else◌, List, [], ◌∷◌, ◌++◌, Option, Some, Result, Ok, Err}
 use Rattle.aa_files.specs.Files.{File}
 use Rattle.aa_commands.specs.Command.{Add, Ask, Order, Undo, line_order}
-use Rattle.aa_set.specs.Manager.{Managed}
+use Rattle.aa_set.specs.Manager.{Managed, new_manager, undone}
 use Rattle.aa_set.specs.PolicySet.{have_distinct_names}
 use Rattle.aa_set.specs.Reply.{is_refusal}
-use Rattle.aa_set.specs.Run.{line_outcome}
+use Rattle.aa_set.specs.Run.{after_lines, line_outcome}
 use Rattle.aa_lines.specs.Words.{words_of}
 use Rattle.aa_set.specs.declared.policy.Entry.{Entry}
 use Rattle.aa_commands.specs.declared.refusal.Refusal.{Refusal}
@@ -54,3 +54,39 @@ AreDistinct (set ∷ sets) = (have_distinct_names set ≡ true) × AreDistinct s
 -- every policy set of a manager: the earlier ones, the one now and the later ones
 abbrev pub all_sets : Managed → List (List Entry)
 all_sets managed = managed.machine.earlier ++ managed.machine.now ∷ managed.machine.later
+
+-- A refused line leaves the policy set and both lists of sets.
+abbrev pub RefusedLineLeavesAll : Type 0
+RefusedLineLeavesAll =
+    (files : List File) (managed : Managed) (line : List ℕ) (flag : Bool)
+    → is_refusal (line_outcome files managed line flag).reply ≡ true
+    → (line_outcome files managed line flag).managed ≡ managed
+
+-- So does any line whose command neither changes nor goes back.
+abbrev pub OtherLineLeavesAll : Type 0
+OtherLineLeavesAll =
+    (files : List File) (managed : Managed) (line : List ℕ) (flag : Bool)
+    → is_change (order_in line) ≡ false
+    → goes_back (order_in line) ≡ false
+    → (line_outcome files managed line flag).managed ≡ managed
+
+-- After lines of which none goes back, undoing as many changes as were accepted gives back the policy set from before them.
+abbrev pub UndoGivesBack : Type 0
+UndoGivesBack =
+    (files : List File) (managed : Managed) (lines : List (List ℕ × Bool))
+    → NoneGoesBack lines
+    → GivesBack managed (undone (changes files managed lines) (after_lines files managed lines))
+
+-- The reply to a question depends on the policy set alone.
+abbrev pub SetDecidesAnswer : Type 0
+SetDecidesAnswer =
+    (files : List File) (one other : Managed) (line : List ℕ) (flag : Bool)
+    → is_question (order_in line) ≡ true
+    → one.machine.now ≡ other.machine.now
+    → (line_outcome files one line flag).reply ≡ (line_outcome files other line flag).reply
+
+-- No policy set that a run comes to has two profiles of one name.
+abbrev pub SetsHaveDistinctNames : Type 0
+SetsHaveDistinctNames =
+    (files : List File) (force_complain : Bool) (lines : List (List ℕ × Bool))
+    → AreDistinct (all_sets (after_lines files (new_manager force_complain) lines))

@@ -6,5 +6,4 @@ pub mod Manager
 pub mod PolicySet
 pub mod Reply
 pub mod Run
-pub mod Verdict
 pub mod code

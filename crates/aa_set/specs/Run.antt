@@ -1,6 +1,6 @@
 -- The run of lines: what an input is answered, line by line, by the machine that keeps whole policy sets
 -- (docs/guarantees.md).
-use Rattle.std.specs.Prelude.{ℕ, Bool, true, false, ◌&&◌, not, nat_le, if◌then◌else◌, List, [], ◌∷◌, length, Option, None, Some, Result, Ok, Err, ◌≡◌, ◌≤◌, count_by}
+use Rattle.std.specs.Prelude.{ℕ, Bool, true, false, ◌&&◌, not, nat_le, if◌then◌else◌, List, [], ◌∷◌, length, Option, None, Some, IfSome, Result, Ok, Err, ◌≡◌, ◌≤◌, count_by}
 use Rattle.std.specs.List.{flat_map}
 use Rattle.std.specs.Io.KnownBytes.{Appends, Consumes}
 use Rattle.aa_set.specs.Answers.{asks_absent, reply_lines}
@@ -94,6 +94,10 @@ pub record IsAnswered (files : List File) (force_complain : Bool) (before now : 
   pub flags : List Bool
   pub written : Appends before now (output files force_complain input flags)
   pub summed : SumsUp summary (replies files force_complain input flags)
+
+-- the input that a reader has left was answered, where its bytes are known
+abbrev pub IsLeftAnswered : List File → Bool → (left before now : Option (List ℕ)) → Summary → Type 0
+IsLeftAnswered files force_complain left before now summary = IfSome left (IsAnswered files force_complain before now summary)
 
 -- a reader gave so many bytes, where its bytes are known
 abbrev pub HasGiven : ℕ → Option (List ℕ) → Option (List ℕ) → Type 0

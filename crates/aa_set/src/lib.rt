@@ -7,7 +7,6 @@ mod policy;
 mod reply;
 mod session;
 mod telling;
-mod verdict;
 
 pub use aa_commands::{Question, Refusal, RefusalKind};
 pub use aa_lines::{Failed, FromRead, Sink, Source, ToWrite};

@@ -4,11 +4,12 @@ ghost use Rattle.std.specs.Prelude.{◌≡◌, ◌≢◌, ◌<◌, Ok, Err, IfOk
 ghost use Rattle.aa_commands.specs.Question.{IsWellFormed, asked};
 ghost use Rattle.aa_commands.specs.Refusal.{plain};
 ghost use Rattle.aa_commands.specs.declared.refusal.RefusalKind.TheVariants.{Absent, Memory};
-ghost use Rattle.aa_set.specs.Answers.{answer_of, answer_word, asks_absent, line_with, reply_lines};
+ghost use Rattle.aa_decide.specs.Answer.{answer_word};
+ghost use Rattle.aa_set.specs.Answers.{answer_of, asks_absent, line_with, reply_lines};
 
 use crate::policy::PolicySet;
-use crate::verdict::{Answer, FileRequest, decide};
 use aa_commands::{Question, Refusal, RefusalKind, plain};
+use aa_decide::{Answer, FileRequest, decide};
 use aa_files::Files;
 use aa_profile::read_file;
 use std::alloc::{AllocError, Global};

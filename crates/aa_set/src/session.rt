@@ -1,16 +1,13 @@
 //! The run of command lines: lines from a reader, replies to a writer.
 
-ghost use Rattle.std.specs.Prelude.{◌≡◌, ◌+◌, ◌^◌, ◌<◌, ◌≤◌, ◌++◌, ◌∷◌, [], ℕ, Bool, Option, List, length, vec_len, count_by, false, true, OnOk, OnErr, IfOk, IfSome, IfNone, IsErrOf, ◌⊎◌};
+ghost use Rattle.std.specs.Prelude.{◌≡◌, ◌+◌, ◌^◌, ◌<◌, ◌≤◌, ◌∷◌, [], length, vec_len, count_by, false, true, OnOk, OnErr, IfOk, IsErrOf, ◌⊎◌};
 ghost use Rattle.std.specs.List.{list_any};
 ghost use Rattle.std.specs.Io.KnownBytes.{IsAtEnd};
-ghost use Rattle.aa_bytes.specs.Bytes.{line_feed};
 ghost use Rattle.aa_lines.specs.Lines.{is_line_feed};
 ghost use Rattle.aa_set.specs.Reply.{is_acceptance, is_refusal};
-ghost use Rattle.aa_files.specs.Files.{File};
-ghost use Rattle.aa_set.specs.Answers.{line_with};
 ghost use Rattle.aa_set.specs.Limits.{most_reads};
-ghost use Rattle.aa_set.specs.Run.{HasGiven, IsAnswered};
-ghost use Rattle.aa_set.specs.code.Session.{AnswersLine, Follows, Feeds, counted, piece_size};
+ghost use Rattle.aa_set.specs.Run.{HasGiven, IsLeftAnswered};
+ghost use Rattle.aa_set.specs.code.Session.{AnswersLine, EndsInput, EndsLine, Feeds, IsFresh, Serves, counted, piece_size};
 
 use crate::manager::Manager;
 use crate::reply::{Reply, reply_to};
@@ -81,8 +78,7 @@ pub fn run<S: Source, W: Sink>(
     requires reads { S.reads reader.old ≤ 2 ^ 63 }
 
     // The replies are those of the machine that keeps whole policy sets, to all that was read.
-    ensures answered { IfOk result (λ summary. IfSome (S.left reader.old) (λ input.
-        IsAnswered files.now force_complain (W.written writer.old) (W.written writer.new) summary input)) }
+    ensures answered { IfOk result (IsLeftAnswered files.now force_complain (S.left reader.old) (W.written writer.old) (W.written writer.new)) }
     ensures ended { OnOk result (IsAtEnd (S.left reader.new)) }
     ensures whole { OnOk result ((S.failed reader.new ≡ false) × (W.failed writer.new ≡ false)) }
 
@@ -116,9 +112,7 @@ fn serve<S: Source, W: Sink>(
     requires whole_reader { S.failed reader.old ≡ false }
     requires whole_writer { W.failed writer.old ≡ false }
     requires reads { S.reads reader.old ≤ 2 ^ 63 }
-    ensures answered { OnOk result ((force_complain : Bool) (before : Option (List ℕ))
-        → Follows files.now force_complain before (W.written writer.old) session.old held.old []
-        → IfSome (S.left reader.old) (λ input. IsAnswered files.now force_complain before (W.written writer.new) session.new.summary input)) }
+    ensures answered { OnOk result (Serves files.now (S.left reader.old) (W.written writer.old) (W.written writer.new) session.old held.old session.new) }
     ensures ended { OnOk result (IsAtEnd (S.left reader.new)) }
     ensures whole { OnOk result ((S.failed reader.new ≡ false) × (W.failed writer.new ≡ false)) }
     ensures read { IsErrOf result RunFault.Read → (S.failed reader.new ≡ true) ⊎ (S.reads reader.new ≡ S.reads reader.old + most_reads) }
@@ -149,7 +143,7 @@ fn prepared(
     alloc: Global,
     force_complain: bool,
 ) -> Result<(Session, LineBuffer, Vec<u8>), AllocError>
-    ensures session { IfOk result (λ made. (before : Option (List ℕ)) → (files : List File) → Follows files force_complain before before made.0 made.1 []) }
+    ensures session { IfOk result (λ made. IsFresh force_complain made.0 made.1) }
     ensures counted { IfOk result (λ made. counted made.0 ≡ 0) }
     ensures piece { IfOk result (λ made. vec_len made.2 ≡ piece_size) }
 {
@@ -228,7 +222,7 @@ fn end_line<W: Sink>(
 ) -> Result<(), Failed>
     requires room { counted session.old + 1 < 2 ^ 64 }
     requires one_line { list_any is_line_feed last.now ≡ false }
-    ensures ok { OnOk result (Feeds files.now (W.written writer.old) (W.written writer.new) session.old session.new held.old held.new (line_with last.now)) }
+    ensures ok { OnOk result (EndsLine files.now (W.written writer.old) (W.written writer.new) session.old session.new held.old held.new last.now) }
     ensures counted { counted session.new ≤ counted session.old + 1 }
     ensures flag { OnOk result (W.failed writer.new ≡ W.failed writer.old) }
     ensures fault { OnErr result (W.failed writer.new ≡ true) }
@@ -273,9 +267,7 @@ fn finish<W: Sink>(
     writer: &mut W,
 ) -> Result<(), Failed>
     requires { counted session.old + 1 < 2 ^ 64 }
-    ensures ok { OnOk result ((force_complain : Bool) (before : Option (List ℕ)) (input : List ℕ)
-        → Follows files.now force_complain before (W.written writer.old) session.old held.now input
-        → IsAnswered files.now force_complain before (W.written writer.new) session.new.summary input) }
+    ensures ok { OnOk result (EndsInput files.now (W.written writer.old) (W.written writer.new) session.old held.now session.new.summary) }
     ensures flag { OnOk result (W.failed writer.new ≡ W.failed writer.old) }
     ensures fault { OnErr result (W.failed writer.new ≡ true) }
 {

@@ -9,7 +9,8 @@ use Rattle.aa_bytes.specs.Texts.{has_byte}
 use Rattle.std.specs.Option.{option_map}
 use Rattle.aa_tokens.specs.Cut.{Seen, cut}
 use Rattle.aa_files.specs.Files.{File, bytes_at, file_at, has_file}
-use Rattle.aa_text.specs.Splicing.{Entered, Fault, Placed, Entering, Absent, Way, and_then, deepest, each, entered, included, looked_up, most_bytes, of_members, refusal_of, spliced, target, tokens_of, walked, within, without}
+use Rattle.aa_files.specs.Limit.{most_bytes}
+use Rattle.aa_text.specs.Splicing.{Entered, Fault, Placed, Entering, Absent, Way, and_then, deepest, each, entered, included, looked_up, of_members, refusal_of, spliced, target, tokens_of, walked, within, without}
 use Rattle.aa_files.specs.Folder.{members}
 use Rattle.aa_text.specs.code.SplicingProgress.{IsFaultOf, IsIncluded, IsRefused, Progress, fault_of, way, with_each, with_entered, with_file, with_token, with_walked}
 use Rattle.aa_tokens.specs.code.Tokens.{seen}

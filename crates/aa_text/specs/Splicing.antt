@@ -7,16 +7,13 @@ use Rattle.aa_bytes.specs.Texts.{has_byte}
 use Rattle.aa_tokens.specs.Cut.{Seen, cut}
 use Rattle.aa_files.specs.Files.{File, bytes_at, file_at, has_file, is_folder_name}
 use Rattle.aa_files.specs.Folder.{members}
+use Rattle.aa_files.specs.Limit.{most_bytes}
 use Rattle.aa_tokens.specs.declared.cut.CutRefusal.{CutRefusal}
 use Rattle.aa_tokens.specs.declared.cut.CutRefusal.TheVariants as cut_refusal
 use Rattle.aa_tokens.specs.declared.cut.TokenKind.TheVariants.{Include}
 use Rattle.aa_files.specs.declared.text_error.Place.{Place}
 use Rattle.aa_files.specs.declared.text_error.TextRefusal.{TextRefusal}
 use Rattle.aa_files.specs.declared.text_error.TextRefusal.TheVariants.{ZeroByte, OpenQuote, OpenOther, NoFile, IncludeDepth, TextTooBig, Memory}
-
--- how many bytes the files that are entered may have together, each counted as often as it is entered
-abbrev pub most_bytes : ℕ
-most_bytes = 16777216
 
 -- how deep includes may stand in one another
 abbrev pub deepest : ℕ

@@ -4,21 +4,19 @@ ghost use Rattle.std.specs.Prelude.{◌≡◌, ◌≢◌, ◌≤◌, ◌<◌, �
 ghost use Rattle.std.specs.List.{prefix_len};
 ghost use Rattle.aa_tokens.specs.Cut.{Seen};
 ghost use Rattle.aa_tokens.specs.code.Tokens.{seen};
+ghost use Rattle.aa_files.specs.Limit.{most_bytes};
 ghost use Rattle.aa_files.specs.TextError.{plain};
 ghost use Rattle.aa_files.specs.declared.text_error.TextRefusal.TheVariants.{IncludeDepth, Memory, NoFile};
-ghost use Rattle.aa_text.specs.Splicing.{Way, entered, most_bytes, refusal_of, walked};
+ghost use Rattle.aa_text.specs.Splicing.{Way, entered, refusal_of, walked};
 ghost use Rattle.aa_text.specs.code.SplicingProgress.{AreTokensOf, IsFaultOf, IsIncluded, IsPut, IsRead, IsRefused, seen_spliced, with_each, with_file, with_token, with_walked};
 
 use crate::spliced_token::Spliced;
 use crate::targets::target;
 use aa_bytes::{has_byte, length_while};
-use aa_files::{Files, Place, TextError, TextRefusal};
+use aa_files::{Files, MOST_BYTES, Place, TextError, TextRefusal};
 use aa_tokens::{CutFault, CutRefusal, Token, TokenKind, tokens};
 use std::alloc::Global;
 use std::marker::Model;
-
-/// How many bytes the files that are entered may have together, each counted as often as it is entered.
-pub const MOST_BYTES: usize = 16_777_216;
 
 // How many bytes of a text stand before its first zero byte.
 fn size_before_zero(text: &[u8]) -> usize
@@ -112,7 +110,7 @@ pub struct Splicer<'a> {
 
 impl<'a> Model for Splicer<'a> {
     ghost use Rattle.std.specs.Prelude.{◌≤◌, map};
-    ghost use Rattle.aa_text.specs.Splicing.{most_bytes};
+    ghost use Rattle.aa_files.specs.Limit.{most_bytes};
     ghost use Rattle.aa_text.specs.code.SplicingProgress.{Progress, seen_spliced};
 
     ghost Value = { Progress };

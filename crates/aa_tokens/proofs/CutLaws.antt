@@ -6,10 +6,8 @@ use Rattle.std.proofs.lemmas.List.Sums.{prefix_len-le-length}
 use Rattle.std.proofs.Math.Seq.{drop-nil}
 use Rattle.aa_bytes.specs.Texts.{begins}
 use Rattle.aa_bytes.specs.Bytes.{hash, is_blank, line_feed}
-use Rattle.aa_tokens.specs.Cut.{Seen, before_tokens, cut, is_assign, piece_at}
+use Rattle.aa_tokens.specs.Cut.{Comment, Fault, Piece, Seen, Token, before_tokens, cut, is_assign, piece_at}
 use Rattle.aa_tokens.specs.CutLaws.{is_gap, is_gap_from, Covers, IsTextOf}
-use Rattle.aa_tokens.specs.declared.piece.Piece.{Piece}
-use Rattle.aa_tokens.specs.declared.piece.Piece.TheVariants.{Token, Comment, Fault}
 use Rattle.aa_tokens.specs.declared.cut.CutRefusal.{CutRefusal}
 use Rattle.aa_tokens.specs.declared.cut.TokenKind.{TokenKind}
 use Rattle.aa_tokens.proofs.CutLemmas.{cut-behind, cut-piece}
@@ -158,10 +156,10 @@ covers-comment at b bs (token ∷ tokens) h covers =
     (ap (λ k. is_gap (take k (b ∷ bs))) start ∙ rw h gap)
 
 -- where they cover what stands behind a token
-covers-token : (at size from to : ℕ) (kind : TokenKind) (text : List ℕ) (tokens : List Seen) → 1 ≤ size → size ≤ length text → IsTextOf kind (drop from (take to text)) (take size text) → begins is_blank text ≡ false
+covers-token : (at size : ℕ) (kind : TokenKind) (own text : List ℕ) (tokens : List Seen) → 1 ≤ size → size ≤ length text → IsTextOf kind own (take size text) → begins is_blank text ≡ false
     → Covers (at + size) (drop size text) tokens
-    → Covers at text (record { kind = kind; text = drop from (take to text); start = at; end = at + size } ∷ tokens)
-covers-token at size from to kind text tokens some within own black covers =
+    → Covers at text (record { kind = kind; text = own; start = at; end = at + size } ∷ tokens)
+covers-token at size kind own text tokens some within told black covers =
     let none : at - at ≡ 0 = omega arith in
     let all : at + size - at ≡ size = omega arith in (
       record {
@@ -170,8 +168,8 @@ covers-token at size from to kind text tokens some within own black covers =
         within = omega arith;
         gap = ap (λ n. is_gap (take n text)) none;
         black = ap (λ n. begins is_blank (drop n text)) none ∙ black;
-        own = subst (λ n. IsTextOf kind (drop from (take to text)) (take n (drop (at - at) text))) (sym all)
-            (subst (λ n. IsTextOf kind (drop from (take to text)) (take size (drop n text))) (sym none) own);
+        own = subst (λ n. IsTextOf kind own (take n (drop (at - at) text))) (sym all)
+            (subst (λ n. IsTextOf kind own (take size (drop n text))) (sym none) told);
       },
       subst (λ n. Covers (at + size) (drop n text) tokens) (sym all) covers,
     )
@@ -195,18 +193,18 @@ covers-cut (suc most) at values (b ∷ bs) tokens few h = by (is_blank b) refl (
   where
     on : is_blank b ≡ false → ((at : ℕ) (values : Bool) (text : List ℕ) (tokens : List Seen) → length text ≤ most → cut at 0 values text ≡ Ok tokens → Covers at text tokens)
         → (p : Piece) → p ≡ piece_at values (b ∷ bs) → Fits (b ∷ bs) p → Tells (b ∷ bs) p → Covers at (b ∷ bs) tokens
-    on black rest (Token kind size from to) e fits tells =
+    on black rest (Token kind own size) e fits tells =
         let some : 1 ≤ size = fits.0 in
         let within : size ≤ length (b ∷ bs) = fits.1 in
         let left : length (drop size (b ∷ bs)) ≤ most = omega (arith, length-drop size (b ∷ bs)) in
         let follow = values || is_assign kind in
-        let token : Seen = record { kind = kind; text = drop from (take to (b ∷ bs)); start = at; end = at + size } in
+        let token : Seen = record { kind = kind; text = own; start = at; end = at + size } in
         let all : before_tokens token (cut (at + size) 0 follow (drop size (b ∷ bs))) ≡ Ok tokens =
-        ap (before_tokens token) (sym (cut-behind at size follow b bs some)) ∙ sym (cut-piece at values b bs (Token kind size from to) (sym black) e) ∙ h
+        ap (before_tokens token) (sym (cut-behind at size follow b bs some)) ∙ sym (cut-piece at values b bs (Token kind own size) (sym black) e) ∙ h
         in
         let found = before-ok token (cut (at + size) 0 follow (drop size (b ∷ bs))) tokens all in
         subst (Covers at (b ∷ bs)) (sym found.2)
-        (covers-token at size from to kind (b ∷ bs) found.0 some within tells black (rest (at + size) follow (drop size (b ∷ bs)) found.0 left found.1))
+        (covers-token at size kind own (b ∷ bs) found.0 some within tells black (rest (at + size) follow (drop size (b ∷ bs)) found.0 left found.1))
     on black rest (Comment size) e fits tells =
         let hashed : b ≡ hash = eqb-true b hash fits.0 in
         let other : (b == line_feed) ≡ false = rw hashed refl in

@@ -1,12 +1,10 @@
 -- The cut of a text, piece by piece.
-use Rattle.std.proofs.Common.{◌≡◌, ℕ, zero, suc, ◌+◌, ◌-◌, ◌<◌, ◌≤◌, ◌||◌, Bool, false, List, [], ◌∷◌, ◌++◌, length, get_or, map, take, drop, Result, Ok, Err, refl, sym, ap, ◌∙◌, arith, append_assoc}
+use Rattle.std.proofs.Common.{◌≡◌, ℕ, zero, suc, ◌+◌, ◌-◌, ◌<◌, ◌≤◌, ◌||◌, Bool, false, List, [], ◌∷◌, ◌++◌, length, get_or, map, drop, Result, Ok, Err, refl, sym, ap, ◌∙◌, arith, append_assoc}
 use Rattle.std.proofs.lemmas.Bool.{cond-false}
-use Rattle.std.proofs.lemmas.List.{drop-take, map-append}
+use Rattle.std.proofs.lemmas.List.{map-append}
 use Rattle.aa_bytes.specs.Bytes.{is_blank}
-use Rattle.aa_tokens.specs.Cut.{Seen, before_tokens, cut, cut_on, is_assign, piece_at}
+use Rattle.aa_tokens.specs.Cut.{Comment, Piece, Seen, Token, before_tokens, cut, cut_on, is_assign, piece_at}
 use Rattle.aa_tokens.specs.code.Tokens.{seen, with_tokens}
-use Rattle.aa_tokens.specs.declared.piece.Piece.{Piece}
-use Rattle.aa_tokens.specs.declared.piece.Piece.TheVariants.{Token, Comment}
 use Rattle.aa_tokens.specs.declared.cut.CutRefusal.{CutRefusal}
 use Rattle.aa_tokens.specs.declared.cut.Token.{Token as CodeToken}
 use Rattle.aa_tokens.specs.declared.cut.TokenKind.{TokenKind}
@@ -29,9 +27,9 @@ cut-behind at (suc n) values b bs some =
 
 -- the cut at a piece
 pub cut-piece : (at : ℕ) (values : Bool) (b : ℕ) (bs : List ℕ) (p : Piece) → false ≡ is_blank b → p ≡ piece_at values (b ∷ bs)
-    → cut at 0 values (b ∷ bs) ≡ cut_on at values (b ∷ bs) p (λ left values. cut (at + 1) left values bs)
+    → cut at 0 values (b ∷ bs) ≡ cut_on at values p (λ left values. cut (at + 1) left values bs)
 cut-piece at values b bs p black is_piece =
-    cond-false (is_blank b) _ _ (sym black) ∙ ap (λ q. cut_on at values (b ∷ bs) q (λ left values. cut (at + 1) left values bs)) (sym is_piece)
+    cond-false (is_blank b) _ _ (sym black) ∙ ap (λ q. cut_on at values q (λ left values. cut (at + 1) left values bs)) (sym is_piece)
 
 pub cut-comment : (at size : ℕ) (values : Bool) (text : List ℕ) → 0 < length text → false ≡ is_blank (get_or text 0 0) → Comment size ≡ piece_at values text → 1 ≤ size
     → cut (at + size) 0 values (drop size text) ≡ cut at 0 values text
@@ -47,23 +45,17 @@ with_tokens-more : (front : List Seen) (token : Seen) (more : Result (List Seen)
 with_tokens-more front token (Ok tokens) = ap Ok (append_assoc front (token ∷ []) tokens)
 with_tokens-more front token (Err fault) = refl
 
-pub cut-token : (old new : List CodeToken) (token : CodeToken) (at size from to : ℕ) (values : Bool) (kind : TokenKind) (text : List ℕ)
-    → 0 < length text → false ≡ is_blank (get_or text 0 0) → Token kind size from to ≡ piece_at values text → 1 ≤ size
-    → new ≡ old ++ token ∷ [] → seen token ≡ seen_as at size kind (drop from (take to text))
+pub cut-token : (old new : List CodeToken) (token : CodeToken) (at size : ℕ) (values : Bool) (kind : TokenKind) (own text : List ℕ)
+    → 0 < length text → false ≡ is_blank (get_or text 0 0) → Token kind own size ≡ piece_at values text → 1 ≤ size
+    → new ≡ old ++ token ∷ [] → seen token ≡ seen_as at size kind own
     → with_tokens (map seen new) (cut (at + size) 0 (values || is_assign kind) (drop size text)) ≡ with_tokens (map seen old) (cut at 0 values text)
-cut-token old new token at size from to values kind [] filled black is_piece some put is_token = absurd (omega arith)
-cut-token old new token at size from to values kind (b ∷ bs) filled black is_piece some put is_token =
+cut-token old new token at size values kind own [] filled black is_piece some put is_token = absurd (omega arith)
+cut-token old new token at size values kind own (b ∷ bs) filled black is_piece some put is_token =
     let follow = values || is_assign kind in
     let rest = cut (at + size) 0 follow (drop size (b ∷ bs)) in
     ap (λ tokens. with_tokens (map seen tokens) rest) put
     ∙ ap (λ tokens. with_tokens tokens rest) (map-append seen old (token ∷ []))
     ∙ with_tokens-more (map seen old) (seen token) rest
     ∙ ap (λ s. with_tokens (map seen old) (before_tokens s rest)) is_token
-    ∙ ap (λ more. with_tokens (map seen old) (before_tokens (seen_as at size kind (drop from (take to (b ∷ bs)))) more)) (sym (cut-behind at size follow b bs some))
-    ∙ ap (with_tokens (map seen old)) (sym (cut-piece at values b bs (Token kind size from to) black is_piece))
-
--- a token's text, as a slice has it
-pub seen-text : (at size from to : ℕ) (kind : TokenKind) (text : List ℕ) → from ≤ to → seen_as at size kind (take (to - from) (drop from text)) ≡ seen_as at size kind (drop from (take to text))
-seen-text at size from to kind text within =
-    let whole : from + (to - from) ≡ to = omega arith in
-    ap (seen_as at size kind) (sym (drop-take from (to - from) text) ∙ ap (λ n. drop from (take n text)) whole)
+    ∙ ap (λ more. with_tokens (map seen old) (before_tokens (seen_as at size kind own) more)) (sym (cut-behind at size follow b bs some))
+    ∙ ap (with_tokens (map seen old)) (sym (cut-piece at values b bs (Token kind own size) black is_piece))

@@ -3,16 +3,14 @@ use Rattle.std.proofs.Common.{◌≡◌, ℕ, Bool, true, false, not, ◌||◌, 
 use Rattle.std.specs.Prelude.{Option, None, Some, codes}
 use Rattle.std.specs.List.{prefix_len}
 use Rattle.std.proofs.lemmas.Bool.{eqb-true}
-use Rattle.std.proofs.lemmas.List.{drop-append-le, length-drop, take-append-le}
+use Rattle.std.proofs.lemmas.List.{drop-append-le, length-drop}
 use Rattle.std.proofs.lemmas.List.Sums.{prefix_len-le-length}
 use Rattle.aa_bytes.specs.Texts.{begins, begins_with}
 use Rattle.aa_bytes.specs.Bytes.{closing_brace, comma, hash, is_blank, is_letter, line_feed, opening_brace, quote}
-use Rattle.aa_tokens.specs.Cut.{Seen, assign, before_quote, before_tokens, closing, cut, include_from, is_assign, opening, piece, piece_at, plain, quoted, spaces, value_piece, word, word_left, is_name_byte}
+use Rattle.aa_tokens.specs.Cut.{Comment, Fault, Piece, Seen, Token, assign, before_quote, before_tokens, closing, cut, include_from, is_assign, opening, piece, piece_at, plain, quoted, spaces, value_piece, word, word_left, is_name_byte}
 use Rattle.aa_tokens.specs.CutLaws.{followed_by, has_line_feed, is_value, AreValuesPlaced}
 use Rattle.aa_tokens.specs.code.Tokens.{with_tokens}
 use Rattle.aa_tokens.specs.declared.include.Opening.{Opening}
-use Rattle.aa_tokens.specs.declared.piece.Piece.{Piece}
-use Rattle.aa_tokens.specs.declared.piece.Piece.TheVariants.{Token, Comment, Fault}
 use Rattle.aa_tokens.specs.declared.cut.CutRefusal.{CutRefusal}
 use Rattle.aa_tokens.specs.declared.cut.TokenKind.{TokenKind}
 use Rattle.aa_tokens.specs.declared.cut.TokenKind.TheVariants.{Assign, Value, Quoted}
@@ -70,17 +68,15 @@ module _ (rest : List ℕ) where
           → ((at : ℕ) (values : Bool) (text : List ℕ) → length text ≤ most → cut at 0 values (line rest text) ≡ followed_by (cut at 0 values text) (cut (at + length text + 1) 0 false rest))
           → (p : Piece) → p ≡ piece_at values (b ∷ bs) → Fits (b ∷ bs) p
           → cut at 0 values (line rest (b ∷ bs)) ≡ followed_by (cut at 0 values (b ∷ bs)) (cut (at + length (b ∷ bs) + 1) 0 false rest)
-      on black more (Token kind size from to) e fits =
+      on black more (Token kind own size) e fits =
           let some : 1 ≤ size = fits.0 in
           let within : size ≤ length (b ∷ bs) = fits.1 in
-          let own : to ≤ size = fits.2 in
           let follow = values || is_assign kind in
-          let token : List ℕ → Seen = λ (text : List ℕ). record { kind = kind; text = drop from text; start = at; end = at + size } in
-          cut-piece at values b (line rest bs) (Token kind size from to) (sym black) (e ∙ sym (piece_at-line rest values (b ∷ bs)))
-          ∙ ap (λ l. before_tokens (token l) (cut (at + 1) (size - 1) follow (line rest bs))) (take-append-le to (b ∷ bs) (line_feed ∷ rest) (omega arith))
-          ∙ ap (before_tokens (token (take to (b ∷ bs)))) (behind more size follow some within)
-          ∙ followed-token (token (take to (b ∷ bs))) (cut (at + 1) (size - 1) follow bs) (cut (at + length (b ∷ bs) + 1) 0 false rest)
-          ∙ ap (λ r. followed_by r (cut (at + length (b ∷ bs) + 1) 0 false rest)) (sym (cut-piece at values b bs (Token kind size from to) (sym black) e))
+          let token : Seen = record { kind = kind; text = own; start = at; end = at + size } in
+          cut-piece at values b (line rest bs) (Token kind own size) (sym black) (e ∙ sym (piece_at-line rest values (b ∷ bs)))
+          ∙ ap (before_tokens token) (behind more size follow some within)
+          ∙ followed-token token (cut (at + 1) (size - 1) follow bs) (cut (at + length (b ∷ bs) + 1) 0 false rest)
+          ∙ ap (λ r. followed_by r (cut (at + length (b ∷ bs) + 1) 0 false rest)) (sym (cut-piece at values b bs (Token kind own size) (sym black) e))
       on black more (Comment size) e fits =
           let long = comment-long b bs size fits in
           cut-piece at values b (line rest bs) (Comment size) (sym black) (e ∙ sym (piece_at-line rest values (b ∷ bs)))
@@ -107,7 +103,7 @@ module _ (rest : List ℕ) where
 
 -- a token is a value where values stand, and none elsewhere
 abbrev IsPlaced : Bool → Piece → Type 0
-IsPlaced values (Token kind size from to) = is_value kind ≡ values
+IsPlaced values (Token kind own size) = is_value kind ≡ values
 IsPlaced values (Comment size) = Unit {0}
 IsPlaced values (Fault refusal) = Unit {0}
 
@@ -151,15 +147,18 @@ value-placed b text = by (b == hash) refl (b == quote) refl
 
 -- an Include is no value
 include-placed : (text : List ℕ) (o : Opening) → IsPlaced false (include_from text o)
-include-placed text o = by (begins (λ b. b == close) (drop end text)) refl
+include-placed text o = by (begins (λ b. b == close) (drop size behind)) refl
   where
     close : ℕ
     close = closing (get_or text o.at 0)
 
-    end : ℕ
-    end = o.at + 1 + prefix_len (λ b. not (b == close) && not (b == line_feed)) (drop (o.at + 1) text)
+    behind : List ℕ
+    behind = drop (o.at + 1) text
 
-    by : (t : Bool) → begins (λ b. b == close) (drop end text) ≡ t → IsPlaced false (include_from text o)
+    size : ℕ
+    size = prefix_len (λ b. not (b == close) && not (b == line_feed)) behind
+
+    by : (t : Bool) → begins (λ b. b == close) (drop size behind) ≡ t → IsPlaced false (include_from text o)
     by true e = rw (e, include_from) refl
     by false e = rw (e, include_from) tt
 
@@ -169,6 +168,9 @@ assign-placed text p h =
     by (begins_with (codes "@{") text && begins is_letter (drop 2 text) && begins (λ b. b == closing_brace) (drop end text)) refl
     (begins_with (codes "=") (drop sign text)) refl (begins_with (codes "+=") (drop sign text)) refl
   where
+    name_of : List ℕ
+    name_of = take (prefix_len is_name_byte (drop 2 text)) (drop 2 text)
+
     end : ℕ
     end = 2 + prefix_len is_name_byte (drop 2 text)
 
@@ -178,12 +180,12 @@ assign-placed text p h =
     by : (name : Bool) → (begins_with (codes "@{") text && begins is_letter (drop 2 text) && begins (λ b. b == closing_brace) (drop end text)) ≡ name
         → (sets : Bool) → begins_with (codes "=") (drop sign text) ≡ sets → (adds : Bool) → begins_with (codes "+=") (drop sign text) ≡ adds → IsPlaced false p
     by true e true f adds g =
-        let there : Some (Token (Assign false) (sign + 1) 2 end) ≡ Some p = rw (e, f) at h in
-        let same : p ≡ Token (Assign false) (sign + 1) 2 end = cc in
+        let there : Some (Token (Assign false) name_of (sign + 1)) ≡ Some p = rw (e, f) at h in
+        let same : p ≡ Token (Assign false) name_of (sign + 1) = cc in
         rw same refl
     by true e false f true g =
-        let there : Some (Token (Assign true) (sign + 2) 2 end) ≡ Some p = rw (e, f, g) at h in
-        let same : p ≡ Token (Assign true) (sign + 2) 2 end = cc in
+        let there : Some (Token (Assign true) name_of (sign + 2)) ≡ Some p = rw (e, f, g) at h in
+        let same : p ≡ Token (Assign true) name_of (sign + 2) = cc in
         rw same refl
     by true e false f false g = let there : None ≡ Some p = rw (e, f, g) at h in absurd cc
     by false e sets f adds g = let there : None ≡ Some p = rw e at h in absurd cc
@@ -232,13 +234,13 @@ values-placed (suc most) at values (b ∷ bs) tokens few alone h = by (is_blank 
     on : is_blank b ≡ false
         → ((at : ℕ) (values : Bool) (text : List ℕ) (tokens : List Seen) → length text ≤ most → has_line_feed text ≡ false → cut at 0 values text ≡ Ok tokens → AreValuesPlaced values tokens)
         → (p : Piece) → p ≡ piece_at values (b ∷ bs) → Fits (b ∷ bs) p → IsPlaced values p → AreValuesPlaced values tokens
-    on black more (Token kind size from to) e fits placed =
+    on black more (Token kind own size) e fits placed =
         let some : 1 ≤ size = fits.0 in
         let left : length (drop size (b ∷ bs)) ≤ most = let full : length (b ∷ bs) ≡ suc (length bs) = omega arith in omega (arith, length-drop size (b ∷ bs)) in
         let follow = values || is_assign kind in
-        let token : Seen = record { kind = kind; text = drop from (take to (b ∷ bs)); start = at; end = at + size } in
+        let token : Seen = record { kind = kind; text = own; start = at; end = at + size } in
         let all : before_tokens token (cut (at + size) 0 follow (drop size (b ∷ bs))) ≡ Ok tokens =
-        ap (before_tokens token) (sym (cut-behind at size follow b bs some)) ∙ sym (cut-piece at values b bs (Token kind size from to) (sym black) e) ∙ h
+        ap (before_tokens token) (sym (cut-behind at size follow b bs some)) ∙ sym (cut-piece at values b bs (Token kind own size) (sym black) e) ∙ h
         in
         let found = before-ok token (cut (at + size) 0 follow (drop size (b ∷ bs))) tokens all in
         subst (AreValuesPlaced values) (sym found.2) (placed, more (at + size) follow (drop size (b ∷ bs)) found.0 left (line-drop size (b ∷ bs) alone) found.1)

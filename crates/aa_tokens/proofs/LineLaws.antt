@@ -1,21 +1,20 @@
 -- A piece does not depend on what stands behind a line feed.
-use Rattle.std.proofs.Common.{◌≡◌, ℕ, Bool, true, false, not, ◌||◌, ◌&&◌, ◌==◌, List, [], ◌∷◌, ◌++◌, ◌+◌, ◌<◌, ◌≤◌, length, get_or, drop, arith, drop-cons, refl, sym, ap, ◌∙◌}
+use Rattle.std.proofs.Common.{◌≡◌, ℕ, Bool, true, false, not, ◌||◌, ◌&&◌, ◌==◌, List, [], ◌∷◌, ◌++◌, ◌+◌, ◌<◌, ◌≤◌, length, get_or, take, drop, arith, drop-cons, refl, sym, ap, ◌∙◌}
 use Rattle.std.specs.Prelude.{Option, None, Some, if◌then◌else◌, codes, option_and_then}
 use Rattle.std.specs.List.{prefix_len}
 use Rattle.std.specs.Option.{option_map}
 use Rattle.std.proofs.lemmas.Bool.{eqb-true}
-use Rattle.std.proofs.lemmas.List.{drop-append-le, get_or_append_left, length-drop}
+use Rattle.std.proofs.lemmas.List.{drop-append-le, get_or_append_left, length-drop, take-append-le}
 use Rattle.std.proofs.lemmas.List.Sums.{prefix_len-le-length}
 use Rattle.aa_bytes.specs.Texts.{begins, begins_with}
 use Rattle.aa_bytes.specs.Bytes.{backslash, closing_brace, is_blank, is_letter, is_space_or_tab, line_feed, quote, smaller}
-use Rattle.aa_tokens.specs.Cut.{assign, before_quote, closing, comment, depth_behind, ends_word, include_from, include_word, opening, opening_behind, opening_if_exists, opens_name, piece, piece_at, plain, quoted, spaces, unclosed, value_piece, value_size, word, word_left, is_name_byte}
+use Rattle.aa_tokens.specs.Cut.{Comment, Fault, Piece, Token, assign, before_quote, closing, comment, depth_behind, ends_word, include_from, include_word, opening, opening_behind, opening_if_exists, opens_name, piece, piece_at, plain, quoted, spaces, unclosed, value_piece, value_size, word, word_left, is_name_byte}
 use Rattle.aa_tokens.specs.CutLaws.{has_line_feed}
 use Rattle.aa_tokens.specs.declared.include.Opening.{Opening}
-use Rattle.aa_tokens.specs.declared.piece.Piece.{Piece}
-use Rattle.aa_tokens.specs.declared.piece.Piece.TheVariants.{Token, Comment, Fault}
 use Rattle.aa_tokens.specs.declared.cut.TokenKind.{TokenKind}
-use Rattle.aa_tokens.specs.declared.cut.TokenKind.TheVariants.{Assign, Include, Value, Quoted}
-use Rattle.aa_tokens.proofs.PieceLaws.{begins-behind, begins_with-behind}
+use Rattle.aa_tokens.specs.declared.cut.CutRefusal.TheVariants.{OpenOther, OpenQuote}
+use Rattle.aa_tokens.specs.declared.cut.TokenKind.TheVariants.{Assign, Include, Value, Quoted, Word}
+use Rattle.aa_tokens.proofs.PieceLaws.{before_quote-size, begins-behind, begins_with-behind, value_size-size, word_left-size}
 use Rattle.aa_tokens.proofs.PieceTexts.{opening-opens}
 
 -- a text, and what stands behind its line
@@ -163,11 +162,27 @@ module _ (rest : List ℕ) where
 
   -- so does a text in quotes
   quoted-line : (kind : TokenKind) (b : ℕ) (bs : List ℕ) → quoted kind (line rest (b ∷ bs)) ≡ quoted kind (b ∷ bs)
-  quoted-line kind b bs = rw (before_quote-line bs, quoted) refl
+  quoted-line kind b bs = rw (before_quote-line bs, quoted) (by (before_quote bs) refl)
+    where
+      by : (found : Option ℕ) → before_quote bs ≡ found
+          → ◌≡◌ {A = Piece}
+          (elim found [ None ↦ Fault OpenQuote | Some n ↦ Token kind (take n (line rest bs)) (n + 2) ])
+          (elim found [ None ↦ Fault OpenQuote | Some n ↦ Token kind (take n bs) (n + 2) ])
+      by None e = refl
+      by (Some n) e =
+          let within : n < length bs = before_quote-size bs n e in
+          ap (λ own. Token kind own (n + 2)) (take-append-le n bs (line_feed ∷ rest) (omega arith))
 
   -- a word, or its fault
   word-line : (text : List ℕ) → word (line rest text) ≡ word text
-  word-line text = rw (word_left-line 0 0 text, word) refl
+  word-line text = rw (word_left-line 0 0 text, word) (by (word_left 0 0 text) refl)
+    where
+      by : (found : Option ℕ) → word_left 0 0 text ≡ found
+          → ◌≡◌ {A = Piece}
+          (elim found [ None ↦ Fault OpenOther | Some n ↦ Token Word (take n (line rest text)) n ])
+          (elim found [ None ↦ Fault OpenOther | Some n ↦ Token Word (take n text) n ])
+      by None e = refl
+      by (Some n) e = ap (λ own. Token Word own n) (take-append-le n text (line_feed ∷ rest) (word_left-size 0 0 text n e))
 
   -- what is no Include and no Assign
   plain-line : (b : ℕ) (bs : List ℕ) → plain b (line rest (b ∷ bs)) ≡ plain b (b ∷ bs)
@@ -175,7 +190,9 @@ module _ (rest : List ℕ) where
 
   -- and what stands where a value may begin
   value-line : (b : ℕ) (bs : List ℕ) → value_piece b (line rest (b ∷ bs)) ≡ value_piece b (b ∷ bs)
-  value-line b bs = rw (comment-line (b ∷ bs), quoted-line Value b bs, value_size-line (b ∷ bs)) refl
+  value-line b bs =
+      let own = take-append-le (value_size (b ∷ bs)) (b ∷ bs) (line_feed ∷ rest) (value_size-size (b ∷ bs)) in
+      rw (comment-line (b ∷ bs), quoted-line Value b bs, value_size-line (b ∷ bs), own) refl
 
   -- ---- an Assign
 
@@ -183,56 +200,66 @@ module _ (rest : List ℕ) where
   assign-line : (text : List ℕ) → assign (line rest text) ≡ assign text
   assign-line text = by (begins_with (codes "@{") text) refl
     where
+      name_size : List ℕ → ℕ
+      name_size of = prefix_len is_name_byte (drop 2 of)
+
+      name_of : List ℕ → List ℕ
+      name_of of = take (name_size of) (drop 2 of)
+
       name_end : List ℕ → ℕ
-      name_end of = 2 + prefix_len is_name_byte (drop 2 of)
+      name_end of = 2 + name_size of
 
       sign_at : List ℕ → ℕ → ℕ
       sign_at of end = end + 1 + spaces (drop (end + 1) of)
 
-      made : Bool → Bool → ℕ → ℕ → Option Piece
-      made sets adds sign end = if sets then Some (Token (Assign false) (sign + 1) 2 end) else (if adds then Some (Token (Assign true) (sign + 2) 2 end) else None)
+      made : Bool → Bool → List ℕ → ℕ → Option Piece
+      made sets adds name sign = if sets then Some (Token (Assign false) name (sign + 1)) else (if adds then Some (Token (Assign true) name (sign + 2)) else None)
 
       named : Bool → List ℕ → ℕ → Bool
       named at of end = at && begins is_letter (drop 2 of) && begins (λ b. b == closing_brace) (drop end of)
 
-      from : List ℕ → ℕ → Option Piece
-      from of end = made (begins_with (codes "=") (drop (sign_at of end) of)) (begins_with (codes "+=") (drop (sign_at of end) of)) (sign_at of end) end
+      from : List ℕ → List ℕ → ℕ → Option Piece
+      from of name end = made (begins_with (codes "=") (drop (sign_at of end) of)) (begins_with (codes "+=") (drop (sign_at of end) of)) name (sign_at of end)
 
       -- the two, from where the name ends
-      whole : (of : List ℕ) → assign of ≡ (if named (begins_with (codes "@{") of) of (name_end of) then from of (name_end of) else None)
+      whole : (of : List ℕ) → assign of ≡ (if named (begins_with (codes "@{") of) of (name_end of) then from of (name_of of) (name_end of) else None)
       whole of = refl
 
       same_front : begins_with (codes "@{") (line rest text) ≡ begins_with (codes "@{") text
       same_front = begins_with-line (codes "@{") text refl
 
-      closed : (end : ℕ) → end < length text → from (line rest text) end ≡ from text end
-      closed end within =
+      closed : (name : List ℕ) (end : ℕ) → end < length text → from (line rest text) name end ≡ from text name end
+      closed name end within =
           let next : end + 1 ≤ length text = omega arith in
           let same_sign : sign_at (line rest text) end ≡ sign_at text end = ap (λ n. end + 1 + n) (prefix_len-behind is_space_or_tab refl (end + 1) text next) in
           let left : prefix_len is_space_or_tab (drop (end + 1) text) ≤ length (drop (end + 1) text) = prefix_len-le-length is_space_or_tab (drop (end + 1) text) in
           let sign : sign_at text end ≤ length text = omega (arith, length-drop (end + 1) text) in
-          ap (λ n. made (begins_with (codes "=") (drop n (line rest text))) (begins_with (codes "+=") (drop n (line rest text))) n end) same_sign
-          ∙ ap (λ t. made t (begins_with (codes "+=") (drop (sign_at text end) (line rest text))) (sign_at text end) end) (begins_with-after (codes "=") refl (sign_at text end) text sign)
-          ∙ ap (λ t. made (begins_with (codes "=") (drop (sign_at text end) text)) t (sign_at text end) end) (begins_with-after (codes "+=") refl (sign_at text end) text sign)
+          ap (λ n. made (begins_with (codes "=") (drop n (line rest text))) (begins_with (codes "+=") (drop n (line rest text))) name n) same_sign
+          ∙ ap (λ t. made t (begins_with (codes "+=") (drop (sign_at text end) (line rest text))) name (sign_at text end)) (begins_with-after (codes "=") refl (sign_at text end) text sign)
+          ∙ ap (λ t. made (begins_with (codes "=") (drop (sign_at text end) text)) t name (sign_at text end)) (begins_with-after (codes "+=") refl (sign_at text end) text sign)
 
-      on : (end : ℕ) → (t : Bool) → begins (λ b. b == closing_brace) (drop end text) ≡ t → (a b : Bool)
-          → (if a && b && t then from (line rest text) end else None) ≡ (if a && b && t then from text end else None)
-      on end true e a b = ap (λ p. if a && b && true then p else None) (closed end (begins-behind (λ b. b == closing_brace) text end e))
-      on end false e true true = refl
-      on end false e true false = refl
-      on end false e false b = refl
+      on : (name : List ℕ) (end : ℕ) → (t : Bool) → begins (λ b. b == closing_brace) (drop end text) ≡ t → (a b : Bool)
+          → (if a && b && t then from (line rest text) name end else None) ≡ (if a && b && t then from text name end else None)
+      on name end true e a b = ap (λ p. if a && b && true then p else None) (closed name end (begins-behind (λ b. b == closing_brace) text end e))
+      on name end false e true true = refl
+      on name end false e true false = refl
+      on name end false e false b = refl
 
       by : (t : Bool) → begins_with (codes "@{") text ≡ t → assign (line rest text) ≡ assign text
       by true e =
           let some : 2 ≤ length text = begins_with-behind (codes "@{") text 0 (omega arith) e in
-          let same_end : name_end (line rest text) ≡ name_end text = ap (λ n. 2 + n) (prefix_len-behind is_name_byte refl 2 text some) in
-          let left : prefix_len is_name_byte (drop 2 text) ≤ length (drop 2 text) = prefix_len-le-length is_name_byte (drop 2 text) in
+          let same_size : name_size (line rest text) ≡ name_size text = prefix_len-behind is_name_byte refl 2 text some in
+          let left : name_size text ≤ length (drop 2 text) = prefix_len-le-length is_name_byte (drop 2 text) in
           let end : name_end text ≤ length text = omega (arith, length-drop 2 text) in
-          ap (λ n. if named (begins_with (codes "@{") (line rest text)) (line rest text) n then from (line rest text) n else None) same_end
-          ∙ ap (λ t. if t && begins is_letter (drop 2 (line rest text)) && begins (λ b. b == closing_brace) (drop (name_end text) (line rest text)) then from (line rest text) (name_end text) else None) same_front
-          ∙ ap (λ t. if begins_with (codes "@{") text && t && begins (λ b. b == closing_brace) (drop (name_end text) (line rest text)) then from (line rest text) (name_end text) else None) (begins-after is_letter refl 2 text some)
-          ∙ ap (λ t. if begins_with (codes "@{") text && begins is_letter (drop 2 text) && t then from (line rest text) (name_end text) else None) (begins-after (λ b. b == closing_brace) refl (name_end text) text end)
-          ∙ on (name_end text) (begins (λ b. b == closing_brace) (drop (name_end text) text)) refl (begins_with (codes "@{") text) (begins is_letter (drop 2 text))
+          let same_name : take (name_size text) (drop 2 (line rest text)) ≡ name_of text =
+          ap (take (name_size text)) (drop-append-le 2 text (line_feed ∷ rest) some) ∙ take-append-le (name_size text) (drop 2 text) (line_feed ∷ rest) left
+          in
+          ap (λ n. if named (begins_with (codes "@{") (line rest text)) (line rest text) (2 + n) then from (line rest text) (take n (drop 2 (line rest text))) (2 + n) else None) same_size
+          ∙ ap (λ name. if named (begins_with (codes "@{") (line rest text)) (line rest text) (name_end text) then from (line rest text) name (name_end text) else None) same_name
+          ∙ ap (λ t. if t && begins is_letter (drop 2 (line rest text)) && begins (λ b. b == closing_brace) (drop (name_end text) (line rest text)) then from (line rest text) (name_of text) (name_end text) else None) same_front
+          ∙ ap (λ t. if begins_with (codes "@{") text && t && begins (λ b. b == closing_brace) (drop (name_end text) (line rest text)) then from (line rest text) (name_of text) (name_end text) else None) (begins-after is_letter refl 2 text some)
+          ∙ ap (λ t. if begins_with (codes "@{") text && begins is_letter (drop 2 text) && t then from (line rest text) (name_of text) (name_end text) else None) (begins-after (λ b. b == closing_brace) refl (name_end text) text end)
+          ∙ on (name_of text) (name_end text) (begins (λ b. b == closing_brace) (drop (name_end text) text)) refl (begins_with (codes "@{") text) (begins is_letter (drop 2 text))
       by false e =
           let other : begins_with (codes "@{") (line rest text) ≡ false = same_front ∙ e in
           rw (e, other) refl
@@ -346,18 +373,23 @@ module _ (rest : List ℕ) where
   -- from where its name opens
   include-line : (text : List ℕ) (o : Opening) → opens_name (drop o.at text) ≡ true → include_from (line rest text) o ≡ include_from text o
   include-line text o h =
-      ap (from (line rest text)) (get_or_append_left text (line_feed ∷ rest) 0 o.at within)
-      ∙ ap (λ n. made (begins (λ b. b == closing first) (drop n (line rest text))) first n) same_end
-      ∙ ap (λ t. made t first (end_of text first)) (begins-after (λ b. b == closing first) other (end_of text first) text end_within)
+      ap (λ first. found first (drop (o.at + 1) (line rest text))) (get_or_append_left text (line_feed ∷ rest) 0 o.at within)
+      ∙ ap (found first) (drop-append-le (o.at + 1) text (line_feed ∷ rest) next)
+      ∙ ap (λ n. made first (begins (λ b. b == closing first) (drop n (line rest behind))) (take n (line rest behind)) n) (prefix_len-line (goes_on first) (and-none (not (line_feed == closing first))) behind)
+      ∙ ap (λ t. made first t (take size (line rest behind)) size) (begins-after (λ b. b == closing first) other size behind inside)
+      ∙ ap (λ own. made first (begins (λ b. b == closing first) (drop size behind)) own size) (take-append-le size behind (line_feed ∷ rest) inside)
     where
-      made : Bool → ℕ → ℕ → Piece
-      made t first end = if t then Token (Include o.if_exists) (end + 1) (o.at + 1) end else Fault (unclosed first)
+      goes_on : ℕ → ℕ → Bool
+      goes_on first b = not (b == closing first) && not (b == line_feed)
 
-      end_of : List ℕ → ℕ → ℕ
-      end_of of first = o.at + 1 + prefix_len (λ b. not (b == closing first) && not (b == line_feed)) (drop (o.at + 1) of)
+      made : ℕ → Bool → List ℕ → ℕ → Piece
+      made first t own size = if t then Token (Include o.if_exists) own (o.at + size + 2) else Fault (unclosed first)
 
-      from : List ℕ → ℕ → Piece
-      from of first = made (begins (λ b. b == closing first) (drop (end_of of first) of)) first (end_of of first)
+      -- what is found behind the byte that opens the name
+      found : ℕ → List ℕ → Piece
+      found first behind =
+          let size = prefix_len (goes_on first) behind in
+          made first (begins (λ b. b == closing first) (drop size behind)) (take size behind) size
 
       within : o.at < length text
       within = begins-behind (λ b. b == smaller || b == quote) text o.at h
@@ -374,15 +406,14 @@ module _ (rest : List ℕ) where
       next : o.at + 1 ≤ length text
       next = let inside : o.at < length text = within in omega arith
 
-      same_end : end_of (line rest text) first ≡ end_of text first
-      same_end = ap (λ n. o.at + 1 + n) (prefix_len-behind (λ b. not (b == closing first) && not (b == line_feed)) (and-none (not (line_feed == closing first))) (o.at + 1) text next)
+      behind : List ℕ
+      behind = drop (o.at + 1) text
 
-      end_within : end_of text first ≤ length text
-      end_within =
-          let left : prefix_len (λ b. not (b == closing first) && not (b == line_feed)) (drop (o.at + 1) text) ≤ length (drop (o.at + 1) text) =
-          prefix_len-le-length (λ b. not (b == closing first) && not (b == line_feed)) (drop (o.at + 1) text) in
-          let inside : o.at + 1 ≤ length text = next in
-          omega (arith, length-drop (o.at + 1) text)
+      size : ℕ
+      size = prefix_len (goes_on first) behind
+
+      inside : size ≤ length behind
+      inside = prefix_len-le-length (goes_on first) behind
 
   -- ---- what stands at a place
 
@@ -403,7 +434,7 @@ module _ (rest : List ℕ) where
 
   -- what stands at a place does not depend on what stands behind its line
   pub piece_at-line : (values : Bool) (text : List ℕ) → piece_at values (line rest text) ≡ piece_at values text
-  piece_at-line true [] = ap (λ n. Token Value n 0 n) value_size-end
+  piece_at-line true [] = ap (λ n. Token Value (take n (line_feed ∷ rest)) n) value_size-end
   piece_at-line true (b ∷ bs) = value-line b bs
   piece_at-line false [] = piece-line 0 [] line_feed (word-line [])
   piece_at-line false (b ∷ bs) = piece-line b (b ∷ bs) b (plain-line b bs)

@@ -8,10 +8,8 @@ use Rattle.std.proofs.lemmas.List.{length-drop, length-take}
 use Rattle.std.proofs.lemmas.Slice.Eq.{bytes_eq-Decides}
 use Rattle.aa_bytes.specs.Texts.{begins, begins_with}
 use Rattle.aa_bytes.specs.Bytes.{backslash, closing_brace, comma, hash, is_blank, is_letter, line_feed, opening_brace, quote}
-use Rattle.aa_tokens.specs.Cut.{assign, before_quote, closing, comment, depth_behind, ends_word, include_from, opening, piece, piece_at, plain, quoted, spaces, value_piece, value_size, word, word_left, is_name_byte}
+use Rattle.aa_tokens.specs.Cut.{Comment, Fault, Piece, Token, assign, before_quote, closing, comment, depth_behind, ends_word, include_from, opening, piece, piece_at, plain, quoted, spaces, value_piece, value_size, word, word_left, is_name_byte}
 use Rattle.aa_tokens.specs.declared.include.Opening.{Opening}
-use Rattle.aa_tokens.specs.declared.piece.Piece.{Piece}
-use Rattle.aa_tokens.specs.declared.piece.Piece.TheVariants.{Token, Comment, Fault}
 use Rattle.aa_tokens.specs.declared.cut.TokenKind.{TokenKind}
 use Rattle.aa_tokens.specs.declared.cut.TokenKind.TheVariants.{Assign, Value, Quoted}
 
@@ -19,9 +17,9 @@ use Rattle.aa_tokens.specs.declared.cut.TokenKind.TheVariants.{Assign, Value, Qu
 abbrev pub line_size : List ℕ → ℕ
 line_size text = prefix_len (λ b. not (b == line_feed)) text
 
--- A token has a byte, and no more than the text; its own text ends within it. A comment is the text's first line.
+-- A token has a byte, and no more than the text. A comment is the text's first line.
 abbrev pub Fits : List ℕ → Piece → Type 0
-Fits text (Token kind size from to) = (1 ≤ size) × (size ≤ length text) × (to ≤ size)
+Fits text (Token kind own size) = (1 ≤ size) × (size ≤ length text)
 Fits text (Comment size) = (begins (λ b. b == hash) text ≡ true) × (size ≡ line_size text)
 Fits text (Fault refusal) = Unit {0}
 
@@ -56,7 +54,7 @@ before_quote-size (b ∷ c ∷ bs) n h = by (b == quote) refl (b == line_feed) r
         omega arith
 
 -- a value stands within its text
-value_size-size : (text : List ℕ) → value_size text ≤ length text
+pub value_size-size : (text : List ℕ) → value_size text ≤ length text
 value_size-size [] = omega arith
 value_size-size (b ∷ []) = by (is_blank b) refl
   where
@@ -81,7 +79,7 @@ value_size-some b (c ∷ bs) e = by (b == backslash && not (c == line_feed)) ref
     by false g = rw (e, g) (omega arith)
 
 -- a word stands within its text
-word_left-size : (depth before : ℕ) (text : List ℕ) (n : ℕ) → word_left depth before text ≡ Some n → n ≤ length text
+pub word_left-size : (depth before : ℕ) (text : List ℕ) (n : ℕ) → word_left depth before text ≡ Some n → n ≤ length text
 word_left-size depth before [] n h = by (depth == 0) refl
   where
     by : (t : Bool) → (depth == 0) ≡ t → n ≤ 0
@@ -171,7 +169,7 @@ quoted-fits kind b bs = by (before_quote bs) refl
   where
     by : (found : Option ℕ) → before_quote bs ≡ found → Fits (b ∷ bs) (quoted kind (b ∷ bs))
     by None e = rw (e, quoted) tt
-    by (Some n) e = let within : n < length bs = before_quote-size bs n e in rw (e, quoted) (omega arith, omega arith, omega arith)
+    by (Some n) e = let within : n < length bs = before_quote-size bs n e in rw (e, quoted) (omega arith, omega arith)
 
 -- a word
 word-fits : (b : ℕ) (bs : List ℕ) → is_blank b ≡ false → ends_word 0 b bs ≡ false → Fits (b ∷ bs) (word (b ∷ bs))
@@ -182,7 +180,7 @@ word-fits b bs e f = by (word_left 0 0 (b ∷ bs)) refl
     by (Some n) g =
         let within : n ≤ length (b ∷ bs) = word_left-size 0 0 (b ∷ bs) n g in
         let some : 1 ≤ n = word_left-some 0 b bs n e f g in
-        rw (g, word) (omega arith, omega arith, omega arith)
+        rw (g, word) (omega arith, omega arith)
 
 -- what is no Include and no Assign
 plain-fits : (b : ℕ) (bs : List ℕ) → is_blank b ≡ false → Fits (b ∷ bs) (plain b (b ∷ bs))
@@ -192,9 +190,9 @@ plain-fits b bs black = by (b == hash) refl (b == quote) refl (b == comma) refl 
         → (d : Bool) → (b == closing_brace) ≡ d → Fits (b ∷ bs) (plain b (b ∷ bs))
     by true e q f c g o i d j = rw (e, plain) (comment-fits b bs (eqb-true b hash e))
     by false e true f c g o i d j = rw (e, f, plain) (quoted-fits Quoted b bs)
-    by false e false f true g o i d j = rw (e, f, g, plain) (omega arith, omega arith, omega arith)
-    by false e false f false g true i d j = rw (e, f, g, i, plain) (omega arith, omega arith, omega arith)
-    by false e false f false g false i true j = rw (e, f, g, i, j, plain) (omega arith, omega arith, omega arith)
+    by false e false f true g o i d j = rw (e, f, g, plain) (omega arith, omega arith)
+    by false e false f false g true i d j = rw (e, f, g, i, plain) (omega arith, omega arith)
+    by false e false f false g false i true j = rw (e, f, g, i, j, plain) (omega arith, omega arith)
     by false e false f false g false i false j = rw (e, f, g, i, j, plain) (word-fits b bs black (rw (g, i, j) refl))
 
 -- a value
@@ -204,20 +202,26 @@ value-fits b bs black = by (b == hash) refl (b == quote) refl
     by : (h : Bool) → (b == hash) ≡ h → (q : Bool) → (b == quote) ≡ q → Fits (b ∷ bs) (value_piece b (b ∷ bs))
     by true e q f = rw (e, value_piece) (comment-fits b bs (eqb-true b hash e))
     by false e true f = rw (e, f, value_piece) (quoted-fits Value b bs)
-    by false e false f = rw (e, f, value_piece) (value_size-some b bs black, value_size-size (b ∷ bs), omega arith)
+    by false e false f = rw (e, f, value_piece) (value_size-some b bs black, value_size-size (b ∷ bs))
 
 -- an Include
 include-fits : (text : List ℕ) (o : Opening) → Fits text (include_from text o)
-include-fits text o = by (begins (λ b. b == close) (drop end text)) refl
+include-fits text o = by (begins (λ b. b == close) (drop size behind)) refl
   where
     close : ℕ
     close = closing (get_or text o.at 0)
 
-    end : ℕ
-    end = o.at + 1 + prefix_len (λ b. not (b == close) && not (b == line_feed)) (drop (o.at + 1) text)
+    behind : List ℕ
+    behind = drop (o.at + 1) text
 
-    by : (t : Bool) → begins (λ b. b == close) (drop end text) ≡ t → Fits text (include_from text o)
-    by true e = let within : end < length text = begins-behind (λ b. b == close) text end e in rw (e, include_from) (omega arith, omega arith, omega arith)
+    size : ℕ
+    size = prefix_len (λ b. not (b == close) && not (b == line_feed)) behind
+
+    by : (t : Bool) → begins (λ b. b == close) (drop size behind) ≡ t → Fits text (include_from text o)
+    by true e =
+        let within : size < length behind = begins-behind (λ b. b == close) behind size e in
+        let most : o.at + size + 2 ≤ length text = omega (arith, length-drop (o.at + 1) text) in
+        rw (e, include_from) (omega arith, most)
     by false e = rw (e, include_from) tt
 
 -- an Assign
@@ -226,6 +230,9 @@ assign-fits text p h =
     by (begins_with (codes "@{") text && begins is_letter (drop 2 text) && begins (λ b. b == closing_brace) (drop end text)) refl
     (begins_with (codes "=") (drop sign text)) refl (begins_with (codes "+=") (drop sign text)) refl
   where
+    name_of : List ℕ
+    name_of = take (prefix_len is_name_byte (drop 2 text)) (drop 2 text)
+
     end : ℕ
     end = 2 + prefix_len is_name_byte (drop 2 text)
 
@@ -235,15 +242,15 @@ assign-fits text p h =
     by : (name : Bool) → (begins_with (codes "@{") text && begins is_letter (drop 2 text) && begins (λ b. b == closing_brace) (drop end text)) ≡ name
         → (sets : Bool) → begins_with (codes "=") (drop sign text) ≡ sets → (adds : Bool) → begins_with (codes "+=") (drop sign text) ≡ adds → Fits text p
     by true e true f adds g =
-        let there : Some (Token (Assign false) (sign + 1) 2 end) ≡ Some p = rw (e, f) at h in
-        let same : p ≡ Token (Assign false) (sign + 1) 2 end = cc in
+        let there : Some (Token (Assign false) name_of (sign + 1)) ≡ Some p = rw (e, f) at h in
+        let same : p ≡ Token (Assign false) name_of (sign + 1) = cc in
         let within : sign + 1 ≤ length text = begins_with-behind (codes "=") text sign (omega arith) f in
-        rw same (omega arith, omega arith, omega arith)
+        rw same (omega arith, omega arith)
     by true e false f true g =
-        let there : Some (Token (Assign true) (sign + 2) 2 end) ≡ Some p = rw (e, f, g) at h in
-        let same : p ≡ Token (Assign true) (sign + 2) 2 end = cc in
+        let there : Some (Token (Assign true) name_of (sign + 2)) ≡ Some p = rw (e, f, g) at h in
+        let same : p ≡ Token (Assign true) name_of (sign + 2) = cc in
         let within : sign + 2 ≤ length text = begins_with-behind (codes "+=") text sign (omega arith) g in
-        rw same (omega arith, omega arith, omega arith)
+        rw same (omega arith, omega arith)
     by true e false f false g = let there : None ≡ Some p = rw (e, f, g) at h in absurd cc
     by false e sets f adds g = let there : None ≡ Some p = rw e at h in absurd cc
 

@@ -1,18 +1,15 @@
 -- How the span of a piece tells its own text, and what its kind says beside.
-use Rattle.std.proofs.Common.{◌≡◌, ℕ, Bool, true, false, not, ◌||◌, ◌&&◌, ◌==◌, List, [], ◌∷◌, ◌++◌, ◌+◌, ◌-◌, ◌<◌, ◌≤◌, zero, suc, length, get_or, take, drop, arith, drop-cons, append_assoc, refl, sym, ap, subst, inl, inr, ◌∙◌}
+use Rattle.std.proofs.Common.{◌≡◌, ℕ, Bool, true, false, not, ◌||◌, ◌&&◌, ◌==◌, List, [], ◌∷◌, ◌++◌, ◌+◌, ◌<◌, zero, suc, length, get_or, take, drop, arith, drop-cons, append_assoc, refl, sym, ap, subst, inl, inr, ◌∙◌}
 use Rattle.std.specs.Prelude.{Option, None, Some, codes, option_and_then, ◌⊎◌}
 use Rattle.std.specs.List.{list_all, prefix_len}
 use Rattle.std.proofs.lemmas.Bool.{eqb-true}
-use Rattle.std.proofs.lemmas.List.{take-append-drop}
 use Rattle.std.proofs.Math.Seq.{take-add, take-suc}
 use Rattle.std.proofs.lemmas.Slice.Eq.{bytes_eq-Decides}
 use Rattle.aa_bytes.specs.Texts.{begins, begins_with, begins_with_byte}
 use Rattle.aa_bytes.specs.Bytes.{backslash, closing_brace, comma, hash, is_letter, is_space_or_tab, line_feed, opening_brace, quote, smaller}
-use Rattle.aa_tokens.specs.Cut.{assign, before_quote, closing, include_from, include_word, opening, opening_behind, opening_if_exists, opens_name, piece, piece_at, plain, quoted, spaces, value_piece, value_size, word, word_left, is_name_byte}
+use Rattle.aa_tokens.specs.Cut.{Comment, Fault, Piece, Token, assign, before_quote, closing, include_from, include_word, opening, opening_behind, opening_if_exists, opens_name, piece, piece_at, plain, quoted, spaces, value_piece, value_size, word, word_left, is_name_byte}
 use Rattle.aa_tokens.specs.CutLaws.{IsBeforeName, IsIncludeWord, IsTextOf, assign_sign}
 use Rattle.aa_tokens.specs.declared.include.Opening.{Opening}
-use Rattle.aa_tokens.specs.declared.piece.Piece.{Piece}
-use Rattle.aa_tokens.specs.declared.piece.Piece.TheVariants.{Token, Comment, Fault}
 use Rattle.aa_tokens.specs.declared.cut.TokenKind.{TokenKind}
 use Rattle.aa_tokens.specs.declared.cut.TokenKind.TheVariants.{Assign, Value, Quoted}
 use Rattle.aa_tokens.proofs.PieceLaws.{before_quote-size, begins-behind, mapped}
@@ -175,22 +172,9 @@ opening-before text o h = by (include_word text) refl
 
 -- a token's text is told by its span
 abbrev pub Tells : List ℕ → Piece → Type 0
-Tells text (Token kind size from to) = IsTextOf kind (drop from (take to text)) (take size text)
+Tells text (Token kind own size) = IsTextOf kind own (take size text)
 Tells text (Comment size) = Unit {0}
 Tells text (Fault refusal) = Unit {0}
-
--- the first bytes of the first bytes of a text
-take-front : (n m : ℕ) (text : List ℕ) → take n (take (n + m) text) ≡ take n text
-take-front zero m text = refl
-take-front (suc n) m [] = let same : suc n + m ≡ suc (n + m) = omega arith in rw same refl
-take-front (suc n) m (b ∷ bs) = let same : suc n + m ≡ suc (n + m) = omega arith in rw same (ap (λ l. b ∷ l) (take-front n m bs))
-
--- a part of a text, as what stands before it and the text up to its end
-take-part : (from end : ℕ) (text : List ℕ) → from ≤ end → take end text ≡ take from text ++ drop from (take end text)
-take-part from end text within =
-    let same : end ≡ from + (end - from) = omega arith in
-    sym (take-append-drop from (take end text))
-    ∙ ap (λ l. l ++ drop from (take end text)) (ap (λ n. take from (take n text)) same ∙ take-front from (end - from) text)
 
 -- a quote stands where a text in quotes ends
 before_quote-quote : (text : List ℕ) (n : ℕ) → before_quote text ≡ Some n → get_or text n 0 ≡ quote
@@ -226,14 +210,12 @@ quoted-tells kind told b bs opened = by (before_quote bs) refl
     by None e = rw (e, quoted) tt
     by (Some n) e =
         let within : n < length bs = before_quote-size bs n e in
-        let one : n + 1 ≡ suc n = omega arith in
         let two : n + 2 ≡ suc (suc n) = omega arith in
-        let own : drop 1 (take (n + 1) (b ∷ bs)) ≡ take n bs = ap (λ k. drop 1 (take k (b ∷ bs))) one in
         let span : take (n + 2) (b ∷ bs) ≡ quote ∷ take n bs ++ quote ∷ [] =
         ap (λ k. take k (b ∷ bs)) two ∙ ap (λ l. b ∷ l) (take-suc bs n 0 within)
         ∙ ap (λ q. b ∷ take n bs ++ q ∷ []) (before_quote-quote bs n e) ∙ ap (λ q. q ∷ take n bs ++ quote ∷ []) opened
         in
-        rw (e, quoted) (told (drop 1 (take (n + 1) (b ∷ bs))) (take (n + 2) (b ∷ bs)) (span ∙ ap (λ l. quote ∷ l ++ quote ∷ []) (sym own)))
+        rw (e, quoted) (told (take n bs) (take (n + 2) (b ∷ bs)) span)
 
 -- a word is its span
 word-tells : (text : List ℕ) → Tells text (word text)
@@ -272,7 +254,7 @@ value-tells b bs = by (b == hash) refl (b == quote) refl
 
 -- an Include, from where its name opens
 include-tells : (text : List ℕ) (o : Opening) → opens_name (drop o.at text) ≡ true → IsBeforeName o.if_exists (take o.at text) → Tells text (include_from text o)
-include-tells text o h before = by (begins (λ b. b == close) (drop end text)) refl
+include-tells text o h before = by (begins (λ b. b == close) (drop size behind)) refl
   where
     first : ℕ
     first = get_or text o.at 0
@@ -280,8 +262,11 @@ include-tells text o h before = by (begins (λ b. b == close) (drop end text)) r
     close : ℕ
     close = closing first
 
-    end : ℕ
-    end = o.at + 1 + prefix_len (λ b. not (b == close) && not (b == line_feed)) (drop (o.at + 1) text)
+    behind : List ℕ
+    behind = drop (o.at + 1) text
+
+    size : ℕ
+    size = prefix_len (λ b. not (b == close) && not (b == line_feed)) behind
 
     within : o.at < length text
     within = begins-behind (λ b. b == smaller || b == quote) text o.at h
@@ -289,18 +274,23 @@ include-tells text o h before = by (begins (λ b. b == close) (drop end text)) r
     opens : (first == smaller || first == quote) ≡ true
     opens = sym (ap (begins (λ b. b == smaller || b == quote)) (drop-cons text o.at 0 within)) ∙ h
 
-    by : (t : Bool) → begins (λ b. b == close) (drop end text) ≡ t → Tells text (include_from text o)
+    by : (t : Bool) → begins (λ b. b == close) (drop size behind) ≡ t → Tells text (include_from text o)
     by true e =
         let inside : o.at < length text = within in
-        let end_within : end < length text = begins-behind (λ b. b == close) text end e in
-        let ends : get_or text end 0 ≡ close = eqb-true (get_or text end 0) close (sym (ap (begins (λ b. b == close)) (drop-cons text end 0 end_within)) ∙ e) in
-        let one : end + 1 ≡ suc end = omega arith in
+        let size_within : size < length behind = begins-behind (λ b. b == close) behind size e in
+        let ends : get_or behind size 0 ≡ close = eqb-true (get_or behind size 0) close (sym (ap (begins (λ b. b == close)) (drop-cons behind size 0 size_within)) ∙ e) in
+        let all : o.at + size + 2 ≡ o.at + 1 + (size + 1) = omega arith in
+        let one : size + 1 ≡ suc size = omega arith in
         let next : o.at + 1 ≡ suc o.at = omega arith in
-        let own : List ℕ = drop (o.at + 1) (take end text) in
-        let span : take (end + 1) text ≡ take o.at text ++ first ∷ own ++ close ∷ [] =
-        ap (λ n. take n text) one ∙ take-suc text end 0 end_within
-        ∙ ap (λ q. take end text ++ q ∷ []) ends
-        ∙ ap (λ l. l ++ close ∷ []) (take-part (o.at + 1) end text (omega arith) ∙ ap (λ l. l ++ own) (ap (λ n. take n text) next ∙ take-suc text o.at 0 inside) ∙ append_assoc (take o.at text) (first ∷ []) own)
+        let own : List ℕ = take size behind in
+        let name : take (size + 1) behind ≡ own ++ close ∷ [] = ap (λ n. take n behind) one ∙ take-suc behind size 0 size_within ∙ ap (λ q. own ++ q ∷ []) ends in
+        let front : take (o.at + 1) text ≡ take o.at text ++ first ∷ [] = ap (λ n. take n text) next ∙ take-suc text o.at 0 inside in
+        let span : take (o.at + size + 2) text ≡ take o.at text ++ first ∷ own ++ close ∷ [] =
+        ap (λ n. take n text) all ∙ take-add (o.at + 1) (size + 1) text
+        ∙ ap (λ l. l ++ take (size + 1) behind) front
+        ∙ ap (λ l. (take o.at text ++ first ∷ []) ++ l) name
+        ∙ sym (append_assoc (take o.at text ++ first ∷ []) own (close ∷ []))
+        ∙ ap (λ l. l ++ close ∷ []) (append_assoc (take o.at text) (first ∷ []) own)
         in
         rw (e, include_from) (take o.at text, first, before, opens, span)
     by false e = rw (e, include_from) tt
@@ -311,8 +301,11 @@ assign-tells text p h =
     by (begins_with (codes "@{") text) refl (begins is_letter (drop 2 text)) refl (begins (λ b. b == closing_brace) (drop end text)) refl
     (begins_with (codes "=") (drop sign text)) refl (begins_with (codes "+=") (drop sign text)) refl
   where
+    size : ℕ
+    size = prefix_len is_name_byte (drop 2 text)
+
     end : ℕ
-    end = 2 + prefix_len is_name_byte (drop 2 text)
+    end = 2 + size
 
     sign : ℕ
     sign = end + 1 + spaces (drop (end + 1) text)
@@ -321,15 +314,15 @@ assign-tells text p h =
     gap = take (spaces (drop (end + 1) text)) (drop (end + 1) text)
 
     own : List ℕ
-    own = drop 2 (take end text)
+    own = take size (drop 2 text)
 
     told : begins_with (codes "@{") text ≡ true → begins (λ b. b == closing_brace) (drop end text) ≡ true → (more : ℕ) (append : Bool) → take more (drop sign text) ≡ assign_sign append
-        → Tells text (Token (Assign append) (sign + more) 2 end)
+        → Tells text (Token (Assign append) own (sign + more))
     told opened closed more append signed =
         let within : end < length text = begins-behind (λ b. b == closing_brace) text end closed in
         let ends : get_or text end 0 ≡ closing_brace = eqb-true (get_or text end 0) closing_brace (sym (ap (begins (λ b. b == closing_brace)) (drop-cons text end 0 within)) ∙ closed) in
         let one : end + 1 ≡ suc end = omega arith in
-        let name : take end text ≡ codes "@{" ++ own = take-part 2 end text (omega arith) ∙ ap (λ l. l ++ own) (begins_with-front (codes "@{") text opened) in
+        let name : take end text ≡ codes "@{" ++ own = take-add 2 size text ∙ ap (λ l. l ++ own) (begins_with-front (codes "@{") text opened) in
         let braced : take (end + 1) text ≡ (codes "@{" ++ own) ++ closing_brace ∷ [] =
         ap (λ n. take n text) one ∙ take-suc text end 0 within ∙ ap (λ q. take end text ++ q ∷ []) ends ∙ ap (λ l. l ++ closing_brace ∷ []) name
         in (
@@ -345,12 +338,12 @@ assign-tells text p h =
     by : (o : Bool) → begins_with (codes "@{") text ≡ o → (l : Bool) → begins is_letter (drop 2 text) ≡ l → (c : Bool) → begins (λ b. b == closing_brace) (drop end text) ≡ c
         → (sets : Bool) → begins_with (codes "=") (drop sign text) ≡ sets → (adds : Bool) → begins_with (codes "+=") (drop sign text) ≡ adds → Tells text p
     by true a true b true d true f adds g =
-        let there : Some (Token (Assign false) (sign + 1) 2 end) ≡ Some p = rw (a, b, d, f) at h in
-        let same : p ≡ Token (Assign false) (sign + 1) 2 end = cc in
+        let there : Some (Token (Assign false) own (sign + 1)) ≡ Some p = rw (a, b, d, f) at h in
+        let same : p ≡ Token (Assign false) own (sign + 1) = cc in
         subst (Tells text) (sym same) (told a d 1 false (begins_with-front (codes "=") (drop sign text) f))
     by true a true b true d false f true g =
-        let there : Some (Token (Assign true) (sign + 2) 2 end) ≡ Some p = rw (a, b, d, f, g) at h in
-        let same : p ≡ Token (Assign true) (sign + 2) 2 end = cc in
+        let there : Some (Token (Assign true) own (sign + 2)) ≡ Some p = rw (a, b, d, f, g) at h in
+        let same : p ≡ Token (Assign true) own (sign + 2) = cc in
         subst (Tells text) (sym same) (told a d 2 true (begins_with-front (codes "+=") (drop sign text) g))
     by true a true b true d false f false g = let there : ◌≡◌ {A = Option Piece} None (Some p) = rw (a, b, d, f, g) at h in absurd cc
     by true a true b false d sets f adds g = let there : ◌≡◌ {A = Option Piece} None (Some p) = rw (a, b, d) at h in absurd cc

@@ -5,12 +5,17 @@ use Rattle.std.specs.Option.{option_map}
 use Rattle.aa_bytes.specs.Texts.{begins, begins_with}
 use Rattle.aa_bytes.specs.Bytes.{backslash, closing_brace, closing_parenthesis, comma, greater, hash, is_blank, is_letter, is_letter_or_digit, underscore, is_space_or_tab, line_feed, opening_brace, quote, smaller}
 use Rattle.aa_tokens.specs.declared.include.Opening.{Opening}
-use Rattle.aa_tokens.specs.declared.piece.Piece.{Piece}
-use Rattle.aa_tokens.specs.declared.piece.Piece.TheVariants.{Token, Comment, Fault}
 use Rattle.aa_tokens.specs.declared.cut.CutRefusal.{CutRefusal}
 use Rattle.aa_tokens.specs.declared.cut.CutRefusal.TheVariants.{OpenQuote, OpenOther}
 use Rattle.aa_tokens.specs.declared.cut.TokenKind.{TokenKind}
 use Rattle.aa_tokens.specs.declared.cut.TokenKind.TheVariants.{Include, Assign, Value, Quoted, Word, Comma, OpenBrace, CloseBrace}
+
+-- What stands at a place where a token may begin: a token with its own text, or a comment, each with how many bytes its span has, or neither.
+-- What follows stands behind the span.
+pub data Piece : Type 0 where
+  Token : (kind : TokenKind) (text : List ℕ) (size : ℕ) → Piece
+  Comment : (size : ℕ) → Piece
+  Fault : (refusal : CutRefusal) → Piece
 
 -- what a variable's name is made of: letters, digits and `_`
 abbrev pub is_name_byte : ℕ → Bool
@@ -63,8 +68,9 @@ unclosed b = if b == smaller then OpenOther else OpenQuote
 abbrev pub include_from : List ℕ → Opening → Piece
 include_from text o =
     let first = slice_index_or text o.at 0 in
-    let end = o.at + 1 + prefix_len (λ b. not (b == closing first) && not (b == line_feed)) (drop (o.at + 1) text) in
-    if begins (λ b. b == closing first) (drop end text) then Token (Include o.if_exists) (end + 1) (o.at + 1) end else Fault (unclosed first)
+    let behind = drop (o.at + 1) text in
+    let size = prefix_len (λ b. not (b == closing first) && not (b == line_feed)) behind in
+    if begins (λ b. b == closing first) (drop size behind) then Token (Include o.if_exists) (take size behind) (o.at + size + 2) else Fault (unclosed first)
 
 -- a comment runs to the end of its line
 abbrev pub comment : List ℕ → Piece
@@ -73,11 +79,13 @@ comment text = Comment (prefix_len (λ b. not (b == line_feed)) text)
 -- An Assign: `@{`, a name, `}`, spaces or tabs, and `=` or `+=`.
 abbrev pub assign : List ℕ → Option Piece
 assign text =
-    let end = 2 + prefix_len is_name_byte (drop 2 text) in
+    let size = prefix_len is_name_byte (drop 2 text) in
+    let name = take size (drop 2 text) in
+    let end = 2 + size in
     let sign = end + 1 + spaces (drop (end + 1) text) in
     if begins_with (codes "@{") text && begins is_letter (drop 2 text) && begins (λ b. b == closing_brace) (drop end text) then
-    (if begins_with (codes "=") (drop sign text) then Some (Token (Assign false) (sign + 1) 2 end) else
-    if begins_with (codes "+=") (drop sign text) then Some (Token (Assign true) (sign + 2) 2 end) else None)
+    (if begins_with (codes "=") (drop sign text) then Some (Token (Assign false) name (sign + 1)) else
+    if begins_with (codes "+=") (drop sign text) then Some (Token (Assign true) name (sign + 2)) else None)
     else None
 
 -- how many bytes stand before the quote that closes a text, in its line; a backslash takes the byte behind it along
@@ -92,7 +100,7 @@ before_quote (b ∷ c ∷ bs) =
 
 -- a text in quotes, as a token of this kind
 abbrev pub quoted : TokenKind → List ℕ → Piece
-quoted kind text = elim (before_quote (drop 1 text)) [ None ↦ Fault OpenQuote | Some n ↦ Token kind (n + 2) 1 (n + 1) ]
+quoted kind text = elim (before_quote (drop 1 text)) [ None ↦ Fault OpenQuote | Some n ↦ Token kind (take n (drop 1 text)) (n + 2) ]
 
 -- how many bytes a value has: it runs to a blank, and a backslash takes the byte behind it along
 abbrev pub value_size : List ℕ → ℕ
@@ -135,16 +143,16 @@ word_left depth before (b ∷ c ∷ bs) =
 
 -- a word, before which nothing of it stands
 abbrev pub word : List ℕ → Piece
-word text = elim (word_left 0 0 text) [ None ↦ Fault OpenOther | Some n ↦ Token Word n 0 n ]
+word text = elim (word_left 0 0 text) [ None ↦ Fault OpenOther | Some n ↦ Token Word (take n text) n ]
 
 -- what begins with this byte, where it is no Include and no Assign
 abbrev pub plain : ℕ → List ℕ → Piece
 plain b text =
     if b == hash then comment text else
     if b == quote then quoted Quoted text else
-    if b == comma then Token Comma 1 0 1 else
-    if b == opening_brace then Token OpenBrace 1 0 1 else
-    if b == closing_brace then Token CloseBrace 1 0 1 else
+    if b == comma then Token Comma (take 1 text) 1 else
+    if b == opening_brace then Token OpenBrace (take 1 text) 1 else
+    if b == closing_brace then Token CloseBrace (take 1 text) 1 else
     word text
 
 -- what stands at a place outside values: the first of the kinds that fits
@@ -159,7 +167,7 @@ abbrev pub value_piece : ℕ → List ℕ → Piece
 value_piece b text =
     if b == hash then comment text else
     if b == quote then quoted Value text else
-    Token Value (value_size text) 0 (value_size text)
+    Token Value (take (value_size text) text) (value_size text)
 
 -- what stands at a place of a text, where a value may begin or may not
 abbrev pub piece_at : Bool → List ℕ → Piece
@@ -181,10 +189,10 @@ before_tokens token (Ok tokens) = Ok (token ∷ tokens)
 before_tokens token (Err fault) = Err fault
 
 -- what a piece at a place comes to, with what follows it: how many bytes of it are left, and whether values follow in its line
-abbrev pub cut_on : ℕ → Bool → List ℕ → Piece → (ℕ → Bool → Result (List Seen) (CutRefusal × ℕ)) → Result (List Seen) (CutRefusal × ℕ)
-cut_on at values text (Token kind size from to) more = before_tokens (record { kind = kind; text = drop from (take to text); start = at; end = at + size }) (more (size - 1) (values || is_assign kind))
-cut_on at values text (Comment size) more = more (size - 1) values
-cut_on at values text (Fault refusal) more = Err (refusal, at)
+abbrev pub cut_on : ℕ → Bool → Piece → (ℕ → Bool → Result (List Seen) (CutRefusal × ℕ)) → Result (List Seen) (CutRefusal × ℕ)
+cut_on at values (Token kind text size) more = before_tokens (record { kind = kind; text = text; start = at; end = at + size }) (more (size - 1) (values || is_assign kind))
+cut_on at values (Comment size) more = more (size - 1) values
+cut_on at values (Fault refusal) more = Err (refusal, at)
 
 -- The tokens of a text at a place of its source, or its first fault and the place of that. So many bytes belong to the token or comment
 -- before. Behind an Assign values follow, to the end of its line.
@@ -193,4 +201,4 @@ cut at left values [] = Ok []
 cut at (suc left) values (b ∷ bs) = cut (at + 1) left values bs
 cut at zero values (b ∷ bs) =
     if is_blank b then cut (at + 1) 0 (values && not (b == line_feed)) bs else
-    cut_on at values (b ∷ bs) (piece_at values (b ∷ bs)) (λ left values. cut (at + 1) left values bs)
+    cut_on at values (piece_at values (b ∷ bs)) (λ left values. cut (at + 1) left values bs)

@@ -3,7 +3,7 @@ use Rattle.std.specs.Prelude.{ℕ, ◌≡◌, ◌+◌, ◌-◌, ◌<◌, ◌≤�
 use Rattle.std.specs.List.{list_all, list_any}
 use Rattle.aa_bytes.specs.Texts.{begins, begins_with_byte}
 use Rattle.aa_bytes.specs.Bytes.{closing_brace, hash, is_blank, is_space_or_tab, line_feed, quote, smaller}
-use Rattle.aa_tokens.specs.Cut.{Seen, closing, is_assign}
+use Rattle.aa_tokens.specs.Cut.{Seen, closing, cut, is_assign}
 use Rattle.aa_tokens.specs.code.Tokens.{with_tokens}
 use Rattle.aa_tokens.specs.declared.cut.CutRefusal.{CutRefusal}
 use Rattle.aa_tokens.specs.declared.cut.TokenKind.{TokenKind}
@@ -94,3 +94,17 @@ is_value kind = false
 abbrev pub AreValuesPlaced : Bool → List Seen → Type 0
 AreValuesPlaced values [] = Unit {0}
 AreValuesPlaced values (token ∷ tokens) = (is_value token.kind ≡ values) × AreValuesPlaced (values || is_assign token.kind) tokens
+
+-- A text is cut line by line: up to a line feed as if it ended there, and what follows as if it began there.
+abbrev pub TextIsCutByLines : Type 0
+TextIsCutByLines =
+    (at : ℕ) (values : Bool) (text rest : List ℕ)
+    → cut at 0 values (text ++ line_feed ∷ rest) ≡ followed_by (cut at 0 values text) (cut (at + length text + 1) 0 false rest)
+
+-- In a line each token behind an Assign is a value, and no other is.
+abbrev pub LineHasValuesPlaced : Type 0
+LineHasValuesPlaced =
+    (at : ℕ) (line : List ℕ) (tokens : List Seen)
+    → has_line_feed line ≡ false
+    → cut at 0 false line ≡ Ok tokens
+    → AreValuesPlaced false tokens

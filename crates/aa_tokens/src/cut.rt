@@ -5,7 +5,7 @@ ghost use Rattle.aa_bytes.specs.Texts.{begins};
 ghost use Rattle.aa_bytes.specs.Bytes.{line_feed};
 ghost use Rattle.aa_tokens.specs.Cut.{cut, is_assign, piece_at};
 ghost use Rattle.aa_tokens.specs.CutFault.{IsFirstFault, name_of, number_of};
-ghost use Rattle.aa_tokens.specs.code.Pieces.{IsWithin, starts_piece};
+ghost use Rattle.aa_tokens.specs.code.Pieces.{IsWithin, seen_piece, starts_piece};
 ghost use Rattle.aa_tokens.specs.code.Tokens.{cut_behind, seen};
 ghost use Rattle.aa_tokens.specs.declared.cut.CutRefusal.TheVariants.{Memory};
 
@@ -132,9 +132,9 @@ fn values_from(values: bool, kind: TokenKind) -> bool
 }
 
 // What a text begins with, where a value may begin or may not.
-fn piece_at(values: bool, text: &[u8]) -> Piece
+fn piece_at(values: bool, text: &[u8]) -> Piece<'_>
     requires { begins starts_piece text.now ≡ true }
-    ensures value { result ≡ piece_at values text.now }
+    ensures value { seen_piece result ≡ piece_at values text.now }
     ensures within { IsWithin (length text.now) result }
 {
     if values {
@@ -174,13 +174,12 @@ fn read_on<'a>(
     match piece_at(values, text) {
         Piece::Token {
             kind,
+            text: own,
             size,
-            from,
-            to,
         } => {
             tokens.push(Token {
                 kind,
-                text: &text[from..to],
+                text: own,
                 start: at,
                 end: at + size,
             })?;

@@ -2,7 +2,7 @@
 
 ghost use Rattle.std.specs.Prelude.{◌≡◌, ◌≤◌, ◌<◌, length, IfSome};
 ghost use Rattle.aa_tokens.specs.Cut.{closing, include_from, include_word, opening, opening_behind, opening_if_exists, opens_name, unclosed};
-ghost use Rattle.aa_tokens.specs.code.Pieces.{IsWithin};
+ghost use Rattle.aa_tokens.specs.code.Pieces.{IsWithin, seen_piece};
 
 use crate::cut::{CutRefusal, TokenKind};
 use crate::front::{size_before, spaces};
@@ -108,23 +108,22 @@ fn unclosed(first: u8) -> CutRefusal
 }
 
 /// The Include that a text begins with, from where its name opens.
-pub fn include_from(text: &[u8], opening: Opening) -> Piece
+pub fn include_from(text: &[u8], opening: Opening) -> Piece<'_>
     requires { opening.at < length text.now }
-    ensures value { result ≡ include_from text.now opening }
+    ensures value { seen_piece result ≡ include_from text.now opening }
     ensures within { IsWithin (length text.now) result }
 {
     let first = text[opening.at];
-    let from = opening.at + 1;
     let close = closing(first);
-    let end = from + size_before(close, behind(from, text));
-    if begins_with_byte(close, behind(end, text)) {
+    let rest = behind(opening.at + 1, text);
+    let size = size_before(close, rest);
+    if begins_with_byte(close, behind(size, rest)) {
         Piece::Token {
             kind: TokenKind::Include {
                 if_exists: opening.if_exists,
             },
-            size: end + 1,
-            from,
-            to: end,
+            text: &rest[..size],
+            size: opening.at + size + 2,
         }
     } else {
         Piece::Fault {

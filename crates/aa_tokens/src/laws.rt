@@ -1,9 +1,9 @@
 //! What holds of the tokens of a text, as laws over the definition of the cut.
 
-ghost use Rattle.std.specs.Prelude.{◌≡◌, ◌+◌, ◌++◌, ℕ, Bool, false, List, ◌∷◌, Ok, length};
+ghost use Rattle.std.specs.Prelude.{◌≡◌, ◌++◌, ℕ, Bool, false, List, ◌∷◌, Ok};
 ghost use Rattle.aa_bytes.specs.Bytes.{line_feed};
 ghost use Rattle.aa_tokens.specs.Cut.{cut, piece_at, Seen};
-ghost use Rattle.aa_tokens.specs.CutLaws.{followed_by, has_line_feed, AreValuesPlaced, Covers};
+ghost use Rattle.aa_tokens.specs.CutLaws.{Covers, LineHasValuesPlaced, TextIsCutByLines};
 
 /// The tokens of a text cover it from left to right: none overlaps another, what stands between them, before the first and behind the last
 /// is blanks and comments alone, and each token's span tells its text, whether an Include has `if exists` and whether an Assign's sign is `+=`.
@@ -16,10 +16,6 @@ pub fn how_a_text_is_cut()
         → Covers 0 source tokens }
     ensures line { (values : Bool) (text rest : List ℕ)
         → piece_at values (text ++ line_feed ∷ rest) ≡ piece_at values text }
-    ensures lines { (at : ℕ) (values : Bool) (text rest : List ℕ)
-        → cut at 0 values (text ++ line_feed ∷ rest) ≡ followed_by (cut at 0 values text) (cut (at + length text + 1) 0 false rest) }
-    ensures values { (at : ℕ) (line : List ℕ) (tokens : List Seen)
-        → has_line_feed line ≡ false
-        → cut at 0 false line ≡ Ok tokens
-        → AreValuesPlaced false tokens }
+    ensures lines { TextIsCutByLines }
+    ensures values { LineHasValuesPlaced }
 {}

@@ -1,11 +1,10 @@
 //! What stands at a place of a text.
 
-ghost use Rattle.std.specs.Prelude.{◌≡◌, length, slice_index, true};
+ghost use Rattle.std.specs.Prelude.{◌≡◌, ◌<◌, length, slice_index, take, true};
 ghost use Rattle.aa_bytes.specs.Bytes.{hash};
 ghost use Rattle.aa_bytes.specs.Texts.{begins};
-ghost use Rattle.aa_tokens.specs.Cut.{comment, piece, plain, value_piece, value_size};
-ghost use Rattle.aa_tokens.specs.code.Pieces.{IsWithin, starts_piece};
-ghost use Rattle.aa_tokens.specs.declared.piece.Piece.TheVariants.{Token};
+ghost use Rattle.aa_tokens.specs.Cut.{Token, comment, piece, plain, value_piece, value_size};
+ghost use Rattle.aa_tokens.specs.code.Pieces.{IsWithin, seen_piece, starts_piece};
 ghost use Rattle.aa_tokens.specs.declared.cut.TokenKind.TheVariants.{Value};
 
 use crate::assign::read_assign;
@@ -16,22 +15,20 @@ use crate::quoted::{read_quoted, value_size};
 use crate::word::read_word;
 
 /// What stands at a place where a token may begin.
-#[derive(Clone, Copy, Debug, PartialEq, Eq)]
-pub enum Piece {
+#[derive(Clone, Copy, Debug)]
+pub enum Piece<'a> {
     /// A token.
     Token {
         /// What it is.
         kind: TokenKind,
-        /// How many bytes it has.
+        /// Its own text, a part of its span.
+        text: &'a [u8],
+        /// How many bytes its span has.
         size: usize,
-        /// Where its own text begins.
-        from: usize,
-        /// Where its own text ends.
-        to: usize,
     },
     /// A comment.
     Comment {
-        /// How many bytes it has.
+        /// How many bytes its span has.
         size: usize,
     },
     /// Neither.
@@ -42,9 +39,9 @@ pub enum Piece {
 }
 
 // The comment that a text begins with.
-fn read_comment(text: &[u8]) -> Piece
+fn read_comment(text: &[u8]) -> Piece<'_>
     requires { slice_index text.now 0 ≡ hash }
-    ensures value { result ≡ comment text.now }
+    ensures value { seen_piece result ≡ comment text.now }
     ensures within { IsWithin (length text.now) result }
 {
     Piece::Comment {
@@ -52,38 +49,39 @@ fn read_comment(text: &[u8]) -> Piece
     }
 }
 
-// A token of one byte, which is its text.
-fn one_byte(kind: TokenKind) -> Piece
-    ensures { result ≡ Token kind 1 0 1 }
+// A token of a text's first byte.
+fn one_byte(kind: TokenKind, text: &[u8]) -> Piece<'_>
+    requires { 0 < length text.now }
+    ensures value { seen_piece result ≡ Token kind (take 1 text.now) 1 }
+    ensures within { IsWithin (length text.now) result }
 {
     Piece::Token {
         kind,
+        text: &text[..1],
         size: 1,
-        from: 0,
-        to: 1,
     }
 }
 
 // What a text begins with, where that is no Include and no Assign.
-fn read_plain(text: &[u8]) -> Piece
+fn read_plain(text: &[u8]) -> Piece<'_>
     requires { begins starts_piece text.now ≡ true }
-    ensures value { result ≡ plain (slice_index text.now 0) text.now }
+    ensures value { seen_piece result ≡ plain (slice_index text.now 0) text.now }
     ensures within { IsWithin (length text.now) result }
 {
     match text[0] {
         b'#' => read_comment(text),
         b'"' => read_quoted(TokenKind::Quoted, text),
-        b',' => one_byte(TokenKind::Comma),
-        b'{' => one_byte(TokenKind::OpenBrace),
-        b'}' => one_byte(TokenKind::CloseBrace),
+        b',' => one_byte(TokenKind::Comma, text),
+        b'{' => one_byte(TokenKind::OpenBrace, text),
+        b'}' => one_byte(TokenKind::CloseBrace, text),
         _ => read_word(text),
     }
 }
 
 /// What a text begins with at a place outside values: the first of the kinds that fits.
-pub fn read_piece(text: &[u8]) -> Piece
+pub fn read_piece(text: &[u8]) -> Piece<'_>
     requires { begins starts_piece text.now ≡ true }
-    ensures value { result ≡ piece (slice_index text.now 0) text.now }
+    ensures value { seen_piece result ≡ piece (slice_index text.now 0) text.now }
     ensures within { IsWithin (length text.now) result }
 {
     if let Some(opening) = find_opening(text) {
@@ -96,24 +94,23 @@ pub fn read_piece(text: &[u8]) -> Piece
 }
 
 // The value that a text begins with, without quotes.
-fn read_value(text: &[u8]) -> Piece
+fn read_value(text: &[u8]) -> Piece<'_>
     requires { begins starts_piece text.now ≡ true }
-    ensures value { result ≡ Token Value (value_size text.now) 0 (value_size text.now) }
+    ensures value { seen_piece result ≡ Token Value (take (value_size text.now) text.now) (value_size text.now) }
     ensures within { IsWithin (length text.now) result }
 {
     let size = value_size(text);
     Piece::Token {
         kind: TokenKind::Value,
+        text: &text[..size],
         size,
-        from: 0,
-        to: size,
     }
 }
 
 /// What a text begins with at a place where a value may begin.
-pub fn read_value_piece(text: &[u8]) -> Piece
+pub fn read_value_piece(text: &[u8]) -> Piece<'_>
     requires { begins starts_piece text.now ≡ true }
-    ensures value { result ≡ value_piece (slice_index text.now 0) text.now }
+    ensures value { seen_piece result ≡ value_piece (slice_index text.now 0) text.now }
     ensures within { IsWithin (length text.now) result }
 {
     match text[0] {

@@ -2,7 +2,7 @@
 
 ghost use Rattle.std.specs.Prelude.{◌≡◌, ◌≤◌, ◌<◌, length, IfSome};
 ghost use Rattle.aa_tokens.specs.Cut.{before_quote, quoted, value_size};
-ghost use Rattle.aa_tokens.specs.code.Pieces.{IsWithin, taken};
+ghost use Rattle.aa_tokens.specs.code.Pieces.{IsWithin, seen_piece, taken};
 
 use crate::cut::{CutRefusal, TokenKind};
 use crate::front::is_blank;
@@ -44,19 +44,19 @@ fn before_quote(text: &[u8]) -> Option<usize>
 }
 
 /// The text in quotes that a text begins with, as a token of this kind.
-pub fn read_quoted(kind: TokenKind, text: &[u8]) -> Piece
-    ensures value { result ≡ quoted kind text.now }
+pub fn read_quoted(kind: TokenKind, text: &[u8]) -> Piece<'_>
+    ensures value { seen_piece result ≡ quoted kind text.now }
     ensures within { IsWithin (length text.now) result }
 {
-    match before_quote(behind(1, text)) {
+    let rest = behind(1, text);
+    match before_quote(rest) {
         None => Piece::Fault {
             refusal: CutRefusal::OpenQuote,
         },
         Some(size) => Piece::Token {
             kind,
+            text: &rest[..size],
             size: size + 2,
-            from: 1,
-            to: size + 1,
         },
     }
 }

@@ -3,7 +3,7 @@
 ghost use Rattle.std.specs.Prelude.{◌≡◌, ◌≤◌, ◌<◌, ◌+◌, ◌^◌, length, true, IfSome};
 ghost use Rattle.aa_bytes.specs.Texts.{begins};
 ghost use Rattle.aa_tokens.specs.Cut.{depth_behind, ends_item, ends_word, word, word_left};
-ghost use Rattle.aa_tokens.specs.code.Pieces.{IsWithin, goes_on, starts_word};
+ghost use Rattle.aa_tokens.specs.code.Pieces.{IsWithin, goes_on, seen_piece, starts_word};
 
 use crate::cut::{CutRefusal, TokenKind};
 use crate::front::is_blank;
@@ -73,9 +73,9 @@ fn word_size(text: &[u8]) -> Option<usize>
 }
 
 /// The word that a text begins with.
-pub fn read_word(text: &[u8]) -> Piece
+pub fn read_word(text: &[u8]) -> Piece<'_>
     requires { begins starts_word text.now ≡ true }
-    ensures value { result ≡ word text.now }
+    ensures value { seen_piece result ≡ word text.now }
     ensures within { IsWithin (length text.now) result }
 {
     match word_size(text) {
@@ -84,9 +84,8 @@ pub fn read_word(text: &[u8]) -> Piece
         },
         Some(size) => Piece::Token {
             kind: TokenKind::Word,
+            text: &text[..size],
             size,
-            from: 0,
-            to: size,
         },
     }
 }

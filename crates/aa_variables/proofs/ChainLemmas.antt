@@ -1,8 +1,8 @@
--- What an order of variables, and one that nothing can be put behind, say of chains.
-use Rattle.std.proofs.Common.{◌≡◌, ℕ, zero, suc, ◌<◌, ◌≤◌, Bool, true, false, ◌||◌, List, [], ◌∷◌, length, take, arith, refl}
+-- What an order of variables says of chains.
+use Rattle.std.proofs.Common.{◌≡◌, ℕ, zero, suc, ◌<◌, ◌≤◌, Bool, true, false, List, [], ◌∷◌, length, take, arith, refl}
 use Rattle.std.specs.Prelude.{Option, None, Some, nat_eq}
 use Rattle.std.specs.List.{list_all, list_any}
-use Rattle.std.proofs.lemmas.Bool.{and_parts, or_from, or_left, or_right}
+use Rattle.std.proofs.lemmas.Bool.{and_parts, or_from}
 use Rattle.std.proofs.lemmas.List.Folds.{list_any-append}
 use Rattle.std.proofs.Math.Seq.{take-length}
 use Rattle.aa_variables.proofs.ListLemmas.{index-among_first}
@@ -91,61 +91,3 @@ module _ (variables : List Variable) where
         no_known_text (take there.0 order) (has_chain variables (length variables))
         (λ word w. no_longer_chain (suc there.0) (length variables) (omega arith) word (no_chain there.0 there.0 (omega arith) word w))
         (words_at variables index) (ordered there.0 index there.2)
-
-  module _ (candidates order : List ℕ) where
-    -- a name that is known by the candidates alone has words that pass the test: so has a text of which that holds
-    some_word_behind : (test : List ℕ → Bool)
-        → ((name : List ℕ) → is_part_known variables candidates (Name name) ≡ true → is_part_known variables order (Name name) ≡ false → list_any test (words_named variables name) ≡ true)
-        → (ps : List Part) → list_all (is_part_known variables candidates) ps ≡ true → list_all (is_part_known variables order) ps ≡ false
-        → list_any test (words_behind_parts variables ps) ≡ true
-    some_word_behind test some [] h k = absurd (cc)
-    some_word_behind test some (Byte b ∷ ps) h k = some_word_behind test some ps h k
-    some_word_behind test some (Name name ∷ ps) h k =
-        let here = and_parts _ _ h in
-        rw (list_any-append test (words_named variables name) (words_behind_parts variables ps))
-        (by (is_part_known variables order (Name name)) refl here.0 (some_word_behind test some ps here.1))
-      where
-        by : (b : Bool) → is_part_known variables order (Name name) ≡ b → is_part_known variables candidates (Name name) ≡ true
-            → (list_all (is_part_known variables order) ps ≡ false → list_any test (words_behind_parts variables ps) ≡ true)
-            → (list_any test (words_named variables name) || list_any test (words_behind_parts variables ps)) ≡ true
-        by true b known rest = or_right _ _ (rest (rw b at k))
-        by false b known rest = or_left _ _ (some name known b)
-    some_word_behind test some (Unclosed ∷ ps) h k = some_word_behind test some ps h k
-
-    -- one of the texts is known by the candidates alone
-    some_unknown_text : (test : List ℕ → Bool) → ((text : List ℕ) → is_text_known variables candidates text ≡ true → is_text_known variables order text ≡ false → test text ≡ true)
-        → (texts : List (List ℕ)) → are_texts_known variables candidates texts ≡ true → are_texts_known variables order texts ≡ false → list_any test texts ≡ true
-    some_unknown_text test some [] h k = absurd (cc)
-    some_unknown_text test some (text ∷ texts) h k =
-        let here = and_parts _ _ h in
-        by (is_text_known variables order text) refl here.0 (some_unknown_text test some texts here.1)
-      where
-        by : (b : Bool) → is_text_known variables order text ≡ b → is_text_known variables candidates text ≡ true
-            → (are_texts_known variables order texts ≡ false → list_any test texts ≡ true)
-            → list_any test (text ∷ texts) ≡ true
-        by true b known rest = or_right _ _ (rest (rw b at k))
-        by false b known rest = or_left _ _ (some text known b)
-
-    module _ (closed : (index : ℕ) → list_any (nat_eq index) candidates ≡ true → are_texts_known variables candidates (words_at variables index) ≡ true)
-        (stuck : (index : ℕ) → list_any (nat_eq index) candidates ≡ true → list_any (nat_eq index) order ≡ false → are_texts_known variables order (words_at variables index) ≡ false) where
-      -- chains of any size are behind a text that is known by the candidates alone, where none of them can be put behind the order
-      pub stuck_text : (size : ℕ) → (text : List ℕ) → is_text_known variables candidates text ≡ true → is_text_known variables order text ≡ false
-          → has_chain variables size text ≡ true
-      stuck_text zero text h k = refl
-      stuck_text (suc size) text h k = some_word_behind (has_chain variables size) (λ name known unknown. by (stuck_text size) name known unknown (index_of variables name) refl) (parts text) h k
-        where
-          by : ((text : List ℕ) → is_text_known variables candidates text ≡ true → is_text_known variables order text ≡ false → has_chain variables size text ≡ true)
-              → (name : List ℕ) → is_part_known variables candidates (Name name) ≡ true → is_part_known variables order (Name name) ≡ false
-              → (found : Option ℕ) → index_of variables name ≡ found → list_any (has_chain variables size) (words_named variables name) ≡ true
-          by rest name known unknown None f = let there : true ≡ false = rw (f, is_part_known) at unknown in absurd (cc)
-          by rest name known unknown (Some index) f =
-              let among : list_any (nat_eq index) candidates ≡ true = rw (f, is_part_known) at known in
-              let outside : list_any (nat_eq index) order ≡ false = rw (f, is_part_known) at unknown in
-              rw (words_named-from_some variables name index f)
-              (some_unknown_text (has_chain variables size) rest (words_at variables index) (closed index among) (stuck index among outside))
-
-      -- and behind the words of a candidate that isn't in the order
-      pub stuck_index : (size index : ℕ) → list_any (nat_eq index) candidates ≡ true → list_any (nat_eq index) order ≡ false
-          → list_any (has_chain variables size) (words_at variables index) ≡ true
-      stuck_index size index among outside =
-          some_unknown_text (has_chain variables size) (stuck_text size) (words_at variables index) (closed index among) (stuck index among outside)

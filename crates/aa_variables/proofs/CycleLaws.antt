@@ -15,7 +15,7 @@ use Rattle.aa_variables.proofs.TestLemmas.{any-split, or-split, same-from_test}
 use Rattle.aa_variables.specs.CycleLaws.{LeadsTo, LeadsToItself, ReachesCycle, at_once, over}
 use Rattle.aa_variables.specs.ExpansionLaws.{is_name, names_variable}
 use Rattle.aa_variables.specs.Expansions.{has_chain, is_cyclic, leads_to_cycle, words_behind_parts, words_named, words_of}
-use Rattle.aa_variables.specs.code.SettledVariables.{AllBelow}
+use Rattle.aa_variables.specs.code.VariableWalks.{AllBelow}
 use Rattle.aa_variables.specs.code.VariableIndexes.{index_of, words_at}
 use Rattle.aa_variables.specs.Variables.{Byte, Name, Part, Unclosed, Variable, named, parts}
 

@@ -2,7 +2,7 @@
 use Rattle.std.proofs.Common.{◌≡◌, ℕ, Bool, true, false, List, [], ◌∷◌, ◌<◌, suc, zero, length, arith, refl, ap}
 use Rattle.std.specs.Prelude.{Option, None, Some, flat_map}
 use Rattle.std.specs.Str.{bytes_eq}
-use Rattle.aa_variables.specs.Variables.{Variable, is_defined, named, parts}
+use Rattle.aa_variables.specs.Variables.{Variable, named, parts}
 use Rattle.aa_variables.specs.Expansions.{choices, values_within, words_named}
 use Rattle.aa_variables.specs.code.VariableIndexes.{index_of, words_at}
 
@@ -65,14 +65,3 @@ index_of-within (v ∷ vs) name index h = by (bytes_eq name v.name) refl (index_
         let same : index ≡ suc inner = cc in
         let within : inner < length vs = rest inner e in
         omega arith
-
--- a name that has an index is defined
-pub is_defined-from_some : (variables : List Variable) (name : List ℕ) (index : ℕ) → index_of variables name ≡ Some index → is_defined name variables ≡ true
-is_defined-from_some [] name index h = absurd cc
-is_defined-from_some (v ∷ vs) name index h = by (bytes_eq name v.name) refl (index_of vs name) refl h (is_defined-from_some vs name)
-  where
-    by : (b : Bool) → bytes_eq name v.name ≡ b → (found : Option ℕ) → index_of vs name ≡ found → index_of (v ∷ vs) name ≡ Some index
-        → ((inner : ℕ) → index_of vs name ≡ Some inner → is_defined name vs ≡ true) → is_defined name (v ∷ vs) ≡ true
-    by true b found e h rest = rw b refl
-    by false b None e h rest = let there : None ≡ Some index = rw (b, e) at h in absurd cc
-    by false b (Some inner) e h rest = rw b (rest inner e)

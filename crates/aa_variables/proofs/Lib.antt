@@ -6,14 +6,13 @@ pub mod CycleLemmas
 pub mod ExpandLemmas
 pub mod ExpansionLaws
 pub mod IndexLemmas
-pub mod KnownLemmas
 pub mod LeadLaws
 pub mod ListLemmas
 pub mod OrderLemmas
 pub mod PartLemmas
 pub mod ReachedLemmas
-pub mod SettledLemmas
 pub mod SomeExpansionLaws
 pub mod TableLemmas
 pub mod TestLemmas
 pub mod VariableLemmas
+pub mod WalkLemmas

@@ -8,14 +8,14 @@ use Rattle.std.proofs.lemmas.Map.Keys.{IsDistinct-push}
 use Rattle.std.proofs.lemmas.Map.Steps.{length-le_from_distinct_below}
 use Rattle.std.proofs.lemmas.Option.{slice_get_within}
 use Rattle.std.proofs.lemmas.Cmp.{nat_eq_equiv}
-use Rattle.aa_variables.specs.Variables.{Variable, Part, Byte, Name, Unclosed, is_undefined, names_undefined, parts}
+use Rattle.aa_variables.specs.Variables.{Variable, Part, Byte, Name, Unclosed, names_undefined, parts}
 use Rattle.aa_variables.specs.Expansions.{leads_to_undefined, leads_to_undefined_within, words_behind, words_behind_parts, words_named}
 use Rattle.aa_variables.specs.code.ExpansionOrder.{are_texts_known, is_part_known, is_text_known}
 use Rattle.aa_variables.specs.code.ReachedVariables.{indexes_in, indexes_of, indexes_within, with_index, with_indexes, IsReachedSoFar}
 use Rattle.aa_variables.specs.code.VariableIndexes.{index_of, words_at}
 use Rattle.aa_variables.proofs.ChainLemmas.{no_word_behind}
 use Rattle.aa_variables.proofs.ListLemmas.{drop-some, listed, past-none, index-found, slice_get-push}
-use Rattle.aa_variables.proofs.IndexLemmas.{is_defined-from_some, named-from_none, index_of-within, words_named-from_none, words_named-from_some}
+use Rattle.aa_variables.proofs.IndexLemmas.{index_of-within, words_named-from_none, words_named-from_some}
 use Rattle.aa_variables.proofs.TestLemmas.{any-behind, any-left, any-right, any-split, any-weaker, or-split, same-from_test, same-test}
 
 -- ---- the parts of a text
@@ -24,16 +24,6 @@ use Rattle.aa_variables.proofs.TestLemmas.{any-behind, any-left, any-right, any-
 pub indexes_of-bytes : (variables : List Variable) (bytes : List ℕ) → indexes_of variables (map Byte bytes) ≡ []
 indexes_of-bytes variables [] = refl
 indexes_of-bytes variables (b ∷ bs) = indexes_of-bytes variables bs
-
--- a name that has an index is not undefined
-pub name-fine : (variables : List Variable) (name : List ℕ) (index : ℕ) → Some index ≡ index_of variables name
-    → list_any (is_undefined variables) (Name name ∷ []) ≡ false
-name-fine variables name index h = rw (is_defined-from_some variables name index (sym h)) refl
-
--- a name that has none is
-pub name-without_index : (variables : List Variable) (name : List ℕ) → None ≡ index_of variables name
-    → list_any (is_undefined variables) (Name name ∷ []) ≡ true
-name-without_index variables name h = rw (named-from_none variables name (sym h)) refl
 
 -- the indexes of parts are those of the first ones and then those of the others
 pub indexes_of-append : (variables : List Variable) (ps qs : List Part) → indexes_of variables (ps ++ qs) ≡ indexes_of variables ps ++ indexes_of variables qs
@@ -56,7 +46,7 @@ with_indexes-append known (x ∷ xs) ys = with_indexes-append (with_index known 
 
 module _ (known : List ℕ) (x : ℕ) where
   -- what is listed stays listed
-  with_index-keeps : (q : ℕ) → list_any (nat_eq q) known ≡ true → list_any (nat_eq q) (with_index known x) ≡ true
+  pub with_index-keeps : (q : ℕ) → list_any (nat_eq q) known ≡ true → list_any (nat_eq q) (with_index known x) ≡ true
   with_index-keeps q h = by (list_any (nat_eq x) known) refl
     where
       by : (b : Bool) → list_any (nat_eq x) known ≡ b → list_any (nat_eq q) (with_index known x) ≡ true
@@ -64,7 +54,7 @@ module _ (known : List ℕ) (x : ℕ) where
       by false e = rw e (any-left (nat_eq q) known (x ∷ []) h)
 
   -- the one more is listed
-  with_index-puts : list_any (nat_eq x) (with_index known x) ≡ true
+  pub with_index-puts : list_any (nat_eq x) (with_index known x) ≡ true
   with_index-puts = by (list_any (nat_eq x) known) refl
     where
       by : (b : Bool) → list_any (nat_eq x) known ≡ b → list_any (nat_eq x) (with_index known x) ≡ true
@@ -72,7 +62,7 @@ module _ (known : List ℕ) (x : ℕ) where
       by false e = rw e (any-right (nat_eq x) known (x ∷ []) (or_left (nat_eq x x) false (same-test x)))
 
   -- what stands at an index stood there, or is the one more
-  with_index-from : (i q : ℕ) → slice_get (with_index known x) i ≡ Some q → (slice_get known i ≡ Some q) ⊎ ((length known ≤ i) × (q ≡ x))
+  pub with_index-from : (i q : ℕ) → slice_get (with_index known x) i ≡ Some q → (slice_get known i ≡ Some q) ⊎ ((length known ≤ i) × (q ≡ x))
   with_index-from i q h = by (list_any (nat_eq x) known) refl
     where
       by : (b : Bool) → list_any (nat_eq x) known ≡ b → (slice_get known i ≡ Some q) ⊎ ((length known ≤ i) × (q ≡ x))
@@ -91,7 +81,7 @@ module _ (known : List ℕ) (x : ℕ) where
       by false e = rw e (omega (arith, length-append known (x ∷ [])))
 
   -- no two are the same
-  with_index-distinct : IsDistinct nat_eq known → IsDistinct nat_eq (with_index known x)
+  pub with_index-distinct : IsDistinct nat_eq known → IsDistinct nat_eq (with_index known x)
   with_index-distinct d = by (list_any (nat_eq x) known) refl
     where
       by : (b : Bool) → list_any (nat_eq x) known ≡ b → IsDistinct nat_eq (with_index known x)
@@ -99,7 +89,7 @@ module _ (known : List ℕ) (x : ℕ) where
       by false e = rw e (IsDistinct-push nat_eq_equiv known x d e)
 
 -- nor are there in no list
-distinct-none : IsDistinct nat_eq []
+pub distinct-none : IsDistinct nat_eq []
 unfolding IsDistinct
 distinct-none = tt
 
@@ -109,7 +99,7 @@ with_indexes-keeps known [] q h = h
 with_indexes-keeps known (x ∷ xs) q h = with_indexes-keeps (with_index known x) xs q (with_index-keeps known x q h)
 
 -- each of them is listed
-with_indexes-puts : (known xs : List ℕ) (q : ℕ) → list_any (nat_eq q) xs ≡ true → list_any (nat_eq q) (with_indexes known xs) ≡ true
+pub with_indexes-puts : (known xs : List ℕ) (q : ℕ) → list_any (nat_eq q) xs ≡ true → list_any (nat_eq q) (with_indexes known xs) ≡ true
 with_indexes-puts known [] q h = absurd cc
 with_indexes-puts known (x ∷ xs) q h = by (or-split (nat_eq q x) (list_any (nat_eq q) xs) h) (with_indexes-puts (with_index known x) xs q)
   where
@@ -119,7 +109,7 @@ with_indexes-puts known (x ∷ xs) q h = by (or-split (nat_eq q x) (list_any (na
     by (inr there) rest = rest there
 
 -- what stands at an index stood there, or is one of them
-with_indexes-from : (known xs : List ℕ) (i q : ℕ) → slice_get (with_indexes known xs) i ≡ Some q → (slice_get known i ≡ Some q) ⊎ ((length known ≤ i) × (list_any (nat_eq q) xs ≡ true))
+pub with_indexes-from : (known xs : List ℕ) (i q : ℕ) → slice_get (with_indexes known xs) i ≡ Some q → (slice_get known i ≡ Some q) ⊎ ((length known ≤ i) × (list_any (nat_eq q) xs ≡ true))
 with_indexes-from known [] i q h = inl h
 with_indexes-from known (x ∷ xs) i q h = by (with_indexes-from (with_index known x) xs i q h)
   where
@@ -145,7 +135,7 @@ with_indexes-long known (x ∷ xs) =
     all
 
 -- no two are the same
-with_indexes-distinct : (known xs : List ℕ) → IsDistinct nat_eq known → IsDistinct nat_eq (with_indexes known xs)
+pub with_indexes-distinct : (known xs : List ℕ) → IsDistinct nat_eq known → IsDistinct nat_eq (with_indexes known xs)
 with_indexes-distinct known [] d = d
 with_indexes-distinct known (x ∷ xs) d = with_indexes-distinct (with_index known x) xs (with_index-distinct known x d)
 
@@ -185,7 +175,7 @@ module _ (variables : List Variable) where
   indexes_of-some name ps index h = rw (h, indexes_of) refl
 
   -- the indexes that parts name are indexes of variables
-  indexes_of-below : (ps : List Part) (q : ℕ) → list_any (nat_eq q) (indexes_of variables ps) ≡ true → q < length variables
+  pub indexes_of-below : (ps : List Part) (q : ℕ) → list_any (nat_eq q) (indexes_of variables ps) ≡ true → q < length variables
   indexes_of-below [] q h = absurd cc
   indexes_of-below (Byte b ∷ ps) q h = indexes_of-below ps q h
   indexes_of-below (Name name ∷ ps) q h = by (index_of variables name) refl (indexes_of-below ps q)
@@ -209,7 +199,7 @@ module _ (variables : List Variable) where
       by (inr there) rest = rest there
 
   -- the words at an index that parts name are behind them
-  words_behind-index : (test : List ℕ → Bool) (ps : List Part) (q : ℕ) → list_any (nat_eq q) (indexes_of variables ps) ≡ true → list_any test (words_at variables q) ≡ true
+  pub words_behind-index : (test : List ℕ → Bool) (ps : List Part) (q : ℕ) → list_any (nat_eq q) (indexes_of variables ps) ≡ true → list_any test (words_at variables q) ≡ true
       → list_any test (words_behind_parts variables ps) ≡ true
   words_behind-index test [] q h k = absurd cc
   words_behind-index test (Byte b ∷ ps) q h k = words_behind-index test ps q h k
@@ -293,6 +283,10 @@ module _ (variables : List Variable) (text : List ℕ) where
         led = λ before of depth k l. leads-within variables (suc depth) (suc (before + depth)) text (omega arith) (leads-index variables text of depth (at_first before of k) l);
       }
 
+  -- a text that names something undefined leads to it
+  pub text-refused : names_undefined variables text ≡ true → leads_to_undefined variables text ≡ true
+  text-refused h = leads-within variables zero (length variables) text (omega arith) h
+
   -- there are no more of them than variables
   pub reached-few : (reached : List ℕ) (at : ℕ) → IsReachedSoFar variables text reached at → length reached ≤ length variables
   reached-few reached at so_far = length-le_from_distinct_below reached (length variables) so_far.distinct so_far.below
@@ -307,7 +301,7 @@ module _ (variables : List Variable) (text : List ℕ) where
 
 module _ (variables : List Variable) (reached : List ℕ) where
   -- parts are known whose indexes are gathered
-  parts-known : (ps : List Part) → ((q : ℕ) → list_any (nat_eq q) (indexes_of variables ps) ≡ true → list_any (nat_eq q) reached ≡ true)
+  pub parts-known : (ps : List Part) → ((q : ℕ) → list_any (nat_eq q) (indexes_of variables ps) ≡ true → list_any (nat_eq q) reached ≡ true)
       → list_all (is_part_known variables reached) ps ≡ true
   parts-known [] has = refl
   parts-known (Byte b ∷ ps) has = parts-known ps has

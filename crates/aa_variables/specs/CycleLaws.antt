@@ -1,9 +1,9 @@
 -- Words that the law of cycles is said in.
-use Rattle.std.specs.Prelude.{ℕ, ◌≡◌, true, List}
+use Rattle.std.specs.Prelude.{ℕ, ◌≡◌, ◌↔◌, true, List, Some}
 use Rattle.std.specs.List.{Contains}
 use Rattle.aa_variables.specs.ExpansionLaws.{names_variable}
-use Rattle.aa_variables.specs.Expansions.{words_named}
-use Rattle.aa_variables.specs.Variables.{Variable}
+use Rattle.aa_variables.specs.Expansions.{has_chain, is_cyclic, words_named, words_of}
+use Rattle.aa_variables.specs.Variables.{Variable, named}
 
 -- A text leads to the variable of a name: it names it, or a word of a variable that it names leads to it.
 pub data LeadsTo (variables : List Variable) : List ℕ → List ℕ → Type 0 where
@@ -18,3 +18,15 @@ LeadsToItself variables name = (word : List ℕ) × Contains (words_named variab
 -- a text leads to some variable that leads to itself
 abbrev pub ReachesCycle : List Variable → List ℕ → Type 0
 ReachesCycle variables text = (name : List ℕ) × LeadsTo variables text name × LeadsToItself variables name
+
+-- a variable is that of its name
+abbrev pub IsOneOf : List Variable → Variable → Type 0
+IsOneOf variables variable = named variable.name variables ≡ Some variable
+
+-- a variable leads to itself, or to one that does, exactly where one of its words leads to some variable that leads to itself
+abbrev pub IsCyclicByWord : List Variable → Variable → Type 0
+IsCyclicByWord variables variable = (is_cyclic variables variable ≡ true) ↔ ((word : List ℕ) × Contains (words_of variable) word × ReachesCycle variables word)
+
+-- a text has chains of any length
+abbrev pub HasAnyChain : List Variable → List ℕ → Type 0
+HasAnyChain variables text = (size : ℕ) → has_chain variables size text ≡ true

@@ -1,8 +1,9 @@
 -- Words that the laws of expansions are said in.
-use Rattle.std.specs.Prelude.{ℕ, Bool, true, false, List}
+use Rattle.std.specs.Prelude.{ℕ, ◌≡◌, ◌<◌, Bool, true, false, List, length, flat_map, None, Some}
 use Rattle.std.specs.List.{list_all, list_any}
 use Rattle.std.specs.Str.{bytes_eq}
-use Rattle.aa_variables.specs.Variables.{Part, Byte, Name, parts}
+use Rattle.aa_variables.specs.Expansions.{choice_count, expansion_refusal, expansions, is_cyclic, leads_to_undefined, values, words_of}
+use Rattle.aa_variables.specs.Variables.{Variable, Part, Byte, Name, named, names_undefined, parts}
 
 -- a part stands for itself
 abbrev pub is_byte : Part → Bool
@@ -21,3 +22,29 @@ is_name name part = false
 -- a text names the variable of this name
 abbrev pub names_variable : List ℕ → List ℕ → Bool
 names_variable text name = list_any (is_name name) (parts text)
+
+-- no name in the words of variables is left open, or isn't defined
+abbrev pub AreWordsDefined : List Variable → Type 0
+AreWordsDefined variables = list_any (names_undefined variables) (flat_map words_of variables) ≡ false
+
+-- a text leads to a name that isn't defined, or isn't closed, only if it names one itself
+abbrev pub FindsUndefinedAtOnce : List Variable → List ℕ → Type 0
+FindsUndefinedAtOnce variables text = names_undefined variables text ≡ false → leads_to_undefined variables text ≡ false
+
+-- the product of the counts of the values of a text's names
+abbrev pub value_product : List Variable → List ℕ → ℕ
+value_product variables text = choice_count (λ name. length (values variables name)) (parts text)
+
+-- the values of a name's variable are the expansions of its words, in order, unless the variable leads to itself
+abbrev pub AreExpandedWords : List Variable → List ℕ → Type 0
+AreExpandedWords variables name =
+    (variable : Variable) → named name variables ≡ Some variable → is_cyclic variables variable ≡ false
+    → values variables name ≡ flat_map (expansions variables) (words_of variable)
+
+-- each name in a text has the same values by one list of variables as by another
+abbrev pub Agree : List Variable → List Variable → List ℕ → Type 0
+Agree variables others text = (name : List ℕ) → names_variable text name ≡ true → values variables name ≡ values others name
+
+-- a text that isn't refused has an expansion
+abbrev pub ExpandsUnlessRefused : List Variable → List ℕ → Type 0
+ExpandsUnlessRefused variables text = expansion_refusal variables text ≡ None → 0 < length (expansions variables text)

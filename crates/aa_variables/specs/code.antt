@@ -2,7 +2,7 @@
 pub mod ExpansionOrder
 pub mod ExpansionTables
 pub mod ReachedVariables
-pub mod SettledVariables
 pub mod TextParts
 pub mod VariableIndexes
+pub mod VariableWalks
 pub mod VariablesMap

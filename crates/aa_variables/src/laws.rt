@@ -1,19 +1,17 @@
 //! What holds of variables and expansions, as laws over their definitions.
 
-ghost use Rattle.std.specs.Prelude.{◌≡◌, ◌<◌, ℕ, true, false, ◌↔◌, List, ◌∷◌, [], None, Some, find, flat_map, length};
-ghost use Rattle.std.specs.List.{Contains, list_any};
-ghost use Rattle.aa_variables.specs.CycleLaws.{ReachesCycle};
-ghost use Rattle.aa_variables.specs.ExpansionLaws.{names_nothing, names_variable};
-ghost use Rattle.aa_variables.specs.Expansions.{choice_count, expansion_refusal, expansions, has_chain, is_cyclic, leads_to_cycle, leads_to_undefined, values, words_of};
-ghost use Rattle.aa_variables.specs.Variables.{Variable, are_variables, named, names_undefined, parts};
+ghost use Rattle.std.specs.Prelude.{◌≡◌, ℕ, true, false, ◌↔◌, List, ◌∷◌, [], None, find, length};
+ghost use Rattle.aa_variables.specs.CycleLaws.{HasAnyChain, IsCyclicByWord, IsOneOf, ReachesCycle};
+ghost use Rattle.aa_variables.specs.ExpansionLaws.{Agree, AreExpandedWords, AreWordsDefined, ExpandsUnlessRefused, FindsUndefinedAtOnce, names_nothing, value_product};
+ghost use Rattle.aa_variables.specs.Expansions.{expansions, is_cyclic, leads_to_cycle};
+ghost use Rattle.aa_variables.specs.Variables.{Variable, are_variables};
 
 /// Where no word of a variable names one that isn't defined, a text leads to such a name only if it names one itself. Where no variable
 /// leads to itself, no text leads to one that does.
 pub fn what_a_text_leads_to()
     ensures defined { (variables : List Variable) (text : List ℕ)
-        → list_any (names_undefined variables) (flat_map words_of variables) ≡ false
-        → names_undefined variables text ≡ false
-        → leads_to_undefined variables text ≡ false }
+        → AreWordsDefined variables
+        → FindsUndefinedAtOnce variables text }
     ensures acyclic { (variables : List Variable) (text : List ℕ)
         → find (is_cyclic variables) variables ≡ None
         → leads_to_cycle variables text ≡ false }
@@ -26,10 +24,10 @@ pub fn what_a_cycle_is()
         → (leads_to_cycle variables text ≡ true) ↔ ReachesCycle variables text }
     ensures endless { (variables : List Variable) (text : List ℕ)
         → leads_to_cycle variables text ≡ true
-        → (size : ℕ) → has_chain variables size text ≡ true }
+        → HasAnyChain variables text }
     ensures variable { (variables : List Variable) (variable : Variable)
-        → named variable.name variables ≡ Some variable
-        → (is_cyclic variables variable ≡ true) ↔ ((word : List ℕ) × Contains (words_of variable) word × ReachesCycle variables word) }
+        → IsOneOf variables variable
+        → IsCyclicByWord variables variable }
 {}
 
 /// A text that names no variable has itself as its one expansion. A text has as many expansions as the product of the counts of its names'
@@ -40,16 +38,13 @@ pub fn how_texts_expand()
         → names_nothing text ≡ true
         → expansions variables text ≡ text ∷ [] }
     ensures product { (variables : List Variable) (text : List ℕ)
-        → length (expansions variables text) ≡ choice_count (λ name. length (values variables name)) (parts text) }
-    ensures values { (variables : List Variable) (name : List ℕ) (variable : Variable)
-        → named name variables ≡ Some variable
-        → is_cyclic variables variable ≡ false
-        → values variables name ≡ flat_map (expansions variables) (words_of variable) }
+        → length (expansions variables text) ≡ value_product variables text }
+    ensures values { (variables : List Variable) (name : List ℕ)
+        → AreExpandedWords variables name }
     ensures once { (variables others : List Variable) (text : List ℕ)
-        → ((name : List ℕ) → names_variable text name ≡ true → values variables name ≡ values others name)
+        → Agree variables others text
         → expansions variables text ≡ expansions others text }
     ensures some { (variables : List Variable) (text : List ℕ)
         → are_variables variables ≡ true
-        → expansion_refusal variables text ≡ None
-        → 0 < length (expansions variables text) }
+        → ExpandsUnlessRefused variables text }
 {}

@@ -190,8 +190,8 @@ impl Variables {
 }
 
 mod count;
-mod cycle;
 mod expand;
 mod indexes;
 mod order;
 mod reached;
+mod walk;

@@ -3,28 +3,20 @@
 #![tactic(auto)]
 
 ghost use Rattle.std.specs.Prelude.{◌≡◌};
-ghost use Rattle.aaset.specs.Fault.{status_of};
+ghost use Rattle.aa_exit.specs.Fault.{status_of};
 
-mod arguments;
-mod fault;
-mod gather;
-mod plan;
-mod status;
-mod stop;
-
+use aa_exit::{Fault, Stop};
+use aa_files::Files;
 use aa_set::{FromRead, ToWrite};
-use aa_text::Files;
-use fault::Fault;
 use std::process::ExitCode;
 use std::rt::Env;
 use std::{env, io, rt};
-use stop::Stop;
 
 // The words that the program was started with, its own name first.
 fn words_of_start<R: Env + AllocGlobal>(rt: &R) -> Result<Vec<String>, Stop> {
     match env::args(rt) {
         Ok(words) => Ok(words.collect(rt.alloc())?),
-        Err(error) => Err(Stop::Failed(fault::fault_of_words(&error))),
+        Err(error) => Err(Stop::Failed(aa_exit::fault_of_words(&error))),
     }
 }
 
@@ -38,9 +30,8 @@ struct Ready {
 fn prepare<R: rt::Files + Env + AllocGlobal>(rt: &R) -> Result<Ready, Stop> {
     let alloc = rt.alloc();
     let all = words_of_start(rt)?;
-    let words = arguments::arguments_behind_the_name(alloc, all.as_slice())?;
-    let plan = plan::plan(alloc, words.as_slice())?;
-    let files = gather::gather(rt, alloc, &plan)?;
+    let plan = aa_arguments::plan(alloc, all.as_slice())?;
+    let files = aa_gather::gather(rt, alloc, plan.base.as_str(), plan.names.as_slice())?;
     Ok(Ready {
         files,
         force_complain: plan.force_complain,
@@ -51,9 +42,9 @@ fn prepare<R: rt::Files + Env + AllocGlobal>(rt: &R) -> Result<Ready, Stop> {
 fn tell<R: Eprint>(rt: &R, fault: &Fault) -> u8
     ensures { result ≡ status_of fault.now }
 {
-    let text = fault::fault_text(fault);
+    let text = aa_exit::fault_text(fault);
     let _ = eprintln!(rt; "{}{}", text.words, text.name);
-    fault::fault_status(fault)
+    aa_exit::fault_status(fault)
 }
 
 // Shows a text that was asked for.
@@ -79,7 +70,7 @@ fn answer<R: Input + Print + Eprint + AllocGlobal>(rt: &R, ready: &Ready) -> u8 
     if let Err(fault) = &outcome {
         tell(rt, &Fault::from(*fault));
     }
-    status::status(&outcome)
+    aa_exit::status(&outcome)
 }
 
 fn main(rt: HostRuntime) -> ExitCode {

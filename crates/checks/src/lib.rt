@@ -1,10 +1,17 @@
-//! Tests of the library crates that no row can state: calls of the policy set itself, streams of the standard library that fail, and texts of many bytes.
+//! Tests of the library crates that no row can state: calls of the policy set itself, streams of the standard library that fail, files that
+//! are read in pieces, the words of arguments, and texts of many bytes.
 #![tactic(auto)]
 
 #[cfg(test)]
+mod arguments;
+#[cfg(test)]
 mod calls;
 #[cfg(test)]
+mod disk;
+#[cfg(test)]
 mod fakes;
+#[cfg(test)]
+mod gathering;
 #[cfg(test)]
 mod lengths;
 #[cfg(test)]

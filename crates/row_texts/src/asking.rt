@@ -32,14 +32,17 @@ fn kind_of(name: &str) -> &str {
     }
 }
 
-// Asks the rows of a paragraph, or keeps it for those below it.
+// Asks the rows of a paragraph at a line, or keeps it for those below it.
 fn ask_paragraph<'a, A: Asks>(
     asks: &A,
     tally: &mut Tally,
     kind: &str,
     common: &mut Vec<Part<'a>>,
-    parts: Vec<Part<'a>>,
+    paragraph: &'a str,
+    line: usize,
 ) -> Result<(), RowError> {
+    tally.reach(line);
+    let parts = read_parts(tally.alloc(), paragraph, line)?;
     if is_common(&parts) {
         *common = parts;
         return Ok(());
@@ -49,13 +52,10 @@ fn ask_paragraph<'a, A: Asks>(
 
 // Asks all rows of a text.
 fn ask_text<A: Asks>(asks: &A, tally: &mut Tally, kind: &str, text: &str) -> Result<(), RowError> {
-    let alloc = tally.alloc();
-    let mut common = Vec::new(alloc);
+    let mut common = Vec::new(tally.alloc());
     let mut line: usize = 1;
     for paragraph in text.split("\n\n") {
-        tally.reach(line);
-        let parts = read_parts(alloc, paragraph, line)?;
-        ask_paragraph(asks, tally, kind, &mut common, parts)?;
+        ask_paragraph(asks, tally, kind, &mut common, paragraph, line)?;
         line = line
             .saturating_add(paragraph.lines().count())
             .saturating_add(1);
@@ -74,6 +74,20 @@ fn print_tally<R: Print>(rt: &R, name: &str, tally: &Tally) -> Result<()> {
     Ok(())
 }
 
+// Asks all rows of a file's text: how many were answered otherwise.
+fn ask_rows<R: Print + AllocGlobal, A: Asks>(
+    rt: &R,
+    asks: &A,
+    name: &str,
+    text: &str,
+) -> Result<usize> {
+    let mut tally = Tally::new(rt.alloc());
+    let asked = ask_text(asks, &mut tally, kind_of(name), text);
+    asked.context(format_args!("{name}, line {}", tally.line()))?;
+    print_tally(rt, name, &tally)?;
+    Ok(tally.wrong())
+}
+
 // Asks all rows of a file: how many were answered otherwise.
 fn ask_file<R: Files + Print + AllocGlobal, A: Asks>(
     rt: &R,
@@ -81,13 +95,13 @@ fn ask_file<R: Files + Print + AllocGlobal, A: Asks>(
     name: &str,
 ) -> Result<usize> {
     let text = fs::read_to_string(rt, name).context(format_args!("{name}"))?;
-    let mut tally = Tally::new(rt.alloc());
-    ask_text(asks, &mut tally, kind_of(name), text.as_str()).context(format_args!(
-        "{name}, line {}",
-        tally.line()
-    ))?;
-    print_tally(rt, name, &tally)?;
-    Ok(tally.wrong())
+    ask_rows(rt, asks, name, text.as_str())
+}
+
+// That no row was answered otherwise.
+fn none_wrong(wrong: usize) -> Result<()> {
+    ensure!(wrong == 0, "{wrong} rows were answered otherwise");
+    Ok(())
 }
 
 /// Asks the rows of the files that a program's arguments name, and prints a line for each file: how many rows it has, and how many of
@@ -97,6 +111,5 @@ pub fn ask_files<R: Files + Env + Print + AllocGlobal, A: Asks>(rt: &R, asks: &A
     for name in env::args(rt)?.skip(1) {
         wrong = wrong.saturating_add(ask_file(rt, asks, name.as_str())?);
     }
-    ensure!(wrong == 0, "{wrong} rows were answered otherwise");
-    Ok(())
+    none_wrong(wrong)
 }

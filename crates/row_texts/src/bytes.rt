@@ -3,7 +3,6 @@
 use crate::lines::split_at;
 use crate::row_error::RowError;
 use crate::words::number_of;
-use percent_encoding::percent_decode;
 
 /// Puts a number behind bytes. The one error is that of memory.
 pub fn put_number(bytes: &mut Vec<u8>, number: usize) -> Result<(), RowError> {
@@ -12,47 +11,62 @@ pub fn put_number(bytes: &mut Vec<u8>, number: usize) -> Result<(), RowError> {
     Ok(())
 }
 
-// Puts a text whose signs are all `%XX` behind bytes, behind a number where it isn't the first of its pieces.
-fn put_piece(bytes: &mut Vec<u8>, piece: &str, number: Option<usize>) -> Result<(), RowError> {
-    if let Some(number) = number {
-        put_number(bytes, number)?;
-    }
-    percent_decode(piece.as_bytes()).append_to(bytes)?;
+// Puts a number behind bytes, and what follows it.
+fn put_numbered(bytes: &mut Vec<u8>, number: usize, behind: &str) -> Result<(), RowError> {
+    put_number(bytes, number)?;
+    bytes.extend_from_slice(behind.as_bytes())?;
     Ok(())
 }
 
-// Puts a text without repetitions and without `%#` behind bytes. `%+` is the number after that of the turn.
-fn put_counted(bytes: &mut Vec<u8>, text: &str, turn: usize) -> Result<(), RowError> {
-    let mut number = None;
-    for piece in text.split("%+") {
-        put_piece(bytes, piece, number)?;
-        number = Some(turn.saturating_add(1));
+// The byte of two digits that a text begins with, and what follows them.
+fn split_byte(text: &str) -> Result<(u8, &str), RowError> {
+    let Some((digits, behind)) = text.split_at_checked(2) else {
+        return Err(RowError::BadSign);
+    };
+    match u8::from_str_radix(digits, 16) {
+        Ok(byte) => Ok((byte, behind)),
+        Err(_) => Err(RowError::BadSign),
     }
+}
+
+// Puts the byte that a text begins with behind bytes, and what follows it.
+fn put_byte(bytes: &mut Vec<u8>, text: &str) -> Result<(), RowError> {
+    let (byte, behind) = split_byte(text)?;
+    bytes.push(byte)?;
+    bytes.extend_from_slice(behind.as_bytes())?;
     Ok(())
 }
 
-// Puts a text without repetitions behind bytes, behind the number of the turn where it isn't the first of its pieces.
-fn put_turn(bytes: &mut Vec<u8>, piece: &str, turn: usize, is_first: bool) -> Result<(), RowError> {
+// Puts what a sign stands for behind bytes, and what follows it. `#` is the number of the turn, `+` the number after it.
+fn put_sign(bytes: &mut Vec<u8>, piece: &str, turn: usize) -> Result<(), RowError> {
+    if let Some(behind) = piece.strip_prefix('#') {
+        return put_numbered(bytes, turn, behind);
+    }
+    match piece.strip_prefix('+') {
+        Some(behind) => put_numbered(bytes, turn.saturating_add(1), behind),
+        None => put_byte(bytes, piece),
+    }
+}
+
+// Puts a piece of a text behind bytes: the first as it is, each other behind the `%` of a sign.
+fn put_piece(
+    bytes: &mut Vec<u8>,
+    piece: &str,
+    turn: usize,
+    is_first: bool,
+) -> Result<(), RowError> {
     if !is_first {
-        put_number(bytes, turn)?;
+        return put_sign(bytes, piece, turn);
     }
-    put_counted(bytes, piece, turn)
-}
-
-// Puts a text without repetitions behind bytes. `%#` is the number of the turn.
-fn put_signs(bytes: &mut Vec<u8>, text: &str, turn: usize) -> Result<(), RowError> {
-    for (at, piece) in text.split("%#").enumerate() {
-        put_turn(bytes, piece, turn, at == 0)?;
-    }
+    bytes.extend_from_slice(piece.as_bytes())?;
     Ok(())
 }
 
-// Puts a text without repetitions behind bytes, at once where it has no signs.
+// Puts a text without repetitions behind bytes.
 fn put_plain(bytes: &mut Vec<u8>, text: &str, turn: usize) -> Result<(), RowError> {
-    if text.contains('%') {
-        return put_signs(bytes, text, turn);
+    for (at, piece) in text.split('%').enumerate() {
+        put_piece(bytes, piece, turn, at == 0)?;
     }
-    bytes.extend_from_slice(text.as_bytes())?;
     Ok(())
 }
 
@@ -68,7 +82,7 @@ fn put_times(bytes: &mut Vec<u8>, text: &str, times: usize) -> Result<(), RowErr
 fn put_repeated(bytes: &mut Vec<u8>, inside: &str) -> Result<(), RowError> {
     match inside.rsplit_once('*') {
         Some((text, times)) => put_times(bytes, text, number_of(times)?),
-        None => Err(RowError::Unreadable("a repetition has no number")),
+        None => Err(RowError::NoTimes),
     }
 }
 
@@ -79,15 +93,26 @@ fn put_repetition(bytes: &mut Vec<u8>, piece: &str, turn: usize) -> Result<(), R
     put_plain(bytes, behind, turn)
 }
 
+// Puts a piece of a text behind bytes: the first as it is, each other behind the `%(` of a repetition.
+fn put_long_piece(
+    bytes: &mut Vec<u8>,
+    piece: &str,
+    turn: usize,
+    is_first: bool,
+) -> Result<(), RowError> {
+    if is_first {
+        put_plain(bytes, piece, turn)
+    } else {
+        put_repetition(bytes, piece, turn)
+    }
+}
+
 /// Puts what a text of a row stands for behind bytes: `%XX` is a byte, `%(TEXT*TIMES)` is a text so many times, `%#` the number of
-/// the turn, from 0 on, and `%+` the number after it. A repetition that isn't closed or has no number can't be read.
+/// the turn, from 0 on, and `%+` the number after it. A repetition that isn't closed or has no number can't be read, and neither can
+/// another sign.
 pub fn put_text(bytes: &mut Vec<u8>, text: &str, turn: usize) -> Result<(), RowError> {
     for (at, piece) in text.split("%(").enumerate() {
-        if at == 0 {
-            put_plain(bytes, piece, turn)?;
-        } else {
-            put_repetition(bytes, piece, turn)?;
-        }
+        put_long_piece(bytes, piece, turn, at == 0)?;
     }
     Ok(())
 }

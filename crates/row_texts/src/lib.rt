@@ -15,4 +15,6 @@ pub use lines::{question_of, split_at, turns_of, yes_or_no};
 pub use paragraph::{Part, find, put_lines, take_files};
 pub use row_error::RowError;
 pub use tally::Tally;
-pub use words::{number_of, put_all, put_number_word, put_word, put_words, word_bytes, words_of};
+pub use words::{
+    number_of, put_all, put_each, put_number_word, put_word, put_words, word_bytes, words_of,
+};

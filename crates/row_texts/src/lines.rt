@@ -7,7 +7,7 @@ use crate::words::number_of;
 pub fn split_at<'a>(text: &'a str, signs: &str) -> Result<(&'a str, &'a str), RowError> {
     match text.split_once(signs) {
         Some(parts) => Ok(parts),
-        None => Err(RowError::Unreadable("a part of the row is missing")),
+        None => Err(RowError::MissingPart),
     }
 }
 

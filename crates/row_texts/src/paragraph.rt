@@ -91,7 +91,7 @@ pub fn is_common(parts: &[Part<'_>]) -> bool {
 fn take_file(files: &mut Files, name: Vec<u8>, bytes: Vec<u8>) -> Result<(), RowError> {
     match files.insert(name, bytes) {
         Ok(()) => Ok(()),
-        Err(_) => Err(RowError::Unreadable("a file can't be handed in")),
+        Err(_) => Err(RowError::BadFile),
     }
 }
 
@@ -140,5 +140,5 @@ pub fn find<'a, 'b>(parts: &'a [Part<'b>], word: &str) -> Result<(&'b str, &'a [
             return Ok((rest, part.bytes.as_slice()));
         }
     }
-    Err(RowError::Unreadable("a line of the row is missing"))
+    Err(RowError::MissingLine)
 }

@@ -8,7 +8,7 @@ use std::alloc::Global;
 pub fn number_of(text: &str) -> Result<usize, RowError> {
     match text.parse::<usize>() {
         Ok(number) => Ok(number),
-        Err(_) => Err(RowError::Unreadable("a number was expected")),
+        Err(_) => Err(RowError::NotANumber),
     }
 }
 
@@ -16,6 +16,14 @@ pub fn number_of(text: &str) -> Result<usize, RowError> {
 pub fn put_word(bytes: &mut Vec<u8>, word: &[u8]) -> Result<(), RowError> {
     bytes.extend_from_slice(word)?;
     bytes.extend_from_slice(b" ")?;
+    Ok(())
+}
+
+/// Puts a few words behind bytes, with a blank behind each. The one error is that of memory.
+pub fn put_each(bytes: &mut Vec<u8>, words: &[&[u8]]) -> Result<(), RowError> {
+    for word in words {
+        put_word(bytes, word)?;
+    }
     Ok(())
 }
 

@@ -26,7 +26,7 @@ fn put_answer(told: &mut Vec<u8>, files: &Files, kind: &str, name: &[u8]) -> Res
     match kind {
         "bytes" => put_word(told, files.bytes(name).unwrap_or(b"none")),
         "is_folder" => put_word(told, yes_or_no(Files::is_folder(name))),
-        _ => Err(RowError::Unreadable("no such row of files")),
+        _ => Err(RowError::NoSuchFileRow),
     }
 }
 
@@ -40,7 +40,7 @@ fn put_words_answer(
     match words {
         [name, bytes] => put_insertion(told, files, name, bytes),
         [name] => put_answer(told, files, kind, name),
-        _ => Err(RowError::Unreadable("no such row of files")),
+        _ => Err(RowError::NoSuchFileRow),
     }
 }
 
@@ -67,12 +67,17 @@ fn ask_line(tally: &mut Tally, files: &mut Files, line: &str) -> Result<(), RowE
     tally.settle(question)
 }
 
+// Asks the rows of lines.
+fn ask_lines(tally: &mut Tally, files: &mut Files, parts: &[Part<'_>]) -> Result<(), RowError> {
+    for part in parts {
+        tally.begin(part.line);
+        ask_line(tally, files, part.head)?;
+    }
+    Ok(())
+}
+
 /// Asks the rows of a paragraph, one a line, over the files that its lines hand in.
 pub fn ask(tally: &mut Tally, parts: &[Part<'_>]) -> Result<(), RowError> {
     let mut files = Files::new(tally.alloc());
-    for part in parts {
-        tally.begin(part.line);
-        ask_line(tally, &mut files, part.head)?;
-    }
-    Ok(())
+    ask_lines(tally, &mut files, parts)
 }

@@ -27,7 +27,7 @@ impl Asks for Texts {
             "splicings" => splicings::ask(tally, common, parts),
             "variables" => variables::ask(tally, parts),
             "files" => files::ask(tally, parts),
-            _ => Err(RowError::Unreadable("no rows are of this kind")),
+            _ => Err(RowError::NoSuchKind),
         }
     }
 }

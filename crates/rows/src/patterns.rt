@@ -2,7 +2,8 @@
 
 use aa_glob::Pattern;
 use row_texts::{
-    Part, RowError, Tally, put_all, put_number_word, put_word, split_at, words_of, yes_or_no,
+    Part, RowError, Tally, put_all, put_each, put_number_word, put_word, split_at, words_of,
+    yes_or_no,
 };
 
 // What is told of a pattern but its matches: whether it is exact, how many items stand before the first that isn't a byte for itself, and
@@ -91,9 +92,7 @@ fn put_reading(tally: &mut Tally, text: &[u8]) -> Result<(), RowError> {
 
 // Asks whether a text reads as a pattern of which this is told. Its text is wanted too.
 fn ask_told(tally: &mut Tally, answer: &[u8], number: &[u8], text: &[u8]) -> Result<(), RowError> {
-    put_word(&mut tally.wanted, answer)?;
-    put_word(&mut tally.wanted, number)?;
-    put_word(&mut tally.wanted, text)?;
+    put_each(&mut tally.wanted, &[answer, number, text])?;
     put_reading(tally, text)?;
     tally.settle("is_exact and literal_prefix")
 }
@@ -101,7 +100,7 @@ fn ask_told(tally: &mut Tally, answer: &[u8], number: &[u8], text: &[u8]) -> Res
 // `exact ANSWER NUMBER PATTERN..`
 fn ask_exact(tally: &mut Tally, answer: &[u8], words: &[Vec<u8>]) -> Result<(), RowError> {
     let [number, patterns @ ..] = words else {
-        return Err(RowError::Unreadable("no number"));
+        return Err(RowError::NoNumber);
     };
     for pattern in patterns {
         ask_told(tally, answer, number, pattern)?;
@@ -171,13 +170,18 @@ fn put_short_texts(told: &mut Vec<u8>, pattern: &Pattern) -> Result<(), RowError
     Ok(())
 }
 
+// Puts which of all short texts match behind bytes, or why a text is no pattern.
+fn put_only(tally: &mut Tally, text: &[u8]) -> Result<(), RowError> {
+    match Pattern::read(tally.alloc(), text) {
+        Ok(pattern) => put_short_texts(&mut tally.told, &pattern),
+        Err(error) => put_word(&mut tally.told, error.name().as_bytes()),
+    }
+}
+
 // `only PATTERN TEXT..`: which of all short texts a pattern matches.
 fn ask_only(tally: &mut Tally, text: &[u8], texts: &[Vec<u8>]) -> Result<(), RowError> {
     put_all(&mut tally.wanted, texts)?;
-    match Pattern::read(tally.alloc(), text) {
-        Ok(pattern) => put_short_texts(&mut tally.told, &pattern)?,
-        Err(error) => put_word(&mut tally.told, error.name().as_bytes())?,
-    }
+    put_only(tally, text)?;
     tally.settle("matches among short texts")
 }
 
@@ -193,7 +197,7 @@ fn ask_words(
         "exact" => ask_exact(tally, first, words),
         "refuse" => ask_refusals(tally, first, words),
         "only" => ask_only(tally, first, words),
-        _ => Err(RowError::Unreadable("no such row of patterns")),
+        _ => Err(RowError::NoSuchPatternRow),
     }
 }
 
@@ -203,7 +207,7 @@ fn ask_line(tally: &mut Tally, line: &str) -> Result<(), RowError> {
     let words = words_of(tally.alloc(), rest, 0)?;
     match words.as_slice() {
         [first, words @ ..] => ask_words(tally, kind, first, words),
-        [] => Err(RowError::Unreadable("a row of one word")),
+        [] => Err(RowError::OneWord),
     }
 }
 

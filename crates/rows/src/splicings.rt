@@ -2,19 +2,18 @@
 
 use aa_text::{Files, Spliced, TextError, spliced};
 use row_texts::{
-    Part, RowError, Tally, find, put_lines, put_number_word, put_word, take_files, word_bytes,
+    Part, RowError, Tally, find, put_each, put_lines, put_number_word, take_files, word_bytes,
 };
 
-// Puts the name of a file behind a line.
-fn put_name(told: &mut Vec<u8>, files: &Files, file: usize) -> Result<(), RowError> {
-    put_word(told, files.name(file).unwrap_or(b"no file"))
+// The name of a file.
+fn name_of(files: &Files, file: usize) -> &[u8] {
+    files.name(file).unwrap_or(b"no file")
 }
 
 // Puts the line of a token behind others.
 fn put_token(told: &mut Vec<u8>, files: &Files, token: &Spliced<'_>) -> Result<(), RowError> {
-    put_word(told, b"token")?;
-    put_name(told, files, token.file)?;
-    put_word(told, token.token.text)?;
+    let name = name_of(files, token.file);
+    put_each(told, &[b"token".as_slice(), name, token.token.text])?;
     put_number_word(told, token.token.start)?;
     told.extend_from_slice(b"\n")?;
     Ok(())
@@ -22,10 +21,9 @@ fn put_token(told: &mut Vec<u8>, files: &Files, token: &Spliced<'_>) -> Result<(
 
 // Puts the line of a refusal behind others.
 fn put_refusal(told: &mut Vec<u8>, files: &Files, error: TextError) -> Result<(), RowError> {
-    put_word(told, b"refused")?;
-    put_word(told, error.name().as_bytes())?;
+    put_each(told, &[b"refused".as_slice(), error.name().as_bytes()])?;
     if let Some(place) = error.place {
-        put_name(told, files, place.file)?;
+        put_each(told, &[name_of(files, place.file)])?;
         put_number_word(told, place.at)?;
     }
     told.extend_from_slice(b"\n")?;
@@ -55,8 +53,14 @@ fn put_told(told: &mut Vec<u8>, files: &Files, parts: &[Part<'_>]) -> Result<(),
     put_answer(told, files, &name)
 }
 
-// Asks a row over the files of the paragraphs above it.
-fn ask_parts(tally: &mut Tally, files: &mut Files, parts: &[Part<'_>]) -> Result<(), RowError> {
+// Asks a row over its files, behind those that are common.
+fn ask_parts(
+    tally: &mut Tally,
+    files: &mut Files,
+    common: &[Part<'_>],
+    parts: &[Part<'_>],
+) -> Result<(), RowError> {
+    take_files(tally.alloc(), files, common)?;
     take_files(tally.alloc(), files, parts)?;
     put_lines(&mut tally.wanted, parts)?;
     put_told(&mut tally.told, files, parts)?;
@@ -70,6 +74,5 @@ pub fn ask(tally: &mut Tally, common: &[Part<'_>], parts: &[Part<'_>]) -> Result
     };
     tally.begin(first.line);
     let mut files = Files::new(tally.alloc());
-    take_files(tally.alloc(), &mut files, common)?;
-    ask_parts(tally, &mut files, parts)
+    ask_parts(tally, &mut files, common, parts)
 }

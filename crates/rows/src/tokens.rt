@@ -1,7 +1,7 @@
 //! Rows of tokens.
 
 use aa_text::{CutFault, Token, TokenKind, tokens};
-use row_texts::{Part, RowError, Tally, put_lines, put_number_word, put_word};
+use row_texts::{Part, RowError, Tally, put_each, put_lines, put_number_word, put_word};
 
 // The word for a kind of tokens.
 fn kind_word(kind: TokenKind) -> &'static str {
@@ -31,8 +31,7 @@ fn put_token(told: &mut Vec<u8>, token: &Token<'_>) -> Result<(), RowError> {
 
 // Puts the line of a fault behind others.
 fn put_fault(told: &mut Vec<u8>, fault: CutFault) -> Result<(), RowError> {
-    put_word(told, b"refused")?;
-    put_word(told, fault.name().as_bytes())?;
+    put_each(told, &[b"refused".as_slice(), fault.name().as_bytes()])?;
     if let Some(at) = fault.at {
         put_number_word(told, at)?;
     }

@@ -95,7 +95,7 @@ fn put_answer(
         "count" => put_count(told, variables.count(text)),
         "expand" => put_expansions(told, variables.expand(text)),
         "first_cycle" => put_place(told, variables.first_cycle()),
-        _ => Err(RowError::Unreadable("no such row of variables")),
+        _ => Err(RowError::NoSuchVariableRow),
     }
 }
 
@@ -157,12 +157,21 @@ fn ask_turns(tally: &mut Tally, variables: &mut Variables, row: &str) -> Result<
     Ok(())
 }
 
+// Asks the rows of lines.
+fn ask_lines(
+    tally: &mut Tally,
+    variables: &mut Variables,
+    parts: &[Part<'_>],
+) -> Result<(), RowError> {
+    for part in parts {
+        tally.begin(part.line);
+        ask_turns(tally, variables, part.head)?;
+    }
+    Ok(())
+}
+
 /// Asks the rows of a paragraph, one a line, over the variables that its lines define.
 pub fn ask(tally: &mut Tally, parts: &[Part<'_>]) -> Result<(), RowError> {
     let mut variables = Variables::new(tally.alloc());
-    for part in parts {
-        tally.begin(part.line);
-        ask_turns(tally, &mut variables, part.head)?;
-    }
-    Ok(())
+    ask_lines(tally, &mut variables, parts)
 }

@@ -51,7 +51,7 @@ fn read_calls(text: &str) -> Result<Calls, RowError> {
 fn front<'a>(output: &'a [u8], count: &str) -> Result<&'a [u8], RowError> {
     match output.get(..number_of(count)?) {
         Some(front) => Ok(front),
-        None => Err(RowError::Unreadable("the output is shorter")),
+        None => Err(RowError::ShortOutput),
     }
 }
 
@@ -74,6 +74,6 @@ pub fn ask_failing(
     match stream {
         "Read" => ask_pieces(tally, files, wanted, calls),
         "Write" => ask_takes(tally, files, wanted, calls),
-        _ => Err(RowError::Unreadable("no such stream")),
+        _ => Err(RowError::NoSuchStream),
     }
 }

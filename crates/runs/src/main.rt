@@ -26,7 +26,7 @@ impl Asks for PolicySets {
             "commands" | "profiles" | "includes" | "places" | "lengths" | "streams" => {
                 runs::ask(tally, common, parts)
             }
-            _ => Err(RowError::Unreadable("no rows are of this kind")),
+            _ => Err(RowError::NoSuchKind),
         }
     }
 }

@@ -142,7 +142,7 @@ fn put_described(told: &mut Vec<u8>, (number, name): Described) -> Result<(), Ro
 fn put_told(told: &mut Vec<u8>, kind: &str, at: usize) -> Result<(), RowError> {
     match described(kind, at) {
         Some(described) => put_described(told, described)?,
-        None => return Err(RowError::Unreadable("no such variant")),
+        None => return Err(RowError::NoSuchVariant),
     }
     match CUT_REFUSALS.get(at) {
         Some(refusal) if kind == "CutFault" => put_printed(told, *refusal),

@@ -42,7 +42,13 @@ fn ask_parts(tally: &mut Tally, files: &Files, parts: &[Part<'_>]) -> Result<(),
 }
 
 // Runs over the files of the paragraphs above and of this one.
-fn ask_files(tally: &mut Tally, files: &mut Files, parts: &[Part<'_>]) -> Result<(), RowError> {
+fn ask_files(
+    tally: &mut Tally,
+    files: &mut Files,
+    common: &[Part<'_>],
+    parts: &[Part<'_>],
+) -> Result<(), RowError> {
+    take_files(tally.alloc(), files, common)?;
     take_files(tally.alloc(), files, parts)?;
     ask_parts(tally, files, parts)
 }
@@ -54,6 +60,5 @@ pub fn ask(tally: &mut Tally, common: &[Part<'_>], parts: &[Part<'_>]) -> Result
     };
     tally.begin(first.line);
     let mut files = Files::new(tally.alloc());
-    take_files(tally.alloc(), &mut files, common)?;
-    ask_files(tally, &mut files, parts)
+    ask_files(tally, &mut files, common, parts)
 }

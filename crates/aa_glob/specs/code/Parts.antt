@@ -4,7 +4,7 @@ use Rattle.aa_bytes.specs.Bytes.{closing_bracket, dash}
 use Rattle.aa_glob.specs.Classes.{members}
 use Rattle.aa_glob.specs.Elements.{behind_class, elements}
 use Rattle.aa_glob.specs.Symbols.{is_plain, symbols}
-use Rattle.aa_glob.specs.declared.byte_set.ByteRange.{ByteRange}
+use Rattle.aa_bytes.specs.declared.byte_set.ByteRange.{ByteRange}
 use Rattle.aa_glob.specs.declared.class.Part.{Part}
 use Rattle.aa_glob.specs.declared.class.Part.TheVariants.{End, Member}
 use Rattle.aa_glob.specs.declared.context.Context.TheVariants.{Elsewhere}

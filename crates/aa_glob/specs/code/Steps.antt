@@ -1,7 +1,7 @@
 -- Which of a pattern's flat steps accept a text, worked out from its last byte to its first. No public contract rests on this
 -- form: `accepting-matches` of `LayoutLemmas` says that a pattern's first step accepts what matches the pattern.
 use Rattle.std.specs.Prelude.{ℕ, Bool, true, false, ◌==◌, ◌||◌, ◌&&◌, not, List, [], ◌∷◌, get_or}
-use Rattle.aa_glob.specs.ByteSets.{has, is_inside}
+use Rattle.aa_bytes.specs.ByteSets.{has, is_inside}
 use Rattle.aa_glob.specs.declared.step.Step.{Step}
 use Rattle.aa_glob.specs.declared.step.Step.TheVariants.{Byte, One, Star, DoubleStar, Fork, Jump}
 

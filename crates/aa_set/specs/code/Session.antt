@@ -6,10 +6,12 @@ use Rattle.aa_files.specs.Files.{File}
 use Rattle.aa_set.specs.Manager.{new_manager}
 use Rattle.aa_lines.specs.Lines.{is_line_feed}
 use Rattle.aa_set.specs.Reply.{reply_text}
-use Rattle.aa_set.specs.Run.{replies_to, after_lines, SumsUp}
+use Rattle.aa_set.specs.Answers.{line_with}
+use Rattle.aa_set.specs.Run.{IsAnswered, IsLeftAnswered, replies_to, after_lines, SumsUp}
 use Rattle.aa_lines.specs.Streams.{Tells}
 use Rattle.aa_lines.specs.Limits.{longest_line}
 use Rattle.aa_set.specs.declared.session.Session.{Session}
+use Rattle.aa_set.specs.declared.session.Summary.{Summary}
 
 -- A session is one after these lines, each with its flag; the text of the replies was told to a writer that had `before`
 -- and has `now`.
@@ -31,6 +33,10 @@ pub record Follows (files : List File) (force_complain : Bool) (before now : Opt
   pub after : IsAfter files force_complain before now session lines
   pub cut : IsCut input lines held
 
+-- a session and its line buffer are those after nothing, whatever the files and the writer
+abbrev pub IsFresh : Bool → Session → List ℕ → Type 0
+IsFresh force_complain session held = (files : List File) (before : Option (List ℕ)) → Follows files force_complain before before session held []
+
 -- how many bytes a read asks for
 abbrev pub piece_size : ℕ
 piece_size = 65536
@@ -45,6 +51,24 @@ Feeds files old new before after held left more =
     (force_complain : Bool) (start : Option (List ℕ)) (input : List ℕ)
     → Follows files force_complain start old before held input
     → Follows files force_complain start new after left (input ++ more)
+
+-- the same of a line that ends: these last bytes of it, and a line feed
+abbrev pub EndsLine : List File → (old new : Option (List ℕ)) → Session → Session → List ℕ → List ℕ → List ℕ → Type 0
+EndsLine files old new before after held left last = Feeds files old new before after held left (line_with last)
+
+-- how the end of an input leads from a session to a summary, whatever the input was
+abbrev pub EndsInput : List File → (old new : Option (List ℕ)) → Session → List ℕ → Summary → Type 0
+EndsInput files old new session held summary =
+    (force_complain : Bool) (start : Option (List ℕ)) (input : List ℕ)
+    → Follows files force_complain start old session held input
+    → IsAnswered files force_complain start new summary input
+
+-- how the input that a reader has left leads from a session without any to one that has answered it
+abbrev pub Serves : List File → (left old new : Option (List ℕ)) → Session → List ℕ → Session → Type 0
+Serves files left old new before held after =
+    (force_complain : Bool) (start : Option (List ℕ))
+    → Follows files force_complain start old before held []
+    → IsLeftAnswered files force_complain left start new after.summary
 
 -- how answering a line leads from one session to the next, whatever was answered before: with a flag where it found no memory
 abbrev pub AnswersLine : List File → (old new : Option (List ℕ)) → Session → Session → List ℕ → Type 0

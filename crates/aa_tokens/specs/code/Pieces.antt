@@ -1,14 +1,20 @@
 -- The pieces of a text, and the bytes that stand together in it.
 use Rattle.std.specs.Prelude.{ℕ, ◌≤◌, ◌≢◌, ◌==◌, ◌&&◌, ◌||◌, Bool, false, not, if◌then◌else◌, List, [], ◌∷◌}
 use Rattle.aa_bytes.specs.Bytes.{backslash, closing_brace, comma, is_blank, line_feed, opening_brace}
-use Rattle.aa_tokens.specs.Cut.{ends_word}
+use Rattle.aa_tokens.specs.Cut.{Piece as SeenPiece, Token as SeenToken, Comment as SeenComment, Fault as SeenFault, ends_word}
 use Rattle.aa_tokens.specs.declared.piece.Piece.{Piece}
 use Rattle.aa_tokens.specs.declared.piece.Piece.TheVariants.{Token, Comment, Fault}
 use Rattle.aa_tokens.specs.declared.cut.CutRefusal.TheVariants.{Memory}
 
--- a piece that has at least one byte, and no more than this many; a token's own text is part of it, and a fault is one of the text
+-- a piece of the code
+abbrev pub seen_piece : Piece → SeenPiece
+seen_piece (Token kind text size) = SeenToken kind text.now size
+seen_piece (Comment size) = SeenComment size
+seen_piece (Fault refusal) = SeenFault refusal
+
+-- a piece that has at least one byte, and no more than this many; a fault is one of the text
 abbrev pub IsWithin : ℕ → Piece → Type 0
-IsWithin most (Token kind size from to) = (1 ≤ size) × (size ≤ most) × (from ≤ to) × (to ≤ size)
+IsWithin most (Token kind text size) = (1 ≤ size) × (size ≤ most)
 IsWithin most (Comment size) = (1 ≤ size) × (size ≤ most)
 IsWithin most (Fault refusal) = refusal ≢ Memory
 

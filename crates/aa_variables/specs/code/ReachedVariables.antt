@@ -3,7 +3,6 @@ use Rattle.std.specs.Prelude.{ℕ, Bool, suc, true, false, ◌≡◌, ◌+◌, �
 use Rattle.std.specs.List.{list_any, IsDistinct}
 use Rattle.aa_variables.specs.Variables.{Variable, names_undefined, Part, Byte, Name, Unclosed, parts}
 use Rattle.aa_variables.specs.Expansions.{leads_to_undefined_within}
-use Rattle.aa_variables.specs.code.ExpansionOrder.{are_texts_known}
 use Rattle.aa_files.specs.declared.text_error.TextRefusal.{TextRefusal}
 use Rattle.aa_files.specs.declared.text_error.TextRefusal.TheVariants.{Undefined}
 use Rattle.aa_variables.specs.code.VariableIndexes.{index_of, words_at}
@@ -35,10 +34,6 @@ with_index known index = if list_any (nat_eq index) known then known else known 
 abbrev pub with_indexes : List ℕ → List ℕ → List ℕ
 with_indexes known [] = known
 with_indexes known (index ∷ indexes) = with_indexes (with_index known index) indexes
-
--- all that the words at some indexes name is among them
-abbrev pub IsClosed : List Variable → List ℕ → Type 0
-IsClosed variables indexes = (index : ℕ) → list_any (nat_eq index) indexes ≡ true → are_texts_known variables indexes (words_at variables index) ≡ true
 
 -- a refusal says that something undefined was found, and it was
 abbrev pub SaysUndefined : TextRefusal → Bool → Type 0

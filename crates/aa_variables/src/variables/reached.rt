@@ -1,20 +1,19 @@
 //! The variables that a text leads to.
 
-ghost use Rattle.std.specs.Prelude.{◌≡◌, ◌≢◌, ◌<◌, ◌-◌, ◌^◌, true, false, slice_get, None, IfSome, IfOk, IfErr, OnOk, length};
+ghost use Rattle.std.specs.Prelude.{◌≡◌, ◌≢◌, ◌<◌, ◌-◌, ◌^◌, true, false, slice_get, None, IfSome, IfErr, OnOk, length};
 ghost use Rattle.std.specs.List.{list_any};
-ghost use Rattle.aa_variables.specs.code.ExpansionOrder.{is_text_known};
 ghost use Rattle.aa_variables.specs.Expansions.{leads_to_undefined};
-ghost use Rattle.aa_variables.specs.code.ReachedVariables.{IsClosed, SaysUndefined, indexes_in, indexes_of, indexes_within, with_indexes};
-ghost use Rattle.aa_variables.specs.code.SettledVariables.{AllBelow};
+ghost use Rattle.aa_variables.specs.code.ReachedVariables.{SaysUndefined, indexes_in, indexes_of, indexes_within, with_indexes};
 ghost use Rattle.aa_variables.specs.code.TextParts.{parts_of};
 ghost use Rattle.aa_variables.specs.code.VariableIndexes.{words_at};
-ghost use Rattle.aa_variables.specs.Variables.{are_variables, is_undefined, names_undefined};
+ghost use Rattle.aa_variables.specs.Variables.{are_variables, names_undefined};
 ghost use Rattle.aa_files.specs.declared.text_error.TextRefusal.TheVariants.{Memory};
 
 use crate::parts::{TextPart, first_part};
 use crate::variables::Variables;
 use aa_files::{TextError, TextRefusal, plain};
 use indexmap::IndexSet;
+use std::alloc::AllocError;
 
 // The index that was gathered behind so many others.
 fn gathered(reached: &IndexSet<usize>, at: usize) -> Option<usize>
@@ -25,33 +24,24 @@ fn gathered(reached: &IndexSet<usize>, at: usize) -> Option<usize>
 }
 
 impl Variables {
-    // Gathers the index of the variable that a part of a text names.
-    fn note_part(&self, part: TextPart<'_>, reached: &mut IndexSet<usize>) -> Result<(), TextError>
-        ensures ok { OnOk result (reached.new.keys ≡ with_indexes reached.old.keys (indexes_of self.now (parts_of part.entry))) }
-        ensures fine { OnOk result (list_any (is_undefined self.now) (parts_of part.entry) ≡ false) }
-        ensures refused { IfErr result (λ e. e.refusal ≢ Memory → SaysUndefined e.refusal (list_any (is_undefined self.now) (parts_of part.entry))) }
-        ensures place { IfErr result (λ e. e.place ≡ None) }
+    // Gathers the index of the variable that a part of a text names, if it is defined.
+    fn note_part(&self, part: TextPart<'_>, reached: &mut IndexSet<usize>) -> Result<(), AllocError>
+        ensures { OnOk result (reached.new.keys ≡ with_indexes reached.old.keys (indexes_of self.now (parts_of part.entry))) }
     {
         let name = match part {
             TextPart::Text(_) => return Ok(()),
             TextPart::Name(name) => name,
-            TextPart::Unclosed => return Err(plain(TextRefusal::Undefined)),
+            TextPart::Unclosed => return Ok(()),
         };
-        match self.index_of(name) {
-            Some(index) => {
-                reached.insert(index)?;
-                Ok(())
-            }
-            None => Err(plain(TextRefusal::Undefined)),
+        if let Some(index) = self.index_of(name) {
+            reached.insert(index)?;
         }
+        Ok(())
     }
 
-    // Gathers the indexes of the variables that a text names.
-    fn note(&self, text: &[u8], reached: &mut IndexSet<usize>) -> Result<(), TextError>
-        ensures ok { OnOk result (reached.new.keys ≡ with_indexes reached.old.keys (indexes_in self.now text.now)) }
-        ensures fine { OnOk result (names_undefined self.now text.now ≡ false) }
-        ensures refused { IfErr result (λ e. e.refusal ≢ Memory → SaysUndefined e.refusal (names_undefined self.now text.now)) }
-        ensures place { IfErr result (λ e. e.place ≡ None) }
+    // Gathers the indexes of the variables that a text names, as far as they are defined.
+    pub(super) fn note(&self, text: &[u8], reached: &mut IndexSet<usize>) -> Result<(), AllocError>
+        ensures { OnOk result (reached.new.keys ≡ with_indexes reached.old.keys (indexes_in self.now text.now)) }
     {
         let mut rest = text;
         while let Some((part, after)) = first_part(rest) {
@@ -61,12 +51,13 @@ impl Variables {
         Ok(())
     }
 
-    // Gathers the indexes of the variables that the words of the variable at an index name.
-    fn note_words(&self, index: usize, reached: &mut IndexSet<usize>) -> Result<(), TextError>
-        ensures ok { OnOk result (reached.new.keys ≡ with_indexes reached.old.keys (indexes_within self.now (words_at self.now index))) }
-        ensures fine { OnOk result (list_any (names_undefined self.now) (words_at self.now index) ≡ false) }
-        ensures refused { IfErr result (λ e. e.refusal ≢ Memory → SaysUndefined e.refusal (list_any (names_undefined self.now) (words_at self.now index))) }
-        ensures place { IfErr result (λ e. e.place ≡ None) }
+    // Gathers the indexes of the variables that the words of the variable at an index name, as far as they are defined.
+    pub(super) fn note_words(
+        &self,
+        index: usize,
+        reached: &mut IndexSet<usize>,
+    ) -> Result<(), AllocError>
+        ensures { OnOk result (reached.new.keys ≡ with_indexes reached.old.keys (indexes_within self.now (words_at self.now index))) }
     {
         let mut at = 0;
         while let Some(word) = self.word(index, at) {
@@ -76,23 +67,40 @@ impl Variables {
         Ok(())
     }
 
-    // The indexes of the variables that a text leads to.
-    pub(super) fn reached(&self, text: &[u8]) -> Result<IndexSet<usize>, TextError>
-        ensures named { IfOk result (λ r. is_text_known self.now r.keys text.now ≡ true) }
-        ensures closed { IfOk result (λ r. IsClosed self.now r.keys) }
-        ensures below { IfOk result (λ r. AllBelow (length self.now) r.keys) }
+    // Whether a word of the variable at an index names a variable that isn't defined, or doesn't close a name.
+    fn undefined_at(&self, index: usize) -> bool
+        ensures { result ≡ list_any (names_undefined self.now) (words_at self.now index) }
+    {
+        let mut at = 0;
+        while let Some(word) = self.word(index, at) {
+            if self.undefined(word) {
+                return true;
+            }
+            at += 1;
+        }
+        false
+    }
+
+    // Refuses a text that leads to a name that isn't defined or isn't closed: looks at all variables that it leads to.
+    pub(super) fn refuse_undefined(&self, text: &[u8]) -> Result<(), TextError>
         ensures variables { OnOk result (are_variables self.now ≡ true) }
         ensures defined { OnOk result (leads_to_undefined self.now text.now ≡ false) }
         ensures refused { IfErr result (λ e. e.refusal ≢ Memory → SaysUndefined e.refusal (leads_to_undefined self.now text.now)) }
         ensures place { IfErr result (λ e. e.place ≡ None) }
     {
+        if self.undefined(text) {
+            return Err(plain(TextRefusal::Undefined));
+        }
         let mut reached = IndexSet::new(*self.by_name.allocator());
         self.note(text, &mut reached)?;
         let mut at = 0;
         while let Some(index) = gathered(&reached, at) {
+            if self.undefined_at(index) {
+                return Err(plain(TextRefusal::Undefined));
+            }
             self.note_words(index, &mut reached)?;
             at += 1;
         }
-        Ok(reached)
+        Ok(())
     }
 }

@@ -4,7 +4,7 @@ use Rattle.aa_set.proofs.StreamLemmas.{Tells-nil}
 use Rattle.aa_set.proofs.session.prepared.Goals as goal
 
 pub returns-clause-session : goal.returns-clause-session
-returns-clause-session c = λ before files. record {
+returns-clause-session c = λ files before. record {
   lines = [];
   after = record {
     managed = c.new.ensures;

@@ -1,6 +1,6 @@
-use Rattle.std.proofs.Common.{ap, map}
+use Rattle.std.proofs.Common.{ap, map, refl}
 use Rattle.aa_tokens.specs.code.Tokens.{seen, with_tokens}
-use Rattle.aa_tokens.proofs.CutLemmas.{cut-comment, cut-token, seen-text}
+use Rattle.aa_tokens.proofs.CutLemmas.{cut-comment, cut-token}
 use Rattle.aa_tokens.proofs.cut.read_on.Goals as goal
 
 pub returns-in-Comment-clause-ok : goal.returns-in-Comment-clause-ok
@@ -11,4 +11,4 @@ returns-in-Comment-clause-ok c =
 pub returns-in_ok-push-in-Token-clause-ok : goal.returns-in_ok-push-in-Token-clause-ok
 returns-in_ok-push-in-Token-clause-ok c =
     let piece = c.in-Token.ensures in
-    rw c.values_from.ensures (cut-token c.args.tokens.now.items c.push.new.self.items _ c.args.at c.in-Token.size c.in-Token.from c.in-Token.to c.args.values c.in-Token.kind c.args.text.now c.requires.some c.if-is_blank.ensures piece.value piece.within.0 c.in_ok-push-in-Token.ensures.items (seen-text c.args.at c.in-Token.size c.in-Token.from c.in-Token.to c.in-Token.kind c.args.text.now piece.within.2))
+    rw c.values_from.ensures (cut-token c.args.tokens.now.items c.push.new.self.items _ c.args.at c.in-Token.size c.args.values c.in-Token.kind _ c.args.text.now c.requires.some c.if-is_blank.ensures piece.value piece.within.0 c.in_ok-push-in-Token.ensures.items refl)

@@ -1,11 +1,10 @@
-use Rattle.std.proofs.Common.{length}
-use Rattle.aa_variables.specs.code.ExpansionOrder.{IsOrder}
-use Rattle.aa_variables.specs.code.SettledVariables.{AllBelow}
+use Rattle.aa_variables.specs.code.VariableWalks.{IsWalk, progress}
+use Rattle.aa_variables.proofs.WalkLemmas.{steps_left}
 use Rattle.aa_variables.proofs.variables.Variables.finish.Given as goal
 
--- what was left so far is an order of variables
-abbrev pub invariant-loop : goal.invariant-loop
-invariant-loop l = record {
-  ordered : IsOrder l.self l.initial.walk.order.keys → IsOrder l.self l.walk.order.keys;
-  below : AllBelow (length l.self) l.initial.walk.order.keys → AllBelow (length l.self) l.walk.order.keys;
-}
+-- what is known of a walk so far
+abbrev pub invariant-loop-task : goal.invariant-loop-task
+invariant-loop-task l = IsWalk l.self l.starts l.fn.walk.order.keys (progress l.walk)
+
+abbrev pub decreases-loop-task : goal.decreases-loop-task
+decreases-loop-task l = steps_left l.self (progress l.walk)

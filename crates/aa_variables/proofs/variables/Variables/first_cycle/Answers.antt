@@ -1,14 +1,21 @@
-use Rattle.std.proofs.Common.{length}
-use Rattle.aa_variables.proofs.CycleLemmas.{cycle-found, indexes-below}
+use Rattle.std.proofs.Common.{◌≡◌, ◌∙◌, ap, ◌<◌, [], ◌∷◌, sym, length, arith}
+use Rattle.std.proofs.lemmas.List.{length-map}
+use Rattle.aa_variables.specs.code.VariableWalks.{SomeEndless}
+use Rattle.aa_variables.specs.code.VariablesMap.{as_variable}
+use Rattle.aa_variables.proofs.CycleLemmas.{cycle-first, cycle-nowhere}
+use Rattle.aa_variables.proofs.WalkLemmas.{endless-one, settled-few}
 use Rattle.aa_variables.proofs.variables.Variables.first_cycle.Goals as goal
 
-pub settled-requires : goal.settled-requires
-settled-requires c = record {
-  below = λ q among. indexes-below (length c.args.self.now) q (rw (c.as_slice.ensures.value, c.in_ok-indexes.ensures.all) at among);
-}
+pub returns-in-None-clause-ok : goal.returns-in-None-clause-ok
+returns-in-None-clause-ok c =
+    let count : length c.args.self.now ≡ c.len-index-end.result = sym (ap length c.self.view_is) ∙ length-map c.self.inside.by_name.entries as_variable ∙ sym c.len-index-end.ensures.len in
+    let within : c.loop-index.index < length c.args.self.now = omega arith in
+    let endless : SomeEndless c.args.self.now (c.loop-index.index ∷ []) = rw c.in-None.is at c.in_ok-more.ensures in
+    sym (cycle-first c.args.self.now c.loop-index.order.keys c.loop-index.invariant.settled.ordered (settled-few c.args.self.now c.loop-index.order.keys c.loop-index.invariant.settled)
+    c.loop-index.index within c.loop-index.invariant.has (endless-one c.args.self.now c.loop-index.index endless))
 
 pub returns-clause-ok : goal.returns-clause-ok
 returns-clause-ok c =
-    cycle-found c.args.self.now c.in_ok-order.order.keys c.in_ok-order.ensures.order c.in_ok-order.ensures.few
-    (λ q among. c.in_ok-order.ensures.stuck q (rw (c.as_slice.ensures.value, c.in_ok-indexes.ensures.all) among))
-    c.first_outside.result c.first_outside.ensures
+    let count : length c.args.self.now ≡ c.len-index-end.result = sym (ap length c.self.view_is) ∙ length-map c.self.inside.by_name.entries as_variable ∙ sym c.len-index-end.ensures.len in
+    sym (cycle-nowhere c.args.self.now c.loop-index.order.keys c.loop-index.invariant.settled.ordered (settled-few c.args.self.now c.loop-index.order.keys c.loop-index.invariant.settled)
+    (λ q below. let within : q < c.loop-index.index = omega arith in c.loop-index.invariant.has q within))

@@ -1,17 +1,12 @@
-use Rattle.std.proofs.Common.{◌≡◌, ◌-◌, ◌≤◌, length, drop}
-use Rattle.std.specs.List.{list_any}
+use Rattle.std.proofs.Common.{◌≡◌, ◌-◌, length, drop}
 use Rattle.aa_variables.specs.code.ReachedVariables.{indexes_within, with_indexes}
 use Rattle.aa_variables.specs.code.VariableIndexes.{words_at}
-use Rattle.aa_variables.specs.Variables.{names_undefined}
 use Rattle.aa_variables.proofs.variables.Variables.note_words.Given as goal
 
--- the indexes so far, and those of the words that are left, are all; the words so far are defined
+-- the indexes so far, and those of the words that are left, are all
 abbrev pub invariant-loop-word : goal.invariant-loop-word
-invariant-loop-word l = record {
-  keys : with_indexes l.reached.keys (indexes_within l.self (drop l.at (words_at l.self l.index))) ≡ with_indexes l.fn.reached.keys (indexes_within l.self (words_at l.self l.index));
-  fine : list_any (names_undefined l.self) (drop l.at (words_at l.self l.index)) ≡ list_any (names_undefined l.self) (words_at l.self l.index);
-  within : l.at ≤ length (words_at l.self l.index);
-}
+invariant-loop-word l =
+    with_indexes l.reached.keys (indexes_within l.self (drop l.at (words_at l.self l.index))) ≡ with_indexes l.fn.reached.keys (indexes_within l.self (words_at l.self l.index))
 
 abbrev pub decreases-loop-word : goal.decreases-loop-word
 decreases-loop-word l = length (words_at l.self l.index) - l.at

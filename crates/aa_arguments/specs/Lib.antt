@@ -1,0 +1,4 @@
+pub mod Arguments
+pub mod CommandLine
+pub mod Plan
+pub mod Texts

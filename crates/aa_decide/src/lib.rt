@@ -1,0 +1,6 @@
+//! What a profile's rules say of a request.
+#![tactic(auto)]
+
+mod verdict;
+
+pub use verdict::{Answer, FileRequest, decide};
