@@ -19,6 +19,12 @@ quote = 34
 abbrev pub hash : ℕ
 hash = 35
 
+abbrev pub ampersand : ℕ
+ampersand = 38
+
+abbrev pub opening_parenthesis : ℕ
+opening_parenthesis = 40
+
 abbrev pub closing_parenthesis : ℕ
 closing_parenthesis = 41
 
@@ -37,8 +43,14 @@ dot = 46
 abbrev pub slash : ℕ
 slash = 47
 
+abbrev pub colon : ℕ
+colon = 58
+
 abbrev pub smaller : ℕ
 smaller = 60
+
+abbrev pub equals : ℕ
+equals = 61
 
 abbrev pub greater : ℕ
 greater = 62

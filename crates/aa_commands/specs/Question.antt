@@ -11,7 +11,7 @@ use Rattle.aa_commands.specs.declared.question.Question.TheVariants.{File}
 use Rattle.aa_commands.specs.declared.refusal.Refusal.{Refusal}
 use Rattle.aa_commands.specs.declared.refusal.RefusalKind.TheVariants.{BadCommand, BadRequest}
 
--- what is asked, and of whom: of a profile by its full name, or of the word `unconfined`
+-- what is asked, and of whom: of a profile, a child or a hat by its full name, or of the word `unconfined`
 pub data Asked : Type 0 where
   OfFile : (who : List ℕ) (request : Request) → Asked
 

@@ -5,7 +5,7 @@ use Rattle.aa_profile.specs.declared.profile_error.ProfileRefusal.{ProfileRefusa
 use Rattle.aa_profile.specs.declared.profile_error.ProfileRefusal.TheVariants as profile
 use Rattle.aa_commands.specs.declared.refusal.Refusal.{Refusal}
 use Rattle.aa_commands.specs.declared.refusal.RefusalKind.{RefusalKind}
-use Rattle.aa_commands.specs.declared.refusal.RefusalKind.TheVariants.{NotAbsolute, UnclosedClass, EmptyClass, BadRange, UnclosedGroup, StrayClose, FewAlternatives, BadEscape, TooLong, TooDeep, ZeroByte, OpenQuote, OpenOther, NoFile, IncludeDepth, TextTooBig, Undefined, Redefined, AppendUndefined, Cycle, TooManyRules, BadToken, Exists, Absent, NothingToUndo, BadCommand, LineTooLong, BadRequest, Memory}
+use Rattle.aa_commands.specs.declared.refusal.RefusalKind.TheVariants.{NotAbsolute, UnclosedClass, EmptyClass, BadRange, UnclosedGroup, StrayClose, FewAlternatives, BadEscape, TooLong, TooDeep, ZeroByte, OpenQuote, OpenOther, NoFile, IncludeDepth, TextTooBig, Undefined, Redefined, AppendUndefined, Cycle, TooManyRules, BadToken, OpenBlock, BadFlag, BadAccess, WriteAppend, TwiceNamed, NestedChild, LateAssignment, NoProfile, BadName, Exists, Absent, NothingToUndo, BadCommand, LineTooLong, BadRequest, Memory}
 
 -- the one table of numbers and names
 abbrev pub described : RefusalKind → ℕ × List ℕ
@@ -31,6 +31,15 @@ described AppendUndefined = (28, codes "AppendUndefined")
 described Cycle = (29, codes "Cycle")
 described TooManyRules = (30, codes "TooManyRules")
 described BadToken = (40, codes "BadToken")
+described OpenBlock = (41, codes "OpenBlock")
+described BadFlag = (42, codes "BadFlag")
+described BadAccess = (43, codes "BadAccess")
+described WriteAppend = (44, codes "WriteAppend")
+described TwiceNamed = (50, codes "TwiceNamed")
+described NestedChild = (51, codes "NestedChild")
+described LateAssignment = (52, codes "LateAssignment")
+described NoProfile = (53, codes "NoProfile")
+described BadName = (54, codes "BadName")
 described Exists = (60, codes "Exists")
 described Absent = (61, codes "Absent")
 described NothingToUndo = (63, codes "NothingToUndo")
@@ -73,6 +82,15 @@ kind_of_profile profile.AppendUndefined = AppendUndefined
 kind_of_profile profile.Cycle = Cycle
 kind_of_profile profile.TooManyRules = TooManyRules
 kind_of_profile profile.BadToken = BadToken
+kind_of_profile profile.OpenBlock = OpenBlock
+kind_of_profile profile.BadFlag = BadFlag
+kind_of_profile profile.BadAccess = BadAccess
+kind_of_profile profile.WriteAppend = WriteAppend
+kind_of_profile profile.TwiceNamed = TwiceNamed
+kind_of_profile profile.NestedChild = NestedChild
+kind_of_profile profile.LateAssignment = LateAssignment
+kind_of_profile profile.NoProfile = NoProfile
+kind_of_profile profile.BadName = BadName
 kind_of_profile profile.Memory = Memory
 
 -- at the place that the file's refusal has

@@ -17,7 +17,7 @@ const MOST_DIGITS: usize = 9;
 /// A command.
 #[derive(Clone, Copy, Debug, PartialEq, Eq)]
 pub enum Command<'a> {
-    /// Reads the file of this name, and adds its profile.
+    /// Reads the file of this name, and adds its profiles.
     Add(&'a [u8]),
     /// Takes back as many changes, at least one.
     Undo(usize),

@@ -2,7 +2,8 @@
 
 ghost use Rattle.std.specs.Prelude.{◌≡◌, ◌==◌, Ok, Err, IfOk, IfErr, map, codes};
 ghost use Rattle.std.specs.Str.{bytes_eq};
-ghost use Rattle.aa_commands.specs.Question.{asked, question_of, owned_of, is_path, IsWellFormed};
+ghost use Rattle.aa_access.specs.Access.{needs_of};
+ghost use Rattle.aa_commands.specs.Question.{asked, file_question, question_of, owned_of, is_path, IsWellFormed};
 
 use crate::refusal::{Refusal, RefusalKind, plain};
 use aa_bytes::{begins_with_byte, has_byte};
@@ -13,7 +14,7 @@ use aa_profile::Perms;
 pub enum Question<'a> {
     /// Whether a task may use a file.
     File {
-        /// The full name of the profile that confines the task, or the word `unconfined`.
+        /// The full name of the profile, child or hat that confines the task, or the word `unconfined`.
         who: &'a [u8],
         /// What the task needs: at least one letter.
         needs: Perms,
@@ -25,7 +26,7 @@ pub enum Question<'a> {
 }
 
 impl<'a> Question<'a> {
-    /// The question of the words after `ask`: `file`, the asker's profile or `unconfined`, the access letters, `owner`
+    /// The question of the words after `ask`: `file`, the asker's full name or `unconfined`, the access letters, `owner`
     /// or `other`, and the path. It takes no memory.
     ///
     /// # Errors
@@ -44,22 +45,36 @@ impl<'a> Question<'a> {
         if *kind != b"file".as_slice() {
             return Err(plain(RefusalKind::BadCommand));
         }
-        let Some(needs) = Perms::of_letters(access) else {
-            return Err(plain(RefusalKind::BadRequest));
-        };
-        let Some(owned) = read_owned(owner) else {
-            return Err(plain(RefusalKind::BadRequest));
-        };
-        if !is_path(path) {
-            return Err(plain(RefusalKind::BadRequest));
-        }
-        Ok(Question::File {
-            who,
-            needs,
-            owned,
-            path,
-        })
+        file_question(who, access, owner, path)
     }
+}
+
+// The question for a file, of the words after `file`.
+fn file_question<'a>(
+    who: &'a [u8],
+    access: &[u8],
+    owner: &[u8],
+    path: &'a [u8],
+) -> Result<Question<'a>, Refusal>
+    ensures ok { IfOk result (λ question. file_question who.now (needs_of access.now) (owned_of owner.now) path.now ≡ Ok (asked question)) }
+    ensures refused { IfErr result (λ refusal. file_question who.now (needs_of access.now) (owned_of owner.now) path.now ≡ Err refusal) }
+    ensures known { IfOk result (λ question. IsWellFormed question) }
+{
+    let Some(needs) = Perms::of_letters(access) else {
+        return Err(plain(RefusalKind::BadRequest));
+    };
+    let Some(owned) = read_owned(owner) else {
+        return Err(plain(RefusalKind::BadRequest));
+    };
+    if !is_path(path) {
+        return Err(plain(RefusalKind::BadRequest));
+    }
+    Ok(Question::File {
+        who,
+        needs,
+        owned,
+        path,
+    })
 }
 
 // Whether a word says that the file is owned.

@@ -55,11 +55,29 @@ pub enum RefusalKind {
     Cycle,
     /// A file has more than 16,384 rules, each expansion of a pattern counted.
     TooManyRules,
-    /// The file isn't a profile.
+    /// A token can't stand where it does, or the tokens run out outside of a block.
     BadToken,
+    /// A block isn't closed.
+    OpenBlock,
+    /// A flag isn't known, or `enforce` stands beside `complain`.
+    BadFlag,
+    /// An access holds what is no access letter.
+    BadAccess,
+    /// An access holds both `w` and `a`.
+    WriteAppend,
+    /// Two profiles of a file have one name, or two children or hats of a profile.
+    TwiceNamed,
+    /// A child stands within a child.
+    NestedChild,
+    /// An assignment stands behind a profile.
+    LateAssignment,
+    /// The file has no profile.
+    NoProfile,
+    /// A name that none may have.
+    BadName,
     /// A profile of the name is loaded already.
     Exists,
-    /// No profile of the name is loaded.
+    /// No profile, child or hat of the name is loaded.
     Absent,
     /// Fewer changes were accepted than were to be undone.
     NothingToUndo,
@@ -121,6 +139,15 @@ impl Refusal {
             RefusalKind::Cycle => 29,
             RefusalKind::TooManyRules => 30,
             RefusalKind::BadToken => 40,
+            RefusalKind::OpenBlock => 41,
+            RefusalKind::BadFlag => 42,
+            RefusalKind::BadAccess => 43,
+            RefusalKind::WriteAppend => 44,
+            RefusalKind::TwiceNamed => 50,
+            RefusalKind::NestedChild => 51,
+            RefusalKind::LateAssignment => 52,
+            RefusalKind::NoProfile => 53,
+            RefusalKind::BadName => 54,
             RefusalKind::Exists => 60,
             RefusalKind::Absent => 61,
             RefusalKind::NothingToUndo => 63,
@@ -158,6 +185,15 @@ impl Refusal {
             RefusalKind::Cycle => "Cycle",
             RefusalKind::TooManyRules => "TooManyRules",
             RefusalKind::BadToken => "BadToken",
+            RefusalKind::OpenBlock => "OpenBlock",
+            RefusalKind::BadFlag => "BadFlag",
+            RefusalKind::BadAccess => "BadAccess",
+            RefusalKind::WriteAppend => "WriteAppend",
+            RefusalKind::TwiceNamed => "TwiceNamed",
+            RefusalKind::NestedChild => "NestedChild",
+            RefusalKind::LateAssignment => "LateAssignment",
+            RefusalKind::NoProfile => "NoProfile",
+            RefusalKind::BadName => "BadName",
             RefusalKind::Exists => "Exists",
             RefusalKind::Absent => "Absent",
             RefusalKind::NothingToUndo => "NothingToUndo",
@@ -205,6 +241,15 @@ impl From<ProfileRefusal> for RefusalKind {
             ProfileRefusal::Cycle => RefusalKind::Cycle,
             ProfileRefusal::TooManyRules => RefusalKind::TooManyRules,
             ProfileRefusal::BadToken => RefusalKind::BadToken,
+            ProfileRefusal::OpenBlock => RefusalKind::OpenBlock,
+            ProfileRefusal::BadFlag => RefusalKind::BadFlag,
+            ProfileRefusal::BadAccess => RefusalKind::BadAccess,
+            ProfileRefusal::WriteAppend => RefusalKind::WriteAppend,
+            ProfileRefusal::TwiceNamed => RefusalKind::TwiceNamed,
+            ProfileRefusal::NestedChild => RefusalKind::NestedChild,
+            ProfileRefusal::LateAssignment => RefusalKind::LateAssignment,
+            ProfileRefusal::NoProfile => RefusalKind::NoProfile,
+            ProfileRefusal::BadName => RefusalKind::BadName,
             ProfileRefusal::Memory => RefusalKind::Memory,
         }
     }

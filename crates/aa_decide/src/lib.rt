@@ -1,4 +1,4 @@
-//! What a profile's rules say of a request.
+//! What rules say of a request.
 #![tactic(auto)]
 
 mod verdict;

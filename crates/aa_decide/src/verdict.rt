@@ -1,10 +1,11 @@
-//! What a profile's rules say of a request.
+//! What rules say of a request.
 
 ghost use Rattle.std.specs.Prelude.{◌≡◌};
 ghost use Rattle.aa_decide.specs.Answer.{answer_word};
-ghost use Rattle.aa_decide.specs.Verdict.{request_of, applies, denied, granted, verdict};
+ghost use Rattle.aa_decide.specs.Verdict.{request_of, applies, covered_by, denies, denied, granted, verdict};
 
-use aa_profile::{FileRule, Mode, Perms};
+use aa_access::Perms;
+use aa_policy::{Mode, Rule};
 use bitflags::Flags;
 
 /// The answer to a request, by a word of its own in the reply.
@@ -48,8 +49,8 @@ pub struct FileRequest<'a> {
     pub path: &'a [u8],
 }
 
-/// What rules say of a request, in a mode.
-pub fn decide(mode: Mode, rules: &[FileRule], request: FileRequest<'_>) -> Answer
+/// What rules say of a request, in a mode. Rules that aren't on files decide nothing of it.
+pub fn decide(mode: Mode, rules: &[Rule], request: FileRequest<'_>) -> Answer
     ensures { result ≡ verdict mode rules.now (request_of request.entry) }
 {
     let (denied, granted) = covers(rules, request);
@@ -67,7 +68,7 @@ pub fn decide(mode: Mode, rules: &[FileRule], request: FileRequest<'_>) -> Answe
 }
 
 // The needs that the deny rules among those that apply cover, and those that the allow rules among them do.
-fn covers(rules: &[FileRule], request: FileRequest<'_>) -> (Perms, Perms)
+fn covers(rules: &[Rule], request: FileRequest<'_>) -> (Perms, Perms)
     ensures denied { result.0.0 ≡ denied (request_of request.entry) rules.now }
     ensures granted { result.1.0 ≡ granted (request_of request.entry) rules.now }
 {
@@ -75,8 +76,8 @@ fn covers(rules: &[FileRule], request: FileRequest<'_>) -> (Perms, Perms)
     let mut granted = Perms::empty();
     for rule in rules {
         if is_applying(rule, request) {
-            let covered = request.needs.intersection(rule.access.covered());
-            if rule.deny {
+            let covered = request.needs.intersection(covered_by(rule));
+            if denies(rule) {
                 denied = denied.union(covered);
             } else {
                 granted = granted.union(covered);
@@ -86,8 +87,30 @@ fn covers(rules: &[FileRule], request: FileRequest<'_>) -> (Perms, Perms)
     (denied, granted)
 }
 
-fn is_applying(rule: &FileRule, request: FileRequest<'_>) -> bool
+fn is_applying(rule: &Rule, request: FileRequest<'_>) -> bool
     ensures { result ≡ applies (request_of request.entry) rule.now }
 {
-    rule.pattern.matches(request.path) && (!rule.owner || request.owned)
+    match rule {
+        Rule::File(rule) => rule.pattern.matches(request.path) && (!rule.owner || request.owned),
+        Rule::Other(_) => false,
+    }
+}
+
+// The letters that a rule covers.
+fn covered_by(rule: &Rule) -> Perms
+    ensures { result.0 ≡ covered_by rule.now }
+{
+    match rule {
+        Rule::File(rule) => rule.access.covered(),
+        Rule::Other(_) => Perms::empty(),
+    }
+}
+
+fn denies(rule: &Rule) -> bool
+    ensures { result ≡ denies rule.now }
+{
+    match rule {
+        Rule::File(rule) => rule.deny,
+        Rule::Other(rule) => rule.deny,
+    }
 }

@@ -1,2 +1,3 @@
 pub mod FilesLemmas
 pub mod FolderLemmas
+pub mod OrderLemmas

@@ -17,14 +17,14 @@ is_before [] (d ∷ ds) = true
 is_before (b ∷ bs) [] = false
 is_before (b ∷ bs) (d ∷ ds) = nat_lt b d || (b == d && is_before bs ds)
 
+-- one file comes before another: by their names
+abbrev pub comes_before : List File → ℕ → ℕ → Bool
+comes_before files one other = is_before (name_at files one) (name_at files other)
+
 -- a file among others, which are in the order of their names
 abbrev pub in_order : List File → ℕ → List ℕ → List ℕ
 in_order files file [] = file ∷ []
-in_order files file (other ∷ others) = if is_before (name_at files file) (name_at files other) then file ∷ other ∷ others else other ∷ in_order files file others
-
--- members of a folder, and a file among them if it is one
-abbrev pub with_member : List File → List ℕ → ℕ → List ℕ → List ℕ
-with_member files folder file others = if is_member folder (name_at files file) then in_order files file others else others
+in_order files file (other ∷ others) = if comes_before files file other then file ∷ other ∷ others else other ∷ in_order files file others
 
 -- the direct members of a folder from a place on, in the order of their names
 unfoldable pub members_from : List File → ℕ → List ℕ → List File → List ℕ

@@ -61,6 +61,24 @@ fn take<R: rt::Files>(
     }
 }
 
+// Takes the files that names stand for, one behind the other, after those that were taken before.
+fn take_all<R: rt::Files>(
+    rt: &R,
+    alloc: Global,
+    base: &str,
+    names: &[String],
+    files: &mut Files,
+) -> Result<(), GatherFault>
+    ensures names { OnOk result (names_of files.new ≡ names_of files.old ++ map string_bytes names.now) }
+    ensures takable { OnOk result (All IsTakable files.old → All IsTakable files.new) }
+    ensures err { IfErr result (IsFaultOf (map string_bytes names.now)) }
+{
+    for name in names {
+        take(rt, alloc, base, name.as_str(), files)?;
+    }
+    Ok(())
+}
+
 /// Takes the files that are named, in this order and under these names, from the file system of `rt`.
 ///
 /// A name that ends in `/` declares a folder, which isn't read and has no bytes. Any other name is a path where it
@@ -83,8 +101,6 @@ pub fn gather<R: rt::Files>(
     ensures err { IfErr result (IsFaultOf (map string_bytes names.now)) }
 {
     let mut files = Files::new(alloc);
-    for name in names {
-        take(rt, alloc, base, name.as_str(), &mut files)?;
-    }
+    take_all(rt, alloc, base, names, &mut files)?;
     Ok(files)
 }

@@ -17,7 +17,8 @@ use Rattle.aa_files.specs.declared.text_error.Place.{Place}
 use Rattle.aa_files.specs.declared.text_error.TextRefusal.{TextRefusal}
 use Rattle.aa_profile.specs.Assignments.{all_assigned, assigned, cycle, first_of, first_undefined, naming, undefined_name}
 use Rattle.aa_profile.specs.code.FileReadingProgress.{first_undefined_value, have_expansions}
-use Rattle.aa_profile.specs.FileShape.{Assignment, Shape, place_of, text_of}
+use Rattle.aa_grammar.specs.Preamble.{Assignment}
+use Rattle.aa_rules.specs.Tokens.{place_of, text_of}
 use Rattle.aa_profile.specs.ProfileError.{placed}
 use Rattle.aa_profile.specs.declared.profile_error.ProfileRefusal.TheVariants.{Cycle, Undefined}
 
@@ -203,19 +204,19 @@ patterns-expand variables (pattern ∷ patterns) defined acyclic h =
     rw (one, patterns-expand variables patterns defined acyclic parts.1) refl
 
 -- The patterns of a file have expansions, where its names are defined and no variable leads to itself.
-pub file-expands : (variables : List Variable) (shape : Shape)
+pub file-expands : (variables : List Variable) (assignments : List Assignment) (patterns : List Placed)
     → ((variables : List Variable) (text : List ℕ) → list_any (names_undefined variables) (flat_map words_of variables) ≡ false → names_undefined variables text ≡ false → leads_to_undefined variables text ≡ false)
     → ((variables : List Variable) (text : List ℕ) → find (is_cyclic variables) variables ≡ None → leads_to_cycle variables text ≡ false)
-    → all_assigned [] shape.assignments ≡ Ok variables → undefined_name variables shape ≡ None → cycle variables shape.assignments ≡ None
-    → have_expansions variables shape.patterns ≡ true
-file-expands variables shape defined acyclic assigned named ends =
-    let values : List Placed = flat_map (λ assignment. assignment.values) shape.assignments in
-    let none = found-none variables (naming shape) (none-of (λ token. placed Undefined (place_of token)) (first_undefined variables (naming shape)) named) in
-    let split : list_any (names_undefined variables) (map text_of values ++ map text_of shape.patterns) ≡ false = rw map-append at none in
-    let words = all_assigned-none (names_undefined variables) [] variables shape.assignments refl (none-front (names_undefined variables) (map text_of values) (map text_of shape.patterns) split) assigned in
-    let no_cycle : find (is_cyclic variables) variables ≡ None = none-of (λ variable. record { refusal = Cycle; place = option_map (λ assignment. place_of assignment.sign) (first_of variable.name shape.assignments) }) (find (is_cyclic variables) variables) ends in
-    patterns-expand variables shape.patterns (λ text. defined variables text words) (λ text. acyclic variables text no_cycle)
-    (none-behind (names_undefined variables) (map text_of values) (map text_of shape.patterns) split)
+    → all_assigned [] assignments ≡ Ok variables → undefined_name variables assignments patterns ≡ None → cycle variables assignments ≡ None
+    → have_expansions variables patterns ≡ true
+file-expands variables assignments patterns defined acyclic assigned named ends =
+    let values : List Placed = flat_map (λ assignment. assignment.values) assignments in
+    let none = found-none variables (naming assignments patterns) (none-of (λ token. placed Undefined (place_of token)) (first_undefined variables (naming assignments patterns)) named) in
+    let split : list_any (names_undefined variables) (map text_of values ++ map text_of patterns) ≡ false = rw map-append at none in
+    let words = all_assigned-none (names_undefined variables) [] variables assignments refl (none-front (names_undefined variables) (map text_of values) (map text_of patterns) split) assigned in
+    let no_cycle : find (is_cyclic variables) variables ≡ None = none-of (λ variable. record { refusal = Cycle; place = option_map (λ assignment. place_of assignment.sign) (first_of variable.name assignments) }) (find (is_cyclic variables) variables) ends in
+    patterns-expand variables patterns (λ text. defined variables text words) (λ text. acyclic variables text no_cycle)
+    (none-behind (names_undefined variables) (map text_of values) (map text_of patterns) split)
 
 -- The place of the first variable that leads to itself, and the refusal.
 position-find : {X : Type 0} (p : X → Bool) (xs : List X) (at : ℕ) → position p xs ≡ Some at → (find p xs ≡ slice_get xs at) × (at < length xs)

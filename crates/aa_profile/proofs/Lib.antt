@@ -1,3 +1,5 @@
 pub mod AssignmentLemmas
-pub mod FileReadingLemmas
-pub mod FileShapeLemmas
+pub mod GrammarLemmas
+pub mod PatternLemmas
+pub mod ProfileLemmas
+pub mod ReadingLemmas

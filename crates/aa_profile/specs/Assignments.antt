@@ -7,7 +7,8 @@ use Rattle.aa_variables.specs.Expansions.{is_cyclic}
 use Rattle.aa_text.specs.Splicing.{Placed}
 use Rattle.aa_variables.specs.Variables.{Variable, after_append, after_define, names_undefined}
 use Rattle.aa_files.specs.declared.text_error.TextRefusal.{TextRefusal}
-use Rattle.aa_profile.specs.FileShape.{Assignment, Shape, place_of, text_of}
+use Rattle.aa_grammar.specs.Preamble.{Assignment}
+use Rattle.aa_rules.specs.Tokens.{place_of, text_of}
 use Rattle.aa_profile.specs.ProfileError.{refusal_of_text, placed}
 use Rattle.aa_profile.specs.declared.profile_error.ProfileError.{ProfileError}
 use Rattle.aa_profile.specs.declared.profile_error.ProfileRefusal.TheVariants.{Cycle, Undefined}
@@ -28,16 +29,16 @@ all_assigned variables (assignment ∷ assignments) = elim (assigned variables a
 ]
 
 -- the tokens in which names of variables count: the values of the assignments, then the patterns
-abbrev pub naming : Shape → List Placed
-naming shape = flat_map (λ assignment. assignment.values) shape.assignments ++ shape.patterns
+abbrev pub naming : List Assignment → List Placed → List Placed
+naming assignments patterns = flat_map (λ assignment. assignment.values) assignments ++ patterns
 
 -- the first of these tokens that names a variable that isn't defined
 abbrev pub first_undefined : List Variable → List Placed → Option Placed
 first_undefined variables tokens = find (λ token. names_undefined variables (text_of token)) tokens
 
 -- its refusal, at this token
-abbrev pub undefined_name : List Variable → Shape → Option ProfileError
-undefined_name variables shape = option_map (λ token. placed Undefined (place_of token)) (first_undefined variables (naming shape))
+abbrev pub undefined_name : List Variable → List Assignment → List Placed → Option ProfileError
+undefined_name variables assignments patterns = option_map (λ token. placed Undefined (place_of token)) (first_undefined variables (naming assignments patterns))
 
 -- the first assignment of a variable
 abbrev pub first_of : List ℕ → List Assignment → Option Assignment
@@ -49,11 +50,11 @@ cycle variables assignments =
     option_map (λ variable. record { refusal = Cycle; place = option_map (λ assignment. place_of assignment.sign) (first_of variable.name assignments) }) (find (is_cyclic variables) variables)
 
 -- The variables of a file. All assignments are made before names are looked up, and these before cycles are looked for.
-abbrev pub variables_of : Shape → Result (List Variable) ProfileError
-variables_of shape = elim (all_assigned [] shape.assignments) [
+abbrev pub variables_of : List Assignment → List Placed → Result (List Variable) ProfileError
+variables_of assignments patterns = elim (all_assigned [] assignments) [
   | Err refusal ↦ Err refusal
-  | Ok variables ↦ elim (undefined_name variables shape) [
+  | Ok variables ↦ elim (undefined_name variables assignments patterns) [
     | Some refusal ↦ Err refusal
-    | None ↦ elim (cycle variables shape.assignments) [ Some refusal ↦ Err refusal | None ↦ Ok variables ]
+    | None ↦ elim (cycle variables assignments) [ Some refusal ↦ Err refusal | None ↦ Ok variables ]
   ]
 ]

@@ -1,7 +1,8 @@
 pub mod Assignments
 pub mod FileReading
-pub mod FileShape
 pub mod Limits
-pub mod Profile
+pub mod PatternTokens
+pub mod Patterns
 pub mod ProfileError
+pub mod Profiles
 pub mod code

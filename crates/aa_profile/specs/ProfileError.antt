@@ -5,9 +5,12 @@ use Rattle.aa_files.specs.declared.text_error.TextRefusal.{TextRefusal}
 use Rattle.aa_files.specs.declared.text_error.TextRefusal.TheVariants as text
 use Rattle.aa_glob.specs.declared.pattern_error.PatternError.{PatternError}
 use Rattle.aa_glob.specs.declared.pattern_error.PatternError.TheVariants as pattern
+use Rattle.aa_grammar.specs.declared.grammar_error.GrammarError.{GrammarError}
+use Rattle.aa_rules.specs.declared.fault.GrammarRefusal.{GrammarRefusal}
+use Rattle.aa_rules.specs.declared.fault.GrammarRefusal.TheVariants as grammar
 use Rattle.aa_profile.specs.declared.profile_error.ProfileError.{ProfileError}
 use Rattle.aa_profile.specs.declared.profile_error.ProfileRefusal.{ProfileRefusal}
-use Rattle.aa_profile.specs.declared.profile_error.ProfileRefusal.TheVariants.{NotAbsolute, UnclosedClass, EmptyClass, BadRange, UnclosedGroup, StrayClose, FewAlternatives, BadEscape, TooLong, TooDeep, ZeroByte, OpenQuote, OpenOther, NoFile, IncludeDepth, TextTooBig, Undefined, Redefined, AppendUndefined, Cycle, TooManyRules, BadToken, Memory}
+use Rattle.aa_profile.specs.declared.profile_error.ProfileRefusal.TheVariants.{NotAbsolute, UnclosedClass, EmptyClass, BadRange, UnclosedGroup, StrayClose, FewAlternatives, BadEscape, TooLong, TooDeep, ZeroByte, OpenQuote, OpenOther, NoFile, IncludeDepth, TextTooBig, Undefined, Redefined, AppendUndefined, Cycle, TooManyRules, BadToken, OpenBlock, BadFlag, BadAccess, WriteAppend, TwiceNamed, NestedChild, LateAssignment, NoProfile, BadName, Memory}
 
 -- the one table of numbers and names
 abbrev pub described : ProfileRefusal → ℕ × List ℕ
@@ -33,6 +36,15 @@ described AppendUndefined = (28, codes "AppendUndefined")
 described Cycle = (29, codes "Cycle")
 described TooManyRules = (30, codes "TooManyRules")
 described BadToken = (40, codes "BadToken")
+described OpenBlock = (41, codes "OpenBlock")
+described BadFlag = (42, codes "BadFlag")
+described BadAccess = (43, codes "BadAccess")
+described WriteAppend = (44, codes "WriteAppend")
+described TwiceNamed = (50, codes "TwiceNamed")
+described NestedChild = (51, codes "NestedChild")
+described LateAssignment = (52, codes "LateAssignment")
+described NoProfile = (53, codes "NoProfile")
+described BadName = (54, codes "BadName")
 described Memory = (99, codes "Memory")
 
 abbrev pub number_of : ProfileRefusal → ℕ
@@ -78,3 +90,21 @@ refusal_of_text text.Redefined = Redefined
 refusal_of_text text.AppendUndefined = AppendUndefined
 refusal_of_text text.Cycle = Cycle
 refusal_of_text text.Memory = Memory
+
+-- the refusal of a file whose grammar is refused
+abbrev pub refusal_of_grammar : GrammarRefusal → ProfileRefusal
+refusal_of_grammar grammar.BadToken = BadToken
+refusal_of_grammar grammar.OpenBlock = OpenBlock
+refusal_of_grammar grammar.BadFlag = BadFlag
+refusal_of_grammar grammar.BadAccess = BadAccess
+refusal_of_grammar grammar.WriteAppend = WriteAppend
+refusal_of_grammar grammar.TwiceNamed = TwiceNamed
+refusal_of_grammar grammar.NestedChild = NestedChild
+refusal_of_grammar grammar.LateAssignment = LateAssignment
+refusal_of_grammar grammar.NoProfile = NoProfile
+refusal_of_grammar grammar.BadName = BadName
+refusal_of_grammar grammar.Memory = Memory
+
+-- the same with its place
+abbrev pub error_of_grammar : GrammarError → ProfileError
+error_of_grammar error = record { refusal = refusal_of_grammar error.refusal; place = error.place }

@@ -1,3 +1,2 @@
--- What is about the code: its tokens, assignments and shapes, and how far the reading of a file has come.
+-- What is about the code: how far the reading of a file has come.
 pub mod FileReadingProgress
-pub mod FileTokens

@@ -6,14 +6,16 @@ ghost use Rattle.std.specs.Option.{option_map};
 ghost use Rattle.aa_variables.specs.Variables.{names_undefined};
 ghost use Rattle.aa_files.specs.declared.text_error.TextRefusal.TheVariants as text;
 ghost use Rattle.aa_profile.specs.Assignments.{all_assigned, assigned, cycle, first_of, first_undefined, naming, undefined_name, variables_of};
-ghost use Rattle.aa_profile.specs.code.FileReadingProgress.{first_undefined_value, have_expansions};
-ghost use Rattle.aa_profile.specs.FileShape.{has_no_value, place_of, text_of};
-ghost use Rattle.aa_profile.specs.code.FileTokens.{seen_assignment, seen_shape, seen_tokens};
+ghost use Rattle.aa_profile.specs.code.FileReadingProgress.{IsRefusal, IsRefusalOf, first_undefined_value, has_no_value, have_expansions};
+ghost use Rattle.aa_grammar.specs.code.Seen.{seen_assignment};
+ghost use Rattle.aa_rules.specs.Tokens.{place_of, text_of};
+ghost use Rattle.aa_rules.specs.code.SeenTokens.{seen_tokens};
 ghost use Rattle.aa_profile.specs.ProfileError.{plain};
 ghost use Rattle.aa_profile.specs.declared.profile_error.ProfileRefusal.TheVariants.{Memory};
 
-use crate::file_shape::{Assignment, Shape, place_of};
 use crate::profile_error::{ProfileError, ProfileRefusal, placed};
+use aa_grammar::Assignment;
+use aa_rules::place_of;
 use aa_text::{Place, Spliced, TextError, Variables, what_a_text_leads_to};
 use std::alloc::{AllocError, Global};
 
@@ -51,7 +53,7 @@ fn assign(
 fn assign_all(alloc: Global, assignments: &[Assignment<'_>]) -> Result<Variables, ProfileError>
     requires { list_any has_no_value (map seen_assignment assignments.now) ≡ false }
     ensures ok { IfOk result (λ variables. all_assigned [] (map seen_assignment assignments.now) ≡ Ok variables) }
-    ensures refused { IfErr result (λ refusal. refusal ≢ plain Memory → all_assigned [] (map seen_assignment assignments.now) ≡ Err refusal) }
+    ensures refused { IsRefusalOf (all_assigned [] (map seen_assignment assignments.now)) result }
 {
     let mut variables = Variables::new(alloc);
     for assignment in assignments {
@@ -88,21 +90,29 @@ fn first_undefined_value(variables: &Variables, assignments: &[Assignment<'_>]) 
 }
 
 // The first token of a file that names a variable that isn't defined, or doesn't close a name.
-fn first_undefined_name(variables: &Variables, shape: &Shape<'_>) -> Option<Place>
-    ensures { result ≡ option_map place_of (first_undefined variables.now (naming (seen_shape shape.now))) }
+fn first_undefined_name(
+    variables: &Variables,
+    assignments: &[Assignment<'_>],
+    patterns: &[Spliced<'_>],
+) -> Option<Place>
+    ensures { result ≡ option_map place_of (first_undefined variables.now (naming (map seen_assignment assignments.now) (seen_tokens patterns.now))) }
 {
-    match first_undefined_value(variables, &shape.assignments) {
+    match first_undefined_value(variables, assignments) {
         Some(place) => Some(place),
-        None => first_undefined(variables, &shape.patterns),
+        None => first_undefined(variables, patterns),
     }
 }
 
 // Whether each name in a file is that of a variable.
-fn check_names(variables: &Variables, shape: &Shape<'_>) -> Result<(), ProfileError>
-    ensures ok { OnOk result (undefined_name variables.now (seen_shape shape.now) ≡ None) }
-    ensures refused { IfErr result (λ refusal. undefined_name variables.now (seen_shape shape.now) ≡ Some refusal) }
+fn check_names(
+    variables: &Variables,
+    assignments: &[Assignment<'_>],
+    patterns: &[Spliced<'_>],
+) -> Result<(), ProfileError>
+    ensures ok { OnOk result (undefined_name variables.now (map seen_assignment assignments.now) (seen_tokens patterns.now) ≡ None) }
+    ensures refused { IfErr result (λ e. undefined_name variables.now (map seen_assignment assignments.now) (seen_tokens patterns.now) ≡ Some e) }
 {
-    match first_undefined_name(variables, shape) {
+    match first_undefined_name(variables, assignments, patterns) {
         Some(place) => Err(placed(ProfileRefusal::Undefined, place)),
         None => Ok(()),
     }
@@ -123,7 +133,7 @@ fn first_place(name: &[u8], assignments: &[Assignment<'_>]) -> Option<Place>
 // Whether no variable leads to itself.
 fn check_cycles(variables: &Variables, assignments: &[Assignment<'_>]) -> Result<(), ProfileError>
     ensures ok { OnOk result (cycle variables.now (map seen_assignment assignments.now) ≡ None) }
-    ensures refused { IfErr result (λ refusal. refusal ≢ plain Memory → cycle variables.now (map seen_assignment assignments.now) ≡ Some refusal) }
+    ensures refused { IsRefusal (cycle variables.now (map seen_assignment assignments.now)) result }
 {
     let Some(at) = variables.first_cycle()? else {
         return Ok(());
@@ -138,7 +148,7 @@ fn check_cycles(variables: &Variables, assignments: &[Assignment<'_>]) -> Result
     })
 }
 
-/// The variables of a file: what its assignments define.
+/// The variables of a file: what its assignments define. `patterns` are the tokens of its patterns, in their order.
 ///
 /// # Errors
 ///
@@ -147,15 +157,19 @@ fn check_cycles(variables: &Variables, assignments: &[Assignment<'_>]) -> Result
 /// - `Undefined`, at the first value or pattern that names a variable that isn't defined, or doesn't close a name.
 /// - `Cycle`, at the first assignment of the first variable that leads to itself or to one that does.
 /// - `Memory`, without a place: memory ran out.
-pub fn read_variables(alloc: Global, shape: &Shape<'_>) -> Result<Variables, ProfileError>
-    requires { list_any has_no_value (map seen_assignment shape.now.assignments.items) ≡ false }
-    ensures ok { IfOk result (λ variables. variables_of (seen_shape shape.now) ≡ Ok variables) }
-    ensures expand { IfOk result (λ variables. have_expansions variables (seen_tokens shape.now.patterns.items) ≡ true) }
-    ensures refused { IfErr result (λ refusal. refusal ≢ plain Memory → variables_of (seen_shape shape.now) ≡ Err refusal) }
+pub fn read_variables(
+    alloc: Global,
+    assignments: &[Assignment<'_>],
+    patterns: &[Spliced<'_>],
+) -> Result<Variables, ProfileError>
+    requires { list_any has_no_value (map seen_assignment assignments.now) ≡ false }
+    ensures ok { IfOk result (λ variables. variables_of (map seen_assignment assignments.now) (seen_tokens patterns.now) ≡ Ok variables) }
+    ensures expand { IfOk result (λ variables. have_expansions variables (seen_tokens patterns.now) ≡ true) }
+    ensures refused { IsRefusalOf (variables_of (map seen_assignment assignments.now) (seen_tokens patterns.now)) result }
 {
     what_a_text_leads_to();
-    let variables = assign_all(alloc, &shape.assignments)?;
-    check_names(&variables, shape)?;
-    check_cycles(&variables, &shape.assignments)?;
+    let variables = assign_all(alloc, assignments)?;
+    check_names(&variables, assignments, patterns)?;
+    check_cycles(&variables, assignments)?;
     Ok(variables)
 }

@@ -5,6 +5,7 @@ ghost use Rattle.aa_profile.specs.ProfileError.{name_of, number_of, placed, plai
 ghost use Rattle.aa_profile.specs.declared.profile_error.ProfileRefusal.TheVariants.{Memory};
 
 use aa_glob::PatternError;
+use aa_grammar::{GrammarError, GrammarRefusal};
 use aa_text::{Place, TextError, TextRefusal};
 use std::alloc::{AllocError, AllocFailed};
 use std::fmt::{self, Display, Formatter, Write};
@@ -55,8 +56,26 @@ pub enum ProfileRefusal {
     Cycle,
     /// A file has more than 16,384 rules, each expansion of a pattern counted.
     TooManyRules,
-    /// The file isn't a profile.
+    /// A token that can't stand where it does.
     BadToken,
+    /// A block isn't closed.
+    OpenBlock,
+    /// A flag isn't known, or `enforce` stands beside `complain`.
+    BadFlag,
+    /// An access holds what is no access letter.
+    BadAccess,
+    /// An access holds both `w` and `a`.
+    WriteAppend,
+    /// Two profiles of a file have one name, or two children or hats of a profile.
+    TwiceNamed,
+    /// A child stands within a child.
+    NestedChild,
+    /// An assignment stands behind a profile.
+    LateAssignment,
+    /// The file has no profile.
+    NoProfile,
+    /// A name that none may have.
+    BadName,
     /// Memory ran out.
     Memory,
 }
@@ -95,7 +114,7 @@ pub fn placed(refusal: ProfileRefusal, place: Place) -> ProfileError
 }
 
 impl ProfileRefusal {
-    /// The number of the refusal: 1 to 10, 20 to 30, 40 or 99.
+    /// The number of the refusal: 1 to 10, 20 to 30, 40 to 44, 50 to 54, or 99.
     pub fn number(self) -> u8
         ensures { result ≡ number_of self }
     {
@@ -122,6 +141,15 @@ impl ProfileRefusal {
             ProfileRefusal::Cycle => 29,
             ProfileRefusal::TooManyRules => 30,
             ProfileRefusal::BadToken => 40,
+            ProfileRefusal::OpenBlock => 41,
+            ProfileRefusal::BadFlag => 42,
+            ProfileRefusal::BadAccess => 43,
+            ProfileRefusal::WriteAppend => 44,
+            ProfileRefusal::TwiceNamed => 50,
+            ProfileRefusal::NestedChild => 51,
+            ProfileRefusal::LateAssignment => 52,
+            ProfileRefusal::NoProfile => 53,
+            ProfileRefusal::BadName => 54,
             ProfileRefusal::Memory => 99,
         }
     }
@@ -153,6 +181,15 @@ impl ProfileRefusal {
             ProfileRefusal::Cycle => "Cycle",
             ProfileRefusal::TooManyRules => "TooManyRules",
             ProfileRefusal::BadToken => "BadToken",
+            ProfileRefusal::OpenBlock => "OpenBlock",
+            ProfileRefusal::BadFlag => "BadFlag",
+            ProfileRefusal::BadAccess => "BadAccess",
+            ProfileRefusal::WriteAppend => "WriteAppend",
+            ProfileRefusal::TwiceNamed => "TwiceNamed",
+            ProfileRefusal::NestedChild => "NestedChild",
+            ProfileRefusal::LateAssignment => "LateAssignment",
+            ProfileRefusal::NoProfile => "NoProfile",
+            ProfileRefusal::BadName => "BadName",
             ProfileRefusal::Memory => "Memory",
         }
     }
@@ -233,6 +270,41 @@ impl From<TextError> for ProfileError {
     ghost from_gives = { λ error refusal. refusal ≡ record { refusal = refusal_of_text error.refusal; place = error.place } };
 
     fn from(error: TextError) -> Self {
+        ProfileError {
+            refusal: ProfileRefusal::from(error.refusal),
+            place: error.place,
+        }
+    }
+}
+
+impl From<GrammarRefusal> for ProfileRefusal {
+    ghost use Rattle.aa_profile.specs.ProfileError.{refusal_of_grammar};
+
+    ghost from_gives = { λ error refusal. refusal ≡ refusal_of_grammar error };
+
+    fn from(refusal: GrammarRefusal) -> Self {
+        match refusal {
+            GrammarRefusal::BadToken => ProfileRefusal::BadToken,
+            GrammarRefusal::OpenBlock => ProfileRefusal::OpenBlock,
+            GrammarRefusal::BadFlag => ProfileRefusal::BadFlag,
+            GrammarRefusal::BadAccess => ProfileRefusal::BadAccess,
+            GrammarRefusal::WriteAppend => ProfileRefusal::WriteAppend,
+            GrammarRefusal::TwiceNamed => ProfileRefusal::TwiceNamed,
+            GrammarRefusal::NestedChild => ProfileRefusal::NestedChild,
+            GrammarRefusal::LateAssignment => ProfileRefusal::LateAssignment,
+            GrammarRefusal::NoProfile => ProfileRefusal::NoProfile,
+            GrammarRefusal::BadName => ProfileRefusal::BadName,
+            GrammarRefusal::Memory => ProfileRefusal::Memory,
+        }
+    }
+}
+
+impl From<GrammarError> for ProfileError {
+    ghost use Rattle.aa_profile.specs.ProfileError.{error_of_grammar};
+
+    ghost from_gives = { λ error refusal. refusal ≡ error_of_grammar error };
+
+    fn from(error: GrammarError) -> Self {
         ProfileError {
             refusal: ProfileRefusal::from(error.refusal),
             place: error.place,

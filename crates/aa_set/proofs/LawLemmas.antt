@@ -7,9 +7,9 @@ use Rattle.aa_commands.specs.Refusal.{plain}
 use Rattle.aa_commands.specs.declared.refusal.Refusal.{Refusal}
 use Rattle.aa_commands.specs.declared.refusal.RefusalKind.TheVariants.{Exists, LineTooLong, Memory, NothingToUndo}
 use Rattle.aa_lines.specs.Limits.{longest_line}
-use Rattle.aa_profile.specs.FileReading.{file_profile, file_profiles}
-use Rattle.aa_profile.specs.Profile.{are_distinct}
-use Rattle.aa_profile.specs.declared.profile.Profile.{Profile}
+use Rattle.aa_profile.specs.FileReading.{file_profiles}
+use Rattle.aa_policy.specs.Profile.{are_distinct}
+use Rattle.aa_policy.specs.declared.profile.Profile.{Profile}
 use Rattle.aa_profile.specs.declared.profile_error.ProfileError.{ProfileError}
 use Rattle.aa_set.specs.Answers.{reply_lines}
 use Rattle.aa_set.specs.Laws.{AreDistinct, GivesBack, NoneGoesBack, all_sets, changes, goes_back, is_change, order_in}
@@ -142,14 +142,9 @@ with_profiles_distinct entries (Ok profiles) h d = by (are_there profiles entrie
     by false e = subst (λ t. IfOk (cond {A = Result (List Entry) Refusal} t (Err (plain Exists)) (Ok (entries ++ map loaded profiles))) (λ set. have_distinct_names set ≡ true)) (sym e)
         (distinct_with_all entries profiles h e d)
 
--- a file's profiles have names of their own
-file_distinct : (files : Files) (name : List ℕ) → IfOk (file_profiles files name) (λ profiles. are_distinct profiles ≡ true)
-file_distinct files name = by (file_profile files name)
-  where
-    by : (r : Result Profile ProfileError)
-        → IfOk (elim r [ Err error ↦ Err error | Ok profile ↦ Ok (profile ∷ []) ]) (λ (profiles : List Profile). are_distinct profiles ≡ true)
-    by (Err error) = tt
-    by (Ok profile) = refl
+-- the profiles of each file have names of their own
+abbrev pub FilesAreDistinct : Type 0
+FilesAreDistinct = (files : Files) (name : List ℕ) → IfOk (file_profiles files name) (λ profiles. are_distinct profiles ≡ true)
 
 undone_distinct : (m : Managed) (n : ℕ) → AreDistinct (all_sets m) → AreDistinct (all_sets (changed m (undone n m)).managed)
 undone_distinct m n h = elim (cases_lt (length m.machine.earlier) n) [
@@ -166,25 +161,25 @@ either_distinct : (t : Bool) (a b : Outcome) → AreDistinct (all_sets a.managed
 either_distinct true a b p q = p
 either_distinct false a b p q = q
 
-order_distinct : (files : Files) (m : Managed) (flag : Bool) (order : Result (Option Order) Refusal) → AreDistinct (all_sets m) → AreDistinct (all_sets (order_outcome files m flag order).managed)
-order_distinct files m flag (Err refusal) h = h
-order_distinct files m flag (Ok None) h = h
-order_distinct files m flag (Ok (Some (Undo n))) h = either_distinct (flag && false) (refused m (plain Memory)) (obeyed files m (Undo n)) h (undone_distinct m n h)
-order_distinct files m flag (Ok (Some (Add file))) h =
+order_distinct : FilesAreDistinct → (files : Files) (m : Managed) (flag : Bool) (order : Result (Option Order) Refusal) → AreDistinct (all_sets m) → AreDistinct (all_sets (order_outcome files m flag order).managed)
+order_distinct named files m flag (Err refusal) h = h
+order_distinct named files m flag (Ok None) h = h
+order_distinct named files m flag (Ok (Some (Undo n))) h = either_distinct (flag && false) (refused m (plain Memory)) (obeyed files m (Undo n)) h (undone_distinct m n h)
+order_distinct named files m flag (Ok (Some (Add file))) h =
     let now = distinct-behind m.machine.earlier (m.machine.now ∷ m.machine.later) h in
     either_distinct (flag && true) (refused m (plain Memory)) (obeyed files m (Add file)) h
-    (changed_distinct m (changed_by_add files m.machine.now file) h (with_profiles_distinct m.machine.now (file_profiles files file) now.0 (file_distinct files file)))
-order_distinct files m flag (Ok (Some (Ask question))) h =
+    (changed_distinct m (changed_by_add files m.machine.now file) h (with_profiles_distinct m.machine.now (file_profiles files file) now.0 (named files file)))
+order_distinct named files m flag (Ok (Some (Ask question))) h =
     either_distinct (flag && takes_memory m (Ask question)) (refused m (plain Memory)) (obeyed files m (Ask question)) h (told_distinct m (reply_lines m.machine.now question) h)
 
-lines_distinct : (files : Files) (m : Managed) (lines : List (List ℕ × Bool)) → AreDistinct (all_sets m) → AreDistinct (all_sets (after_lines files m lines))
-lines_distinct files m [] h = h
-lines_distinct files m (line ∷ lines) h = lines_distinct files (line_outcome files m line.0 line.1).managed lines
+lines_distinct : FilesAreDistinct → (files : Files) (m : Managed) (lines : List (List ℕ × Bool)) → AreDistinct (all_sets m) → AreDistinct (all_sets (after_lines files m lines))
+lines_distinct named files m [] h = h
+lines_distinct named files m (line ∷ lines) h = lines_distinct named files (line_outcome files m line.0 line.1).managed lines
     (either_distinct (leb (length line.0) longest_line) (order_outcome files m line.1 (order_in line.0)) (refused m (plain LineTooLong))
-    (order_distinct files m line.1 (order_in line.0) h) h)
+    (order_distinct named files m line.1 (order_in line.0) h) h)
 
-pub distinct : (files : Files) (force_complain : Bool) (lines : List (List ℕ × Bool)) → AreDistinct (all_sets (after_lines files (new_manager force_complain) lines))
-distinct files force_complain lines = lines_distinct files (new_manager force_complain) lines (refl, tt)
+pub distinct : FilesAreDistinct → (files : Files) (force_complain : Bool) (lines : List (List ℕ × Bool)) → AreDistinct (all_sets (after_lines files (new_manager force_complain) lines))
+distinct named files force_complain lines = lines_distinct named files (new_manager force_complain) lines (refl, tt)
 
 -- undoing m and n changes at once is undoing m and then n
 pub undone_sum : (k n : ℕ) (m : Managed) → undone (k + n) m ≡ then_undone n (undone k m)

@@ -1,3 +1,5 @@
+pub mod ConfinementLemmas
+pub mod FullNameLemmas
 pub mod LawLemmas
 pub mod LineLemmas
 pub mod LinesLemmas

@@ -7,8 +7,8 @@ use Rattle.std.proofs.lemmas.Slice.Eq.{bytes_eq-Decides}
 use Rattle.std.proofs.lemmas.Bool.Decides.{same_from_decides, nat_tests}
 use Rattle.std.proofs.lemmas.List.Folds.{list_any-append}
 use Rattle.aa_set.specs.declared.policy.Entry.{Entry}
-use Rattle.aa_profile.specs.Profile.{are_distinct, is_named as is_profile_named}
-use Rattle.aa_profile.specs.declared.profile.Profile.{Profile}
+use Rattle.aa_policy.specs.Profile.{are_distinct, is_named as is_profile_named}
+use Rattle.aa_policy.specs.declared.profile.Profile.{Profile}
 use Rattle.aa_set.specs.PolicySet.{are_there, has_name, have_distinct_names, is_named, loaded}
 
 pub bytes_eq-comm : (a b : List ℕ) → bytes_eq a b ≡ bytes_eq b a

@@ -1,6 +1,5 @@
 -- Answers: what a policy set says to a question, and the lines that tell it (docs/commands.md).
-use Rattle.std.specs.Prelude.{ℕ, Bool, true, false, if◌then◌else◌, List, [], ◌∷◌, ◌++◌, Option, None, Some, Result, Ok, Err, codes}
-use Rattle.std.specs.Str.{bytes_eq}
+use Rattle.std.specs.Prelude.{ℕ, Bool, true, false, List, [], ◌∷◌, ◌++◌, Option, None, Some, Result, Ok, Err}
 use Rattle.aa_bytes.specs.Bytes.{line_feed}
 use Rattle.aa_access.specs.Request.{Request}
 use Rattle.aa_commands.specs.Question.{Asked, OfFile}
@@ -11,17 +10,19 @@ use Rattle.aa_commands.specs.declared.refusal.RefusalKind.TheVariants.{Absent}
 use Rattle.aa_decide.specs.Answer.{answer_word}
 use Rattle.aa_decide.specs.Verdict.{verdict}
 use Rattle.aa_decide.specs.declared.verdict.Answer.{Answer}
-use Rattle.aa_decide.specs.declared.verdict.Answer.TheVariants.{Unconfined}
-use Rattle.aa_set.specs.PolicySet.{entry_named}
+use Rattle.aa_decide.specs.declared.verdict.Answer.TheVariants.{Unconfined as AnswerUnconfined}
+use Rattle.aa_set.specs.Confinement.{Confinement, By, Unconfined, confinement}
 use Rattle.aa_set.specs.declared.policy.Entry.{Entry}
 
-abbrev pub entry_answer : Option Entry → Request → Result Answer Refusal
-entry_answer None request = Err (plain Absent)
-entry_answer (Some entry) request = Ok (verdict entry.mode entry.profile.rules request)
+-- the answer to a request, by what confines who asks
+abbrev pub confined_answer : Option Confinement → Request → Result Answer Refusal
+confined_answer None request = Err (plain Absent)
+confined_answer (Some Unconfined) request = Ok AnswerUnconfined
+confined_answer (Some (By mode rules)) request = Ok (verdict mode rules request)
 
 -- the answer of a policy set
 abbrev pub answer_of : List Entry → Asked → Result Answer Refusal
-answer_of entries (OfFile who request) = if bytes_eq who (codes "unconfined") then Ok Unconfined else entry_answer (entry_named who entries) request
+answer_of entries (OfFile who request) = confined_answer (confinement entries who) request
 
 -- a line: a text, and a line feed
 abbrev pub line_with : List ℕ → List ℕ
@@ -44,6 +45,6 @@ abbrev pub is_absent : Result Answer Refusal → Bool
 is_absent (Err refusal) = is_absence refusal.refusal
 is_absent (Ok answer) = false
 
--- a question is asked of a profile that isn't there
+-- a question is asked of a profile, a child or a hat that isn't there
 abbrev pub asks_absent : List Entry → Asked → Bool
 asks_absent entries asked = is_absent (answer_of entries asked)

@@ -1,4 +1,6 @@
 pub mod Answers
+pub mod Confinement
+pub mod FullNames
 pub mod Laws
 pub mod Limits
 pub mod Machine

@@ -1,9 +1,9 @@
 -- Policy sets: lists of entries in the order in which they were loaded, no two of one name (docs/commands.md).
-use Rattle.std.specs.Prelude.{ℕ, Bool, true, not, ◌&&◌, List, [], ◌∷◌, Option, find}
+use Rattle.std.specs.Prelude.{ℕ, Bool, true, not, ◌&&◌, List, [], ◌∷◌, map, Option, find}
 use Rattle.std.specs.List.{list_any}
 use Rattle.std.specs.Str.{bytes_eq}
-use Rattle.aa_profile.specs.declared.profile.Mode.TheVariants.{Enforce}
-use Rattle.aa_profile.specs.declared.profile.Profile.{Profile}
+use Rattle.aa_policy.specs.declared.profile.Mode.{Mode}
+use Rattle.aa_policy.specs.declared.profile.Profile.{Profile}
 use Rattle.aa_set.specs.declared.policy.Entry.{Entry}
 
 -- an entry's profile has the name
@@ -18,9 +18,13 @@ has_name name entries = list_any (is_named name) entries
 abbrev pub entry_named : List ℕ → List Entry → Option Entry
 entry_named name entries = find (is_named name) entries
 
--- how a profile is loaded: in enforce mode
+-- the modes that a profile's flags give it, and those of its children and hats give them, in their order
+abbrev pub own_modes : Profile → List Mode
+own_modes profile = profile.mode ∷ map (λ child. child.mode) profile.children
+
+-- how a profile is loaded: in the modes of its own flags
 abbrev pub loaded : Profile → Entry
-loaded profile = record { profile = profile; mode = Enforce }
+loaded profile = record { profile = profile; modes = own_modes profile }
 
 -- some of these profiles have a name that is there
 abbrev pub are_there : List Profile → List Entry → Bool

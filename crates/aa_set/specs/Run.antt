@@ -40,7 +40,7 @@ obeyed files managed (Add file) = changed managed (added files managed file)
 obeyed files managed (Undo n) = changed managed (undone n managed)
 obeyed files managed (Ask question) = told managed (reply_lines managed.machine.now question)
 
--- A command may find no memory: `add`, and a question but of a profile that isn't there.
+-- A command may find no memory: `add`, and a question but of a profile, a child or a hat that isn't there.
 abbrev pub takes_memory : Managed → Order → Bool
 takes_memory managed (Add file) = true
 takes_memory managed (Undo n) = false

@@ -1,6 +1,8 @@
 //! A set of AppArmor profiles that answers requests, takes changes and undoes them.
 #![tactic(auto)]
 
+mod confinement;
+mod full_name;
 mod laws;
 mod manager;
 mod policy;
@@ -8,9 +10,9 @@ mod reply;
 mod session;
 mod telling;
 
+pub use aa_access::Perms;
 pub use aa_commands::{Question, Refusal, RefusalKind};
 pub use aa_lines::{Failed, FromRead, Sink, Source, ToWrite};
-pub use aa_profile::Perms;
 pub use laws::the_way_back;
 pub use manager::Manager;
 pub use session::{RunFault, Summary, run};

@@ -1,12 +1,15 @@
 //! The manager: a policy set with its history.
 
-ghost use Rattle.std.specs.Prelude.{◌≡◌, ◌≢◌, ◌<◌, Ok, Err, IfOk, IfErr, OnOk, OnErr, length, false};
+ghost use Rattle.std.specs.Prelude.{◌≡◌, ◌≢◌, ◌<◌, Ok, Err, Some, IfOk, IfErr, OnOk, OnErr, length, false};
 ghost use Rattle.aa_commands.specs.Question.{IsWellFormed, asked};
 ghost use Rattle.aa_commands.specs.Refusal.{plain};
 ghost use Rattle.aa_commands.specs.declared.refusal.RefusalKind.TheVariants.{Absent, Memory};
 ghost use Rattle.aa_decide.specs.Answer.{answer_word};
-ghost use Rattle.aa_set.specs.Answers.{answer_of, asks_absent, line_with, reply_lines};
+ghost use Rattle.aa_decide.specs.Verdict.{request_of};
+ghost use Rattle.aa_set.specs.Answers.{answer_of, asks_absent, confined_answer, line_with, reply_lines};
+ghost use Rattle.aa_set.specs.Confinement.{found};
 
+use crate::confinement::{Confinement, find_confinement};
 use crate::policy::PolicySet;
 use aa_commands::{Question, Refusal, RefusalKind, plain};
 use aa_decide::{Answer, FileRequest, decide};
@@ -58,18 +61,22 @@ impl Manager {
         }
     }
 
-    /// Adds the profiles of a file at the end of the policy set, in its order. At `Ok` that is one change, and the sets that `undo` had
-    /// left can't be gone forward to any more.
+    /// Adds the profiles of a file, each in the modes of its own flags, at the end of the policy set, in the file's order: all of them or
+    /// none. At `Ok` that is one change, and the sets that `undo` had left can't be gone forward to any more.
     ///
     /// # Errors
     ///
     /// Those of reading the file come first, each phase over the whole file before the next (docs/policy.md):
     /// - `NoFile`, without a place, where no file has the name; else the first fault of the file's text or of its includes' (`ZeroByte`,
     ///   `OpenQuote`, `OpenOther`, `NoFile`, `IncludeDepth`, `TextTooBig`), at its byte, its token or its include;
-    /// - `BadToken`, without a place, where the tokens haven't the shape of a profile's file;
+    /// - the first fault of its grammar, from the left: `BadToken` at the first token at which the grammar can't go on, and without a place
+    ///   where the tokens run out outside of a block; `OpenBlock` at the innermost brace that is open where they run out in one; `BadFlag`,
+    ///   `BadAccess` and `WriteAppend` at the token that holds the flag or the access; `TwiceNamed` and `BadName` at the name; `NestedChild`
+    ///   at the word or name that begins a child within a child; `LateAssignment` at an assignment behind a profile; `NoProfile`, without a
+    ///   place, where the file has none;
     /// - `Redefined` and `AppendUndefined` at the assignment, then `Undefined` at the token that names the variable, then `Cycle` at the
     ///   variable's first assignment;
-    /// - `TooManyRules` at the pattern with which there are more than 16,384 rules;
+    /// - `TooManyRules` at the pattern with which the file has more than 16,384, each expansion counted;
     /// - the refusal of the first expansion that is no pattern (`NotAbsolute` to `TooDeep`), at its pattern.
     ///
     /// Then `Exists`, without a place, where a profile of one of their names is loaded. `Memory`, without a place, may come anywhere: memory ran
@@ -140,12 +147,12 @@ impl Manager {
     ///
     /// # Errors
     ///
-    /// `Absent` where no profile of the name is loaded, and `Memory` where memory ran out.
+    /// `Absent` where no profile, child or hat of the full name is loaded, and `Memory` where memory ran out.
     pub fn ask(&self, question: &Question<'_>) -> Result<Vec<u8>, Refusal>
         requires { IsWellFormed question.now }
         ensures told { IfOk result (λ lines. reply_lines self.now.machine.now (asked question.entry.now) ≡ Ok lines.items) }
         ensures refused { IfErr result (λ refusal. refusal ≢ plain Memory → reply_lines self.now.machine.now (asked question.entry.now) ≡ Err refusal) }
-        // That a profile is absent is found without memory.
+        // That it is absent is found without memory.
         ensures memory { IfErr result (λ refusal. refusal ≡ plain Memory → asks_absent self.now.machine.now (asked question.entry.now) ≡ false) }
     {
         let answer = answer(&self.set, question)?;
@@ -165,10 +172,7 @@ fn answer(set: &PolicySet, question: &Question<'_>) -> Result<Answer, Refusal>
             owned,
             path,
         } => {
-            if *who == b"unconfined".as_slice() {
-                return Ok(Answer::Unconfined);
-            }
-            let Some(entry) = set.find(who) else {
+            let Some(confinement) = find_confinement(set, who) else {
                 return Err(plain(RefusalKind::Absent));
             };
             let request = FileRequest {
@@ -176,8 +180,18 @@ fn answer(set: &PolicySet, question: &Question<'_>) -> Result<Answer, Refusal>
                 owned: *owned,
                 path,
             };
-            Ok(decide(entry.mode, entry.profile.rules.as_slice(), request))
+            Ok(confined_answer(confinement, request))
         }
+    }
+}
+
+// The answer to a request, by what confines who asks.
+fn confined_answer(confinement: Confinement<'_>, request: FileRequest<'_>) -> Answer
+    ensures { confined_answer (Some (found confinement.entry)) (request_of request.entry) ≡ Ok result }
+{
+    match confinement {
+        Confinement::Unconfined => Answer::Unconfined,
+        Confinement::By { mode, rules } => decide(mode, rules, request),
     }
 }
 

@@ -2,20 +2,21 @@
 
 ghost use Rattle.std.specs.Prelude.{◌≡◌, [], ◌++◌, IfOk, OnOk, false, map, true};
 ghost use Rattle.std.specs.Option.{option_copied};
-ghost use Rattle.aa_profile.specs.Profile.{are_distinct};
-ghost use Rattle.aa_set.specs.PolicySet.{are_there, entry_named, has_name, loaded};
+ghost use Rattle.aa_policy.specs.Profile.{are_distinct};
+ghost use Rattle.aa_set.specs.PolicySet.{are_there, entry_named, has_name, loaded, own_modes};
 
-use aa_profile::{Mode, Profile};
-use std::alloc::{AllocError, AllocFailed, Global};
+use aa_bytes::Sequence;
+use aa_policy::{Mode, Profile};
+use std::alloc::{AllocError, Global};
 use std::marker::Model;
 
-/// A loaded profile and its mode.
+/// A loaded profile with its modes.
 #[derive(Debug, Drop)]
 pub struct Entry {
     /// The profile.
     pub profile: Profile,
-    /// Its mode.
-    pub mode: Mode,
+    /// Its mode, and then one for each of its children and hats, in their order.
+    pub modes: Sequence<Mode>,
 }
 
 impl Entry {
@@ -25,7 +26,7 @@ impl Entry {
     {
         Ok(Entry {
             profile: self.profile.try_copy(alloc)?,
-            mode: self.mode,
+            modes: Sequence::from_slice(alloc, self.modes.as_slice())?,
         })
     }
 }
@@ -41,15 +42,36 @@ fn copied_entries(alloc: Global, entries: &[Entry], more: usize) -> Result<Vec<E
     Ok(copies)
 }
 
+// The modes that the flags of a profile give, and of its children and hats.
+fn own_modes(alloc: Global, profile: &Profile) -> Result<Vec<Mode>, AllocError>
+    ensures { IfOk result (λ modes. modes.items ≡ own_modes profile.now) }
+{
+    let children = profile.children.as_slice();
+    let mut modes = Vec::with_capacity(alloc, children.len().saturating_add(1))?;
+    modes.push(profile.mode)?;
+    for child in children {
+        modes.push(child.mode)?;
+    }
+    Ok(modes)
+}
+
+// How a profile is loaded.
+fn loaded(alloc: Global, profile: Profile) -> Result<Entry, AllocError>
+    ensures { IfOk result (λ entry. entry ≡ loaded profile) }
+{
+    let modes = own_modes(alloc, &profile)?;
+    Ok(Entry {
+        profile,
+        modes: Sequence::from_vec(modes),
+    })
+}
+
 // Puts an entry for each profile behind others.
-fn load(entries: &mut Vec<Entry>, profiles: Vec<Profile>) -> Result<(), AllocFailed<Entry>>
+fn load(alloc: Global, entries: &mut Vec<Entry>, profiles: Vec<Profile>) -> Result<(), AllocError>
     ensures { OnOk result (entries.new.items ≡ entries.old.items ++ map loaded profiles.items) }
 {
     for profile in profiles {
-        entries.push(Entry {
-            profile,
-            mode: Mode::Enforce,
-        })?;
+        entries.push(loaded(alloc, profile)?)?;
     }
     Ok(())
 }
@@ -124,7 +146,7 @@ impl PolicySet {
         ensures { IfOk result (λ set. set ≡ self.now ++ map loaded profiles.items) }
     {
         let mut entries = copied_entries(alloc, &self.entries, profiles.len())?;
-        load(&mut entries, profiles)?;
+        load(alloc, &mut entries, profiles)?;
         Ok(PolicySet { entries })
     }
 }

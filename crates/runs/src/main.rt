@@ -23,7 +23,7 @@ impl Asks for PolicySets {
     ) -> Result<(), RowError> {
         match kind {
             "refusals" => refusals::ask(tally, parts),
-            "commands" | "profiles" | "includes" | "places" | "lengths" | "streams" => {
+            "commands" | "profiles" | "grammar" | "includes" | "places" | "lengths" | "streams" => {
                 runs::ask(tally, common, parts)
             }
             _ => Err(RowError::NoSuchKind),

@@ -42,7 +42,7 @@ const TEXT_REFUSALS: [TextRefusal; 11] = [
     TextRefusal::Memory,
 ];
 
-const REFUSAL_KINDS: [RefusalKind; 29] = [
+const REFUSAL_KINDS: [RefusalKind; 38] = [
     RefusalKind::NotAbsolute,
     RefusalKind::UnclosedClass,
     RefusalKind::EmptyClass,
@@ -65,6 +65,15 @@ const REFUSAL_KINDS: [RefusalKind; 29] = [
     RefusalKind::Cycle,
     RefusalKind::TooManyRules,
     RefusalKind::BadToken,
+    RefusalKind::OpenBlock,
+    RefusalKind::BadFlag,
+    RefusalKind::BadAccess,
+    RefusalKind::WriteAppend,
+    RefusalKind::TwiceNamed,
+    RefusalKind::NestedChild,
+    RefusalKind::LateAssignment,
+    RefusalKind::NoProfile,
+    RefusalKind::BadName,
     RefusalKind::Exists,
     RefusalKind::Absent,
     RefusalKind::NothingToUndo,

@@ -1,14 +1,17 @@
 -- How far the reading of a file has come, told by what is there.
-use Rattle.std.specs.Prelude.{Bool, List, [], ◌∷◌, ◌++◌, is_none, Option, None, Some, Result, Ok, Err}
+use Rattle.std.specs.Prelude.{◌≡◌, ◌≢◌, Bool, List, [], ◌∷◌, is_none, Option, None, Some, Result, Err, IfErr}
 use Rattle.std.specs.List.{list_all}
+use Rattle.aa_bytes.specs.Texts.{is_empty}
 use Rattle.aa_variables.specs.Expansions.{expansion_refusal}
 use Rattle.aa_text.specs.Splicing.{Placed}
 use Rattle.aa_variables.specs.Variables.{Variable}
 use Rattle.aa_files.specs.declared.text_error.Place.{Place}
 use Rattle.aa_profile.specs.Assignments.{first_undefined}
-use Rattle.aa_profile.specs.FileShape.{Assignment, place_of, text_of}
-use Rattle.aa_profile.specs.declared.profile.FileRule.{FileRule}
+use Rattle.aa_profile.specs.ProfileError.{plain}
 use Rattle.aa_profile.specs.declared.profile_error.ProfileError.{ProfileError}
+use Rattle.aa_profile.specs.declared.profile_error.ProfileRefusal.TheVariants.{Memory}
+use Rattle.aa_grammar.specs.Preamble.{Assignment}
+use Rattle.aa_rules.specs.Tokens.{place_of, text_of}
 
 -- none of the tokens leads to a name that isn't defined, or to a cycle
 abbrev pub have_expansions : List Variable → List Placed → Bool
@@ -22,7 +25,14 @@ first_undefined_value variables (assignment ∷ assignments) = elim (first_undef
   | None ↦ first_undefined_value variables assignments
 ]
 
--- some rules, and then others
-abbrev pub with_rules : List FileRule → Result (List FileRule) ProfileError → Result (List FileRule) ProfileError
-with_rules front (Err refusal) = Err refusal
-with_rules front (Ok rules) = Ok (front ++ rules)
+-- an assignment has no value
+abbrev pub has_no_value : Assignment → Bool
+has_no_value assignment = is_empty assignment.values
+
+-- an error of the code is the refusal that the definitions tell, unless memory ran out
+abbrev pub IsRefusal : {X : Type 0} → Option ProfileError → Result X ProfileError → Type 0
+IsRefusal refusal result = IfErr result (λ error. error ≢ plain Memory → refusal ≡ Some error)
+
+-- the same where the definitions tell a refusal or something else
+abbrev pub IsRefusalOf : {X Y : Type 0} → Result Y ProfileError → Result X ProfileError → Type 0
+IsRefusalOf given result = IfErr result (λ error. error ≢ plain Memory → given ≡ Err error)

@@ -1,11 +1,11 @@
-use Rattle.std.proofs.Common.{◌≡◌, ◌≤◌, length, drop}
-use Rattle.aa_files.specs.Folder.{members_from}
+use Rattle.std.proofs.Common.{◌≤◌, length}
+use Rattle.aa_files.proofs.FolderLemmas.{AreGathered}
 use Rattle.aa_files.proofs.folder.members.Given as goal
 
 -- the members from a place on are there
 abbrev pub invariant-loop-at : goal.invariant-loop-at
 invariant-loop-at l = record {
-  found : l.found.items ≡ members_from l.files l.at l.folder (drop l.at l.files);
+  found : AreGathered l.files l.at l.folder l.found.items;
   within : l.at ≤ length l.files;
 }
 

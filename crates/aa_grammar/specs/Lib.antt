@@ -1,0 +1,7 @@
+pub mod Blocks
+pub mod Files
+pub mod Flags
+pub mod Heads
+pub mod Preamble
+pub mod Sequences
+pub mod code

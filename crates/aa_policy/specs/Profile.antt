@@ -1,0 +1,14 @@
+-- Profiles by their names.
+use Rattle.std.specs.Prelude.{ℕ, Bool, true, not, ◌&&◌, List, [], ◌∷◌}
+use Rattle.std.specs.List.{list_any}
+use Rattle.std.specs.Str.{bytes_eq}
+use Rattle.aa_policy.specs.declared.profile.Profile.{Profile}
+
+-- a profile has the name
+abbrev pub is_named : List ℕ → Profile → Bool
+is_named name profile = bytes_eq profile.name name
+
+-- no two profiles have one name
+abbrev pub are_distinct : List Profile → Bool
+are_distinct [] = true
+are_distinct (profile ∷ profiles) = not (list_any (is_named profile.name) profiles) && are_distinct profiles

@@ -1,0 +1,14 @@
+use Rattle.std.proofs.Common.{◌≡◌, ◌≤◌, drop, true}
+use Rattle.aa_rules.specs.code.SeenTokens.{seen_tokens}
+use Rattle.aa_profile.specs.Patterns.{too_many}
+use Rattle.aa_profile.specs.code.FileReadingProgress.{have_expansions}
+use Rattle.aa_profile.specs.Limits.{most_rules}
+use Rattle.aa_profile.proofs.patterns.check_limit.Given as goal
+
+-- the tokens so far make so many patterns
+abbrev pub invariant-loop-token : goal.invariant-loop-token
+invariant-loop-token l = record {
+  patterns : too_many l.variables l.patterns (seen_tokens (drop l.token-index l.tokens)) ≡ too_many l.variables 0 (seen_tokens l.tokens);
+  few : l.patterns ≤ most_rules;
+  expand : have_expansions l.variables (seen_tokens (drop l.token-index l.tokens)) ≡ true;
+}

@@ -1,5 +1,0 @@
-use Rattle.std.proofs.Common.{refl}
-use Rattle.aa_profile.proofs.profile.FileRule.try_copy.Goals as goal
-
-pub returns : goal.returns
-returns c = rw c.in_ok-try_copy.ensures refl

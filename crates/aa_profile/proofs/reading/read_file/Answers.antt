@@ -1,0 +1,11 @@
+use Rattle.aa_grammar.specs.code.Seen.{seen_file}
+use Rattle.aa_rules.specs.code.SeenTokens.{seen_tokens}
+use Rattle.aa_profile.proofs.GrammarLemmas.{assignments-valued}
+use Rattle.aa_profile.proofs.ReadingLemmas.{distinct-told}
+use Rattle.aa_profile.proofs.reading.read_file.Goals as goal
+
+pub read_written-requires : goal.read_written-requires
+read_written-requires c = assignments-valued (seen_tokens c.deref.result.now) (seen_file c.in_ok-file.file) c.in_ok-file.ensures.ok
+
+pub returns-clause-distinct : goal.returns-clause-distinct
+returns-clause-distinct c = distinct-told (seen_tokens c.deref.result.now) (seen_file c.in_ok-file.file) c.read_written.result c.in_ok-file.ensures.ok c.read_written.ensures.ok

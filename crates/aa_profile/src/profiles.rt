@@ -1,0 +1,268 @@
+//! Profiles as their files write them, with the patterns that their variables make.
+//!
+//! Each function here goes over its part once, and tells the refusal of the first token of it that makes no pattern.
+
+ghost use Rattle.std.specs.Prelude.{◌≡◌, ◌≢◌, ◌++◌, ◌∷◌, [], None, Some, IfOk, IfErr, OnOk, true, map};
+ghost use Rattle.aa_text.specs.code.SplicingProgress.{seen_spliced};
+ghost use Rattle.aa_grammar.specs.code.Seen.{seen_child, seen_head, seen_member, seen_profile};
+ghost use Rattle.aa_rules.specs.code.SeenRules.{seen_rule};
+ghost use Rattle.aa_rules.specs.code.SeenTokens.{seen_tokens};
+ghost use Rattle.aa_profile.specs.PatternTokens.{of_child, of_head, of_member, of_members, of_profile, of_profiles, of_rule, of_rules};
+ghost use Rattle.aa_profile.specs.Patterns.{first_bad};
+ghost use Rattle.aa_profile.specs.Profiles.{attachments_of, child_of, children_of, children_of_member, file_rule, mode_of, other_rule, profile_of, rules_of, rules_of_member, rules_of_members, rules_of_rule};
+ghost use Rattle.aa_profile.specs.code.FileReadingProgress.{IsRefusal, have_expansions};
+ghost use Rattle.aa_profile.specs.ProfileError.{plain};
+ghost use Rattle.aa_profile.specs.declared.profile_error.ProfileRefusal.TheVariants.{Memory};
+
+use crate::kept_rules::kept_text;
+use crate::patterns::read_patterns;
+use crate::profile_error::ProfileError;
+use aa_access::Perms;
+use aa_bytes::Sequence;
+use aa_glob::Pattern;
+use aa_grammar::{
+    Child as WrittenChild, Flags, Head, Member, Profile as WrittenProfile, Qualifiers,
+    Rule as WrittenRule,
+};
+use aa_policy::{Child, FileRule, Mode, OtherRule, Profile, Rule};
+use aa_text::{Spliced, Variables};
+use std::alloc::{AllocError, AllocFailed, Global};
+
+// The file rule of a pattern.
+fn file_rule(qualifiers: Qualifiers, access: Perms, pattern: Pattern) -> Rule
+    ensures { result ≡ file_rule qualifiers access.0 pattern }
+{
+    Rule::File(FileRule {
+        pattern,
+        access,
+        owner: qualifiers.owner,
+        deny: qualifiers.deny,
+        audit: qualifiers.audit,
+    })
+}
+
+// Puts a file rule for each pattern behind others.
+fn push_file_rules(
+    qualifiers: Qualifiers,
+    access: Perms,
+    patterns: Vec<Pattern>,
+    rules: &mut Vec<Rule>,
+) -> Result<(), AllocFailed<Rule>>
+    ensures { OnOk result (rules.new.items ≡ rules.old.items ++ map (file_rule qualifiers access.0) patterns.items) }
+{
+    for pattern in patterns {
+        rules.push(file_rule(qualifiers, access, pattern))?;
+    }
+    Ok(())
+}
+
+// A rule that is kept.
+fn other_rule(
+    alloc: Global,
+    qualifiers: Qualifiers,
+    tokens: &[Spliced<'_>],
+) -> Result<Rule, AllocError>
+    ensures { IfOk result (λ rule. rule ≡ other_rule qualifiers (seen_tokens tokens.now)) }
+{
+    let text = kept_text(alloc, tokens)?;
+    Ok(Rule::Other(OtherRule {
+        text: Sequence::from_vec(text),
+        owner: qualifiers.owner,
+        deny: qualifiers.deny,
+        audit: qualifiers.audit,
+    }))
+}
+
+// Puts the rules that a written one makes behind others.
+fn push_rule(
+    alloc: Global,
+    variables: &Variables,
+    rule: &WrittenRule<'_>,
+    rules: &mut Vec<Rule>,
+) -> Result<(), ProfileError>
+    requires { have_expansions variables.now (of_rule (seen_rule rule.now)) ≡ true }
+    ensures ok { OnOk result (rules.new.items ≡ rules.old.items ++ rules_of_rule variables.now (seen_rule rule.now)) }
+    ensures fine { OnOk result (first_bad variables.now (of_rule (seen_rule rule.now)) ≡ None) }
+    ensures refused { IsRefusal (first_bad variables.now (of_rule (seen_rule rule.now))) result }
+{
+    match rule {
+        WrittenRule::OnFile {
+            qualifiers,
+            pattern,
+            access,
+        } => {
+            let patterns = read_patterns(alloc, variables, *pattern)?;
+            push_file_rules(*qualifiers, *access, patterns, rules)?;
+        }
+        WrittenRule::Kept { qualifiers, tokens } => {
+            rules.push(other_rule(alloc, *qualifiers, tokens)?)?;
+        }
+    }
+    Ok(())
+}
+
+// The rules that written ones make.
+fn read_rules(
+    alloc: Global,
+    variables: &Variables,
+    written: &[WrittenRule<'_>],
+) -> Result<Vec<Rule>, ProfileError>
+    requires { have_expansions variables.now (of_rules (map seen_rule written.now)) ≡ true }
+    ensures ok { IfOk result (λ rules. rules.items ≡ rules_of variables.now (map seen_rule written.now)) }
+    ensures fine { IfOk result (λ read. first_bad variables.now (of_rules (map seen_rule written.now)) ≡ None) }
+    ensures refused { IsRefusal (first_bad variables.now (of_rules (map seen_rule written.now))) result }
+{
+    let mut rules = Vec::new(alloc);
+    let mut rest = written;
+    while let [rule, behind @ ..] = rest {
+        push_rule(alloc, variables, rule, &mut rules)?;
+        rest = behind;
+    }
+    Ok(rules)
+}
+
+// The patterns of a head's attachment.
+fn read_attachments(
+    alloc: Global,
+    variables: &Variables,
+    head: &Head<'_>,
+) -> Result<Vec<Pattern>, ProfileError>
+    requires { have_expansions variables.now (of_head (seen_head head.now)) ≡ true }
+    ensures ok { IfOk result (λ patterns. patterns.items ≡ attachments_of variables.now (seen_head head.now)) }
+    ensures fine { IfOk result (λ read. first_bad variables.now (of_head (seen_head head.now)) ≡ None) }
+    ensures refused { IsRefusal (first_bad variables.now (of_head (seen_head head.now))) result }
+{
+    match head.attachment {
+        Some(token) => read_patterns(alloc, variables, token),
+        None => Ok(Vec::new(alloc)),
+    }
+}
+
+// The mode of flags.
+fn mode_of(flags: Flags) -> Mode
+    ensures { result ≡ mode_of flags }
+{
+    if flags.complain {
+        Mode::Complain
+    } else {
+        Mode::Enforce
+    }
+}
+
+// A child or a hat.
+#[tactic(auto, using(crate::proofs::ProfileLemmas::first_bad_behind, crate::proofs::ProfileLemmas::first_bad_front, crate::proofs::ProfileLemmas::expand_front, crate::proofs::ProfileLemmas::expand_behind))]
+fn read_child(
+    alloc: Global,
+    variables: &Variables,
+    child: &WrittenChild<'_>,
+) -> Result<Child, ProfileError>
+    requires { have_expansions variables.now (of_child (seen_child child.now)) ≡ true }
+    ensures ok { IfOk result (λ read. read ≡ child_of variables.now (seen_child child.now)) }
+    ensures fine { IfOk result (λ read. first_bad variables.now (of_child (seen_child child.now)) ≡ None) }
+    ensures refused { IsRefusal (first_bad variables.now (of_child (seen_child child.now))) result }
+{
+    let attachments = read_attachments(alloc, variables, &child.head)?;
+    let rules = read_rules(alloc, variables, &child.rules)?;
+    Ok(Child {
+        name: Sequence::from_slice(alloc, child.head.name)?,
+        hat: child.hat,
+        attachments: Sequence::from_vec(attachments),
+        audit: child.head.flags.audit,
+        mode: mode_of(child.head.flags),
+        rules: Sequence::from_vec(rules),
+    })
+}
+
+// Puts what a member of a block makes behind rules or children.
+fn push_member(
+    alloc: Global,
+    variables: &Variables,
+    member: &Member<'_>,
+    rules: &mut Vec<Rule>,
+    children: &mut Vec<Child>,
+) -> Result<(), ProfileError>
+    requires { have_expansions variables.now (of_member (seen_member member.now)) ≡ true }
+    ensures rules { OnOk result (rules.new.items ≡ rules.old.items ++ rules_of_member variables.now (seen_member member.now)) }
+    ensures children { OnOk result (children.new.items ≡ children.old.items ++ children_of_member variables.now (seen_member member.now)) }
+    ensures fine { OnOk result (first_bad variables.now (of_member (seen_member member.now)) ≡ None) }
+    ensures refused { IsRefusal (first_bad variables.now (of_member (seen_member member.now))) result }
+{
+    match member {
+        Member::OfRule(rule) => push_rule(alloc, variables, rule, rules),
+        Member::OfChild(child) => {
+            let child = read_child(alloc, variables, child)?;
+            children.push(child)?;
+            Ok(())
+        }
+    }
+}
+
+// The rules and the children that a block's members make.
+fn read_members(
+    alloc: Global,
+    variables: &Variables,
+    members: &[Member<'_>],
+) -> Result<(Vec<Rule>, Vec<Child>), ProfileError>
+    requires { have_expansions variables.now (of_members (map seen_member members.now)) ≡ true }
+    ensures rules { IfOk result (λ read. read.0.items ≡ rules_of_members variables.now (map seen_member members.now)) }
+    ensures children { IfOk result (λ read. read.1.items ≡ children_of variables.now (map seen_member members.now)) }
+    ensures fine { IfOk result (λ read. first_bad variables.now (of_members (map seen_member members.now)) ≡ None) }
+    ensures refused { IsRefusal (first_bad variables.now (of_members (map seen_member members.now))) result }
+{
+    let mut rules = Vec::new(alloc);
+    let mut children = Vec::new(alloc);
+    let mut rest = members;
+    while let [member, behind @ ..] = rest {
+        push_member(alloc, variables, member, &mut rules, &mut children)?;
+        rest = behind;
+    }
+    Ok((rules, children))
+}
+
+// A profile.
+#[tactic(auto, using(crate::proofs::ProfileLemmas::first_bad_behind, crate::proofs::ProfileLemmas::first_bad_front, crate::proofs::ProfileLemmas::expand_front, crate::proofs::ProfileLemmas::expand_behind))]
+fn read_profile(
+    alloc: Global,
+    variables: &Variables,
+    profile: &WrittenProfile<'_>,
+) -> Result<Profile, ProfileError>
+    requires { have_expansions variables.now (of_profile (seen_profile profile.now)) ≡ true }
+    ensures ok { IfOk result (λ read. read ≡ profile_of variables.now (seen_profile profile.now)) }
+    ensures fine { IfOk result (λ read. first_bad variables.now (of_profile (seen_profile profile.now)) ≡ None) }
+    ensures refused { IsRefusal (first_bad variables.now (of_profile (seen_profile profile.now))) result }
+{
+    let attachments = read_attachments(alloc, variables, &profile.head)?;
+    let (rules, children) = read_members(alloc, variables, &profile.members)?;
+    Ok(Profile {
+        name: Sequence::from_slice(alloc, profile.head.name)?,
+        attachments: Sequence::from_vec(attachments),
+        audit: profile.head.flags.audit,
+        mode: mode_of(profile.head.flags),
+        rules: Sequence::from_vec(rules),
+        children: Sequence::from_vec(children),
+    })
+}
+
+/// Profiles, with the patterns that variables make.
+///
+/// # Errors
+///
+/// The refusal of the first token of a pattern of which an expansion makes none, at this token; `Memory`, without a place: memory ran out.
+pub fn read_profiles(
+    alloc: Global,
+    variables: &Variables,
+    written: &[WrittenProfile<'_>],
+) -> Result<Vec<Profile>, ProfileError>
+    requires { have_expansions variables.now (of_profiles (map seen_profile written.now)) ≡ true }
+    ensures ok { IfOk result (λ profiles. profiles.items ≡ map (profile_of variables.now) (map seen_profile written.now)) }
+    ensures fine { IfOk result (λ read. first_bad variables.now (of_profiles (map seen_profile written.now)) ≡ None) }
+    ensures refused { IsRefusal (first_bad variables.now (of_profiles (map seen_profile written.now))) result }
+{
+    let mut profiles = Vec::new(alloc);
+    let mut rest = written;
+    while let [profile, behind @ ..] = rest {
+        profiles.push(read_profile(alloc, variables, profile)?)?;
+        rest = behind;
+    }
+    Ok(profiles)
+}

@@ -1,0 +1,16 @@
+//! Rules of a profile's file as they are written: qualifiers, patterns and access, and the rules that are kept as they are.
+#![tactic(auto)]
+
+mod access;
+mod fault;
+mod kept_rules;
+mod names;
+mod qualifiers;
+mod rules;
+mod token;
+
+pub use fault::{Fault, GrammarRefusal, refusal_at};
+pub use names::{is_name, is_top_name};
+pub use qualifiers::Qualifiers;
+pub use rules::{Rule, read_rule};
+pub use token::{is_pattern, is_word_of, place_of, read_comma, read_text, unexpected};
