@@ -207,6 +207,10 @@ impl Refusal {
 
 // Its name, which `docs/commands.md` explains.
 impl Display for RefusalKind {
+    ghost use Rattle.std.specs.Prelude.{Some};
+
+    ghost output = { λ refusal. Some (name_of (plain refusal)) };
+
     fn fmt<W: Write>(&self, f: &mut Formatter<W>) -> fmt::Result {
         f.write_str(plain(*self).name())
     }

@@ -1,5 +1,6 @@
 pub mod Blocks
 pub mod Files
+pub mod FlagText
 pub mod Flags
 pub mod Heads
 pub mod Preamble

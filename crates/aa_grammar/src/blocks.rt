@@ -1,19 +1,19 @@
 //! Profiles, children and hats, whole.
 
 ghost use Rattle.std.specs.Prelude.{◌≡◌, ◌<◌, IfOk, IfErr, false, length, map};
-ghost use Rattle.std.specs.List.{list_any};
 ghost use Rattle.aa_text.specs.code.SplicingProgress.{seen_spliced};
 ghost use Rattle.aa_rules.specs.code.Readings.{IsFault, IsFaultOrMemory, IsRead};
 ghost use Rattle.aa_rules.specs.code.SeenRules.{seen_rule};
 ghost use Rattle.aa_grammar.specs.Blocks.{all_profiles, child_behind, child_block, profile_behind, profile_block};
 ghost use Rattle.aa_grammar.specs.Blocks.{child, child_rule, member, next_member, next_profile, next_rule, profile};
-ghost use Rattle.aa_grammar.specs.Blocks.{closed_fault, is_child_of_name, is_of_name, refusal_of_name};
+ghost use Rattle.aa_grammar.specs.Blocks.{closed_fault, refusal_of_name};
 ghost use Rattle.aa_grammar.specs.code.Readings.{IsNext};
 ghost use Rattle.aa_grammar.specs.code.Seen.{is_end, seen_child, seen_items, seen_member, seen_named, seen_profile};
 
 use crate::heads::{Form, Head, Named, begins_child, read_child_name, read_head, read_top_name};
 use crate::preamble::read_version;
 use crate::sequence::{Next, Rest};
+use crate::so_far::{MembersSoFar, ProfilesSoFar};
 use aa_rules::{
     Fault, GrammarRefusal, Rule, is_name, is_top_name, is_word_of, read_rule, refusal_at,
 };
@@ -153,42 +153,19 @@ fn read_child_behind<'a>(
     }
 }
 
-// Whether a member of a block is a child or a hat of this name.
-fn is_child_of_name(name: &[u8], member: &Member<'_>) -> bool
-    ensures { result ≡ is_child_of_name name.now (seen_member member.now) }
-{
-    match member {
-        Member::OfRule(_) => false,
-        Member::OfChild(child) => child.head.name == name,
-    }
-}
-
-fn has_child(members: &[Member<'_>], name: &[u8]) -> bool
-    ensures { result ≡ list_any (is_child_of_name name.now) (map seen_member members.now) }
-{
-    let mut rest = members;
-    while let [member, behind @ ..] = rest {
-        if is_child_of_name(name, member) {
-            return true;
-        }
-        rest = behind;
-    }
-    false
-}
-
 // A child or a hat, from its first token and those behind it, and what stands behind its closing brace.
 fn read_child<'a>(
     alloc: Global,
-    members: &[Member<'_>],
+    members: &MembersSoFar<'_>,
     token: Spliced<'a>,
     tokens: &'a [Spliced<'a>],
 ) -> Result<(Child<'a>, &'a [Spliced<'a>]), Fault>
-    ensures ok { IfOk result (IsRead seen_child (child (map seen_member members.now) (seen_spliced token.entry)) tokens.now) }
-    ensures refused { IfErr result (IsFaultOrMemory (child (map seen_member members.now) (seen_spliced token.entry)) tokens.now) }
+    ensures ok { IfOk result (IsRead seen_child (child (map seen_member members.now.items.items) (seen_spliced token.entry)) tokens.now) }
+    ensures refused { IfErr result (IsFaultOrMemory (child (map seen_member members.now.items.items) (seen_spliced token.entry)) tokens.now) }
     ensures shorter { IfOk result (λ read. length read.1.now < length tokens.now) }
 {
     let (named, behind) = read_child_name(token, tokens)?;
-    match refusal_of_name(is_name(named.name), has_child(members, named.name)) {
+    match refusal_of_name(is_name(named.name), members.has(named.name)) {
         Some(refusal) => Err(refusal_at(refusal, named.token)),
         None => read_child_behind(alloc, named, behind),
     }
@@ -197,11 +174,11 @@ fn read_child<'a>(
 // A member of a profile's block, and what stands behind it.
 fn read_member<'a>(
     alloc: Global,
-    members: &[Member<'_>],
+    members: &MembersSoFar<'_>,
     tokens: &'a [Spliced<'a>],
 ) -> Result<(Member<'a>, &'a [Spliced<'a>]), Fault>
-    ensures ok { IfOk result (IsRead seen_member (member (map seen_member members.now)) tokens.now) }
-    ensures refused { IfErr result (IsFaultOrMemory (member (map seen_member members.now)) tokens.now) }
+    ensures ok { IfOk result (IsRead seen_member (member (map seen_member members.now.items.items)) tokens.now) }
+    ensures refused { IfErr result (IsFaultOrMemory (member (map seen_member members.now.items.items)) tokens.now) }
     ensures shorter { IfOk result (λ read. length read.1.now < length tokens.now) }
 {
     let [token, behind @ ..] = tokens else {
@@ -218,11 +195,11 @@ fn read_member<'a>(
 // What comes next in the block of a profile, and what stands behind it.
 fn next_member<'a>(
     alloc: Global,
-    members: &[Member<'_>],
+    members: &MembersSoFar<'_>,
     rest: Rest<'a>,
 ) -> Result<(Next<Member<'a>>, Rest<'a>), Fault>
-    ensures ok { IfOk result (IsNext seen_member (next_member (map seen_member members.now)) rest.entry) }
-    ensures refused { IfErr result (IsFaultOrMemory (next_member (map seen_member members.now)) rest.entry.tokens.now) }
+    ensures ok { IfOk result (IsNext seen_member (next_member (map seen_member members.now.items.items)) rest.entry) }
+    ensures refused { IfErr result (IsFaultOrMemory (next_member (map seen_member members.now.items.items)) rest.entry.tokens.now) }
     ensures shorter { IfOk result (λ read. length read.1.tokens.now < length rest.entry.tokens.now) }
 {
     let [token, behind @ ..] = rest.tokens else {
@@ -248,14 +225,14 @@ fn read_members<'a>(
     ensures refused { IfErr result (IsFaultOrMemory profile_block tokens.now) }
     ensures shorter { IfOk result (λ read. length read.1.now < length tokens.now) }
 {
-    let mut members = Vec::new(alloc);
+    let mut members = MembersSoFar::new(alloc);
     let mut rest = Rest { tokens };
     loop {
         let (next, behind) = next_member(alloc, &members, rest)?;
         match next {
-            Next::Item(member) => members.push(member)?,
+            Next::Item(member) => members = members.with(member)?,
             Next::Nothing => {}
-            Next::End => return Ok((members, behind.tokens)),
+            Next::End => return Ok((members.items, behind.tokens)),
         }
         rest = behind;
     }
@@ -278,32 +255,19 @@ fn read_profile_behind<'a>(
     }
 }
 
-fn has_profile(profiles: &[Profile<'_>], name: &[u8]) -> bool
-    ensures { result ≡ list_any (is_of_name name.now) (map seen_profile profiles.now) }
-{
-    let mut rest = profiles;
-    while let [profile, behind @ ..] = rest {
-        if profile.head.name == name {
-            return true;
-        }
-        rest = behind;
-    }
-    false
-}
-
 // A profile, from its first token and those behind it, and what stands behind its closing brace.
 fn read_profile<'a>(
     alloc: Global,
-    profiles: &[Profile<'_>],
+    profiles: &ProfilesSoFar<'_>,
     token: Spliced<'a>,
     tokens: &'a [Spliced<'a>],
 ) -> Result<(Profile<'a>, &'a [Spliced<'a>]), Fault>
-    ensures ok { IfOk result (IsRead seen_profile (profile (map seen_profile profiles.now) (seen_spliced token.entry)) tokens.now) }
-    ensures refused { IfErr result (IsFaultOrMemory (profile (map seen_profile profiles.now) (seen_spliced token.entry)) tokens.now) }
+    ensures ok { IfOk result (IsRead seen_profile (profile (map seen_profile profiles.now.items.items) (seen_spliced token.entry)) tokens.now) }
+    ensures refused { IfErr result (IsFaultOrMemory (profile (map seen_profile profiles.now.items.items) (seen_spliced token.entry)) tokens.now) }
     ensures shorter { IfOk result (λ read. length read.1.now < length tokens.now) }
 {
     let (named, behind) = read_top_name(token, tokens)?;
-    match refusal_of_name(is_top_name(named.name), has_profile(profiles, named.name)) {
+    match refusal_of_name(is_top_name(named.name), profiles.has(named.name)) {
         Some(refusal) => Err(refusal_at(refusal, named.token)),
         None => read_profile_behind(alloc, named, behind),
     }
@@ -312,11 +276,11 @@ fn read_profile<'a>(
 // What comes next in a file behind its preamble, and what stands behind it.
 fn next_profile<'a>(
     alloc: Global,
-    profiles: &[Profile<'_>],
+    profiles: &ProfilesSoFar<'_>,
     rest: Rest<'a>,
 ) -> Result<(Next<Profile<'a>>, Rest<'a>), Fault>
-    ensures ok { IfOk result (IsNext seen_profile (next_profile (map seen_profile profiles.now)) rest.entry) }
-    ensures refused { IfErr result (IsFaultOrMemory (next_profile (map seen_profile profiles.now)) rest.entry.tokens.now) }
+    ensures ok { IfOk result (IsNext seen_profile (next_profile (map seen_profile profiles.now.items.items)) rest.entry) }
+    ensures refused { IfErr result (IsFaultOrMemory (next_profile (map seen_profile profiles.now.items.items)) rest.entry.tokens.now) }
     ensures shorter { IfOk result (λ read. is_end read.0 ≡ false → length read.1.tokens.now < length rest.entry.tokens.now) }
 {
     let [token, behind @ ..] = rest.tokens else {
@@ -338,14 +302,14 @@ pub fn read_profiles<'a>(
     ensures ok { IfOk result (IsRead (seen_items seen_profile) all_profiles tokens.now) }
     ensures refused { IfErr result (IsFaultOrMemory all_profiles tokens.now) }
 {
-    let mut profiles = Vec::new(alloc);
+    let mut profiles = ProfilesSoFar::new(alloc);
     let mut rest = Rest { tokens };
     loop {
         let (next, behind) = next_profile(alloc, &profiles, rest)?;
         match next {
-            Next::Item(profile) => profiles.push(profile)?,
+            Next::Item(profile) => profiles = profiles.with(profile)?,
             Next::Nothing => {}
-            Next::End => return Ok((profiles, behind.tokens)),
+            Next::End => return Ok((profiles.items, behind.tokens)),
         }
         rest = behind;
     }

@@ -1,7 +1,8 @@
--- Profiles by their names.
+-- Profiles, children and hats by their names.
 use Rattle.std.specs.Prelude.{ℕ, Bool, true, not, ◌&&◌, List, [], ◌∷◌}
 use Rattle.std.specs.List.{list_any}
 use Rattle.std.specs.Str.{bytes_eq}
+use Rattle.aa_policy.specs.declared.profile.Child.{Child}
 use Rattle.aa_policy.specs.declared.profile.Profile.{Profile}
 
 -- a profile has the name
@@ -12,3 +13,12 @@ is_named name profile = bytes_eq profile.name name
 abbrev pub are_distinct : List Profile → Bool
 are_distinct [] = true
 are_distinct (profile ∷ profiles) = not (list_any (is_named profile.name) profiles) && are_distinct profiles
+
+-- a child or a hat has the name
+abbrev pub is_child_named : List ℕ → Child → Bool
+is_child_named name child = bytes_eq child.name name
+
+-- no two children or hats have one name
+abbrev pub are_distinct_children : List Child → Bool
+are_distinct_children [] = true
+are_distinct_children (child ∷ children) = not (list_any (is_child_named child.name) children) && are_distinct_children children

@@ -1,20 +1,11 @@
--- What a file's grammar sees to: each assignment has a value, and no two profiles have one name.
-use Rattle.std.proofs.Common.{◌≡◌, ℕ, zero, suc, ◌+◌, Bool, true, false, List, [], ◌∷◌, ◌++◌, map, take, drop, length, None, Some, Result, Ok, Err, refl, sym, ap, ◌∙◌, subst, arith}
-use Rattle.std.specs.Prelude.{not, ◌==◌, if◌then◌else◌, codes}
+-- What a file's grammar keeps true: of what is read in a row, and of its assignments, which have values.
+use Rattle.std.proofs.Common.{◌≡◌, ℕ, zero, suc, ◌+◌, Bool, true, false, List, [], ◌∷◌, ◌++◌, take, drop, length, None, Result, Ok, Err, refl, sym, ap, ◌∙◌, subst, arith}
+use Rattle.std.specs.Prelude.{◌==◌, if◌then◌else◌, codes}
 use Rattle.std.specs.List.{list_any}
-use Rattle.std.specs.Str.{bytes_eq}
-use Rattle.std.proofs.lemmas.Bool.{and_parts, or_parts}
+use Rattle.std.proofs.lemmas.Bool.{or_parts}
 use Rattle.aa_bytes.specs.Texts.{is_empty}
 use Rattle.aa_text.specs.Splicing.{Placed}
-use Rattle.aa_grammar.specs.Blocks.{Profile as WrittenProfile, closed, is_of_name, next_member, next_profile, profile, profile_behind, refusal_of_name}
-use Rattle.aa_grammar.specs.Flags.{flags}
-use Rattle.aa_grammar.specs.Heads.{Named, attachment, head, top_name}
-use Rattle.aa_policy.specs.Profile.{are_distinct, is_named}
-use Rattle.aa_profile.specs.Profiles.{profile_of}
-use Rattle.aa_rules.specs.Names.{is_top_name}
-use Rattle.aa_variables.specs.Variables.{Variable}
-use Rattle.std.proofs.lemmas.List.{map-append}
-use Rattle.std.proofs.lemmas.Slice.Eq.{bytes_eq-Decides}
+use Rattle.aa_grammar.specs.Blocks.{Profile as WrittenProfile, next_profile, profile}
 use Rattle.aa_grammar.specs.Files.{File, file, told}
 use Rattle.aa_grammar.specs.Preamble.{Assignment, assignment, behind_version, is_value, next_assignment, preamble, value_count}
 use Rattle.aa_grammar.specs.declared.grammar_error.GrammarError.{GrammarError}
@@ -24,13 +15,13 @@ use Rattle.aa_tokens.specs.declared.cut.TokenKind.TheVariants.{Include, Assign, 
 use Rattle.aa_grammar.specs.Sequences.{row, rows, skipped}
 use Rattle.aa_grammar.specs.declared.sequence.Next.{Next}
 use Rattle.aa_grammar.specs.declared.sequence.Next.TheVariants.{Item, Nothing, End}
-use Rattle.aa_rules.specs.Parts.{Part, followed, refused, unexpected}
+use Rattle.aa_rules.specs.Parts.{Part, followed, unexpected}
 use Rattle.aa_rules.specs.Tokens.{is_word_of}
 use Rattle.aa_rules.specs.declared.fault.GrammarRefusal.TheVariants.{NoProfile}
 use Rattle.aa_rules.specs.declared.fault.Fault.{Fault}
 
 -- what was read is one, where it is told twice
-first-told : {A : Type 0} (x y : A × List Placed) → ◌≡◌ {A = Part A} (Ok x) (Ok y) → x.0 ≡ y.0
+pub first-told : {A : Type 0} (x y : A × List Placed) → ◌≡◌ {A = Part A} (Ok x) (Ok y) → x.0 ≡ y.0
 first-told x y h = let same : x ≡ y = cc in ap (λ read. read.0) same
 
 -- what each further part keeps true, all of a row keep true
@@ -50,14 +41,13 @@ row-keeps {A = A} next P step (suc most) read all tokens rest p h = by (next rea
         subst P same p
 
 -- what a part and what follows it read
-followed-ok : {A B : Type 0} (part : Part A) (next : A → List Placed → Result B Fault) (b : B) → followed part next ≡ Ok b
+pub followed-ok : {A B : Type 0} (part : Part A) (next : A → List Placed → Result B Fault) (b : B) → followed part next ≡ Ok b
     → (a : A) × (behind : List Placed) × (part ≡ Ok (a, behind)) × (next a behind ≡ Ok b)
 followed-ok (Err fault) next b h = absurd (cc)
 followed-ok (Ok (a, behind)) next b h = (a, behind, refl, h)
 
--- no assignment comes of what isn't kept
-no-skipped : {X : Type 0} (behind : Result (List Placed) Fault) (more : List Placed) (item : Assignment)
-    → ◌≡◌ {A = Part (Next Assignment)} (skipped behind) (Ok (Item item, more)) → X
+-- no item comes of what isn't kept
+pub no-skipped : {A X : Type 0} (behind : Result (List Placed) Fault) (more : List Placed) (item : A) → ◌≡◌ {A = Part (Next A)} (skipped behind) (Ok (Item item, more)) → X
 no-skipped (Err fault) more item h = absurd (cc)
 no-skipped (Ok rest) more item h = let wrong : Nothing ≡ Item item = first-told (Nothing, rest) (Item item, more) h in absurd (cc)
 
@@ -111,7 +101,7 @@ next-valued (token ∷ tokens) more item h = by token.token.kind refl
     by CloseBrace e = no-item (is_word_of (codes "abi") token) token tokens more item (rw (next_assignment, e) at h)
 
 -- one more at the end, of which the test fails as of the others
-any-push : {X : Type 0} (p : X → Bool) (xs : List X) (x : X) → list_any p xs ≡ false → p x ≡ false → list_any p (xs ++ x ∷ []) ≡ false
+pub any-push : {X : Type 0} (p : X → Bool) (xs : List X) (x : X) → list_any p xs ≡ false → p x ≡ false → list_any p (xs ++ x ∷ []) ≡ false
 any-push p [] x none h = rw h refl
 any-push p (y ∷ xs) x none h = let parts = or_parts (p y) (list_any p xs) none in rw (parts.0, any-push p xs x parts.1 h) refl
 
@@ -139,67 +129,11 @@ assignments-valued tokens read h = by (preamble tokens) refl
         (suc (length tokens)) [] assignments tokens rest refl e in
         ap (list_any has_no_value) (sym (same assignments (rows next_profile rest) (rw (file, e) at h))) ∙ all
 
--- names that differ, differ the other way round
-names-differ : (xs ys : List ℕ) → bytes_eq xs ys ≡ false → bytes_eq ys xs ≡ false
-names-differ xs ys h = by (bytes_eq ys xs) refl
-  where
-    by : (b : Bool) → bytes_eq ys xs ≡ b → bytes_eq ys xs ≡ false
-    by true e =
-        let same : ys ≡ xs = (bytes_eq-Decides ys xs).0 e in
-        let there : bytes_eq xs ys ≡ true = (bytes_eq-Decides xs ys).1 (sym same) in
-        absurd (cc)
-    by false e = e
-
--- one more profile, whose name none has
-distinct-push : (variables : List Variable) (read : List WrittenProfile) (item : WrittenProfile) → are_distinct (map (profile_of variables) read) ≡ true
-    → list_any (is_of_name item.head.name) read ≡ false → are_distinct (map (profile_of variables) (read ++ item ∷ [])) ≡ true
-distinct-push variables [] item distinct fresh = refl
-distinct-push variables (first ∷ read) item distinct fresh =
-    let name = first.head.name in
-    let others = and_parts (not (list_any (is_named name) (map (profile_of variables) read))) (are_distinct (map (profile_of variables) read)) distinct in
-    let differ = or_parts (bytes_eq name item.head.name) (list_any (is_of_name item.head.name) read) fresh in
-    let alone : list_any (is_named name) (map (profile_of variables) (read ++ item ∷ [])) ≡ false =
-    rw map-append (any-push (is_named name) (map (profile_of variables) read) (profile_of variables item) (not-true (list_any (is_named name) (map (profile_of variables) read)) others.0) (names-differ name item.head.name differ.0))
-    in
-    rw (are_distinct, alone, distinct-push variables read item others.1 differ.1) refl
-  where
-    not-true : (b : Bool) → not b ≡ true → b ≡ false
-    not-true true h = absurd (cc)
-    not-true false h = refl
-
--- the name of a profile is that of its head
-named-profile : (named : Named) (tokens rest : List Placed) (profile : WrittenProfile) → profile_behind named tokens ≡ Ok (profile, rest) → profile.head.name ≡ named.name
-named-profile named tokens rest profile h =
-    let headed = followed-ok (head named tokens) (λ head behind. followed (closed head.brace (rows next_member behind)) (λ members rest. Ok (record { head = head; members = members }, rest))) (profile, rest) h in
-    let inside = followed-ok (closed headed.0.brace (rows next_member headed.1)) (λ members rest. Ok (record { head = headed.0; members = members }, rest)) (profile, rest) headed.3 in
-    let flagged = followed-ok (flags (attachment named tokens).1) (λ read behind. Ok (record { name = named.name; attachment = (attachment named tokens).0; flags = read.0; brace = read.1 }, behind)) (headed.0, headed.1) headed.2 in
-    let whole : record { head = headed.0; members = inside.0 } ≡ profile = first-told (record { head = headed.0; members = inside.0 }, inside.1) (profile, rest) inside.3 in
-    let front : record { name = named.name; attachment = (attachment named tokens).0; flags = flagged.0.0; brace = flagged.0.1 } ≡ headed.0 =
-    first-told (record { name = named.name; attachment = (attachment named tokens).0; flags = flagged.0.0; brace = flagged.0.1 }, flagged.1) (headed.0, headed.1) flagged.3
-    in
-    ap (λ profile. profile.head.name) (sym whole) ∙ ap (λ head. head.name) (sym front)
-
--- a profile that comes next has a name that none before it has
-next-fresh : (read : List WrittenProfile) (tokens more : List Placed) (item : WrittenProfile) → next_profile read tokens ≡ Ok (Item item, more) → list_any (is_of_name item.head.name) read ≡ false
-next-fresh read [] more item h = let wrong : End ≡ Item item = first-told (End, []) (Item item, more) h in absurd (cc)
-next-fresh read (token ∷ tokens) more item h =
-    let whole = followed-ok (profile read token tokens) (λ profile behind. Ok (Item profile, behind)) (Item item, more) h in
-    let one : Item whole.0 ≡ Item item = first-told (Item whole.0, whole.1) (Item item, more) whole.3 in
-    let same : whole.0 ≡ item = cc in
-    let named = followed-ok (top_name token tokens) (λ named behind. elim (refusal_of_name (is_top_name named.name) (list_any (is_of_name named.name) read)) [ Some refusal ↦ refused refusal named.token | None ↦ profile_behind named behind ]) (whole.0, whole.1) whole.2 in
-    ap (λ item. list_any (is_of_name item.head.name) read) (sym same)
-    ∙ by (is_top_name named.0.name) (list_any (is_of_name named.0.name) read) named.0 named.1 whole.0 whole.1 refl named.3
-  where
-    by : (fits taken : Bool) → (named : Named) (behind : List Placed) (found : WrittenProfile) (rest : List Placed) → list_any (is_of_name named.name) read ≡ taken
-        → ◌≡◌ {A = Part WrittenProfile} (elim (refusal_of_name fits taken) [ Some refusal ↦ refused refusal named.token | None ↦ profile_behind named behind ]) (Ok (found, rest))
-        → list_any (is_of_name found.head.name) read ≡ false
-    by false taken named behind found rest e whole = absurd (cc)
-    by true true named behind found rest e whole = absurd (cc)
-    by true false named behind found rest e whole = ap (λ name. list_any (is_of_name name) read) (named-profile named behind rest found whole) ∙ e
-
--- no two profiles of a file have one name
-pub profiles-distinct : (variables : List Variable) (tokens : List Placed) (read : File) → file tokens ≡ Ok read → are_distinct (map (profile_of variables) read.profiles) ≡ true
-profiles-distinct variables tokens read h = by (preamble tokens) refl
+-- what each further profile keeps true, the profiles of a file keep true
+pub profiles-keep : (P : List WrittenProfile → Type 0) → P []
+    → ((read : List WrittenProfile) (tokens more : List Placed) (item : WrittenProfile) → P read → next_profile read tokens ≡ Ok (Item item, more) → P (read ++ item ∷ []))
+    → (tokens : List Placed) (read : File) → file tokens ≡ Ok read → P read.profiles
+profiles-keep P none step tokens read h = by (preamble tokens) refl
   where
     told_file : List Assignment → Part (List WrittenProfile) → Result File GrammarError
     told_file assignments profiles = elim profiles [
@@ -207,17 +141,13 @@ profiles-distinct variables tokens read h = by (preamble tokens) refl
       | Ok read ↦ if is_empty read.0 then Err (record { refusal = NoProfile; place = None }) else Ok (record { assignments = assignments; profiles = read.0 })
     ]
 
-    distinct : (tokens : List Placed) (assignments : List Assignment) (profiles : Part (List WrittenProfile)) → rows next_profile tokens ≡ profiles → told_file assignments profiles ≡ Ok read
-        → are_distinct (map (profile_of variables) read.profiles) ≡ true
-    distinct tokens assignments (Err fault) e h = absurd (cc)
-    distinct tokens assignments (Ok ([], rest)) e h = absurd (cc)
-    distinct tokens assignments (Ok (profile ∷ profiles, rest)) e h =
+    kept : (tokens : List Placed) (assignments : List Assignment) (profiles : Part (List WrittenProfile)) → rows next_profile tokens ≡ profiles → told_file assignments profiles ≡ Ok read → P read.profiles
+    kept tokens assignments (Err fault) e h = absurd (cc)
+    kept tokens assignments (Ok ([], rest)) e h = absurd (cc)
+    kept tokens assignments (Ok (profile ∷ profiles, rest)) e h =
         let whole : record { assignments = assignments; profiles = profile ∷ profiles } ≡ read = cc in
-        ap (λ file. are_distinct (map (profile_of variables) file.profiles)) (sym whole)
-        ∙ row-keeps next_profile (λ read. are_distinct (map (profile_of variables) read) ≡ true)
-        (λ read tokens more item before found. distinct-push variables read item before (next-fresh read tokens more item found))
-        (suc (length tokens)) [] (profile ∷ profiles) tokens rest refl e
+        subst P (ap (λ file. file.profiles) whole) (row-keeps next_profile P step (suc (length tokens)) [] (profile ∷ profiles) tokens rest none e)
 
-    by : (opening : Part (List Assignment)) → preamble tokens ≡ opening → are_distinct (map (profile_of variables) read.profiles) ≡ true
+    by : (opening : Part (List Assignment)) → preamble tokens ≡ opening → P read.profiles
     by (Err fault) e = let wrong : Err (told fault) ≡ Ok read = rw (file, e) at h in absurd (cc)
-    by (Ok (assignments, rest)) e = distinct rest assignments (rows next_profile rest) refl (rw (file, e) at h)
+    by (Ok (assignments, rest)) e = kept rest assignments (rows next_profile rest) refl (rw (file, e) at h)

@@ -1,5 +1,6 @@
 pub mod AssignmentLemmas
 pub mod GrammarLemmas
+pub mod NameLemmas
 pub mod PatternLemmas
 pub mod ProfileLemmas
 pub mod ReadingLemmas

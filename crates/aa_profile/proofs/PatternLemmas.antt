@@ -5,7 +5,7 @@ use Rattle.std.proofs.lemmas.Bool.{cases_lt}
 use Rattle.std.proofs.lemmas.Bool.Decides.{nat_tests}
 use Rattle.std.proofs.lemmas.List.{length-take-le, take_all}
 use Rattle.aa_glob.specs.Reading.{longest}
-use Rattle.aa_variables.specs.Expansions.{most_kept}
+use Rattle.aa_parts.specs.Joining.{most_kept}
 use Rattle.aa_profile.specs.Patterns.{collapsed, refusal_of_expansion, refusal_of_expansions}
 use Rattle.aa_profile.specs.declared.profile_error.ProfileRefusal.{ProfileRefusal}
 use Rattle.aa_profile.specs.declared.profile_error.ProfileRefusal.TheVariants.{TooLong}

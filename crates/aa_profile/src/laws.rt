@@ -1,12 +1,19 @@
 //! What holds of files that are read, as laws over the definitions that `read_file` is proved to follow.
 
 ghost use Rattle.std.specs.Prelude.{◌≡◌, ℕ, List, IfOk, true};
+ghost use Rattle.std.specs.List.{list_all};
 ghost use Rattle.aa_files.specs.Files.{File};
 ghost use Rattle.aa_policy.specs.Profile.{are_distinct};
 ghost use Rattle.aa_profile.specs.FileReading.{file_profiles};
+ghost use Rattle.aa_profile.specs.ProfileNames.{has_distinct_children, is_named_well};
 
-/// No two profiles of a file have one name.
+/// No two profiles of a file have one name. Each profile has a name as the grammar says, and so have its children and hats. No two children or
+/// hats of a profile have one name.
 pub fn how_profiles_are_named()
-    ensures { (files : List File) (name : List ℕ)
+    ensures distinct { (files : List File) (name : List ℕ)
         → IfOk (file_profiles files name) (λ profiles. are_distinct profiles ≡ true) }
+    ensures named { (files : List File) (name : List ℕ)
+        → IfOk (file_profiles files name) (λ profiles. list_all is_named_well profiles ≡ true) }
+    ensures children { (files : List File) (name : List ℕ)
+        → IfOk (file_profiles files name) (λ profiles. list_all has_distinct_children profiles ≡ true) }
 {}

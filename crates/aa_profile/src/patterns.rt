@@ -13,7 +13,7 @@ use crate::profile_error::{ProfileError, ProfileRefusal, placed};
 use aa_bytes::begins_with_byte;
 use aa_glob::{LONGEST_PATTERN, Pattern};
 use aa_rules::place_of;
-use aa_text::{Place, Spliced, Variables};
+use aa_text::{ExpansionTable, Place, Spliced};
 use std::alloc::{AllocError, Global};
 
 /// How many patterns a file may have.
@@ -24,14 +24,18 @@ pub const MOST_RULES: usize = 16_384;
 /// # Errors
 ///
 /// `TooManyRules` at the token with which there are more than 16,384; `Memory`, without a place: memory ran out.
-pub fn check_limit(variables: &Variables, tokens: &[Spliced<'_>]) -> Result<(), ProfileError>
-    requires { have_expansions variables.now (seen_tokens tokens.now) ≡ true }
-    ensures ok { OnOk result (over_limit variables.now (seen_tokens tokens.now) ≡ None) }
-    ensures refused { IsRefusal (over_limit variables.now (seen_tokens tokens.now)) result }
+pub fn check_limit(
+    table: &mut ExpansionTable<'_>,
+    tokens: &[Spliced<'_>],
+) -> Result<(), ProfileError>
+    requires { have_expansions table.old (seen_tokens tokens.now) ≡ true }
+    ensures ok { OnOk result (over_limit table.old (seen_tokens tokens.now) ≡ None) }
+    ensures refused { IsRefusal (over_limit table.old (seen_tokens tokens.now)) result }
+    ensures same { table.new ≡ table.old }
 {
     let mut patterns = 0;
     for token in tokens {
-        patterns += variables.count(token.token.text)?;
+        patterns += table.count(token.token.text)?;
         if patterns > MOST_RULES {
             return Err(placed(ProfileRefusal::TooManyRules, place_of(*token)));
         }
@@ -100,14 +104,15 @@ fn read_expansions(
 /// before that. It is told at the token. `Memory`, without a place: memory ran out.
 pub fn read_patterns(
     alloc: Global,
-    variables: &Variables,
+    table: &mut ExpansionTable<'_>,
     token: Spliced<'_>,
 ) -> Result<Vec<Pattern>, ProfileError>
-    requires { have_expansions variables.now (seen_spliced token ∷ []) ≡ true }
-    ensures ok { IfOk result (λ patterns. patterns.items ≡ patterns_at variables.now (seen_spliced token.entry)) }
-    ensures fine { IfOk result (λ patterns. refusal_of_token variables.now (seen_spliced token.entry) ≡ None) }
-    ensures refused { IsRefusal (refusal_of_token variables.now (seen_spliced token.entry)) result }
+    requires { have_expansions table.old (seen_spliced token ∷ []) ≡ true }
+    ensures ok { IfOk result (λ patterns. patterns.items ≡ patterns_at table.old (seen_spliced token.entry)) }
+    ensures fine { IfOk result (λ patterns. refusal_of_token table.old (seen_spliced token.entry) ≡ None) }
+    ensures refused { IsRefusal (refusal_of_token table.old (seen_spliced token.entry)) result }
+    ensures same { table.new ≡ table.old }
 {
-    let texts = variables.expand(token.token.text)?;
+    let texts = table.expand(token.token.text)?;
     read_expansions(alloc, place_of(token), &texts)
 }

@@ -213,6 +213,10 @@ impl ProfileError {
 
 // Its name, which `docs/commands.md` explains.
 impl Display for ProfileRefusal {
+    ghost use Rattle.std.specs.Prelude.{Some};
+
+    ghost output = { λ refusal. Some (name_of refusal) };
+
     fn fmt<W: Write>(&self, f: &mut Formatter<W>) -> fmt::Result {
         f.write_str(self.name())
     }

@@ -25,7 +25,7 @@ use aa_grammar::{
     Rule as WrittenRule,
 };
 use aa_policy::{Child, FileRule, Mode, OtherRule, Profile, Rule};
-use aa_text::{Spliced, Variables};
+use aa_text::{ExpansionTable, Spliced};
 use std::alloc::{AllocError, AllocFailed, Global};
 
 // The file rule of a pattern.
@@ -76,14 +76,15 @@ fn other_rule(
 // Puts the rules that a written one makes behind others.
 fn push_rule(
     alloc: Global,
-    variables: &Variables,
+    table: &mut ExpansionTable<'_>,
     rule: &WrittenRule<'_>,
     rules: &mut Vec<Rule>,
 ) -> Result<(), ProfileError>
-    requires { have_expansions variables.now (of_rule (seen_rule rule.now)) ≡ true }
-    ensures ok { OnOk result (rules.new.items ≡ rules.old.items ++ rules_of_rule variables.now (seen_rule rule.now)) }
-    ensures fine { OnOk result (first_bad variables.now (of_rule (seen_rule rule.now)) ≡ None) }
-    ensures refused { IsRefusal (first_bad variables.now (of_rule (seen_rule rule.now))) result }
+    requires { have_expansions table.old (of_rule (seen_rule rule.now)) ≡ true }
+    ensures ok { OnOk result (rules.new.items ≡ rules.old.items ++ rules_of_rule table.old (seen_rule rule.now)) }
+    ensures fine { OnOk result (first_bad table.old (of_rule (seen_rule rule.now)) ≡ None) }
+    ensures refused { IsRefusal (first_bad table.old (of_rule (seen_rule rule.now))) result }
+    ensures same { table.new ≡ table.old }
 {
     match rule {
         WrittenRule::OnFile {
@@ -91,7 +92,7 @@ fn push_rule(
             pattern,
             access,
         } => {
-            let patterns = read_patterns(alloc, variables, *pattern)?;
+            let patterns = read_patterns(alloc, table, *pattern)?;
             push_file_rules(*qualifiers, *access, patterns, rules)?;
         }
         WrittenRule::Kept { qualifiers, tokens } => {
@@ -104,18 +105,19 @@ fn push_rule(
 // The rules that written ones make.
 fn read_rules(
     alloc: Global,
-    variables: &Variables,
+    table: &mut ExpansionTable<'_>,
     written: &[WrittenRule<'_>],
 ) -> Result<Vec<Rule>, ProfileError>
-    requires { have_expansions variables.now (of_rules (map seen_rule written.now)) ≡ true }
-    ensures ok { IfOk result (λ rules. rules.items ≡ rules_of variables.now (map seen_rule written.now)) }
-    ensures fine { IfOk result (λ read. first_bad variables.now (of_rules (map seen_rule written.now)) ≡ None) }
-    ensures refused { IsRefusal (first_bad variables.now (of_rules (map seen_rule written.now))) result }
+    requires { have_expansions table.old (of_rules (map seen_rule written.now)) ≡ true }
+    ensures ok { IfOk result (λ rules. rules.items ≡ rules_of table.old (map seen_rule written.now)) }
+    ensures fine { IfOk result (λ read. first_bad table.old (of_rules (map seen_rule written.now)) ≡ None) }
+    ensures refused { IsRefusal (first_bad table.old (of_rules (map seen_rule written.now))) result }
+    ensures same { table.new ≡ table.old }
 {
     let mut rules = Vec::new(alloc);
     let mut rest = written;
     while let [rule, behind @ ..] = rest {
-        push_rule(alloc, variables, rule, &mut rules)?;
+        push_rule(alloc, table, rule, &mut rules)?;
         rest = behind;
     }
     Ok(rules)
@@ -124,16 +126,17 @@ fn read_rules(
 // The patterns of a head's attachment.
 fn read_attachments(
     alloc: Global,
-    variables: &Variables,
+    table: &mut ExpansionTable<'_>,
     head: &Head<'_>,
 ) -> Result<Vec<Pattern>, ProfileError>
-    requires { have_expansions variables.now (of_head (seen_head head.now)) ≡ true }
-    ensures ok { IfOk result (λ patterns. patterns.items ≡ attachments_of variables.now (seen_head head.now)) }
-    ensures fine { IfOk result (λ read. first_bad variables.now (of_head (seen_head head.now)) ≡ None) }
-    ensures refused { IsRefusal (first_bad variables.now (of_head (seen_head head.now))) result }
+    requires { have_expansions table.old (of_head (seen_head head.now)) ≡ true }
+    ensures ok { IfOk result (λ patterns. patterns.items ≡ attachments_of table.old (seen_head head.now)) }
+    ensures fine { IfOk result (λ read. first_bad table.old (of_head (seen_head head.now)) ≡ None) }
+    ensures refused { IsRefusal (first_bad table.old (of_head (seen_head head.now))) result }
+    ensures same { table.new ≡ table.old }
 {
     match head.attachment {
-        Some(token) => read_patterns(alloc, variables, token),
+        Some(token) => read_patterns(alloc, table, token),
         None => Ok(Vec::new(alloc)),
     }
 }
@@ -153,16 +156,17 @@ fn mode_of(flags: Flags) -> Mode
 #[tactic(auto, using(crate::proofs::ProfileLemmas::first_bad_behind, crate::proofs::ProfileLemmas::first_bad_front, crate::proofs::ProfileLemmas::expand_front, crate::proofs::ProfileLemmas::expand_behind))]
 fn read_child(
     alloc: Global,
-    variables: &Variables,
+    table: &mut ExpansionTable<'_>,
     child: &WrittenChild<'_>,
 ) -> Result<Child, ProfileError>
-    requires { have_expansions variables.now (of_child (seen_child child.now)) ≡ true }
-    ensures ok { IfOk result (λ read. read ≡ child_of variables.now (seen_child child.now)) }
-    ensures fine { IfOk result (λ read. first_bad variables.now (of_child (seen_child child.now)) ≡ None) }
-    ensures refused { IsRefusal (first_bad variables.now (of_child (seen_child child.now))) result }
+    requires { have_expansions table.old (of_child (seen_child child.now)) ≡ true }
+    ensures ok { IfOk result (λ read. read ≡ child_of table.old (seen_child child.now)) }
+    ensures fine { IfOk result (λ read. first_bad table.old (of_child (seen_child child.now)) ≡ None) }
+    ensures refused { IsRefusal (first_bad table.old (of_child (seen_child child.now))) result }
+    ensures same { table.new ≡ table.old }
 {
-    let attachments = read_attachments(alloc, variables, &child.head)?;
-    let rules = read_rules(alloc, variables, &child.rules)?;
+    let attachments = read_attachments(alloc, table, &child.head)?;
+    let rules = read_rules(alloc, table, &child.rules)?;
     Ok(Child {
         name: Sequence::from_slice(alloc, child.head.name)?,
         hat: child.hat,
@@ -176,21 +180,22 @@ fn read_child(
 // Puts what a member of a block makes behind rules or children.
 fn push_member(
     alloc: Global,
-    variables: &Variables,
+    table: &mut ExpansionTable<'_>,
     member: &Member<'_>,
     rules: &mut Vec<Rule>,
     children: &mut Vec<Child>,
 ) -> Result<(), ProfileError>
-    requires { have_expansions variables.now (of_member (seen_member member.now)) ≡ true }
-    ensures rules { OnOk result (rules.new.items ≡ rules.old.items ++ rules_of_member variables.now (seen_member member.now)) }
-    ensures children { OnOk result (children.new.items ≡ children.old.items ++ children_of_member variables.now (seen_member member.now)) }
-    ensures fine { OnOk result (first_bad variables.now (of_member (seen_member member.now)) ≡ None) }
-    ensures refused { IsRefusal (first_bad variables.now (of_member (seen_member member.now))) result }
+    requires { have_expansions table.old (of_member (seen_member member.now)) ≡ true }
+    ensures rules { OnOk result (rules.new.items ≡ rules.old.items ++ rules_of_member table.old (seen_member member.now)) }
+    ensures children { OnOk result (children.new.items ≡ children.old.items ++ children_of_member table.old (seen_member member.now)) }
+    ensures fine { OnOk result (first_bad table.old (of_member (seen_member member.now)) ≡ None) }
+    ensures refused { IsRefusal (first_bad table.old (of_member (seen_member member.now))) result }
+    ensures same { table.new ≡ table.old }
 {
     match member {
-        Member::OfRule(rule) => push_rule(alloc, variables, rule, rules),
+        Member::OfRule(rule) => push_rule(alloc, table, rule, rules),
         Member::OfChild(child) => {
-            let child = read_child(alloc, variables, child)?;
+            let child = read_child(alloc, table, child)?;
             children.push(child)?;
             Ok(())
         }
@@ -200,20 +205,21 @@ fn push_member(
 // The rules and the children that a block's members make.
 fn read_members(
     alloc: Global,
-    variables: &Variables,
+    table: &mut ExpansionTable<'_>,
     members: &[Member<'_>],
 ) -> Result<(Vec<Rule>, Vec<Child>), ProfileError>
-    requires { have_expansions variables.now (of_members (map seen_member members.now)) ≡ true }
-    ensures rules { IfOk result (λ read. read.0.items ≡ rules_of_members variables.now (map seen_member members.now)) }
-    ensures children { IfOk result (λ read. read.1.items ≡ children_of variables.now (map seen_member members.now)) }
-    ensures fine { IfOk result (λ read. first_bad variables.now (of_members (map seen_member members.now)) ≡ None) }
-    ensures refused { IsRefusal (first_bad variables.now (of_members (map seen_member members.now))) result }
+    requires { have_expansions table.old (of_members (map seen_member members.now)) ≡ true }
+    ensures rules { IfOk result (λ read. read.0.items ≡ rules_of_members table.old (map seen_member members.now)) }
+    ensures children { IfOk result (λ read. read.1.items ≡ children_of table.old (map seen_member members.now)) }
+    ensures fine { IfOk result (λ read. first_bad table.old (of_members (map seen_member members.now)) ≡ None) }
+    ensures refused { IsRefusal (first_bad table.old (of_members (map seen_member members.now))) result }
+    ensures same { table.new ≡ table.old }
 {
     let mut rules = Vec::new(alloc);
     let mut children = Vec::new(alloc);
     let mut rest = members;
     while let [member, behind @ ..] = rest {
-        push_member(alloc, variables, member, &mut rules, &mut children)?;
+        push_member(alloc, table, member, &mut rules, &mut children)?;
         rest = behind;
     }
     Ok((rules, children))
@@ -223,16 +229,17 @@ fn read_members(
 #[tactic(auto, using(crate::proofs::ProfileLemmas::first_bad_behind, crate::proofs::ProfileLemmas::first_bad_front, crate::proofs::ProfileLemmas::expand_front, crate::proofs::ProfileLemmas::expand_behind))]
 fn read_profile(
     alloc: Global,
-    variables: &Variables,
+    table: &mut ExpansionTable<'_>,
     profile: &WrittenProfile<'_>,
 ) -> Result<Profile, ProfileError>
-    requires { have_expansions variables.now (of_profile (seen_profile profile.now)) ≡ true }
-    ensures ok { IfOk result (λ read. read ≡ profile_of variables.now (seen_profile profile.now)) }
-    ensures fine { IfOk result (λ read. first_bad variables.now (of_profile (seen_profile profile.now)) ≡ None) }
-    ensures refused { IsRefusal (first_bad variables.now (of_profile (seen_profile profile.now))) result }
+    requires { have_expansions table.old (of_profile (seen_profile profile.now)) ≡ true }
+    ensures ok { IfOk result (λ read. read ≡ profile_of table.old (seen_profile profile.now)) }
+    ensures fine { IfOk result (λ read. first_bad table.old (of_profile (seen_profile profile.now)) ≡ None) }
+    ensures refused { IsRefusal (first_bad table.old (of_profile (seen_profile profile.now))) result }
+    ensures same { table.new ≡ table.old }
 {
-    let attachments = read_attachments(alloc, variables, &profile.head)?;
-    let (rules, children) = read_members(alloc, variables, &profile.members)?;
+    let attachments = read_attachments(alloc, table, &profile.head)?;
+    let (rules, children) = read_members(alloc, table, &profile.members)?;
     Ok(Profile {
         name: Sequence::from_slice(alloc, profile.head.name)?,
         attachments: Sequence::from_vec(attachments),
@@ -250,18 +257,19 @@ fn read_profile(
 /// The refusal of the first token of a pattern of which an expansion makes none, at this token; `Memory`, without a place: memory ran out.
 pub fn read_profiles(
     alloc: Global,
-    variables: &Variables,
+    table: &mut ExpansionTable<'_>,
     written: &[WrittenProfile<'_>],
 ) -> Result<Vec<Profile>, ProfileError>
-    requires { have_expansions variables.now (of_profiles (map seen_profile written.now)) ≡ true }
-    ensures ok { IfOk result (λ profiles. profiles.items ≡ map (profile_of variables.now) (map seen_profile written.now)) }
-    ensures fine { IfOk result (λ read. first_bad variables.now (of_profiles (map seen_profile written.now)) ≡ None) }
-    ensures refused { IsRefusal (first_bad variables.now (of_profiles (map seen_profile written.now))) result }
+    requires { have_expansions table.old (of_profiles (map seen_profile written.now)) ≡ true }
+    ensures ok { IfOk result (λ profiles. profiles.items ≡ map (profile_of table.old) (map seen_profile written.now)) }
+    ensures fine { IfOk result (λ read. first_bad table.old (of_profiles (map seen_profile written.now)) ≡ None) }
+    ensures refused { IsRefusal (first_bad table.old (of_profiles (map seen_profile written.now))) result }
+    ensures same { table.new ≡ table.old }
 {
     let mut profiles = Vec::new(alloc);
     let mut rest = written;
     while let [profile, behind @ ..] = rest {
-        profiles.push(read_profile(alloc, variables, profile)?)?;
+        profiles.push(read_profile(alloc, table, profile)?)?;
         rest = behind;
     }
     Ok(profiles)

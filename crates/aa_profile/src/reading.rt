@@ -1,13 +1,14 @@
 //! Reading of a profile's file, in phases each of which goes over the whole file.
 
 ghost use Rattle.std.specs.Prelude.{◌≡◌, ◌≢◌, Ok, Err, IfOk, IfErr, false, true, map};
-ghost use Rattle.std.specs.List.{list_any};
+ghost use Rattle.std.specs.List.{list_all, list_any};
 ghost use Rattle.aa_grammar.specs.code.Seen.{seen_assignment, seen_file};
 ghost use Rattle.aa_rules.specs.code.SeenTokens.{seen_tokens};
 ghost use Rattle.aa_policy.specs.Profile.{are_distinct};
 ghost use Rattle.aa_profile.specs.FileReading.{file_profiles, profiles_in};
 ghost use Rattle.aa_profile.specs.code.FileReadingProgress.{IsRefusalOf, has_no_value};
 ghost use Rattle.aa_profile.specs.ProfileError.{plain};
+ghost use Rattle.aa_profile.specs.ProfileNames.{has_distinct_children, is_named_well};
 ghost use Rattle.aa_profile.specs.declared.profile_error.ProfileRefusal.TheVariants.{Memory};
 
 use crate::assignments::read_variables;
@@ -17,7 +18,7 @@ use crate::profile_error::ProfileError;
 use crate::profiles::read_profiles;
 use aa_grammar::File;
 use aa_policy::Profile;
-use aa_text::{Files, spliced};
+use aa_text::{ExpansionTable, Files, spliced};
 use std::alloc::Global;
 
 // The profiles of a file as it is written.
@@ -28,8 +29,9 @@ fn read_written(alloc: Global, file: &File<'_>) -> Result<Vec<Profile>, ProfileE
 {
     let patterns = pattern_tokens(alloc, &file.profiles)?;
     let variables = read_variables(alloc, &file.assignments, &patterns)?;
-    check_limit(&variables, &patterns)?;
-    read_profiles(alloc, &variables, &file.profiles)
+    let mut table = ExpansionTable::new(alloc, &variables);
+    check_limit(&mut table, &patterns)?;
+    read_profiles(alloc, &mut table, &file.profiles)
 }
 
 /// The profiles that a file of the handed-in ones spells, in its order.
@@ -49,6 +51,8 @@ fn read_written(alloc: Global, file: &File<'_>) -> Result<Vec<Profile>, ProfileE
 pub fn read_file(alloc: Global, files: &Files, name: &[u8]) -> Result<Vec<Profile>, ProfileError>
     ensures ok { IfOk result (λ profiles. file_profiles files.now name.now ≡ Ok profiles.items) }
     ensures distinct { IfOk result (λ profiles. are_distinct profiles.items ≡ true) }
+    ensures named { IfOk result (λ profiles. list_all is_named_well profiles.items ≡ true) }
+    ensures children { IfOk result (λ profiles. list_all has_distinct_children profiles.items ≡ true) }
     ensures refused { IsRefusalOf (file_profiles files.now name.now) result }
 {
     let tokens = spliced(alloc, files, name)?;

@@ -8,6 +8,8 @@ mod targets;
 
 pub use aa_files::{Files, FilesError, MOST_BYTES, Place, TextError, TextRefusal};
 pub use aa_tokens::{CutFault, CutRefusal, Token, TokenKind, how_a_text_is_cut, tokens};
-pub use aa_variables::{Variables, how_texts_expand, what_a_cycle_is, what_a_text_leads_to};
+pub use aa_variables::{
+    ExpansionTable, Variables, how_texts_expand, what_a_cycle_is, what_a_text_leads_to,
+};
 pub use spliced_token::Spliced;
 pub use splicing::spliced;

@@ -5,13 +5,14 @@ use Rattle.std.specs.List.{list_all, list_any}
 use Rattle.std.proofs.lemmas.Bool.{and_parts, or_from}
 use Rattle.std.proofs.lemmas.List.Folds.{list_any-append}
 use Rattle.std.proofs.Math.Seq.{take-length}
+use Rattle.aa_parts.specs.Parts.{Byte, Name, Part, Unclosed, parts}
 use Rattle.aa_variables.proofs.ListLemmas.{index-among_first}
 use Rattle.aa_variables.proofs.IndexLemmas.{words_named-from_none, words_named-from_some}
 use Rattle.aa_variables.proofs.TestLemmas.{any-weaker}
 use Rattle.aa_variables.specs.code.ExpansionOrder.{IsOrder, are_texts_known, is_part_known, is_text_known}
 use Rattle.aa_variables.specs.Expansions.{has_chain, leads_to_cycle, words_behind, words_behind_parts, words_named}
 use Rattle.aa_variables.specs.code.VariableIndexes.{index_of, words_at}
-use Rattle.aa_variables.specs.Variables.{Byte, Name, Part, Unclosed, Variable, parts}
+use Rattle.aa_variables.specs.Variables.{Variable}
 
 module _ (variables : List Variable) where
   -- a chain has shorter ones

@@ -1,29 +1,21 @@
 -- How many expansions there are: counting goes along the parts of a text, and stops at a bound.
 use Rattle.std.proofs.Common.{◌≡◌, ℕ, zero, suc, ◌+◌, ◌*◌, ◌<◌, ◌≤◌, true, List, [], ◌∷◌, ◌++◌, map, min, take, length, length-append, get_or, arith, inl, inr, refl, sym, ap, ◌∙◌}
+use Rattle.std.specs.Prelude.{Some, slice_get}
 use Rattle.std.specs.List.{flat_map, list_all}
 use Rattle.std.proofs.lemmas.Bool.{and_parts, cases_lt}
 use Rattle.std.proofs.lemmas.List.{length-map, take_all}
 use Rattle.std.proofs.lemmas.List.Sums.{sum_by-append, sum_by-cons, sum_by_push}
-use Rattle.std.proofs.lemmas.Option.{slice_get-get_or}
+use Rattle.std.proofs.lemmas.Option.{slice_get-get_or, slice_get_within}
 use Rattle.std.proofs.Math.Nat.{mul-le-mul_left}
-use Rattle.aa_variables.specs.Variables.{Variable, Part, Byte, Name, Unclosed, parts}
-use Rattle.aa_variables.specs.Expansions.{choice_count, choices, expansions, most_counted, values}
+use Rattle.aa_parts.specs.Choices.{choice_count, choices}
+use Rattle.aa_parts.specs.Parts.{Part, Byte, Name, Unclosed, parts}
+use Rattle.aa_variables.proofs.ChoiceCountLemmas.{choices-append, length-pairs}
+use Rattle.aa_variables.specs.Variables.{Variable}
+use Rattle.aa_variables.specs.Expansions.{expansions, most_counted, values}
 use Rattle.aa_variables.specs.code.ExpansionOrder.{IsOrder, are_texts_known, is_part_known, is_text_known}
-use Rattle.aa_variables.specs.code.ExpansionTables.{count_at, counted, counted_words, looked_up}
+use Rattle.aa_variables.specs.code.ExpansionTables.{AreFirstCounts, count_at, counted, counted_words, looked_up}
 use Rattle.aa_variables.specs.code.VariableIndexes.{words_at}
 use Rattle.aa_variables.proofs.TableLemmas.{Settled, map-take-more, name-known}
-
--- bytes are no choice
-pub choices-of_bytes : (counts : List ℕ → ℕ) (bytes : List ℕ) → 1 ≡ choice_count counts (map Byte bytes)
-choices-of_bytes counts [] = refl
-choices-of_bytes counts (b ∷ bs) = choices-of_bytes counts bs
-
--- the choices of some parts and of others
-pub choices-append : (counts : List ℕ → ℕ) (ps qs : List Part) → choice_count counts (ps ++ qs) ≡ choice_count counts ps * choice_count counts qs
-choices-append counts [] qs = omega arith
-choices-append counts (Byte b ∷ ps) qs = choices-append counts ps qs
-choices-append counts (Name name ∷ ps) qs = rw (choices-append counts ps qs) (omega arith)
-choices-append counts (Unclosed ∷ ps) qs = omega arith
 
 -- A factor may be cut at the bound.
 pub min-times : (a b most : ℕ) → min (min a most * b) most ≡ min (a * b) most
@@ -70,12 +62,6 @@ min-factor a p q most e =
     let right : q * a ≡ a * q = omega arith in
     ap (λ n. min n most) left ∙ sym (min-times p a most) ∙ ap (λ n. min (n * a) most) e ∙ min-times q a most ∙ ap (λ n. min n most) right
 
--- the choices of a value and of one of the texts behind it
-pub length-pairs : (values texts : List (List ℕ)) → length (flat_map (λ value. map (λ rest. value ++ rest) texts) values) ≡ length values * length texts
-length-pairs [] texts = omega arith
-length-pairs (value ∷ values) texts =
-    rw (length-append (map (λ rest. value ++ rest) texts) (flat_map (λ value. map (λ rest. value ++ rest) texts) values), length-map texts (λ rest. value ++ rest), length-pairs values texts) (omega arith)
-
 module _ (variables : List Variable) (order : List ℕ) (size : ℕ) (settled : Settled variables order) where
   -- the counts of the variables that stand first in the order
   abbrev pub first_counts : List ℕ → ℕ
@@ -105,15 +91,21 @@ module _ (variables : List Variable) (order : List ℕ) (size : ℕ) (settled : 
       rw (length-append (expansions variables word) (flat_map (expansions variables) words), sum_by-cons (counted first_counts) word words) (omega arith)
 
 -- one more row of the counts
-pub row-counted : (variables : List Variable) (order : List ℕ) → Settled variables order → IsOrder variables order → (size : ℕ) → size < length order
-    → (counts next : List ℕ) (count : ℕ) → counts ≡ map (count_at variables) (take size order)
-    → count ≡ counted_words (looked_up 0 variables order counts) (words_at variables (get_or order size 0)) → next ≡ counts ++ count ∷ []
-    → next ≡ map (count_at variables) (take (size + 1) order)
-row-counted variables order settled ordered size within counts next count c e n =
-    let index = get_or order size 0 in
-    let known = ordered size index (slice_get-get_or order size 0 within) in
-    let value : count ≡ count_at variables index = e ∙ ap (λ table. counted_words (looked_up 0 variables order table) (words_at variables index)) c ∙ words-counted variables order size settled (words_at variables index) known in
-    rw (n, c, value) (map-take-more (count_at variables) order size within)
+pub counts-more : (variables : List Variable) (order : List ℕ) → Settled variables order → IsOrder variables order → (index : ℕ) (counts next : List ℕ) (count : ℕ)
+    → slice_get order (length counts) ≡ Some index → AreFirstCounts variables order counts
+    → count ≡ counted_words (looked_up 0 variables order counts) (words_at variables index) → next ≡ counts ++ count ∷ [] → AreFirstCounts variables order next
+counts-more variables order settled ordered index counts next count there first e n =
+    let size = length counts in
+    let within : size < length order = slice_get_within order size index there in
+    let known = ordered size index there in
+    let value : count ≡ count_at variables index =
+    e ∙ ap (λ table. counted_words (looked_up 0 variables order table) (words_at variables index)) first ∙ words-counted variables order size settled (words_at variables index) known
+    in
+    let said : Some index ≡ Some (get_or order size 0) = sym there ∙ slice_get-get_or order size 0 within in
+    let same : index ≡ get_or order size 0 = cc in
+    let longer : length next ≡ size + 1 = ap length n ∙ length-append counts (count ∷ []) in
+    n ∙ ap (λ xs. xs ++ count ∷ []) first ∙ ap (λ x. map (count_at variables) (take size order) ++ x ∷ []) (value ∙ ap (count_at variables) same)
+    ∙ map-take-more (count_at variables) order size within ∙ ap (λ n. map (count_at variables) (take n order)) (sym longer)
 
 -- a text whose names an order has
 pub text-counted : (variables : List Variable) (order : List ℕ) → Settled variables order → (text counts : List ℕ) → counts ≡ map (count_at variables) order

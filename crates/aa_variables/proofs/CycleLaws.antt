@@ -8,6 +8,7 @@ use Rattle.std.proofs.lemmas.List.Folds.{list_any_at}
 use Rattle.std.proofs.lemmas.Map.Keys.{IsDistinct-push}
 use Rattle.std.proofs.lemmas.Map.Steps.{length-le_from_distinct_below}
 use Rattle.std.proofs.lemmas.Slice.Eq.{bytes_eq-Decides}
+use Rattle.aa_parts.specs.Parts.{Byte, Name, Part, Unclosed, parts}
 use Rattle.aa_variables.proofs.ChainLemmas.{shorter_chain}
 use Rattle.aa_variables.proofs.ExpansionLaws.{words-of_named}
 use Rattle.aa_variables.proofs.IndexLemmas.{index_of-within, words_named-from_none, words_named-from_some}
@@ -17,7 +18,7 @@ use Rattle.aa_variables.specs.ExpansionLaws.{is_name, names_variable}
 use Rattle.aa_variables.specs.Expansions.{has_chain, is_cyclic, leads_to_cycle, words_behind_parts, words_named, words_of}
 use Rattle.aa_variables.specs.code.VariableWalks.{AllBelow}
 use Rattle.aa_variables.specs.code.VariableIndexes.{index_of, words_at}
-use Rattle.aa_variables.specs.Variables.{Byte, Name, Part, Unclosed, Variable, named, parts}
+use Rattle.aa_variables.specs.Variables.{Variable, named}
 
 module _ {X : Type 0} (test : X → Bool) where
   -- one that passes a test, where any does

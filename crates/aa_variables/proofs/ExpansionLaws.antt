@@ -7,8 +7,10 @@ use Rattle.std.proofs.lemmas.Bool.{or_parts, or_right}
 use Rattle.std.proofs.lemmas.List.{length-map}
 use Rattle.std.proofs.lemmas.Slice.Eq.{bytes_eq-Decides}
 use Rattle.aa_bytes.specs.Bytes.{backslash, closing_brace, opening_brace, at_sign}
-use Rattle.aa_variables.specs.Variables.{Variable, Part, Byte, Name, Unclosed, named, parts, parts_behind}
-use Rattle.aa_variables.specs.Expansions.{choice_count, choices, expansions, has_chain, is_cyclic, values, values_within, words_behind_parts, words_named, words_of}
+use Rattle.aa_parts.specs.Choices.{choice_count, choices}
+use Rattle.aa_parts.specs.Parts.{Part, Byte, Name, Unclosed, parts, parts_behind}
+use Rattle.aa_variables.specs.Variables.{Variable, named}
+use Rattle.aa_variables.specs.Expansions.{expansions, has_chain, is_cyclic, values, values_within, words_behind_parts, words_named, words_of}
 use Rattle.aa_variables.specs.ExpansionLaws.{is_byte, is_name}
 use Rattle.aa_variables.proofs.IndexLemmas.{values_within-no_words}
 use Rattle.aa_variables.proofs.TestLemmas.{any-neither_left, any-neither_right}

@@ -2,8 +2,10 @@
 use Rattle.std.proofs.Common.{◌≡◌, ℕ, Bool, true, false, List, [], ◌∷◌, ◌<◌, suc, zero, length, arith, refl, ap}
 use Rattle.std.specs.Prelude.{Option, None, Some, flat_map}
 use Rattle.std.specs.Str.{bytes_eq}
-use Rattle.aa_variables.specs.Variables.{Variable, named, parts}
-use Rattle.aa_variables.specs.Expansions.{choices, values_within, words_named}
+use Rattle.aa_parts.specs.Choices.{choices}
+use Rattle.aa_parts.specs.Parts.{parts}
+use Rattle.aa_variables.specs.Variables.{Variable, named}
+use Rattle.aa_variables.specs.Expansions.{values_within, words_named}
 use Rattle.aa_variables.specs.code.VariableIndexes.{index_of, words_at}
 
 -- a name that has no index names no variable

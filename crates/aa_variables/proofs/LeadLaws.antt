@@ -4,7 +4,8 @@ use Rattle.std.specs.Prelude.{None, Some, find, flat_map}
 use Rattle.std.specs.List.{list_any}
 use Rattle.std.specs.Str.{bytes_eq}
 use Rattle.std.proofs.lemmas.Bool.{or_from, or_parts}
-use Rattle.aa_variables.specs.Variables.{Variable, Part, Byte, Name, Unclosed, names_undefined, parts}
+use Rattle.aa_parts.specs.Parts.{Part, Byte, Name, Unclosed, parts}
+use Rattle.aa_variables.specs.Variables.{Variable, names_undefined}
 use Rattle.aa_variables.specs.Expansions.{has_chain, is_cyclic, leads_to_undefined_within, words_behind, words_behind_parts, words_named, words_of}
 use Rattle.aa_variables.proofs.TestLemmas.{any-neither, any-neither_left, any-neither_right}
 

@@ -1,11 +1,15 @@
 pub mod AreVariablesLemmas
 pub mod ChainLemmas
+pub mod ChoiceCountLemmas
+pub mod ChoiceLemmas
 pub mod CountLemmas
 pub mod CycleLaws
 pub mod CycleLemmas
 pub mod ExpandLemmas
 pub mod ExpansionLaws
+pub mod HeldLemmas
 pub mod IndexLemmas
+pub mod JoiningLemmas
 pub mod LeadLaws
 pub mod ListLemmas
 pub mod OrderLemmas

@@ -50,7 +50,7 @@ pub listed : (ks : List ℕ) (k q : ℕ) → slice_get ks k ≡ Some q → list_
 listed ks k q h = any_passes_from_place (nat_eq q) ks k q h (same-test q)
 
 -- an element of a list with one more behind it is in the list, or is that one
-pub slice_get-push : (xs : List ℕ) (x at y : ℕ) → slice_get (xs ++ x ∷ []) at ≡ Some y
+pub slice_get-push : {X : Type 0} (xs : List X) (x : X) (at : ℕ) (y : X) → slice_get (xs ++ x ∷ []) at ≡ Some y
     → ((at < length xs) × (slice_get xs at ≡ Some y)) ⊎ ((at ≡ length xs) × (x ≡ y))
 slice_get-push [] x zero y h = inr (refl, cc)
 slice_get-push [] x (suc at) y h = absurd (cc)
@@ -59,3 +59,9 @@ slice_get-push (z ∷ zs) x (suc at) y h = elim (slice_get-push zs x at y h) [
   | inl there ↦ inl (omega (arith, there.0), there.1)
   | inr last ↦ inr (omega (arith, last.0), last.1)
 ]
+
+-- an element of the first of two lists
+pub slice_get-front : {X : Type 0} (xs ys : List X) (at : ℕ) → at < length xs → slice_get (xs ++ ys) at ≡ slice_get xs at
+slice_get-front [] ys at within = absurd (omega arith)
+slice_get-front (x ∷ xs) ys zero within = refl
+slice_get-front (x ∷ xs) ys (suc at) within = slice_get-front xs ys at (omega arith)

@@ -4,12 +4,14 @@ use Rattle.std.specs.Prelude.{Option, None, Some, slice_get, flat_map}
 use Rattle.std.specs.List.{list_all}
 use Rattle.std.proofs.lemmas.Bool.{and_parts}
 use Rattle.std.proofs.lemmas.Option.{slice_get_within}
+use Rattle.aa_parts.specs.Choices.{choices}
+use Rattle.aa_parts.specs.Parts.{Byte, Name, Part, Unclosed, parts}
 use Rattle.aa_variables.proofs.ListLemmas.{index-among_first}
 use Rattle.aa_variables.proofs.IndexLemmas.{values_within-from_none, words_named-from_some}
 use Rattle.aa_variables.specs.code.ExpansionOrder.{IsOrder, are_texts_known, is_part_known}
-use Rattle.aa_variables.specs.Expansions.{choices, expansions, values, values_within}
+use Rattle.aa_variables.specs.Expansions.{expansions, values, values_within}
 use Rattle.aa_variables.specs.code.VariableIndexes.{index_of, words_at}
-use Rattle.aa_variables.specs.Variables.{Byte, Name, Part, Unclosed, Variable, parts}
+use Rattle.aa_variables.specs.Variables.{Variable}
 
 module _ (variables : List Variable) (known : List ℕ) (f g : List ℕ → List (List ℕ))
     (same : (name : List ℕ) → is_part_known variables known (Name name) ≡ true → f name ≡ g name) where

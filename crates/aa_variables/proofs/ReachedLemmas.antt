@@ -8,7 +8,8 @@ use Rattle.std.proofs.lemmas.Map.Keys.{IsDistinct-push}
 use Rattle.std.proofs.lemmas.Map.Steps.{length-le_from_distinct_below}
 use Rattle.std.proofs.lemmas.Option.{slice_get_within}
 use Rattle.std.proofs.lemmas.Cmp.{nat_eq_equiv}
-use Rattle.aa_variables.specs.Variables.{Variable, Part, Byte, Name, Unclosed, names_undefined, parts}
+use Rattle.aa_parts.specs.Parts.{Part, Byte, Name, Unclosed, parts}
+use Rattle.aa_variables.specs.Variables.{Variable, names_undefined}
 use Rattle.aa_variables.specs.Expansions.{leads_to_undefined, leads_to_undefined_within, words_behind, words_behind_parts, words_named}
 use Rattle.aa_variables.specs.code.ExpansionOrder.{are_texts_known, is_part_known, is_text_known}
 use Rattle.aa_variables.specs.code.ReachedVariables.{indexes_in, indexes_of, indexes_within, with_index, with_indexes, IsReachedSoFar}
@@ -352,7 +353,7 @@ module _ (variables : List Variable) (reached : List ℕ) where
       (texts-none test fails texts known.1 (or_parts (names_undefined variables text) (list_any (names_undefined variables) texts) k).1)
 
   -- a known text that names nothing undefined leads to nothing undefined, where no word at a gathered index does
-  leads-none : ((index : ℕ) → list_any (nat_eq index) reached ≡ true → are_texts_known variables reached (words_at variables index) ≡ true)
+  pub leads-none : ((index : ℕ) → list_any (nat_eq index) reached ≡ true → are_texts_known variables reached (words_at variables index) ≡ true)
       → ((index : ℕ) → list_any (nat_eq index) reached ≡ true → list_any (names_undefined variables) (words_at variables index) ≡ false)
       → (depth : ℕ) (text : List ℕ) → is_text_known variables reached text ≡ true → names_undefined variables text ≡ false → leads_to_undefined_within variables depth text ≡ false
   leads-none closed fine zero text h k = k

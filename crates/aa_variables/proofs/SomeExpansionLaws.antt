@@ -7,10 +7,12 @@ use Rattle.std.proofs.lemmas.Bool.{and_parts, or_parts, or_right}
 use Rattle.std.proofs.lemmas.Nat.{mul-lt}
 use Rattle.std.proofs.lemmas.Slice.Eq.{bytes_eq-Decides}
 use Rattle.aa_bytes.specs.Texts.{is_empty}
+use Rattle.aa_parts.specs.Choices.{choice_count, choices}
+use Rattle.aa_parts.specs.Parts.{Part, Byte, Name, Unclosed, parts}
 use Rattle.aa_files.specs.declared.text_error.TextRefusal.TheVariants.{Undefined, Cycle}
 use Rattle.aa_variables.specs.ExpansionLaws.{is_name}
-use Rattle.aa_variables.specs.Expansions.{choice_count, choices, expansion_refusal, expansions, has_chain, leads_to_cycle, leads_to_undefined, leads_to_undefined_within, values_within, words_behind, words_named}
-use Rattle.aa_variables.specs.Variables.{Variable, Part, Byte, Name, Unclosed, are_variables, has_word, have_distinct_names, is_defined, is_undefined, names_undefined, parts}
+use Rattle.aa_variables.specs.Expansions.{expansion_refusal, expansions, has_chain, leads_to_cycle, leads_to_undefined, leads_to_undefined_within, values_within, words_behind, words_named}
+use Rattle.aa_variables.specs.Variables.{Variable, are_variables, has_word, have_distinct_names, is_defined, is_undefined, names_undefined}
 use Rattle.aa_variables.proofs.ExpansionLaws.{all-none, choices-count, words-of_named}
 
 -- a name among parts of which none is undefined is defined

@@ -5,7 +5,8 @@ use Rattle.std.specs.List.{list_any, position_or_len}
 use Rattle.std.proofs.lemmas.Bool.Decides.{nat_tests}
 use Rattle.std.proofs.lemmas.List.{map-append, take_more}
 use Rattle.std.proofs.lemmas.Option.{slice_get-map}
-use Rattle.aa_variables.specs.Variables.{Variable, Name}
+use Rattle.aa_parts.specs.Parts.{Name}
+use Rattle.aa_variables.specs.Variables.{Variable}
 use Rattle.aa_variables.specs.code.ExpansionOrder.{is_part_known}
 use Rattle.aa_variables.specs.code.ExpansionTables.{looked_up, row_of, row_or, values_at}
 use Rattle.aa_variables.specs.Expansions.{values}

@@ -1,5 +1,5 @@
 -- What a walk into depth keeps, and what it has found where it ends.
-use Rattle.std.proofs.Common.{◌≡◌, ℕ, zero, suc, Bool, true, false, nat_eq, ◌||◌, List, [], ◌∷◌, ◌++◌, ◌+◌, ◌-◌, ◌*◌, ◌<◌, ◌≤◌, length, map, arith, length-append, refl, sym, ap, subst, ◌∙◌, ◌⊎◌, inl, inr}
+use Rattle.std.proofs.Common.{◌≡◌, ℕ, zero, suc, Bool, true, false, nat_eq, ◌||◌, List, [], ◌∷◌, ◌++◌, ◌+◌, ◌-◌, ◌*◌, ◌<◌, ◌≤◌, length, map, arith, length-append, refl, sym, ap, subst, append_assoc, ◌∙◌, ◌⊎◌, inl, inr}
 use Rattle.std.specs.Prelude.{Option, None, Some, MatchOption, if◌then◌else◌}
 use Rattle.std.specs.List.{list_any}
 use Rattle.std.proofs.lemmas.Bool.{or_left, or_right}
@@ -7,16 +7,17 @@ use Rattle.std.proofs.lemmas.List.{append-nil, length-map, take-append-le}
 use Rattle.std.proofs.lemmas.Map.Steps.{length-le_from_distinct_below}
 use Rattle.std.proofs.Math.Nat.{suc-mul}
 use Rattle.std.proofs.Math.Seq.{take-append_seam}
+use Rattle.aa_parts.specs.Parts.{parts}
 use Rattle.aa_variables.proofs.ChainLemmas.{shorter_chain}
 use Rattle.aa_variables.proofs.ListLemmas.{index-found, listed, slice_get-push}
 use Rattle.aa_variables.proofs.ReachedLemmas.{distinct-none, indexes_of-below, indexes_within-below, parts-known, texts-known, with_index-distinct, with_index-from, with_index-keeps, with_index-puts, with_indexes-distinct, with_indexes-from, with_indexes-puts, words_behind-index}
 use Rattle.aa_variables.proofs.TestLemmas.{any-left, any-right, any-split, any-weaker, or-split, same-from_test, same-test}
 use Rattle.aa_variables.specs.Expansions.{has_chain, leads_to_cycle}
-use Rattle.aa_variables.specs.Variables.{Variable, parts}
+use Rattle.aa_variables.specs.Variables.{Variable}
 use Rattle.aa_variables.specs.code.ExpansionOrder.{IsOrder, are_texts_known, is_text_known}
 use Rattle.aa_variables.specs.code.ReachedVariables.{indexes_in, indexes_within, with_index, with_indexes}
 use Rattle.aa_variables.specs.code.VariableIndexes.{words_at}
-use Rattle.aa_variables.specs.code.VariableWalks.{AllBelow, AreSeenTo, IsBeginning, IsEndless, IsOrderOf, IsSettled, IsStack, IsWalk, IsWalked, Progress, SomeEndless, after_task, is_for, leaves, names_at}
+use Rattle.aa_variables.specs.code.VariableWalks.{AllBelow, AreSeenTo, BeginsWith, IsBeginning, IsEndless, IsOrderOf, IsSettled, IsStack, IsWalk, IsWalked, Progress, SomeEndless, after_task, is_for, leaves, names_at}
 use Rattle.aa_variables.specs.declared.variables.walk.Task.{Task}
 use Rattle.aa_variables.specs.declared.variables.walk.Task.TheVariants.{Enter, Leave}
 
@@ -233,6 +234,14 @@ module _ (variables : List Variable) where
   enters-for [] q = refl
   enters-for (index ∷ indexes) q = ap (λ b. nat_eq q index || b) (enters-for indexes q)
 
+-- what a list begins with, it begins with when one more is put behind
+begins-more : (before order : List ℕ) (index : ℕ) → BeginsWith before order → BeginsWith before (with_index order index)
+begins-more before order index begins = by (list_any (nat_eq index) order) refl
+  where
+    by : (b : Bool) → list_any (nat_eq index) order ≡ b → BeginsWith before (with_index order index)
+    by true e = (begins.0, rw (with_index, e) begins.1)
+    by false e = (begins.0 ++ index ∷ [], rw (with_index, e) (ap (λ front. front ++ index ∷ []) begins.1 ∙ append_assoc before begins.0 (index ∷ [])))
+
 -- how far a walk is
 abbrev pub state : List ℕ → List Task → List ℕ → Progress
 state entered tasks order = record { entered = entered; tasks = tasks; order = order }
@@ -266,6 +275,7 @@ module _ (variables : List Variable) (starts before : List ℕ) (below : AllBelo
   walk-begins entered order none tasks begins pushed same =
       rw (begins.nothing, pushed, begins.idle, same) record {
         settled = begins.settled;
+        begins = ([], sym (append-nil order));
         keeps = λ q h. h;
         seen = λ q among. or_right (list_any (nat_eq q) order) (list_any (is_for q) (map Enter starts)) (enters-for variables starts q ∙ among);
         stack = names-stack variables order starts starts (λ q h. h);
@@ -283,6 +293,7 @@ module _ (variables : List Variable) (starts before : List ℕ) (below : AllBelo
     walk-known : IsWalk variables starts before (state entered (tasks ++ Enter index ∷ []) order) → list_any (nat_eq index) order ≡ true → IsWalk variables starts before (state entered tasks order)
     walk-known walk known = subst (λ ts. IsWalk variables starts before (state entered ts order)) (append-nil tasks) record {
       settled = walk.settled;
+      begins = walk.begins;
       keeps = walk.keeps;
       seen = seen-on variables is_for order order (Enter index) [] has tasks starts walk.seen;
       stack = stack-on variables order order (Enter index) [] has (λ names h. tt) starts tasks walk.stack;
@@ -302,6 +313,7 @@ module _ (variables : List Variable) (starts before : List ℕ) (below : AllBelo
         → IsWalk variables starts before (state (with_index entered index) (tasks ++ Leave index ∷ map Enter (names_at variables index)) order)
     walk-in walk = record {
       settled = walk.settled;
+      begins = walk.begins;
       keeps = walk.keeps;
       seen = seen-on variables is_for order order (Enter index) more has tasks starts walk.seen;
       stack = stack-on variables order order (Enter index) more has here starts tasks walk.stack;
@@ -343,6 +355,7 @@ module _ (variables : List Variable) (starts before : List ℕ) (below : AllBelo
         below = below-more variables (length variables) order index walk.settled.below (last-below variables order starts tasks (Leave index) index below (same-test index) walk.stack);
         distinct = with_index-distinct order index walk.settled.distinct;
       };
+      begins = begins-more before order index walk.begins;
       keeps = λ q h. with_index-keeps order index q (walk.keeps q h);
       seen = seen-on variables is_for order (with_index order index) (Leave index) [] has tasks starts walk.seen;
       stack = stack-on variables order (with_index order index) (Leave index) [] has (λ names h. tt) starts tasks walk.stack;
@@ -413,6 +426,7 @@ module _ (variables : List Variable) (starts before : List ℕ) (below : AllBelo
 -- what a walk from the names of a text finds
 pub text-walked : {X : Type 0} (keys : X → List ℕ) (variables : List Variable) (text names before : List ℕ) → names ≡ with_indexes [] (indexes_in variables text)
     → (found : Option X) → MatchOption found (SomeEndless variables names) (λ o. IsWalked variables names before (keys o))
-    → MatchOption found (leads_to_cycle variables text ≡ true) (λ o. IsOrderOf variables text (keys o))
+    → MatchOption found (leads_to_cycle variables text ≡ true) (λ o. IsOrderOf variables text before (keys o))
 text-walked keys variables text names before same None endless = endless-text variables text names same endless
-text-walked keys variables text names before same (Some order) walked = record { settled = walked.settled; named = starts-known variables text names same (keys order) walked.has }
+text-walked keys variables text names before same (Some order) walked =
+    record { settled = walked.settled; begins = walked.begins; named = starts-known variables text names same (keys order) walked.has }

@@ -2,8 +2,10 @@
 use Rattle.std.specs.Prelude.{ℕ, ◌≡◌, ◌<◌, Bool, true, false, List, length, flat_map, None, Some}
 use Rattle.std.specs.List.{list_all, list_any}
 use Rattle.std.specs.Str.{bytes_eq}
-use Rattle.aa_variables.specs.Expansions.{choice_count, expansion_refusal, expansions, is_cyclic, leads_to_undefined, values, words_of}
-use Rattle.aa_variables.specs.Variables.{Variable, Part, Byte, Name, named, names_undefined, parts}
+use Rattle.aa_parts.specs.Choices.{choice_count}
+use Rattle.aa_parts.specs.Parts.{Part, Byte, Name, parts}
+use Rattle.aa_variables.specs.Expansions.{expansion_refusal, expansions, is_cyclic, leads_to_undefined, values, words_of}
+use Rattle.aa_variables.specs.Variables.{Variable, named, names_undefined}
 
 -- a part stands for itself
 abbrev pub is_byte : Part → Bool

@@ -1,7 +1,9 @@
 -- Expansions: what the names in a text lead to, and the texts that come of putting values in (apparmor.d(5), "Variables"; see docs/policy.md, "Variables").
-use Rattle.std.specs.Prelude.{ℕ, zero, suc, ◌*◌, Bool, true, ◌||◌, List, [], ◌∷◌, ◌++◌, length, map, flat_map, Option, None, Some, if◌then◌else◌}
+use Rattle.std.specs.Prelude.{ℕ, zero, suc, Bool, true, ◌||◌, List, [], ◌∷◌, ◌++◌, length, flat_map, Option, None, Some, if◌then◌else◌}
 use Rattle.std.specs.List.{list_any}
-use Rattle.aa_variables.specs.Variables.{Variable, named, names_undefined, Part, Byte, Name, Unclosed, parts}
+use Rattle.aa_parts.specs.Choices.{choices}
+use Rattle.aa_parts.specs.Parts.{Part, Byte, Name, Unclosed, parts}
+use Rattle.aa_variables.specs.Variables.{Variable, named, names_undefined}
 use Rattle.aa_files.specs.declared.text_error.TextRefusal.{TextRefusal}
 use Rattle.aa_files.specs.declared.text_error.TextRefusal.TheVariants.{Undefined, Cycle}
 
@@ -25,20 +27,6 @@ words_behind_parts variables (Unclosed ∷ ps) = words_behind_parts variables ps
 
 abbrev pub words_behind : List Variable → List ℕ → List (List ℕ)
 words_behind variables text = words_behind_parts variables (parts text)
-
--- All choices of one value for each name in a text, the first name changing slowest. A name that isn't closed has no value.
-abbrev pub choices : (List ℕ → List (List ℕ)) → List Part → List (List ℕ)
-choices values [] = [] ∷ []
-choices values (Byte b ∷ ps) = map (λ rest. b ∷ rest) (choices values ps)
-choices values (Name name ∷ ps) = flat_map (λ value. map (λ rest. value ++ rest) (choices values ps)) (values name)
-choices values (Unclosed ∷ ps) = []
-
--- how many choices there are, where each name has so many values: the product of the counts
-abbrev pub choice_count : (List ℕ → ℕ) → List Part → ℕ
-choice_count counts [] = 1
-choice_count counts (Byte b ∷ ps) = choice_count counts ps
-choice_count counts (Name name ∷ ps) = counts name * choice_count counts ps
-choice_count counts (Unclosed ∷ ps) = 0
 
 -- The values of a variable: the expansions of its words, in order, where each name leads on over so many variables at most.
 abbrev pub values_within : List Variable → ℕ → List ℕ → List (List ℕ)
@@ -86,7 +74,3 @@ expansion_refusal variables text =
 -- no count goes on behind this one, which no file may reach
 abbrev pub most_counted : ℕ
 most_counted = 16385
-
--- how many bytes of an expansion are kept: one more than a pattern may have
-abbrev pub most_kept : ℕ
-most_kept = 4097

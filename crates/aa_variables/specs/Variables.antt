@@ -1,9 +1,9 @@
 -- Variables: what they hold, and which of them a text names (apparmor.d(5), "Variables"; see docs/policy.md, "Variables").
-use Rattle.std.specs.Prelude.{ℕ, Bool, true, false, not, ◌==◌, ◌&&◌, if◌then◌else◌, List, [], ◌∷◌, ◌++◌, find, Option, None, Some, is_some, Result, Ok, Err}
+use Rattle.std.specs.Prelude.{ℕ, Bool, true, false, not, ◌&&◌, if◌then◌else◌, List, [], ◌∷◌, ◌++◌, find, Option, None, Some, is_some, Result, Ok, Err}
 use Rattle.std.specs.List.{list_all, list_any}
 use Rattle.std.specs.Str.{bytes_eq}
-use Rattle.aa_bytes.specs.Bytes.{at_sign, backslash, closing_brace, opening_brace}
 use Rattle.aa_bytes.specs.Texts.{is_empty}
+use Rattle.aa_parts.specs.Parts.{Part, Byte, Name, Unclosed, parts}
 use Rattle.aa_files.specs.declared.text_error.TextRefusal.{TextRefusal}
 use Rattle.aa_files.specs.declared.text_error.TextRefusal.TheVariants.{Redefined, AppendUndefined}
 
@@ -57,27 +57,6 @@ with_added name words (variable ∷ variables) =
 -- `+=` puts values behind those that are there; it wants an earlier `=`.
 abbrev pub after_append : List Variable → List ℕ → List (List ℕ) → Result (List Variable) TextRefusal
 after_append variables name words = if is_defined name variables then Ok (with_added name words variables) else Err AppendUndefined
-
--- What a text is made of: bytes, names of variables, and maybe a name that isn't closed.
-pub data Part : Type 0 where
-  Byte : (byte : ℕ) → Part
-  Name : (name : List ℕ) → Part
-  Unclosed : Part
-
--- The parts of a text, behind as much of a name if it stands within one. `@{` begins a name and the next `}` ends it; outside names a
--- backslash takes the byte behind it along.
-abbrev pub parts_behind : Option (List ℕ) → List ℕ → List Part
-parts_behind None [] = []
-parts_behind (Some name) [] = Unclosed ∷ []
-parts_behind (Some name) (b ∷ bs) = if b == closing_brace then Name name ∷ parts_behind None bs else parts_behind (Some (name ++ b ∷ [])) bs
-parts_behind None (b ∷ []) = Byte b ∷ []
-parts_behind None (b ∷ c ∷ bs) =
-    if b == at_sign && c == opening_brace then parts_behind (Some []) bs else
-    if b == backslash then Byte b ∷ Byte c ∷ parts_behind None bs else
-    Byte b ∷ parts_behind None (c ∷ bs)
-
-abbrev pub parts : List ℕ → List Part
-parts text = parts_behind None text
 
 -- a part that no variable stands for
 abbrev pub is_undefined : List Variable → Part → Bool

@@ -1,8 +1,8 @@
 -- What is about the code: variables by their indexes, the orders and tables that expansions are worked out by, and how far that has come.
 pub mod ExpansionOrder
 pub mod ExpansionTables
+pub mod HeldValues
 pub mod ReachedVariables
-pub mod TextParts
 pub mod VariableIndexes
 pub mod VariableWalks
 pub mod VariablesMap

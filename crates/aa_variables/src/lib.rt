@@ -2,8 +2,7 @@
 #![tactic(auto)]
 
 mod laws;
-mod parts;
 mod variables;
 
 pub use laws::{how_texts_expand, what_a_cycle_is, what_a_text_leads_to};
-pub use variables::Variables;
+pub use variables::{ExpansionTable, Variables};

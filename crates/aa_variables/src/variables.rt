@@ -2,13 +2,13 @@
 
 ghost use Rattle.std.specs.Prelude.{◌≡◌, ◌≢◌, ◌<◌, ◌++◌, ◌∷◌, [], true, false, length, map, Ok, Err, None, IfOk, IfErr, OnOk, OnErr, option_map, slice_get};
 ghost use Rattle.std.specs.List.{list_any};
-ghost use Rattle.aa_variables.specs.code.TextParts.{parts_of};
+ghost use Rattle.aa_parts.specs.code.TextParts.{parts_of};
 ghost use Rattle.aa_variables.specs.Variables.{after_append, after_define, is_defined, is_undefined, named, names_undefined, same_texts};
 ghost use Rattle.aa_files.specs.declared.text_error.TextRefusal.TheVariants.{Memory};
 
-use crate::parts::{TextPart, first_part};
 use aa_bytes::Sequence;
 use aa_files::{TextError, TextRefusal, plain};
+use aa_parts::{TextPart, first_part};
 use indexmap::IndexMap;
 use std::alloc::{AllocError, Global};
 use std::marker::Model;
@@ -194,4 +194,7 @@ mod expand;
 mod indexes;
 mod order;
 mod reached;
+mod table;
 mod walk;
+
+pub use table::ExpansionTable;

@@ -27,6 +27,8 @@ pub enum RowError {
     NoSuchVariableRow,
     /// No row of files is of this kind.
     NoSuchFileRow,
+    /// No row of tables is of this kind.
+    NoSuchTableRow,
     /// A type has no such variant.
     NoSuchVariant,
     /// No stream has this name.
@@ -54,6 +56,7 @@ impl Display for RowError {
             RowError::NoSuchPatternRow => "no such row of patterns",
             RowError::NoSuchVariableRow => "no such row of variables",
             RowError::NoSuchFileRow => "no such row of files",
+            RowError::NoSuchTableRow => "no such row of tables",
             RowError::NoSuchVariant => "no such variant",
             RowError::NoSuchStream => "no such stream",
             RowError::NotANumber => "a number was expected",

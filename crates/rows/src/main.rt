@@ -1,9 +1,10 @@
-//! Asks the rows of patterns, tokens, splicings, variables and files.
+//! Asks the rows of patterns, tokens, splicings, variables, files and tables.
 #![tactic(auto)]
 
 mod files;
 mod patterns;
 mod splicings;
+mod tables;
 mod tokens;
 mod variables;
 
@@ -27,6 +28,7 @@ impl Asks for Texts {
             "splicings" => splicings::ask(tally, common, parts),
             "variables" => variables::ask(tally, parts),
             "files" => files::ask(tally, parts),
+            "tables" => tables::ask(tally, parts),
             _ => Err(RowError::NoSuchKind),
         }
     }

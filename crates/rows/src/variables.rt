@@ -1,6 +1,6 @@
 //! Rows of variables.
 
-use aa_text::{TextError, Variables};
+use aa_text::{ExpansionTable, TextError, Variables};
 use row_texts::{
     Part, RowError, Tally, number_of, put_all, put_number_word, put_word, put_words, question_of,
     turns_of, words_of, yes_or_no,
@@ -99,6 +99,18 @@ fn put_answer(
     }
 }
 
+// What a table answers, one step behind the other: behind `#` a word is a text to count, and without it one to expand.
+fn put_steps(told: &mut Vec<u8>, variables: &Variables, steps: &[Vec<u8>]) -> Result<(), RowError> {
+    let mut table = ExpansionTable::new(*told.allocator(), variables);
+    for step in steps {
+        match step.as_slice() {
+            [b'#', text @ ..] => put_count(told, table.count(text))?,
+            text => put_expansions(told, table.expand(text))?,
+        }
+    }
+    Ok(())
+}
+
 // The answer to a question of these words.
 fn put_words_answer(
     told: &mut Vec<u8>,
@@ -110,6 +122,9 @@ fn put_words_answer(
         [first, rest @ ..] => (first.as_slice(), rest),
         [] => (&[], &[]),
     };
+    if kind == "table" {
+        return put_steps(told, variables, words);
+    }
     if kind == "=" || kind == "+=" {
         let rest = borrowed(*told.allocator(), rest)?;
         return put_assignment(told, variables, kind, first, &rest);

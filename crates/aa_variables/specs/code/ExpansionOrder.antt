@@ -1,7 +1,8 @@
 -- An order of variables in which each stands behind all that its words name.
 use Rattle.std.specs.Prelude.{ℕ, Bool, true, ◌≡◌, nat_eq, List, take, slice_get, None, Some}
 use Rattle.std.specs.List.{list_all, list_any}
-use Rattle.aa_variables.specs.Variables.{Variable, Part, Byte, Name, Unclosed, parts}
+use Rattle.aa_parts.specs.Parts.{Part, Byte, Name, Unclosed, parts}
+use Rattle.aa_variables.specs.Variables.{Variable}
 use Rattle.aa_variables.specs.code.VariableIndexes.{index_of, words_at}
 
 -- The variables that a text names, as far as they are defined, are among known indexes.

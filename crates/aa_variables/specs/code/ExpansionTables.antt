@@ -1,8 +1,11 @@
 -- Tables that stand beside an order of variables: what the variable at each index of the order has.
-use Rattle.std.specs.Prelude.{ℕ, nat_eq, List, [], ◌++◌, length, map, flat_map, min, take, position, slice_index_or, Option, None, Some, Vec}
+use Rattle.std.specs.Prelude.{ℕ, ◌≡◌, nat_eq, List, [], length, map, flat_map, min, take, position, slice_index_or, Option, None, Some, Vec}
 use Rattle.std.specs.List.{sum_by}
-use Rattle.aa_variables.specs.Variables.{Variable, Part, parts}
-use Rattle.aa_variables.specs.Expansions.{choice_count, choices, expansions, most_counted, most_kept}
+use Rattle.aa_parts.specs.Choices.{choice_count, choices}
+use Rattle.aa_parts.specs.Joining.{cut_off, joined, texts_of}
+use Rattle.aa_parts.specs.Parts.{Part, parts}
+use Rattle.aa_variables.specs.Variables.{Variable}
+use Rattle.aa_variables.specs.Expansions.{expansions, most_counted}
 use Rattle.aa_variables.specs.code.VariableIndexes.{index_of, words_at}
 
 -- the row of a name's variable in each table that stands beside an order
@@ -34,17 +37,13 @@ values_at variables index = flat_map (expansions variables) (words_at variables 
 abbrev pub count_at : List Variable → ℕ → ℕ
 count_at variables index = min (length (values_at variables index)) most_counted
 
--- each text, cut off behind the most bytes that are kept
-abbrev pub cut_off : List (List ℕ) → List (List ℕ)
-cut_off texts = map (take most_kept) texts
+-- counts of the first variables of an order
+abbrev pub AreFirstCounts : List Variable → List ℕ → List ℕ → Type 0
+AreFirstCounts variables order counts = counts ≡ map (count_at variables) (take (length counts) order)
 
 -- the values of the variable at an index, each cut off
 abbrev pub cut_off_at : List Variable → ℕ → List (List ℕ)
 cut_off_at variables index = cut_off (values_at variables index)
-
--- each text with each end behind it, the first text with all ends first
-abbrev pub joined : List (List ℕ) → List (List ℕ) → List (List ℕ)
-joined texts ends = flat_map (λ text. map (λ end. text ++ end) ends) texts
 
 -- texts with each choice of values for parts behind them, each cut off
 abbrev pub extended : (List ℕ → List (List ℕ)) → List (List ℕ) → List Part → List (List ℕ)
@@ -53,14 +52,6 @@ extended values texts parts = cut_off (joined texts (choices values parts))
 -- the expansions of words by a table of values, one list behind the other
 abbrev pub expanded_words : (List ℕ → List (List ℕ)) → List (List ℕ) → List (List ℕ)
 expanded_words values words = flat_map (λ word. cut_off (choices values (parts word))) words
-
--- texts in memory, without their capacities
-abbrev pub as_texts : {A : Type 0} → List (Vec ℕ A) → List (List ℕ)
-as_texts texts = map (λ t. t.items) texts
-
--- the same of a vector of them
-abbrev pub texts_of : {A B : Type 0} → Vec (Vec ℕ A) B → List (List ℕ)
-texts_of texts = as_texts texts.items
 
 -- the values that a table in memory has for a name
 abbrev pub cut_off_by : {A B : Type 0} → List Variable → List ℕ → List (Vec (Vec ℕ A) B) → List ℕ → List (List ℕ)

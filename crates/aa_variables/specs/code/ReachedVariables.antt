@@ -1,7 +1,8 @@
 -- The variables that a text leads to, as the code gathers them: a list of indexes, each of which is looked at in turn.
 use Rattle.std.specs.Prelude.{ℕ, Bool, suc, true, false, ◌≡◌, ◌+◌, ◌<◌, ◌≤◌, nat_eq, List, [], ◌∷◌, ◌++◌, length, slice_get, None, Some, if◌then◌else◌}
 use Rattle.std.specs.List.{list_any, IsDistinct}
-use Rattle.aa_variables.specs.Variables.{Variable, names_undefined, Part, Byte, Name, Unclosed, parts}
+use Rattle.aa_parts.specs.Parts.{Part, Byte, Name, Unclosed, parts}
+use Rattle.aa_variables.specs.Variables.{Variable, names_undefined}
 use Rattle.aa_variables.specs.Expansions.{leads_to_undefined_within}
 use Rattle.aa_files.specs.declared.text_error.TextRefusal.{TextRefusal}
 use Rattle.aa_files.specs.declared.text_error.TextRefusal.TheVariants.{Undefined}

@@ -51,9 +51,14 @@ pub record IsSettled (variables : List Variable) (order : List ℕ) : Type 0 whe
   pub below : AllBelow (length variables) order
   pub distinct : IsDistinct nat_eq order
 
--- it has all that a text names
-pub record IsOrderOf (variables : List Variable) (text order : List ℕ) : Type 0 where
+-- a list begins with another
+abbrev pub BeginsWith : List ℕ → List ℕ → Type 0
+BeginsWith before all = (more : List ℕ) × (all ≡ before ++ more)
+
+-- it has all that a text names, behind what stood in it before
+pub record IsOrderOf (variables : List Variable) (text before order : List ℕ) : Type 0 where
   pub settled : IsSettled variables order
+  pub begins : BeginsWith before order
   pub named : is_text_known variables order text ≡ true
 
 -- a walk has entered nothing, and has no task yet
@@ -62,9 +67,10 @@ pub record IsBeginning (variables : List Variable) (walk : Progress) : Type 0 wh
   pub nothing : walk.entered ≡ []
   pub idle : walk.tasks ≡ []
 
--- an order has what stood in it before, and some more
+-- an order has what stood in it before, and some more behind it
 pub record IsWalked (variables : List Variable) (starts before order : List ℕ) : Type 0 where
   pub settled : IsSettled variables order
+  pub begins : BeginsWith before order
   pub has : (q : ℕ) → list_any (nat_eq q) starts ≡ true → list_any (nat_eq q) order ≡ true
   pub keeps : (q : ℕ) → list_any (nat_eq q) before ≡ true → list_any (nat_eq q) order ≡ true
 
@@ -99,8 +105,9 @@ IsStack variables order names (Leave index ∷ tasks) =
 
 -- What is known of a walk from some indexes, which began behind an order.
 pub record IsWalk (variables : List Variable) (starts before : List ℕ) (walk : Progress) : Type 0 where
-  -- what was left is in an order, and what stood there still does
+  -- what was left is in an order, behind what stood there
   pub settled : IsSettled variables walk.order
+  pub begins : BeginsWith before walk.order
   pub keeps : (q : ℕ) → list_any (nat_eq q) before ≡ true → list_any (nat_eq q) walk.order ≡ true
   -- each start is seen to
   pub seen : AreSeenTo is_for walk.order walk.tasks starts

@@ -1,17 +1,19 @@
 //! How many expansions a text has.
 
 ghost use Rattle.std.specs.Prelude.{◌≡◌, ◌≢◌, ◌<◌, ◌≤◌, None, Some, IfOk, IfErr, OnOk, length, map, min};
+ghost use Rattle.aa_parts.specs.Choices.{choice_count};
 ghost use Rattle.aa_variables.specs.code.ExpansionOrder.{IsOrder};
-ghost use Rattle.aa_variables.specs.code.ExpansionTables.{count_at, counted, counted_words, looked_up, row_of};
-ghost use Rattle.aa_variables.specs.Expansions.{choice_count, expansion_refusal, expansions, most_counted};
-ghost use Rattle.aa_variables.specs.code.TextParts.{parts_of};
+ghost use Rattle.aa_variables.specs.code.ExpansionTables.{AreFirstCounts, count_at, counted, counted_words, looked_up, row_of};
+ghost use Rattle.aa_variables.specs.Expansions.{expansion_refusal, expansions, most_counted};
+ghost use Rattle.aa_parts.specs.code.TextParts.{parts_of};
 ghost use Rattle.aa_variables.specs.code.VariableIndexes.{words_at};
 ghost use Rattle.aa_files.specs.declared.text_error.TextRefusal.TheVariants.{Memory};
 
-use crate::parts::{TextPart, first_part};
 use crate::variables::Variables;
+use crate::variables::reached::gathered;
 use aa_bytes::Sequence;
 use aa_files::TextError;
+use aa_parts::{TextPart, first_part};
 use indexmap::IndexSet;
 use std::alloc::AllocError;
 
@@ -35,20 +37,24 @@ impl Variables {
         ensures place { IfErr result (λ e. e.place ≡ None) }
     {
         let order = self.order(text)?;
-        let counts = self.counts(&order)?;
+        let counts = self.counts(&order, Vec::new(*self.by_name.allocator()))?;
         Ok(self.count_text(&order, counts.as_slice(), text))
     }
 
-    // How many values each variable of an order has, as far as they are counted.
-    fn counts(&self, order: &IndexSet<usize>) -> Result<Vec<usize>, AllocError>
+    // How many values each variable of an order has, as far as they are counted, where those of the first ones are known.
+    pub(super) fn counts(
+        &self,
+        order: &IndexSet<usize>,
+        first: Vec<usize>,
+    ) -> Result<Vec<usize>, AllocError>
         requires order { IsOrder self.now order.now.keys }
         requires few { length order.now.keys ≤ length self.now }
+        requires first { AreFirstCounts self.now order.now.keys first.items }
         ensures { IfOk result (λ counts. counts.items ≡ map (count_at self.now) order.now.keys) }
     {
-        let indexes = order.as_slice();
-        let mut counts = Vec::with_capacity(*self.by_name.allocator(), indexes.len())?;
-        for index in indexes {
-            let count = self.count_variable(order, counts.as_slice(), *index);
+        let mut counts = first;
+        while let Some(index) = gathered(order, counts.len()) {
+            let count = self.count_variable(order, counts.as_slice(), index);
             counts.push(count)?;
         }
         Ok(counts)
@@ -86,7 +92,7 @@ impl Variables {
     }
 
     // How many expansions a text has by a table of counts.
-    fn count_text(&self, order: &IndexSet<usize>, counts: &[usize], text: &[u8]) -> usize
+    pub(super) fn count_text(&self, order: &IndexSet<usize>, counts: &[usize], text: &[u8]) -> usize
         ensures { result ≡ counted (looked_up 0 self.now order.now.keys counts.now) text.now }
     {
         let mut so_far: usize = 1;

@@ -1,87 +1,22 @@
 //! The expansions of a text: one for each choice of a value for each of its names.
 
-ghost use Rattle.std.specs.Prelude.{◌≡◌, ◌≢◌, ◌<◌, ◌≤◌, ◌++◌, ◌∷◌, [], None, Some, IfOk, IfErr, OnOk, length, map, take};
+ghost use Rattle.std.specs.Prelude.{◌≡◌, ◌≢◌, ◌<◌, ◌≤◌, [], None, Some, IfOk, IfErr, OnOk, length, map, take};
 ghost use Rattle.aa_variables.specs.code.ExpansionOrder.{IsOrder};
-ghost use Rattle.aa_variables.specs.code.ExpansionTables.{as_texts, cut_off, cut_off_at, cut_off_by, expanded_words, extended, joined, texts_of};
-ghost use Rattle.aa_variables.specs.Expansions.{choices, expansion_refusal, expansions, most_kept};
-ghost use Rattle.aa_variables.specs.code.TextParts.{parts_of};
+ghost use Rattle.aa_variables.specs.code.ExpansionTables.{cut_off_at, cut_off_by, expanded_words, extended};
+ghost use Rattle.aa_variables.specs.Expansions.{expansion_refusal, expansions};
 ghost use Rattle.aa_variables.specs.code.VariableIndexes.{words_at};
-ghost use Rattle.aa_variables.specs.Variables.{parts};
+ghost use Rattle.aa_parts.specs.Choices.{choices};
+ghost use Rattle.aa_parts.specs.Joining.{as_texts, cut_off, most_kept, texts_of};
+ghost use Rattle.aa_parts.specs.Parts.{parts};
+ghost use Rattle.aa_parts.specs.code.TextParts.{parts_of};
 ghost use Rattle.aa_files.specs.declared.text_error.TextRefusal.TheVariants.{Memory};
 
-use crate::parts::{TextPart, first_part};
 use crate::variables::Variables;
 use aa_bytes::Sequence;
 use aa_files::TextError;
+use aa_parts::{TextPart, first_part, with_bytes, with_ends};
 use indexmap::IndexSet;
-use std::alloc::{AllocError, Global};
-
-// How many bytes of an expansion are kept.
-const MOST_KEPT: usize = 4_097;
-
-// A text, cut off.
-fn cut(text: &[u8]) -> &[u8]
-    ensures { result.now ≡ take most_kept text.now }
-{
-    &text[..text.len().min(MOST_KEPT)]
-}
-
-// A text with another behind it, cut off.
-fn joined_text(alloc: Global, text: &[u8], end: &[u8]) -> Result<Vec<u8>, AllocError>
-    ensures { IfOk result (λ all. all.items ≡ take most_kept (text.now ++ end.now)) }
-{
-    let text = cut(text);
-    let room = MOST_KEPT - text.len();
-    let end = &end[..end.len().min(room)];
-    let mut all = Vec::with_capacity(alloc, text.len() + end.len())?;
-    all.extend_from_slice(text)?;
-    all.extend_from_slice(end)?;
-    Ok(all)
-}
-
-// A text with each end behind it, each cut off.
-fn with_each(alloc: Global, text: &[u8], ends: &[Vec<u8>]) -> Result<Vec<Vec<u8>>, AllocError>
-    ensures { IfOk result (λ all. texts_of all ≡ cut_off (map (λ end. text.now ++ end) (as_texts ends.now))) }
-{
-    let mut all = Vec::with_capacity(alloc, ends.len())?;
-    for end in ends {
-        all.push(joined_text(alloc, text, end)?)?;
-    }
-    Ok(all)
-}
-
-// Each text with each end behind it, each cut off.
-fn with_ends(alloc: Global, texts: &[Vec<u8>], ends: &[Vec<u8>]) -> Result<Vec<Vec<u8>>, AllocError>
-    ensures { IfOk result (λ all. texts_of all ≡ cut_off (joined (as_texts texts.now) (as_texts ends.now))) }
-{
-    let mut all = Vec::new(alloc);
-    for text in texts {
-        let mut more = with_each(alloc, text, ends)?;
-        all.append(&mut more)?;
-    }
-    Ok(all)
-}
-
-// Puts bytes behind a text, and cuts it off.
-fn put_behind(text: &mut Vec<u8>, bytes: &[u8]) -> Result<(), AllocError>
-    ensures { OnOk result (text.new.items ≡ take most_kept (text.old.items ++ bytes.now)) }
-{
-    text.truncate(MOST_KEPT);
-    let room = MOST_KEPT - text.len();
-    text.extend_from_slice(&bytes[..bytes.len().min(room)])?;
-    Ok(())
-}
-
-// Each text with the same bytes behind it, each cut off.
-fn with_bytes(texts: Vec<Vec<u8>>, bytes: &[u8]) -> Result<Vec<Vec<u8>>, AllocError>
-    ensures { IfOk result (λ all. texts_of all ≡ cut_off (joined (texts_of texts) (bytes.now ∷ []))) }
-{
-    let mut texts = texts;
-    for text in texts.iter_mut() {
-        put_behind(text, bytes)?;
-    }
-    Ok(texts)
-}
+use std::alloc::AllocError;
 
 impl Variables {
     /// The expansions of a text, at least one: one for each choice of a value for each name, the first name changing slowest. Of each,
@@ -123,7 +58,7 @@ impl Variables {
     }
 
     // The values of the variable at an index, by a table of values.
-    fn expand_variable(
+    pub(super) fn expand_variable(
         &self,
         order: &IndexSet<usize>,
         table: &[Vec<Vec<u8>>],
@@ -160,7 +95,7 @@ impl Variables {
     }
 
     // The expansions of a text, by a table of values.
-    fn expand_text(
+    pub(super) fn expand_text(
         &self,
         order: &IndexSet<usize>,
         table: &[Vec<Vec<u8>>],
@@ -201,7 +136,7 @@ impl Variables {
     }
 
     // The values of a name, by a table of values.
-    fn values<'a>(
+    pub(super) fn values<'a>(
         &self,
         order: &IndexSet<usize>,
         table: &'a [Vec<Vec<u8>>],

@@ -3,7 +3,7 @@
 ghost use Rattle.std.specs.Prelude.{◌≡◌, ◌≢◌, ◌<◌, ◌≤◌, true, None, Some, IfOk, IfErr, OnOk, MatchOption, length, position};
 ghost use Rattle.aa_variables.specs.code.ExpansionOrder.{IsOrder, is_text_known};
 ghost use Rattle.aa_variables.specs.Expansions.{expansion_refusal, expansions, is_cyclic, leads_to_cycle};
-ghost use Rattle.aa_variables.specs.code.VariableWalks.{IsOrderOf};
+ghost use Rattle.aa_variables.specs.code.VariableWalks.{IsOrderOf, IsSettled};
 ghost use Rattle.aa_files.specs.declared.text_error.TextRefusal.TheVariants.{Memory};
 
 use crate::variables::Variables;
@@ -23,20 +23,24 @@ impl Variables {
         ensures place { IfErr result (λ e. e.place ≡ None) }
     {
         self.refuse_undefined(text)?;
-        match self.walk_text(text)? {
+        match self.walk_text(text, IndexSet::new(*self.by_name.allocator()))? {
             Some(order) => Ok(order),
             None => Err(plain(TextRefusal::Cycle)),
         }
     }
 
-    // An order with the variables that a text leads to, or nothing where it leads to a cycle.
-    fn walk_text(&self, text: &[u8]) -> Result<Option<IndexSet<usize>>, AllocError>
-        ensures { IfOk result (λ found. MatchOption found (leads_to_cycle self.now text.now ≡ true) (λ o. IsOrderOf self.now text.now o.keys)) }
+    // An order with the variables that a text leads to behind it, or nothing where it leads to a cycle.
+    pub(super) fn walk_text(
+        &self,
+        text: &[u8],
+        order: IndexSet<usize>,
+    ) -> Result<Option<IndexSet<usize>>, AllocError>
+        requires { IsSettled self.now order.keys }
+        ensures { IfOk result (λ found. MatchOption found (leads_to_cycle self.now text.now ≡ true) (λ o. IsOrderOf self.now text.now order.keys o.keys)) }
     {
-        let alloc = *self.by_name.allocator();
-        let mut starts = IndexSet::new(alloc);
+        let mut starts = IndexSet::new(*self.by_name.allocator());
         self.note(text, &mut starts)?;
-        self.walk(starts.as_slice(), IndexSet::new(alloc))
+        self.walk(starts.as_slice(), order)
     }
 
     /// The index, by first definitions, of the first variable that leads to itself, or to one that does.

@@ -4,19 +4,19 @@ ghost use Rattle.std.specs.Prelude.{◌≡◌, ◌≢◌, ◌<◌, ◌-◌, ◌^
 ghost use Rattle.std.specs.List.{list_any};
 ghost use Rattle.aa_variables.specs.Expansions.{leads_to_undefined};
 ghost use Rattle.aa_variables.specs.code.ReachedVariables.{SaysUndefined, indexes_in, indexes_of, indexes_within, with_indexes};
-ghost use Rattle.aa_variables.specs.code.TextParts.{parts_of};
+ghost use Rattle.aa_parts.specs.code.TextParts.{parts_of};
 ghost use Rattle.aa_variables.specs.code.VariableIndexes.{words_at};
 ghost use Rattle.aa_variables.specs.Variables.{are_variables, names_undefined};
 ghost use Rattle.aa_files.specs.declared.text_error.TextRefusal.TheVariants.{Memory};
 
-use crate::parts::{TextPart, first_part};
 use crate::variables::Variables;
 use aa_files::{TextError, TextRefusal, plain};
+use aa_parts::{TextPart, first_part};
 use indexmap::IndexSet;
 use std::alloc::AllocError;
 
 // The index that was gathered behind so many others.
-fn gathered(reached: &IndexSet<usize>, at: usize) -> Option<usize>
+pub(super) fn gathered(reached: &IndexSet<usize>, at: usize) -> Option<usize>
     ensures value { result ≡ slice_get reached.now.keys at }
     ensures fits { IfSome result (λ index. at < 2 ^ 64 - 1) }
 {
@@ -68,7 +68,7 @@ impl Variables {
     }
 
     // Whether a word of the variable at an index names a variable that isn't defined, or doesn't close a name.
-    fn undefined_at(&self, index: usize) -> bool
+    pub(super) fn undefined_at(&self, index: usize) -> bool
         ensures { result ≡ list_any (names_undefined self.now) (words_at self.now index) }
     {
         let mut at = 0;

@@ -9,9 +9,10 @@ use Rattle.aa_profile.proofs.profiles.read_profiles.Given as goal
 -- what was made so far, and what the rest makes, are all, and the rest decides
 abbrev pub invariant-loop-rest : goal.invariant-loop-rest
 invariant-loop-rest l = record {
-  profiles : l.profiles.items ++ map (profile_of l.variables) (map seen_profile l.rest) ≡ map (profile_of l.variables) (map seen_profile l.written);
-  refusal : first_bad l.variables (of_profiles (map seen_profile l.rest)) ≡ first_bad l.variables (of_profiles (map seen_profile l.written));
-  expand : have_expansions l.variables (of_profiles (map seen_profile l.rest)) ≡ true;
+  profiles : l.profiles.items ++ map (profile_of l.fn.table) (map seen_profile l.rest) ≡ map (profile_of l.fn.table) (map seen_profile l.written);
+  same : l.table ≡ l.fn.table;
+  refusal : first_bad l.fn.table (of_profiles (map seen_profile l.rest)) ≡ first_bad l.fn.table (of_profiles (map seen_profile l.written));
+  expand : have_expansions l.fn.table (of_profiles (map seen_profile l.rest)) ≡ true;
 }
 
 abbrev pub decreases-loop-rest : goal.decreases-loop-rest

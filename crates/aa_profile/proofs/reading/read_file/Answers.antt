@@ -1,11 +1,21 @@
+use Rattle.std.proofs.lemmas.Result.{IfOk-weaker}
 use Rattle.aa_grammar.specs.code.Seen.{seen_file}
 use Rattle.aa_rules.specs.code.SeenTokens.{seen_tokens}
 use Rattle.aa_profile.proofs.GrammarLemmas.{assignments-valued}
-use Rattle.aa_profile.proofs.ReadingLemmas.{distinct-told}
+use Rattle.aa_profile.proofs.ReadingLemmas.{fit-told}
 use Rattle.aa_profile.proofs.reading.read_file.Goals as goal
 
 pub read_written-requires : goal.read_written-requires
 read_written-requires c = assignments-valued (seen_tokens c.deref.result.now) (seen_file c.in_ok-file.file) c.in_ok-file.ensures.ok
 
 pub returns-clause-distinct : goal.returns-clause-distinct
-returns-clause-distinct c = distinct-told (seen_tokens c.deref.result.now) (seen_file c.in_ok-file.file) c.read_written.result c.in_ok-file.ensures.ok c.read_written.ensures.ok
+returns-clause-distinct c =
+    IfOk-weaker c.read_written.result _ _ (λ profiles fit. fit.distinct) (fit-told (seen_tokens c.deref.result.now) (seen_file c.in_ok-file.file) c.read_written.result c.in_ok-file.ensures.ok c.read_written.ensures.ok)
+
+pub returns-clause-named : goal.returns-clause-named
+returns-clause-named c =
+    IfOk-weaker c.read_written.result _ _ (λ profiles fit. fit.named) (fit-told (seen_tokens c.deref.result.now) (seen_file c.in_ok-file.file) c.read_written.result c.in_ok-file.ensures.ok c.read_written.ensures.ok)
+
+pub returns-clause-children : goal.returns-clause-children
+returns-clause-children c =
+    IfOk-weaker c.read_written.result _ _ (λ profiles fit. fit.children) (fit-told (seen_tokens c.deref.result.now) (seen_file c.in_ok-file.file) c.read_written.result c.in_ok-file.ensures.ok c.read_written.ensures.ok)

@@ -8,4 +8,4 @@ pub returns-clause-sum : goal.returns-clause-sum
 returns-clause-sum c = undone_sum
 
 pub returns-clause-distinct : goal.returns-clause-distinct
-returns-clause-distinct c = distinct c.how_profiles_are_named.ensures
+returns-clause-distinct c = distinct c.how_profiles_are_named.ensures.distinct

@@ -1,5 +1,5 @@
+use Rattle.aa_parts.specs.Parts.{parts}
 use Rattle.aa_variables.specs.Expansions.{values}
-use Rattle.aa_variables.specs.Variables.{parts}
 use Rattle.aa_variables.proofs.ExpansionLaws.{choices-agree, choices-count, choices-plain, values-of_variable}
 use Rattle.aa_variables.proofs.SomeExpansionLaws.{some-expansion}
 use Rattle.aa_variables.proofs.laws.how_texts_expand.Goals as goal

@@ -1,5 +1,5 @@
+use Rattle.aa_variables.proofs.ChoiceCountLemmas.{choices-of_bytes}
 use Rattle.aa_variables.specs.code.ExpansionTables.{looked_up}
-use Rattle.aa_variables.proofs.CountLemmas.{choices-of_bytes}
 use Rattle.aa_variables.proofs.variables.Variables.count_part.Goals as goal
 
 pub returns-in-Text : goal.returns-in-Text

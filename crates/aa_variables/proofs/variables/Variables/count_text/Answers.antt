@@ -1,7 +1,7 @@
 use Rattle.std.proofs.Common.{arith, ◌∙◌}
+use Rattle.aa_parts.specs.Parts.{parts}
 use Rattle.aa_variables.specs.code.ExpansionTables.{looked_up}
-use Rattle.aa_variables.specs.code.TextParts.{parts_of}
-use Rattle.aa_variables.specs.Variables.{parts}
+use Rattle.aa_parts.specs.code.TextParts.{parts_of}
 use Rattle.aa_variables.proofs.CountLemmas.{count-part}
 use Rattle.aa_variables.proofs.variables.Variables.count_text.Goals as goal
 

@@ -1,7 +1,8 @@
 use Rattle.std.proofs.Common.{◌≡◌, ◌≤◌, ◌*◌, min, length}
-use Rattle.aa_variables.specs.Expansions.{choice_count, most_counted}
+use Rattle.aa_parts.specs.Choices.{choice_count}
+use Rattle.aa_parts.specs.Parts.{parts}
+use Rattle.aa_variables.specs.Expansions.{most_counted}
 use Rattle.aa_variables.specs.code.ExpansionTables.{looked_up}
-use Rattle.aa_variables.specs.Variables.{parts}
 use Rattle.aa_variables.proofs.variables.Variables.count_text.Given as goal
 
 -- the choices so far, times those of the rest, are those of the text

@@ -1,16 +1,29 @@
-use Rattle.std.proofs.Common.{◌≡◌, ◌<◌, length, map, take}
+use Rattle.std.proofs.Common.{◌≡◌, ◌<◌, ◌≤◌, ◌∙◌, ◌∷◌, [], ap, length, length-append, map, arith, sym}
+use Rattle.std.proofs.lemmas.List.{take_all}
+use Rattle.std.proofs.lemmas.Option.{slice_get_within}
 use Rattle.aa_variables.specs.code.ExpansionTables.{count_at}
-use Rattle.aa_variables.proofs.CountLemmas.{row-counted}
+use Rattle.aa_variables.proofs.CountLemmas.{counts-more}
+use Rattle.aa_variables.proofs.ListLemmas.{past-none}
 use Rattle.aa_variables.proofs.OrderLemmas.{values-settled}
 use Rattle.aa_variables.proofs.variables.Variables.counts.Goals as goal
 
+pub loop-index-smaller : goal.loop-index-smaller
+loop-index-smaller c =
+    let size : c.len.result ≡ length c.loop-index.counts.items = omega (arith, c.loop-index.counts.ok) in
+    let within : length c.loop-index.counts.items < length c.args.order.now.keys = slice_get_within c.args.order.now.keys (length c.loop-index.counts.items) c.in-Some.index (sym (rw size at c.in-Some.ensures.value)) in
+    let longer = ap length c.in_ok-push.ensures.items ∙ length-append c.loop-index.counts.items (c.count_variable-count.result ∷ []) in
+    omega arith
+
 pub loop-index-preserved : goal.loop-index-preserved
 loop-index-preserved c =
+    let size : c.len.result ≡ length c.loop-index.counts.items = omega (arith, c.loop-index.counts.ok) in
     let variables = c.args.self.now in
     let order = c.args.order.now.keys in
-    let keys = c.as_slice-indexes.ensures.keys in
-    let at = c.loop-index.index-index in
-    let within : at < length order = rw keys at c.loop-index-test.true in
-    let count = rw (keys, c.as_slice.ensures.value) at c.count_variable-count.ensures in
-    let before : c.loop-index.counts.items ≡ map (count_at variables) (take at order) = rw keys at c.loop-index.invariant in
-    rw keys (row-counted variables order (values-settled variables order c.requires.order c.requires.few) c.requires.order at within c.loop-index.counts.items c.push.new.self.items c.count_variable-count.result before count c.in_ok-push.ensures.items)
+    counts-more variables order (values-settled variables order c.requires.order c.requires.few) c.requires.order c.in-Some.index c.loop-index.counts.items c.push.new.self.items c.count_variable-count.result
+    (sym (rw size at c.in-Some.ensures.value)) c.loop-index.invariant (rw c.as_slice.ensures.value at c.count_variable-count.ensures) c.in_ok-push.ensures.items
+
+pub returns : goal.returns
+returns c =
+    let size : c.len.result ≡ length c.loop-index.counts.items = omega (arith, c.loop-index.counts.ok) in
+    let past : length c.args.order.now.keys ≤ length c.loop-index.counts.items = past-none c.args.order.now.keys (length c.loop-index.counts.items) (rw size at c.in_default.ensures.value) in
+    c.loop-index.invariant ∙ ap (map (count_at c.args.self.now)) (take_all (length c.loop-index.counts.items) c.args.order.now.keys past)

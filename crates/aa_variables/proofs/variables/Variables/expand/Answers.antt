@@ -1,7 +1,7 @@
 use Rattle.std.proofs.Common.{◌≡◌, ◌<◌, ◌∙◌, ap, sym, map, take, length, arith}
 use Rattle.std.proofs.lemmas.List.{length-map}
-use Rattle.aa_variables.specs.Expansions.{expansions, most_kept}
-use Rattle.aa_variables.specs.code.ExpansionTables.{texts_of}
+use Rattle.aa_parts.specs.Joining.{most_kept, texts_of}
+use Rattle.aa_variables.specs.Expansions.{expansions}
 use Rattle.aa_variables.proofs.ExpandLemmas.{text-expanded}
 use Rattle.aa_variables.proofs.OrderLemmas.{values-settled}
 use Rattle.aa_variables.proofs.variables.Variables.expand.Goals as goal

@@ -1,6 +1,8 @@
 use Rattle.std.proofs.Common.{refl}
-use Rattle.aa_variables.specs.code.ExpansionTables.{cut_off_by, texts_of}
-use Rattle.aa_variables.proofs.ExpandLemmas.{choices-bytes, joined-nil, joined-none}
+use Rattle.aa_parts.specs.Joining.{texts_of}
+use Rattle.aa_variables.proofs.ChoiceLemmas.{choices-bytes}
+use Rattle.aa_variables.proofs.JoiningLemmas.{joined-nil, joined-none}
+use Rattle.aa_variables.specs.code.ExpansionTables.{cut_off_by}
 use Rattle.aa_variables.proofs.variables.Variables.expand_part.Goals as goal
 
 pub returns-in-Text : goal.returns-in-Text

@@ -1,9 +1,11 @@
 use Rattle.std.proofs.Common.{◌∙◌, ◌≡◌, ◌∷◌, [], ap, refl, sym}
-use Rattle.aa_variables.specs.Expansions.{choices}
-use Rattle.aa_variables.specs.code.ExpansionTables.{as_texts, texts_of, cut_off, cut_off_by, joined}
-use Rattle.aa_variables.specs.code.TextParts.{parts_of}
-use Rattle.aa_variables.specs.Variables.{parts}
-use Rattle.aa_variables.proofs.ExpandLemmas.{expand-part, joined-nil, joined-start, cut_off-again}
+use Rattle.aa_parts.specs.Choices.{choices}
+use Rattle.aa_parts.specs.Joining.{as_texts, texts_of, cut_off, joined}
+use Rattle.aa_parts.specs.Parts.{parts}
+use Rattle.aa_variables.proofs.ChoiceLemmas.{expand-part}
+use Rattle.aa_variables.proofs.JoiningLemmas.{joined-nil, joined-start, cut_off-again}
+use Rattle.aa_variables.specs.code.ExpansionTables.{cut_off_by}
+use Rattle.aa_parts.specs.code.TextParts.{parts_of}
 use Rattle.aa_variables.proofs.variables.Variables.expand_text.Goals as goal
 
 pub loop-part-init : goal.loop-part-init

@@ -1,7 +1,8 @@
 use Rattle.std.proofs.Common.{◌≡◌, length}
-use Rattle.aa_variables.specs.Expansions.{choices}
-use Rattle.aa_variables.specs.code.ExpansionTables.{joined, texts_of, cut_off, cut_off_by}
-use Rattle.aa_variables.specs.Variables.{parts}
+use Rattle.aa_parts.specs.Choices.{choices}
+use Rattle.aa_parts.specs.Joining.{joined, texts_of, cut_off}
+use Rattle.aa_parts.specs.Parts.{parts}
+use Rattle.aa_variables.specs.code.ExpansionTables.{cut_off_by}
 use Rattle.aa_variables.proofs.variables.Variables.expand_text.Given as goal
 
 -- the texts so far, with the choices of the rest behind them, are those of the text

@@ -1,9 +1,10 @@
 use Rattle.std.proofs.Common.{◌∙◌, ap, sym}
 use Rattle.std.proofs.lemmas.List.{map-append}
 use Rattle.std.proofs.lemmas.Grind.{flat_map-append}
-use Rattle.aa_variables.specs.Expansions.{choices}
-use Rattle.aa_variables.specs.code.ExpansionTables.{as_texts, expanded_words, cut_off, cut_off_by}
-use Rattle.aa_variables.specs.Variables.{parts}
+use Rattle.aa_parts.specs.Choices.{choices}
+use Rattle.aa_parts.specs.Joining.{as_texts, cut_off}
+use Rattle.aa_parts.specs.Parts.{parts}
+use Rattle.aa_variables.specs.code.ExpansionTables.{expanded_words, cut_off_by}
 use Rattle.aa_variables.proofs.TableLemmas.{words_at-entry, words_at-none}
 use Rattle.aa_variables.proofs.variables.Variables.expand_variable.Goals as goal
 

@@ -1,5 +1,6 @@
 use Rattle.std.proofs.Common.{◌≡◌, take}
-use Rattle.aa_variables.specs.code.ExpansionTables.{expanded_words, texts_of, cut_off_by}
+use Rattle.aa_parts.specs.Joining.{texts_of}
+use Rattle.aa_variables.specs.code.ExpansionTables.{expanded_words, cut_off_by}
 use Rattle.aa_variables.proofs.variables.Variables.expand_words.Given as goal
 
 -- the words so far are expanded

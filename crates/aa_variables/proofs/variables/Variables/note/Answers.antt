@@ -1,6 +1,6 @@
 use Rattle.std.proofs.Common.{◌∙◌}
-use Rattle.aa_variables.specs.code.TextParts.{parts_of}
-use Rattle.aa_variables.specs.Variables.{parts}
+use Rattle.aa_parts.specs.Parts.{parts}
+use Rattle.aa_parts.specs.code.TextParts.{parts_of}
 use Rattle.aa_variables.proofs.ReachedLemmas.{indexes_of-behind}
 use Rattle.aa_variables.proofs.variables.Variables.note.Goals as goal
 

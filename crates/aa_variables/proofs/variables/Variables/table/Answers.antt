@@ -1,6 +1,7 @@
 use Rattle.std.proofs.Common.{ap, ◌∙◌, ◌≡◌, ◌<◌, ◌∷◌, [], length, map, take}
 use Rattle.std.proofs.lemmas.List.{map-append}
-use Rattle.aa_variables.specs.code.ExpansionTables.{texts_of, cut_off_at}
+use Rattle.aa_parts.specs.Joining.{texts_of}
+use Rattle.aa_variables.specs.code.ExpansionTables.{cut_off_at}
 use Rattle.aa_variables.proofs.ExpandLemmas.{row-expanded}
 use Rattle.aa_variables.proofs.OrderLemmas.{values-settled}
 use Rattle.aa_variables.proofs.variables.Variables.table.Goals as goal

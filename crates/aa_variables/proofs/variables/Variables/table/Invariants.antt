@@ -1,5 +1,6 @@
 use Rattle.std.proofs.Common.{◌≡◌, map, take}
-use Rattle.aa_variables.specs.code.ExpansionTables.{texts_of, cut_off_at}
+use Rattle.aa_parts.specs.Joining.{texts_of}
+use Rattle.aa_variables.specs.code.ExpansionTables.{cut_off_at}
 use Rattle.aa_variables.proofs.variables.Variables.table.Given as goal
 
 -- the values of the indexes so far

@@ -1,0 +1,2 @@
+pub mod JoiningLemmas
+pub mod PartLemmas

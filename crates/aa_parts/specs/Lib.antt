@@ -1,0 +1,4 @@
+pub mod Choices
+pub mod Joining
+pub mod Parts
+pub mod code

@@ -1,0 +1,219 @@
+-- Names of a file's profiles, children and hats: as the grammar says, and no two alike.
+use Rattle.std.proofs.Common.{◌≡◌, ℕ, ◌++◌, Bool, true, false, List, [], ◌∷◌, Ok, map, length, suc, Some, None, refl, sym, ap, ◌∙◌, subst, Err}
+use Rattle.std.specs.Prelude.{not, if◌then◌else◌, codes}
+use Rattle.std.specs.List.{list_all, list_any}
+use Rattle.std.specs.Str.{bytes_eq}
+use Rattle.std.proofs.lemmas.Bool.{and_parts, not-true, or_parts}
+use Rattle.std.proofs.lemmas.Grind.{flat_map-append}
+use Rattle.std.proofs.lemmas.List.{append-nil, map-append}
+use Rattle.std.proofs.lemmas.List.Folds.{list_all-append}
+use Rattle.std.proofs.lemmas.Slice.Eq.{bytes_eq-Decides}
+use Rattle.aa_text.specs.Splicing.{Placed}
+use Rattle.aa_rules.specs.Names.{is_name, is_top_name}
+use Rattle.aa_rules.specs.Parts.{Part, followed, refused}
+use Rattle.aa_rules.specs.Rules.{rule}
+use Rattle.aa_rules.specs.Tokens.{is_close_brace, is_word_of}
+use Rattle.aa_grammar.specs.Blocks.{OfChild, OfRule, Child as WrittenChild, Member, Profile as WrittenProfile, child, child_behind, child_block, closed, is_child_of_name, is_hat, is_of_name, member, next_member, next_profile, profile, profile_behind, profile_block, refusal_of_name}
+use Rattle.aa_grammar.specs.Files.{File, file}
+use Rattle.aa_grammar.specs.Flags.{flags}
+use Rattle.aa_grammar.specs.Heads.{Head, Named, attachment, begins_child, child_name, head, top_name}
+use Rattle.aa_grammar.specs.Preamble.{behind_version}
+use Rattle.aa_grammar.specs.Sequences.{skipped}
+use Rattle.aa_grammar.specs.declared.sequence.Next.{Next}
+use Rattle.aa_grammar.specs.declared.sequence.Next.TheVariants.{Item, End}
+use Rattle.aa_policy.specs.Profile.{are_distinct, are_distinct_children, is_child_named, is_named}
+use Rattle.aa_policy.specs.declared.profile.Child.{Child}
+use Rattle.aa_policy.specs.declared.profile.Profile.{Profile}
+use Rattle.aa_profile.specs.ProfileNames.{has_distinct_children, is_child_named_well, is_named_well}
+use Rattle.aa_profile.specs.Profiles.{child_of, children_of, children_of_member, profile_of}
+use Rattle.aa_variables.specs.Variables.{Variable}
+use Rattle.aa_profile.proofs.GrammarLemmas.{any-push, first-told, followed-ok, no-skipped, profiles-keep, row-keeps}
+
+-- names that differ, differ the other way round
+names-differ : (xs ys : List ℕ) → bytes_eq xs ys ≡ false → bytes_eq ys xs ≡ false
+names-differ xs ys h = by (bytes_eq ys xs) refl
+  where
+    by : (b : Bool) → bytes_eq ys xs ≡ b → bytes_eq ys xs ≡ false
+    by true e =
+        let same : ys ≡ xs = (bytes_eq-Decides ys xs).0 e in
+        let there : bytes_eq xs ys ≡ true = (bytes_eq-Decides xs ys).1 (sym same) in
+        absurd (cc)
+    by false e = e
+
+-- one more at the end that passes, behind others that do
+all-push : {X : Type 0} (p : X → Bool) (xs : List X) (x : X) → list_all p xs ≡ true → p x ≡ true → list_all p (xs ++ x ∷ []) ≡ true
+all-push p xs x all h = rw (list_all-append p xs (x ∷ []), all, h) refl
+
+-- one more profile, whose name none has
+distinct-push : (profiles : List Profile) (item : Profile) → are_distinct profiles ≡ true → list_any (is_named item.name) profiles ≡ false → are_distinct (profiles ++ item ∷ []) ≡ true
+distinct-push [] item distinct fresh = refl
+distinct-push (first ∷ profiles) item distinct fresh =
+    let others = and_parts (not (list_any (is_named first.name) profiles)) (are_distinct profiles) distinct in
+    let differ = or_parts (bytes_eq first.name item.name) (list_any (is_named item.name) profiles) fresh in
+    let alone = any-push (is_named first.name) profiles item (not-true (list_any (is_named first.name) profiles) others.0) (names-differ first.name item.name differ.0) in
+    rw (are_distinct, alone, distinct-push profiles item others.1 differ.1) refl
+
+-- one more child or hat, whose name none has
+children-push : (children : List Child) (item : Child) → are_distinct_children children ≡ true → list_any (is_child_named item.name) children ≡ false → are_distinct_children (children ++ item ∷ []) ≡ true
+children-push [] item distinct fresh = refl
+children-push (first ∷ children) item distinct fresh =
+    let others = and_parts (not (list_any (is_child_named first.name) children)) (are_distinct_children children) distinct in
+    let differ = or_parts (bytes_eq first.name item.name) (list_any (is_child_named item.name) children) fresh in
+    let alone = any-push (is_child_named first.name) children item (not-true (list_any (is_child_named first.name) children) others.0) (names-differ first.name item.name differ.0) in
+    rw (are_distinct_children, alone, children-push children item others.1 differ.1) refl
+
+-- what follows a name that isn't refused: it is accepted, and none has it
+not-refused : {A : Type 0} (fits taken : Bool) (token : Placed) (part : Part A) (read : A × List Placed)
+    → ◌≡◌ {A = Part A} (elim (refusal_of_name fits taken) [ Some refusal ↦ refused refusal token | None ↦ part ]) (Ok read) → (fits ≡ true) × (taken ≡ false) × (part ≡ Ok read)
+not-refused false taken token part read h = absurd (cc)
+not-refused true true token part read h = absurd (cc)
+not-refused true false token part read h = (refl, refl, h)
+
+-- what the inside of a block read
+closed-ok : {A : Type 0} (brace : Placed) (inside : Part A) (read : A × List Placed) → closed brace inside ≡ Ok read → inside ≡ Ok read
+closed-ok brace (Err fault) read h = absurd (cc)
+closed-ok brace (Ok told) read h = h
+
+-- the name of a head is the one that stands before it
+head-named : (named : Named) (tokens rest : List Placed) (found : Head) → head named tokens ≡ Ok (found, rest) → found.name ≡ named.name
+head-named named tokens rest found h =
+    let flagged = followed-ok (flags (attachment named tokens).1) (λ read behind. Ok (record { name = named.name; attachment = (attachment named tokens).0; flags = read.0; brace = read.1 }, behind)) (found, rest) h in
+    let whole = first-told (record { name = named.name; attachment = (attachment named tokens).0; flags = flagged.0.0; brace = flagged.0.1 }, flagged.1) (found, rest) flagged.3 in
+    ap (λ head. head.name) (sym whole)
+
+-- a child or a hat has the name that stands before its head
+child-named : (named : Named) (tokens rest : List Placed) (found : WrittenChild) → child_behind named tokens ≡ Ok (found, rest) → found.head.name ≡ named.name
+child-named named tokens rest found h =
+    let headed = followed-ok (head named tokens) (λ head behind. followed (closed head.brace (child_block behind)) (λ rules rest. Ok (record { hat = is_hat named.form; head = head; rules = rules }, rest))) (found, rest) h in
+    let inside = followed-ok (closed headed.0.brace (child_block headed.1)) (λ rules rest. Ok (record { hat = is_hat named.form; head = headed.0; rules = rules }, rest)) (found, rest) headed.3 in
+    let whole = first-told (record { hat = is_hat named.form; head = headed.0; rules = inside.0 }, inside.1) (found, rest) inside.3 in
+    ap (λ child. child.head.name) (sym whole) ∙ head-named named tokens headed.1 headed.0 headed.2
+
+-- a profile has the name that stands before its head, and holds what its block does
+profile-parts : (named : Named) (tokens rest : List Placed) (found : WrittenProfile) → profile_behind named tokens ≡ Ok (found, rest)
+    → (found.head.name ≡ named.name) × (inside : List Placed) × (behind : List Placed) × (profile_block inside ≡ Ok (found.members, behind))
+profile-parts named tokens rest found h =
+    let headed = followed-ok (head named tokens) (λ head behind. followed (closed head.brace (profile_block behind)) (λ members rest. Ok (record { head = head; members = members }, rest))) (found, rest) h in
+    let inside = followed-ok (closed headed.0.brace (profile_block headed.1)) (λ members rest. Ok (record { head = headed.0; members = members }, rest)) (found, rest) headed.3 in
+    let whole = first-told (record { head = headed.0; members = inside.0 }, inside.1) (found, rest) inside.3 in
+    let read = closed-ok headed.0.brace (profile_block headed.1) (inside.0, inside.1) inside.2 in
+    (ap (λ profile. profile.head.name) (sym whole) ∙ head-named named tokens headed.1 headed.0 headed.2, headed.1, inside.1, subst (λ (profile : WrittenProfile). profile_block headed.1 ≡ Ok (profile.members, inside.1)) whole read)
+
+-- a member may stand behind others: it is a rule, or a child or a hat whose name is accepted, and none of them has it
+abbrev FitsBehind : List Member → Member → Type 0
+FitsBehind read (OfRule rule) = Unit {0}
+FitsBehind read (OfChild child) = (is_name child.head.name ≡ true) × (list_any (is_child_of_name child.head.name) read ≡ false)
+
+child-fits : (read : List Member) (token : Placed) (tokens rest : List Placed) (found : WrittenChild) → child read token tokens ≡ Ok (found, rest) → FitsBehind read (OfChild found)
+child-fits read token tokens rest found h =
+    let named = followed-ok (child_name token tokens) (λ named behind. elim (refusal_of_name (is_name named.name) (list_any (is_child_of_name named.name) read)) [ Some refusal ↦ refused refusal named.token | None ↦ child_behind named behind ]) (found, rest) h in
+    let fine = not-refused (is_name named.0.name) (list_any (is_child_of_name named.0.name) read) named.0.token (child_behind named.0 named.1) (found, rest) named.3 in
+    let name = child-named named.0 named.1 rest found fine.2 in
+    (ap is_name name ∙ fine.0, ap (λ name. list_any (is_child_of_name name) read) name ∙ fine.1)
+
+member-fits : (read : List Member) (tokens rest : List Placed) (item : Member) → member read tokens ≡ Ok (item, rest) → FitsBehind read item
+member-fits read [] rest item h = absurd (cc)
+member-fits read (token ∷ tokens) rest item h = by (begins_child token) h
+  where
+    by : (begins : Bool)
+        → ◌≡◌ {A = Part Member} (if begins then followed (child read token tokens) (λ child behind. Ok (OfChild child, behind)) else followed (rule (token ∷ tokens)) (λ rule behind. Ok (OfRule rule, behind))) (Ok (item, rest))
+        → FitsBehind read item
+    by true h =
+        let found = followed-ok (child read token tokens) (λ child behind. Ok (OfChild child, behind)) (item, rest) h in
+        subst (FitsBehind read) (first-told (OfChild found.0, found.1) (item, rest) found.3) (child-fits read token tokens found.1 found.0 found.2)
+    by false h =
+        let found = followed-ok (rule (token ∷ tokens)) (λ rule behind. Ok (OfRule rule, behind)) (item, rest) h in
+        subst (FitsBehind read) (first-told (OfRule found.0, found.1) (item, rest) found.3) tt
+
+-- so does a member that comes next in a block
+next-fits : (read : List Member) (tokens more : List Placed) (item : Member) → next_member read tokens ≡ Ok (Item item, more) → FitsBehind read item
+next-fits read [] more item h = absurd (cc)
+next-fits read (token ∷ tokens) more item h = by (is_close_brace token.token.kind) (is_word_of (codes "abi") token) h
+  where
+    by : (closes version : Bool)
+        → ◌≡◌ {A = Part (Next Member)} (if closes then Ok (End, tokens) else if version then skipped (behind_version tokens) else followed (member read (token ∷ tokens)) (λ member behind. Ok (Item member, behind))) (Ok (Item item, more))
+        → FitsBehind read item
+    by true version h = let wrong : End ≡ Item item = first-told (End, tokens) (Item item, more) h in absurd (cc)
+    by false true h = no-skipped (behind_version tokens) more item h
+    by false false h =
+        let found = followed-ok (member read (token ∷ tokens)) (λ member behind. Ok (Item member, behind)) (Item item, more) h in
+        let told : Item found.0 ≡ Item item = first-told (Item found.0, found.1) (Item item, more) found.3 in
+        let same : found.0 ≡ item = cc in
+        subst (FitsBehind read) same (member-fits read (token ∷ tokens) found.1 found.0 found.2)
+
+-- the children and hats of a block: each name is accepted, and no two are alike
+record ChildrenFit (children : List Child) : Type 0 where
+  named : list_all is_child_named_well children ≡ true
+  distinct : are_distinct_children children ≡ true
+
+-- a name that no child or hat has as it is written, none has
+fresh-child : (variables : List Variable) (name : List ℕ) (read : List Member) → list_any (is_child_of_name name) read ≡ false → list_any (is_child_named name) (children_of variables read) ≡ false
+fresh-child variables name [] fresh = refl
+fresh-child variables name (OfRule rule ∷ read) fresh = fresh-child variables name read fresh
+fresh-child variables name (OfChild child ∷ read) fresh =
+    let parts = or_parts (bytes_eq child.head.name name) (list_any (is_child_of_name name) read) fresh in
+    rw (parts.0, fresh-child variables name read parts.1) refl
+
+-- one more member
+member-push : (variables : List Variable) (read : List Member) (item : Member) → ChildrenFit (children_of variables read) → FitsBehind read item → ChildrenFit (children_of variables (read ++ item ∷ []))
+member-push variables read (OfRule rule) before fits =
+    subst ChildrenFit (sym (flat_map-append (children_of_member variables) read (OfRule rule ∷ []) ∙ append-nil (children_of variables read))) before
+member-push variables read (OfChild child) before fits =
+    let children = children_of variables read in
+    subst ChildrenFit (sym (flat_map-append (children_of_member variables) read (OfChild child ∷ []))) (record {
+      named = all-push is_child_named_well children (child_of variables child) before.named fits.0;
+      distinct = children-push children (child_of variables child) before.distinct (fresh-child variables child.head.name read fits.1);
+    })
+
+block-fits : (variables : List Variable) (tokens rest : List Placed) (members : List Member) → profile_block tokens ≡ Ok (members, rest) → ChildrenFit (children_of variables members)
+block-fits variables tokens rest members h =
+    row-keeps next_member (λ read. ChildrenFit (children_of variables read))
+    (λ read tokens more item before found. member-push variables read item before (next-fits read tokens more item found))
+    (suc (length tokens)) [] members tokens rest (record { named = refl; distinct = refl }) h
+
+-- a file's profiles: no two names are alike, each is accepted, and so are those of children and hats, of which no two are alike in one profile
+pub record ProfilesFit (profiles : List Profile) : Type 0 where
+  pub distinct : are_distinct profiles ≡ true
+  pub named : list_all is_named_well profiles ≡ true
+  pub children : list_all has_distinct_children profiles ≡ true
+
+-- a name that no profile has as it is written, none has
+fresh-profile : (variables : List Variable) (name : List ℕ) (read : List WrittenProfile) → list_any (is_of_name name) read ≡ false → list_any (is_named name) (map (profile_of variables) read) ≡ false
+fresh-profile variables name [] fresh = refl
+fresh-profile variables name (profile ∷ read) fresh =
+    let parts = or_parts (bytes_eq profile.head.name name) (list_any (is_of_name name) read) fresh in
+    rw (parts.0, fresh-profile variables name read parts.1) refl
+
+-- one more profile
+profile-push : (variables : List Variable) (read : List WrittenProfile) (tokens more : List Placed) (item : WrittenProfile)
+    → ProfilesFit (map (profile_of variables) read) → next_profile read tokens ≡ Ok (Item item, more) → ProfilesFit (map (profile_of variables) (read ++ item ∷ []))
+profile-push variables read [] more item before h = let wrong : End ≡ Item item = first-told (End, []) (Item item, more) h in absurd (cc)
+profile-push variables read (token ∷ tokens) more item before h =
+    let whole = followed-ok (profile read token tokens) (λ profile behind. Ok (Item profile, behind)) (Item item, more) h in
+    let one : Item whole.0 ≡ Item item = first-told (Item whole.0, whole.1) (Item item, more) whole.3 in
+    let same : whole.0 ≡ item = cc in
+    let named = followed-ok (top_name token tokens) (λ named behind. elim (refusal_of_name (is_top_name named.name) (list_any (is_of_name named.name) read)) [ Some refusal ↦ refused refusal named.token | None ↦ profile_behind named behind ]) (whole.0, whole.1) whole.2 in
+    let fine = not-refused (is_top_name named.0.name) (list_any (is_of_name named.0.name) read) named.0.token (profile_behind named.0 named.1) (whole.0, whole.1) named.3 in
+    subst (λ (item : WrittenProfile). ProfilesFit (map (profile_of variables) (read ++ item ∷ []))) same (behind named.0 named.1 whole.1 whole.0 fine.0 fine.1 fine.2)
+  where
+    behind : (named : Named) (tokens rest : List Placed) (found : WrittenProfile) → is_top_name named.name ≡ true → list_any (is_of_name named.name) read ≡ false
+        → profile_behind named tokens ≡ Ok (found, rest) → ProfilesFit (map (profile_of variables) (read ++ found ∷ []))
+    behind named tokens rest found fits fresh h =
+        let profiles = map (profile_of variables) read in
+        let last = profile_of variables found in
+        let parts = profile-parts named tokens rest found h in
+        let children = block-fits variables parts.1 parts.2 found.members parts.3 in
+        let accepted : is_top_name last.name ≡ true = ap is_top_name parts.0 ∙ fits in
+        let alone : list_any (is_named last.name) profiles ≡ false = fresh-profile variables found.head.name read (ap (λ name. list_any (is_of_name name) read) parts.0 ∙ fresh) in
+        subst ProfilesFit (sym (map-append (profile_of variables) read (found ∷ []))) (record {
+          distinct = distinct-push profiles last before.distinct alone;
+          named = all-push is_named_well profiles last before.named (rw (accepted, children.named) refl);
+          children = all-push has_distinct_children profiles last before.children children.distinct;
+        })
+
+-- the profiles of a file, whatever its variables are
+pub profiles-fit : (variables : List Variable) (tokens : List Placed) (read : File) → file tokens ≡ Ok read → ProfilesFit (map (profile_of variables) read.profiles)
+profiles-fit variables tokens read h =
+    profiles-keep (λ read. ProfilesFit (map (profile_of variables) read)) (record { distinct = refl; named = refl; children = refl })
+    (λ read tokens more item before found. profile-push variables read tokens more item before found)
+    tokens read h

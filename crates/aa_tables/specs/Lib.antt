@@ -1,0 +1,4 @@
+pub mod Capabilities
+pub mod Domains
+pub mod Kinds
+pub mod Names

@@ -1,0 +1,349 @@
+//! A table of what variables stand for, which many texts share.
+//!
+//! Each variable that some text leads to is counted once, and its values are worked out once, when a text is expanded that leads to it. They
+//! are held until each text that was counted is expanded, so far as it and the variables between name them. What is held decides how
+//! long an answer takes, not what it is: what isn't held is worked out anew.
+
+ghost use Rattle.std.specs.Prelude.{◌≡◌, ◌≢◌, ◌<◌, [], None, Some, IfOk, IfErr, IfSome, OnOk, drop, length, true, map, min, take};
+ghost use Rattle.aa_parts.specs.Joining.{most_kept, texts_of};
+ghost use Rattle.aa_variables.specs.code.HeldValues.{AreRows, AreValuesAt, HasText, IsSpent, are_texts_lacking, is_part_lacking, is_text_lacking, names_undefined_at, values_held};
+ghost use Rattle.aa_parts.specs.code.TextParts.{parts_of};
+ghost use Rattle.aa_variables.specs.code.VariableIndexes.{words_at};
+ghost use Rattle.aa_variables.specs.Expansions.{expansion_refusal, expansions, most_counted};
+ghost use Rattle.aa_variables.specs.Variables.{are_variables};
+ghost use Rattle.std.specs.List.{list_any};
+ghost use Rattle.aa_files.specs.declared.text_error.TextRefusal.TheVariants.{Memory};
+
+use crate::variables::Variables;
+use crate::variables::reached::gathered;
+use aa_files::TextError;
+use aa_parts::{TextPart, first_part};
+use indexmap::IndexSet;
+use std::alloc::{AllocError, Global};
+use std::marker::Model;
+use std::mem;
+
+// Rows of variables that texts lead to.
+#[derive(Drop)]
+struct Rows {
+    // The indexes of the variables: each stands behind all that its words name.
+    order: IndexSet<usize>,
+    // How many values each has, as far as they are counted.
+    counts: Vec<usize>,
+    // The values of the first ones. Where there are none, they aren't held.
+    values: Vec<Vec<Vec<u8>>>,
+    // How often those of each will be asked for.
+    uses: Vec<usize>,
+}
+
+impl Rows {
+    // No rows. It takes no memory.
+    fn new(alloc: Global) -> Rows
+        ensures order { result.order.keys ≡ [] }
+        ensures counts { result.counts.items ≡ [] }
+        ensures values { result.values.items ≡ [] }
+    {
+        Rows {
+            order: IndexSet::new(alloc),
+            counts: Vec::new(alloc),
+            values: Vec::new(alloc),
+            uses: Vec::new(alloc),
+        }
+    }
+
+    // The values of a row were asked for: they go when nothing else will ask for them.
+    fn spend_row(&mut self, row: usize)
+        ensures { IsSpent self.old self.new }
+    {
+        if row < self.uses.len() && row < self.values.len() {
+            self.uses[row] = self.uses[row].saturating_sub(1);
+            if self.uses[row] == 0 {
+                self.values[row] = Vec::new(*self.order.allocator());
+            }
+        }
+    }
+
+    // The values of some variables were asked for.
+    fn spend(&mut self, indexes: &[usize])
+        ensures { IsSpent self.old self.new }
+    {
+        for index in indexes {
+            if let Some(row) = self.order.get_index_of(index) {
+                self.spend_row(row);
+            }
+        }
+    }
+}
+
+// The values of some variables will be asked for once more.
+fn note_uses(order: &IndexSet<usize>, indexes: &[usize], uses: &mut Vec<usize>)
+    ensures { length uses.new.items ≡ length uses.old.items }
+{
+    for index in indexes {
+        if let Some(row) = order.get_index_of(index) {
+            if row < uses.len() {
+                uses[row] = uses[row].saturating_add(1);
+            }
+        }
+    }
+}
+
+impl Variables {
+    // They are variables. It costs nothing.
+    fn lawful(&self)
+        ensures { are_variables self.now ≡ true }
+    {
+        let _ = &self.by_name;
+    }
+
+    // Whether no values are held for what a part of a text names.
+    fn lacks_part(&self, rows: &Rows, part: TextPart<'_>) -> bool
+        ensures { result ≡ list_any (is_part_lacking (values_held self.now rows.now)) (parts_of part.entry) }
+    {
+        match part {
+            TextPart::Text(_) => false,
+            TextPart::Name(name) => {
+                let values = self.values(&rows.order, rows.values.as_slice(), name);
+                values.is_empty()
+            }
+            TextPart::Unclosed => true,
+        }
+    }
+
+    // Whether none are held for something that a text names.
+    fn lacks(&self, rows: &Rows, text: &[u8]) -> bool
+        ensures { result ≡ is_text_lacking (values_held self.now rows.now) text.now }
+    {
+        let mut rest = text;
+        while let Some((part, after)) = first_part(rest) {
+            if self.lacks_part(rows, part) {
+                return true;
+            }
+            rest = after;
+        }
+        false
+    }
+
+    // Whether none are held for something that the words of the variable at an index name.
+    fn lacks_at(&self, rows: &Rows, index: usize) -> bool
+        ensures { result ≡ are_texts_lacking (values_held self.now rows.now) (words_at self.now index) }
+    {
+        let mut at = 0;
+        while let Some(word) = self.word(index, at) {
+            if self.lacks(rows, word) {
+                return true;
+            }
+            at += 1;
+        }
+        false
+    }
+
+    // The values of the variable at an index, or none where those aren't held that its words name.
+    fn row_values(&self, rows: &Rows, index: usize) -> Result<Vec<Vec<u8>>, AllocError>
+        requires { AreRows self.now rows.now }
+        ensures { IfOk result (λ values. AreValuesAt self.now index (texts_of values)) }
+    {
+        if self.lacks_at(rows, index) {
+            return Ok(Vec::new(*rows.order.allocator()));
+        }
+        self.expand_variable(&rows.order, rows.values.as_slice(), index)
+    }
+
+    // Whether a word of the variables behind the first ones of an order names a variable that isn't defined, or doesn't close a name.
+    fn undefined_behind(&self, order: &IndexSet<usize>, first: usize) -> bool
+        ensures { result ≡ list_any (names_undefined_at self.now) (drop first order.now.keys) }
+    {
+        let mut at = first;
+        while let Some(index) = gathered(order, at) {
+            if self.undefined_at(index) {
+                return true;
+            }
+            at += 1;
+        }
+        false
+    }
+
+    // How often the values of each row will be asked for, with those of the rows behind the first ones, and of a text.
+    fn uses(
+        &self,
+        order: &IndexSet<usize>,
+        text: &[u8],
+        uses: Vec<usize>,
+    ) -> Result<Vec<usize>, AllocError> {
+        let alloc = *order.allocator();
+        let mut uses = uses;
+        while let Some(index) = gathered(order, uses.len()) {
+            let mut names = IndexSet::new(alloc);
+            self.note_words(index, &mut names)?;
+            note_uses(order, names.as_slice(), &mut uses);
+            uses.push(0)?;
+        }
+        let mut names = IndexSet::new(alloc);
+        self.note(text, &mut names)?;
+        note_uses(order, names.as_slice(), &mut uses);
+        Ok(uses)
+    }
+
+    // Rows with those of the variables that a text leads to behind them, or nothing where it leads to a cycle or to a name that isn't defined.
+    fn grown(&self, text: &[u8], rows: Rows) -> Result<Option<Rows>, AllocError>
+        requires { AreRows self.now rows }
+        ensures { IfOk result (λ found. IfSome found (λ more. HasText self.now text.now more)) }
+    {
+        if self.undefined(text) {
+            return Ok(None);
+        }
+        let Rows {
+            order,
+            counts,
+            values,
+            uses,
+        } = rows;
+        let first = order.len();
+        let Some(order) = self.walk_text(text, order)? else {
+            return Ok(None);
+        };
+        if self.undefined_behind(&order, first) {
+            return Ok(None);
+        }
+        let counts = self.counts(&order, counts)?;
+        let uses = self.uses(&order, text, uses)?;
+        Ok(Some(Rows {
+            order,
+            counts,
+            values,
+            uses,
+        }))
+    }
+
+    // How many rows there are up to the last that a text names.
+    fn rows_needed(&self, rows: &Rows, text: &[u8]) -> usize {
+        let mut needed = 0;
+        let mut rest = text;
+        while let Some((part, after)) = first_part(rest) {
+            if let TextPart::Name(name) = part {
+                if let Some(row) = self.row(&rows.order, name) {
+                    needed = needed.max(row.saturating_add(1));
+                }
+            }
+            rest = after;
+        }
+        needed
+    }
+}
+
+/// What variables stand for, worked out once for many texts.
+#[derive(Drop)]
+pub struct ExpansionTable<'v> {
+    variables: &'v Variables,
+    rows: Rows,
+}
+
+impl<'v> Model for ExpansionTable<'v> {
+    ghost use Rattle.std.specs.Prelude.{List};
+    ghost use Rattle.aa_variables.specs.Variables.{Variable};
+    ghost use Rattle.aa_variables.specs.code.HeldValues.{AreRows};
+
+    ghost Value = { List Variable };
+
+    ghost view = { λ t. t.variables.now };
+
+    // What is counted and what is held is right.
+    ghost invariant = { λ t. AreRows t.variables.now t.rows };
+}
+
+impl<'v> ExpansionTable<'v> {
+    /// A table of variables in which nothing is worked out yet. It takes no memory.
+    pub fn new(alloc: Global, variables: &'v Variables) -> ExpansionTable<'v>
+        ensures { result ≡ variables.now }
+    {
+        ExpansionTable {
+            variables,
+            rows: Rows::new(alloc),
+        }
+    }
+
+    /// How many expansions a text has, at least one, where that is less than 16,385, and else 16,385. The text is then expected to be
+    /// expanded once: until then, the values are held that it and those before it lead to, as far as they are worked out.
+    ///
+    /// # Errors
+    ///
+    /// As `Variables::count`. The table is then empty.
+    pub fn count(&mut self, text: &[u8]) -> Result<usize, TextError>
+        ensures fine { OnOk result (expansion_refusal self.old text.now ≡ None) }
+        ensures some { IfOk result (λ count. 0 < count) }
+        ensures count { IfOk result (λ count. count ≡ min (length (expansions self.old text.now)) most_counted) }
+        ensures refused { IfErr result (λ e. e.refusal ≢ Memory → expansion_refusal self.old text.now ≡ Some e.refusal) }
+        ensures place { IfErr result (λ e. e.place ≡ None) }
+        ensures same { self.new ≡ self.old }
+    {
+        let alloc = *self.rows.order.allocator();
+        let rows = mem::replace(&mut self.rows, Rows::new(alloc));
+        match self.variables.grown(text, rows)? {
+            Some(rows) => {
+                self.variables.lawful();
+                let count = self
+                    .variables
+                    .count_text(&rows.order, rows.counts.as_slice(), text);
+                self.rows = rows;
+                Ok(count)
+            }
+            None => self.variables.count(text),
+        }
+    }
+
+    // Works out the values of the first row behind those that were, and lets those go that nothing else will ask for.
+    fn fill_row(&mut self) -> Result<(), AllocError>
+        ensures { self.new ≡ self.old }
+    {
+        let Some(index) = gathered(&self.rows.order, self.rows.values.len()) else {
+            return Ok(());
+        };
+        let values = self.variables.row_values(&self.rows, index)?;
+        self.rows.values.push(values)?;
+        let mut names = IndexSet::new(*self.rows.order.allocator());
+        self.variables.note_words(index, &mut names)?;
+        self.rows.spend(names.as_slice());
+        Ok(())
+    }
+
+    // Works out the values of all rows up to the last that a text names.
+    fn fill(&mut self, text: &[u8]) -> Result<(), AllocError>
+        ensures { self.new ≡ self.old }
+    {
+        let needed = self.variables.rows_needed(&self.rows, text);
+        for _ in self.rows.values.len()..needed {
+            self.fill_row()?;
+        }
+        Ok(())
+    }
+
+    /// The expansions of a text, as `Variables::expand` gives them.
+    ///
+    /// It is quick for a text that was counted before, and not expanded since.
+    ///
+    /// # Errors
+    ///
+    /// As `Variables::expand`.
+    pub fn expand(&mut self, text: &[u8]) -> Result<Vec<Vec<u8>>, TextError>
+        ensures fine { OnOk result (expansion_refusal self.old text.now ≡ None) }
+        ensures some { IfOk result (λ texts. 0 < length texts.items) }
+        ensures texts { IfOk result (λ texts. map (λ t. t.items) texts.items ≡ map (take most_kept) (expansions self.old text.now)) }
+        ensures refused { IfErr result (λ e. e.refusal ≢ Memory → expansion_refusal self.old text.now ≡ Some e.refusal) }
+        ensures place { IfErr result (λ e. e.place ≡ None) }
+        ensures same { self.new ≡ self.old }
+    {
+        self.fill(text)?;
+        if self.variables.lacks(&self.rows, text) {
+            return self.variables.expand(text);
+        }
+        self.variables.lawful();
+        let rows = &self.rows;
+        let texts = self
+            .variables
+            .expand_text(&rows.order, rows.values.as_slice(), text)?;
+        let mut names = IndexSet::new(*self.rows.order.allocator());
+        self.variables.note(text, &mut names)?;
+        self.rows.spend(names.as_slice());
+        Ok(texts)
+    }
+}
