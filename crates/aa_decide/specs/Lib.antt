@@ -1,2 +1,3 @@
 pub mod Answer
 pub mod Verdict
+pub mod VerdictLaws

@@ -1,6 +1,6 @@
 -- What rules say of a file request: cover, applicability, masks and the verdict (apparmor.d(5), "Rule
 -- Qualifiers" and "Access Permission Accumulation"; see docs/policy.md).
-use Rattle.std.specs.Prelude.{ℕ, Bool, false, not, ◌&&◌, ◌||◌, ◌==◌, if◌then◌else◌, List, filter, fold}
+use Rattle.std.specs.Prelude.{ℕ, Bool, false, not, ◌&&◌, ◌||◌, ◌==◌, if◌then◌else◌, List, fold, None, Some}
 use Rattle.aa_access.specs.Request.{Request}
 use Rattle.aa_glob.specs.Matching.{matches}
 use Rattle.aa_glob.specs.Reading.{items_of}
@@ -12,6 +12,9 @@ use Rattle.aa_policy.specs.declared.profile.Rule.TheVariants.{File, Other}
 use Rattle.aa_decide.specs.declared.verdict.FileRequest.{FileRequest}
 use Rattle.aa_decide.specs.declared.verdict.Answer.{Answer}
 use Rattle.aa_decide.specs.declared.verdict.Answer.TheVariants.{Allow, Deny, Refuse, Complain as Complained}
+use Rattle.aa_decide.specs.declared.verdict.Tag.{Tag}
+use Rattle.aa_decide.specs.declared.verdict.Tag.TheVariants.{Allowed, Audit, Denied}
+use Rattle.aa_decide.specs.declared.verdict.Verdict.{Verdict}
 
 -- the request of the code's value
 abbrev pub request_of : FileRequest → Request
@@ -32,30 +35,52 @@ abbrev pub denies : Rule → Bool
 denies (File rule) = rule.deny
 denies (Other rule) = rule.deny
 
--- a set, and the needs that some of the rules cover
-abbrev pub with_covered : ℕ → ℕ → List Rule → ℕ
-with_covered needs set rules = fold (λ set rule. union set (common needs (covered_by rule))) set rules
+-- a rule is audited by a word of its own, or by the flag of its profile
+abbrev pub is_audited : Bool → Rule → Bool
+is_audited flag (File rule) = flag || rule.audit
+is_audited flag (Other rule) = flag || rule.audit
 
--- the rules that apply
-abbrev pub applying : Request → List Rule → List Rule
-applying request rules = filter (applies request) rules
+-- a deny rule that is audited, and an allow rule that is
+abbrev pub denies_aloud : Bool → Rule → Bool
+denies_aloud flag rule = denies rule && is_audited flag rule
 
--- those of them that deny, and those that allow
-abbrev pub denying : Request → List Rule → List Rule
-denying request rules = filter denies (applying request rules)
+abbrev pub allows : Rule → Bool
+allows rule = not (denies rule)
 
-abbrev pub allowing : Request → List Rule → List Rule
-allowing request rules = filter (λ rule. not (denies rule)) (applying request rules)
+abbrev pub allows_aloud : Bool → Rule → Bool
+allows_aloud flag rule = allows rule && is_audited flag rule
 
--- the needs that an applying deny rule covers
+-- the needs of a request that a rule covers: none, where it doesn't apply
+abbrev pub covers : Request → Rule → ℕ
+covers request rule = if applies request rule then common request.needs (covered_by rule) else 0
+
+-- a set, and the needs that a rule covers, if it passes a test
+abbrev pub with_rule : Request → (Rule → Bool) → ℕ → Rule → ℕ
+with_rule request test set rule = if test rule then union set (covers request rule) else set
+
+-- a set, and the needs that those of some rules cover that pass a test
+abbrev pub with_covered : Request → (Rule → Bool) → ℕ → List Rule → ℕ
+with_covered request test set rules = fold (with_rule request test) set rules
+
+-- the needs that the rules that pass a test cover together
+abbrev pub mask : Request → (Rule → Bool) → List Rule → ℕ
+mask request test rules = with_covered request test 0 rules
+
+-- the needs that a deny rule covers, and those that an audited one does
 abbrev pub denied : Request → List Rule → ℕ
-denied request rules = with_covered request.needs 0 (denying request rules)
+denied request rules = mask request denies rules
 
--- the needs that an applying allow rule covers
+abbrev pub loud : Bool → Request → List Rule → ℕ
+loud flag request rules = mask request (denies_aloud flag) rules
+
+-- the needs that an allow rule covers, and those that an audited one does
 abbrev pub granted : Request → List Rule → ℕ
-granted request rules = with_covered request.needs 0 (allowing request rules)
+granted request rules = mask request allows rules
 
--- those of them that none denies
+abbrev pub audited : Bool → Request → List Rule → ℕ
+audited flag request rules = mask request (allows_aloud flag) rules
+
+-- the needs that an allow rule covers and none denies
 abbrev pub allowed : Request → List Rule → ℕ
 allowed request rules = without (granted request rules) (denied request rules)
 
@@ -63,11 +88,18 @@ allowed request rules = without (granted request rules) (denied request rules)
 abbrev pub missing : Request → List Rule → ℕ
 missing request rules = without request.needs (union (denied request rules) (allowed request rules))
 
--- what is not allowed is refused in enforce mode, and let through in complain mode
-abbrev pub when_missing : Mode → Answer
-when_missing Enforce = Refuse
-when_missing Complain = Complained
+-- an answer, and how it is logged: by this tag with these needs, unless there are none
+abbrev pub logged : Answer → Tag → ℕ → Verdict
+logged answer tag mask = record { answer = answer; tag = if mask == 0 then None else Some tag; mask = record { 0 = mask } }
 
--- A denied need decides first, in both modes; then a missing one.
-abbrev pub verdict : Mode → List Rule → Request → Answer
-verdict mode rules request = if not (denied request rules == 0) then Deny else (if not (missing request rules == 0) then when_missing mode else Allow)
+-- what is not allowed is refused in enforce mode, and let through in complain mode
+abbrev pub when_missing : Mode → ℕ → Verdict
+when_missing Enforce mask = logged Refuse Denied mask
+when_missing Complain mask = logged Complained Allowed mask
+
+-- A denied need decides first, in both modes; then a missing one. The flag says whether each rule of the profile is audited.
+abbrev pub verdict : Mode → Bool → List Rule → Request → Verdict
+verdict mode flag rules request =
+    if not (denied request rules == 0) then logged Deny Denied (union (loud flag request rules) (missing request rules)) else
+    if not (missing request rules == 0) then when_missing mode (missing request rules) else
+    logged Allow Audit (audited flag request rules)

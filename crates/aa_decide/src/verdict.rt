@@ -2,7 +2,7 @@
 
 ghost use Rattle.std.specs.Prelude.{◌≡◌};
 ghost use Rattle.aa_decide.specs.Answer.{answer_word};
-ghost use Rattle.aa_decide.specs.Verdict.{request_of, applies, covered_by, denies, denied, granted, verdict};
+ghost use Rattle.aa_decide.specs.Verdict.{allows, allows_aloud, applies, audited, covered_by, covers, denied, denies, denies_aloud, granted, is_audited, logged, loud, request_of, verdict, with_rule};
 
 use aa_access::Perms;
 use aa_policy::{Mode, Rule};
@@ -49,42 +49,120 @@ pub struct FileRequest<'a> {
     pub path: &'a [u8],
 }
 
-/// What rules say of a request, in a mode. Rules that aren't on files decide nothing of it.
-pub fn decide(mode: Mode, rules: &[Rule], request: FileRequest<'_>) -> Answer
-    ensures { result ≡ verdict mode rules.now (request_of request.entry) }
+/// What the line begins with that logs an answer.
+#[derive(Clone, Copy, Debug, PartialEq, Eq)]
+pub enum Tag {
+    /// What was asked for wasn't let through.
+    Denied,
+    /// It was let through in complain mode alone.
+    Allowed,
+    /// It was allowed by rules that are audited.
+    Audit,
+}
+
+/// The answer to a request, and how it is logged.
+#[derive(Clone, Copy, Debug)]
+pub struct Verdict {
+    /// The answer.
+    pub answer: Answer,
+    /// What the line begins with that logs it; none where it isn't logged.
+    pub tag: Option<Tag>,
+    /// The needs that the line tells. Where there are none, the answer isn't logged.
+    pub mask: Perms,
+}
+
+// The needs that rules cover.
+#[derive(Clone, Copy)]
+struct Masks {
+    // Those that deny rules do, and those that audited ones do.
+    denied: Perms,
+    loud: Perms,
+    // Those that allow rules do, and those that audited ones do.
+    granted: Perms,
+    audited: Perms,
+}
+
+// An answer, and how it is logged: by this tag with these needs, unless there are none.
+fn logged(answer: Answer, tag: Tag, mask: Perms) -> Verdict
+    ensures { result ≡ logged answer tag mask.0 }
 {
-    let (denied, granted) = covers(rules, request);
-    let allowed = granted.difference(denied);
-    if !denied.is_empty() {
-        return Answer::Deny;
-    }
-    if request.needs.difference(denied.union(allowed)).is_empty() {
-        return Answer::Allow;
-    }
-    match mode {
-        Mode::Enforce => Answer::Refuse,
-        Mode::Complain => Answer::Complain,
+    Verdict {
+        answer,
+        tag: if mask.is_empty() { None } else { Some(tag) },
+        mask,
     }
 }
 
-// The needs that the deny rules among those that apply cover, and those that the allow rules among them do.
-fn covers(rules: &[Rule], request: FileRequest<'_>) -> (Perms, Perms)
-    ensures denied { result.0.0 ≡ denied (request_of request.entry) rules.now }
-    ensures granted { result.1.0 ≡ granted (request_of request.entry) rules.now }
+/// What rules say of a request, in a mode. Rules that aren't on files decide nothing of it. `audit` says whether each of the rules is
+/// audited, whatever its own words are: that is the flag of their profile.
+pub fn decide(mode: Mode, audit: bool, rules: &[Rule], request: FileRequest<'_>) -> Verdict
+    ensures { result ≡ verdict mode audit rules.now (request_of request.entry) }
 {
-    let mut denied = Perms::empty();
-    let mut granted = Perms::empty();
+    let masks = masks_of(audit, rules, request);
+    let allowed = masks.granted.difference(masks.denied);
+    let missing = request.needs.difference(masks.denied.union(allowed));
+    if !masks.denied.is_empty() {
+        return logged(Answer::Deny, Tag::Denied, masks.loud.union(missing));
+    }
+    if missing.is_empty() {
+        return logged(Answer::Allow, Tag::Audit, masks.audited);
+    }
+    match mode {
+        Mode::Enforce => logged(Answer::Refuse, Tag::Denied, missing),
+        Mode::Complain => logged(Answer::Complain, Tag::Allowed, missing),
+    }
+}
+
+// The needs that rules cover.
+fn masks_of(audit: bool, rules: &[Rule], request: FileRequest<'_>) -> Masks
+    ensures denied { result.denied.0 ≡ denied (request_of request.entry) rules.now }
+    ensures loud { result.loud.0 ≡ loud audit (request_of request.entry) rules.now }
+    ensures granted { result.granted.0 ≡ granted (request_of request.entry) rules.now }
+    ensures audited { result.audited.0 ≡ audited audit (request_of request.entry) rules.now }
+{
+    let mut masks = Masks {
+        denied: Perms::empty(),
+        loud: Perms::empty(),
+        granted: Perms::empty(),
+        audited: Perms::empty(),
+    };
     for rule in rules {
-        if is_applying(rule, request) {
-            let covered = request.needs.intersection(covered_by(rule));
-            if denies(rule) {
-                denied = denied.union(covered);
-            } else {
-                granted = granted.union(covered);
-            }
+        masks = with_rule(masks, audit, rule, request);
+    }
+    masks
+}
+
+// The same with one rule more.
+fn with_rule(masks: Masks, audit: bool, rule: &Rule, request: FileRequest<'_>) -> Masks
+    ensures denied { result.denied.0 ≡ with_rule (request_of request.entry) denies masks.denied.0 rule.now }
+    ensures loud { result.loud.0 ≡ with_rule (request_of request.entry) (denies_aloud audit) masks.loud.0 rule.now }
+    ensures granted { result.granted.0 ≡ with_rule (request_of request.entry) allows masks.granted.0 rule.now }
+    ensures audited { result.audited.0 ≡ with_rule (request_of request.entry) (allows_aloud audit) masks.audited.0 rule.now }
+{
+    let covered = covers(rule, request);
+    let mut masks = masks;
+    if denies(rule) {
+        masks.denied = masks.denied.union(covered);
+        if is_audited(audit, rule) {
+            masks.loud = masks.loud.union(covered);
+        }
+    } else {
+        masks.granted = masks.granted.union(covered);
+        if is_audited(audit, rule) {
+            masks.audited = masks.audited.union(covered);
         }
     }
-    (denied, granted)
+    masks
+}
+
+// The needs of a request that a rule covers: none, where it doesn't apply.
+fn covers(rule: &Rule, request: FileRequest<'_>) -> Perms
+    ensures { result.0 ≡ covers (request_of request.entry) rule.now }
+{
+    if !is_applying(rule, request) {
+        return Perms::empty();
+    }
+    request.needs.intersection(covered_by(rule))
 }
 
 fn is_applying(rule: &Rule, request: FileRequest<'_>) -> bool
@@ -112,5 +190,15 @@ fn denies(rule: &Rule) -> bool
     match rule {
         Rule::File(rule) => rule.deny,
         Rule::Other(rule) => rule.deny,
+    }
+}
+
+// Whether a rule is audited, by a word of its own or by the flag of its profile.
+fn is_audited(audit: bool, rule: &Rule) -> bool
+    ensures { result ≡ is_audited audit rule.now }
+{
+    match rule {
+        Rule::File(rule) => audit || rule.audit,
+        Rule::Other(rule) => audit || rule.audit,
     }
 }

@@ -153,7 +153,6 @@ fn mode_of(flags: Flags) -> Mode
 }
 
 // A child or a hat.
-#[tactic(auto, using(crate::proofs::ProfileLemmas::first_bad_behind, crate::proofs::ProfileLemmas::first_bad_front, crate::proofs::ProfileLemmas::expand_front, crate::proofs::ProfileLemmas::expand_behind))]
 fn read_child(
     alloc: Global,
     table: &mut ExpansionTable<'_>,
@@ -226,7 +225,6 @@ fn read_members(
 }
 
 // A profile.
-#[tactic(auto, using(crate::proofs::ProfileLemmas::first_bad_behind, crate::proofs::ProfileLemmas::first_bad_front, crate::proofs::ProfileLemmas::expand_front, crate::proofs::ProfileLemmas::expand_behind))]
 fn read_profile(
     alloc: Global,
     table: &mut ExpansionTable<'_>,

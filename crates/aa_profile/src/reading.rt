@@ -2,11 +2,12 @@
 
 ghost use Rattle.std.specs.Prelude.{◌≡◌, ◌≢◌, Ok, Err, IfOk, IfErr, false, true, map};
 ghost use Rattle.std.specs.List.{list_all, list_any};
-ghost use Rattle.aa_grammar.specs.code.Seen.{seen_assignment, seen_file};
+ghost use Rattle.aa_grammar.specs.code.Seen.{seen_assignment, seen_file, seen_profile};
 ghost use Rattle.aa_rules.specs.code.SeenTokens.{seen_tokens};
 ghost use Rattle.aa_policy.specs.Profile.{are_distinct};
-ghost use Rattle.aa_profile.specs.FileReading.{file_profiles, profiles_in};
-ghost use Rattle.aa_profile.specs.code.FileReadingProgress.{IsRefusalOf, has_no_value};
+ghost use Rattle.aa_profile.specs.FileReading.{file_profiles, profiles_in, profiles_with};
+ghost use Rattle.aa_profile.specs.code.FileReadingProgress.{IsRefusalOf, has_no_value, have_expansions};
+ghost use Rattle.aa_profile.specs.PatternTokens.{of_profiles};
 ghost use Rattle.aa_profile.specs.ProfileError.{plain};
 ghost use Rattle.aa_profile.specs.ProfileNames.{has_distinct_children, is_named_well};
 ghost use Rattle.aa_profile.specs.declared.profile_error.ProfileRefusal.TheVariants.{Memory};
@@ -18,8 +19,25 @@ use crate::profile_error::ProfileError;
 use crate::profiles::read_profiles;
 use aa_grammar::File;
 use aa_policy::Profile;
-use aa_text::{ExpansionTable, Files, spliced};
+use aa_text::{ExpansionTable, Files, Spliced, Variables, spliced};
 use std::alloc::Global;
+
+// The profiles of a file as it is written, with its variables and the tokens of its patterns.
+fn read_with(
+    alloc: Global,
+    variables: &Variables,
+    patterns: &[Spliced<'_>],
+    file: &File<'_>,
+) -> Result<Vec<Profile>, ProfileError>
+    requires tokens { seen_tokens patterns.now ≡ of_profiles (map seen_profile file.now.profiles.items) }
+    requires expand { have_expansions variables.now (seen_tokens patterns.now) ≡ true }
+    ensures ok { IfOk result (λ profiles. profiles_with variables.now (seen_file file.now) ≡ Ok profiles.items) }
+    ensures refused { IsRefusalOf (profiles_with variables.now (seen_file file.now)) result }
+{
+    let mut table = ExpansionTable::new(alloc, variables);
+    check_limit(&mut table, patterns)?;
+    read_profiles(alloc, &mut table, &file.profiles)
+}
 
 // The profiles of a file as it is written.
 fn read_written(alloc: Global, file: &File<'_>) -> Result<Vec<Profile>, ProfileError>
@@ -29,9 +47,7 @@ fn read_written(alloc: Global, file: &File<'_>) -> Result<Vec<Profile>, ProfileE
 {
     let patterns = pattern_tokens(alloc, &file.profiles)?;
     let variables = read_variables(alloc, &file.assignments, &patterns)?;
-    let mut table = ExpansionTable::new(alloc, &variables);
-    check_limit(&mut table, &patterns)?;
-    read_profiles(alloc, &mut table, &file.profiles)
+    read_with(alloc, &variables, &patterns, file)
 }
 
 /// The profiles that a file of the handed-in ones spells, in its order.

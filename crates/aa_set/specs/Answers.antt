@@ -18,7 +18,7 @@ use Rattle.aa_set.specs.declared.policy.Entry.{Entry}
 abbrev pub confined_answer : Option Confinement → Request → Result Answer Refusal
 confined_answer None request = Err (plain Absent)
 confined_answer (Some Unconfined) request = Ok AnswerUnconfined
-confined_answer (Some (By mode rules)) request = Ok (verdict mode rules request)
+confined_answer (Some (By mode audit rules)) request = Ok (verdict mode audit rules request).answer
 
 -- the answer of a policy set
 abbrev pub answer_of : List Entry → Asked → Result Answer Refusal

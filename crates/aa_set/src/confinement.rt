@@ -18,6 +18,8 @@ pub enum Confinement<'a> {
     By {
         /// The mode.
         mode: Mode,
+        /// Whether each rule is audited, whatever its own words are.
+        audit: bool,
         /// The rules.
         rules: &'a [Rule],
     },
@@ -44,6 +46,7 @@ fn in_entry<'a>(entry: &'a Entry, child: Option<&[u8]>) -> Option<Confinement<'a
     match child {
         None => Some(Confinement::By {
             mode: *mode,
+            audit: entry.profile.audit,
             rules: entry.profile.rules.as_slice(),
         }),
         Some(name) => among_children(entry.profile.children.as_slice(), modes, name),
@@ -58,6 +61,7 @@ fn among_children<'a>(children: &'a [Child], modes: &[Mode], name: &[u8]) -> Opt
         if child.name.as_slice() == name {
             return Some(Confinement::By {
                 mode: *mode,
+                audit: child.audit,
                 rules: child.rules.as_slice(),
             });
         }

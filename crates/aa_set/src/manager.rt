@@ -191,7 +191,7 @@ fn confined_answer(confinement: Confinement<'_>, request: FileRequest<'_>) -> An
 {
     match confinement {
         Confinement::Unconfined => Answer::Unconfined,
-        Confinement::By { mode, rules } => decide(mode, rules, request),
+        Confinement::By { mode, audit, rules } => decide(mode, audit, rules, request).answer,
     }
 }
 
