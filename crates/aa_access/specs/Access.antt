@@ -1,5 +1,5 @@
 -- Access letters and sets of them (apparmor.d(5), "File Permission Access Modes"). A set is the sum of its letters' bits.
-use Rattle.std.specs.Prelude.{ℕ, Bool, ◌==◌, if◌then◌else◌, List, [], ◌∷◌, Option, None, Some, option_and_then, bit_and, bit_or}
+use Rattle.std.specs.Prelude.{ℕ, Bool, ◌==◌, if◌then◌else◌, List, [], ◌∷◌, flat_map, Option, None, Some, option_and_then, bit_and, bit_or, codes}
 use Rattle.bitflags.specs.Sets.{without as bits_without}
 
 -- each letter's code and its bit: r, w, a, l, k, m
@@ -56,3 +56,14 @@ letters_onto set (letter ∷ more) = option_and_then (λ bit. if has set bit the
 abbrev pub needs_of : List ℕ → Option ℕ
 needs_of [] = None
 needs_of (letter ∷ more) = letters_onto 0 (letter ∷ more)
+
+-- a letter, where a set has it
+abbrev pub letter_in : ℕ → ℕ → List ℕ
+letter_in set letter = elim (bit_of letter) [
+  | None ↦ []
+  | Some bit ↦ if has set bit then letter ∷ [] else []
+]
+
+-- the letters of a set, in their order
+abbrev pub letters_of : ℕ → List ℕ
+letters_of set = flat_map (letter_in set) (codes "rwalkm")

@@ -1,8 +1,9 @@
--- Requests for access, as rules are asked and questions ask.
+-- Requests, as rules are asked and questions ask.
 use Rattle.std.specs.Prelude.{ℕ, Bool, List}
 
--- what is asked of a file: the needs, whether the task's user owns it, and its path
-pub record Request : Type 0 where
-  pub needs : ℕ
-  pub owned : Bool
-  pub path : List ℕ
+-- What is asked for: a file, by the letters that are needed, whether the task's user owns it, and its path; a capability, by its number; or
+-- sockets, by the numbers of their domain and their type.
+pub data Request : Type 0 where
+  ForFile : (needs : ℕ) (owned : Bool) (path : List ℕ) → Request
+  ForCapability : (number : ℕ) → Request
+  ForSockets : (domain kind : ℕ) → Request

@@ -1,10 +1,11 @@
 //! Sets of access letters.
 
-ghost use Rattle.std.specs.Prelude.{⊤, ◌≡◌, ◌<◌, [], ◌∷◌, codes, IfSome};
+ghost use Rattle.std.specs.Prelude.{⊤, ◌≡◌, ◌<◌, ◌++◌, [], ◌∷◌, codes, flat_map, IfSome, OnOk};
 ghost use Rattle.std.specs.Option.{option_map};
-ghost use Rattle.aa_access.specs.Access.{all_letters, bit_of, covered, needs_of};
+ghost use Rattle.aa_access.specs.Access.{all_letters, bit_of, covered, letter_in, letters_of, needs_of};
 
 use bitflags::{Flag, Flags, bitflag_items};
+use std::alloc::AllocError;
 
 /// A set of the access letters `r w a l k m` of a rule or a request: read, write, append, link, lock and map into
 /// memory as code (apparmor.d(5), "File Permission Access Modes").
@@ -88,5 +89,40 @@ impl Perms {
         } else {
             self
         }
+    }
+
+    // Puts a letter behind a text, where the set has it.
+    fn push_letter(self, letter: u8, text: &mut Vec<u8>) -> Result<(), AllocError>
+        ensures { OnOk result (text.new.items ≡ text.old.items ++ letter_in self.0 letter) }
+    {
+        if let Some(one) = Perms::of_letter(letter) {
+            if self.contains(one) {
+                text.push(letter)?;
+            }
+        }
+        Ok(())
+    }
+
+    // Puts those of some letters behind a text that the set has, in their order.
+    fn push_letters_among(self, letters: &[u8], text: &mut Vec<u8>) -> Result<(), AllocError>
+        ensures { OnOk result (text.new.items ≡ text.old.items ++ flat_map (letter_in self.0) letters.now) }
+    {
+        let mut rest = letters;
+        while let [letter, more @ ..] = rest {
+            self.push_letter(*letter, text)?;
+            rest = more;
+        }
+        Ok(())
+    }
+
+    /// Puts the letters of the set behind a text, in the order `r w a l k m`.
+    ///
+    /// # Errors
+    ///
+    /// Where memory runs out.
+    pub fn push_letters(self, text: &mut Vec<u8>) -> Result<(), AllocError>
+        ensures { OnOk result (text.new.items ≡ text.old.items ++ letters_of self.0) }
+    {
+        self.push_letters_among(b"rwalkm", text)
     }
 }

@@ -1,27 +1,34 @@
 -- Questions: what the words after `ask` ask (docs/commands.md).
-use Rattle.std.specs.Prelude.{ℕ, ◌<◌, Bool, true, false, ◌&&◌, not, if◌then◌else◌, List, [], ◌∷◌, Option, None, Some, Result, Ok, Err, codes}
+use Rattle.std.specs.Prelude.{ℕ, ◌<◌, Bool, true, false, ◌&&◌, not, if◌then◌else◌, List, [], ◌∷◌, Option, None, Some, Result, Ok, Err, codes, option_and_then}
 use Rattle.std.specs.Str.{bytes_eq}
 use Rattle.aa_bytes.specs.Bytes.{slash}
 use Rattle.aa_bytes.specs.Texts.{begins_with_byte, has_byte}
 use Rattle.aa_access.specs.Access.{all_letters, needs_of}
-use Rattle.aa_access.specs.Request.{Request}
+use Rattle.aa_access.specs.Request.{Request, ForCapability, ForFile, ForSockets}
+use Rattle.aa_tables.specs.Capabilities.{capability_number}
+use Rattle.aa_tables.specs.Domains.{domain_number}
+use Rattle.aa_tables.specs.Kinds.{is_protocol, kind_number}
 use Rattle.aa_commands.specs.Refusal.{plain}
 use Rattle.aa_commands.specs.declared.question.Question.{Question}
-use Rattle.aa_commands.specs.declared.question.Question.TheVariants.{File}
+use Rattle.aa_commands.specs.declared.question.Question.TheVariants.{Cap, File, Net}
 use Rattle.aa_commands.specs.declared.refusal.Refusal.{Refusal}
 use Rattle.aa_commands.specs.declared.refusal.RefusalKind.TheVariants.{BadCommand, BadRequest}
 
--- what is asked, and of whom: of a profile, a child or a hat by its full name, or of the word `unconfined`
+-- what is asked: whether a task has access, confined as the asker's full name says, or the word `unconfined`
 pub data Asked : Type 0 where
-  OfFile : (who : List ℕ) (request : Request) → Asked
+  OfAccess : (who : List ℕ) (request : Request) → Asked
 
 -- what a question of the code asks
 abbrev pub asked : Question → Asked
-asked (File who needs owned path) = OfFile who.now (record { needs = needs.0; owned = owned; path = path.now })
+asked (File who needs owned path) = OfAccess who.now (ForFile needs.0 owned path.now)
+asked (Cap who number) = OfAccess who.now (ForCapability number)
+asked (Net who domain kind) = OfAccess who.now (ForSockets domain kind)
 
--- a question's needs are made of the known letters alone
+-- a question's needs are made of the known letters alone, and its numbers stand in the tables
 abbrev pub IsWellFormed : Question → Type 0
 IsWellFormed (File who needs owned path) = needs.0 < all_letters
+IsWellFormed (Cap who number) = number < 41
+IsWellFormed (Net who domain kind) = (domain < 44) × (kind < 6)
 
 -- whether the file is owned
 abbrev pub owned_of : List ℕ → Option Bool
@@ -32,11 +39,28 @@ abbrev pub is_path : List ℕ → Bool
 is_path word = begins_with_byte slash word && not (has_byte 0 word)
 
 abbrev pub file_question : List ℕ → Option ℕ → Option Bool → List ℕ → Result Asked Refusal
-file_question who (Some needs) (Some owned) path = if is_path path then Ok (OfFile who (record { needs = needs; owned = owned; path = path })) else Err (plain BadRequest)
+file_question who (Some needs) (Some owned) path = if is_path path then Ok (OfAccess who (ForFile needs owned path)) else Err (plain BadRequest)
 file_question who None owned path = Err (plain BadRequest)
 file_question who (Some needs) None path = Err (plain BadRequest)
 
--- what the words after `ask` ask: `file NAME ACCESS OWNED PATH`
+abbrev pub capability_question : List ℕ → Option ℕ → Result Asked Refusal
+capability_question who (Some number) = Ok (OfAccess who (ForCapability number))
+capability_question who None = Err (plain BadRequest)
+
+-- the number of the type of a name, which no protocol's is
+abbrev pub type_number : List ℕ → Option ℕ
+type_number name = option_and_then (λ kind. if is_protocol kind then None else Some kind) (kind_number name)
+
+abbrev pub socket_question : List ℕ → Option ℕ → Option ℕ → Result Asked Refusal
+socket_question who (Some domain) (Some kind) = Ok (OfAccess who (ForSockets domain kind))
+socket_question who None kind = Err (plain BadRequest)
+socket_question who (Some domain) None = Err (plain BadRequest)
+
+-- What the words after `ask` ask: `cap NAME CAPABILITY`, `net NAME DOMAIN TYPE`, or `file NAME ACCESS OWNED PATH`.
 abbrev pub question_of : List (List ℕ) → Result Asked Refusal
-question_of (kind ∷ who ∷ access ∷ owned ∷ path ∷ []) = if bytes_eq kind (codes "file") then file_question who (needs_of access) (owned_of owned) path else Err (plain BadCommand)
+question_of (kind ∷ who ∷ name ∷ []) = if bytes_eq kind (codes "cap") then capability_question who (capability_number name) else Err (plain BadCommand)
+question_of (kind ∷ who ∷ domain ∷ sort ∷ []) =
+    if bytes_eq kind (codes "net") then socket_question who (domain_number domain) (type_number sort) else Err (plain BadCommand)
+question_of (kind ∷ who ∷ access ∷ owned ∷ path ∷ []) =
+    if bytes_eq kind (codes "file") then file_question who (needs_of access) (owned_of owned) path else Err (plain BadCommand)
 question_of _ = Err (plain BadCommand)

@@ -1,11 +1,11 @@
 -- The refusals: each one's number and name, as replies tell them (docs/commands.md).
 use Rattle.std.specs.Prelude.{ℕ, List, codes, None}
-use Rattle.aa_profile.specs.declared.profile_error.ProfileError.{ProfileError}
-use Rattle.aa_profile.specs.declared.profile_error.ProfileRefusal.{ProfileRefusal}
-use Rattle.aa_profile.specs.declared.profile_error.ProfileRefusal.TheVariants as profile
+use Rattle.aa_refusals.specs.declared.profile_error.ProfileError.{ProfileError}
+use Rattle.aa_refusals.specs.declared.profile_error.ProfileRefusal.{ProfileRefusal}
+use Rattle.aa_refusals.specs.declared.profile_error.ProfileRefusal.TheVariants as profile
 use Rattle.aa_commands.specs.declared.refusal.Refusal.{Refusal}
 use Rattle.aa_commands.specs.declared.refusal.RefusalKind.{RefusalKind}
-use Rattle.aa_commands.specs.declared.refusal.RefusalKind.TheVariants.{NotAbsolute, UnclosedClass, EmptyClass, BadRange, UnclosedGroup, StrayClose, FewAlternatives, BadEscape, TooLong, TooDeep, ZeroByte, OpenQuote, OpenOther, NoFile, IncludeDepth, TextTooBig, Undefined, Redefined, AppendUndefined, Cycle, TooManyRules, BadToken, OpenBlock, BadFlag, BadAccess, WriteAppend, TwiceNamed, NestedChild, LateAssignment, NoProfile, BadName, Exists, Absent, NothingToUndo, BadCommand, LineTooLong, BadRequest, Memory}
+use Rattle.aa_commands.specs.declared.refusal.RefusalKind.TheVariants.{NotAbsolute, UnclosedClass, EmptyClass, BadRange, UnclosedGroup, StrayClose, FewAlternatives, BadEscape, TooLong, TooDeep, ZeroByte, OpenQuote, OpenOther, NoFile, IncludeDepth, TextTooBig, Undefined, Redefined, AppendUndefined, Cycle, TooManyRules, BadToken, OpenBlock, BadFlag, BadAccess, WriteAppend, BadCapability, BadNetwork, TwiceNamed, NestedChild, LateAssignment, NoProfile, BadName, Exists, Absent, NothingToUndo, BadCommand, LineTooLong, BadRequest, Memory}
 
 -- the one table of numbers and names
 abbrev pub described : RefusalKind → ℕ × List ℕ
@@ -35,6 +35,8 @@ described OpenBlock = (41, codes "OpenBlock")
 described BadFlag = (42, codes "BadFlag")
 described BadAccess = (43, codes "BadAccess")
 described WriteAppend = (44, codes "WriteAppend")
+described BadCapability = (48, codes "BadCapability")
+described BadNetwork = (49, codes "BadNetwork")
 described TwiceNamed = (50, codes "TwiceNamed")
 described NestedChild = (51, codes "NestedChild")
 described LateAssignment = (52, codes "LateAssignment")
@@ -86,6 +88,8 @@ kind_of_profile profile.OpenBlock = OpenBlock
 kind_of_profile profile.BadFlag = BadFlag
 kind_of_profile profile.BadAccess = BadAccess
 kind_of_profile profile.WriteAppend = WriteAppend
+kind_of_profile profile.BadCapability = BadCapability
+kind_of_profile profile.BadNetwork = BadNetwork
 kind_of_profile profile.TwiceNamed = TwiceNamed
 kind_of_profile profile.NestedChild = NestedChild
 kind_of_profile profile.LateAssignment = LateAssignment

@@ -1,13 +1,18 @@
 //! Questions, as commands ask them.
 
-ghost use Rattle.std.specs.Prelude.{◌≡◌, ◌==◌, Ok, Err, IfOk, IfErr, map, codes};
+ghost use Rattle.std.specs.Prelude.{◌≡◌, ◌==◌, ◌<◌, [], ◌∷◌, Ok, Err, IfOk, IfErr, IfSome, map, codes};
 ghost use Rattle.std.specs.Str.{bytes_eq};
 ghost use Rattle.aa_access.specs.Access.{needs_of};
-ghost use Rattle.aa_commands.specs.Question.{asked, file_question, question_of, owned_of, is_path, IsWellFormed};
+ghost use Rattle.aa_commands.specs.Question.{asked, capability_question, file_question, is_path, owned_of, question_of, socket_question, type_number, IsWellFormed};
+ghost use Rattle.aa_tables.specs.Capabilities.{capability_number};
+ghost use Rattle.aa_tables.specs.Domains.{domain_number};
 
 use crate::refusal::{Refusal, RefusalKind, plain};
+use aa_access::Perms;
 use aa_bytes::{begins_with_byte, has_byte};
-use aa_profile::Perms;
+use aa_tables::{
+    capability_number, domain_number, is_protocol, kind_number, which_numbers_names_have,
+};
 
 /// A question to a policy set.
 #[derive(Clone, Copy, Debug, PartialEq, Eq)]
@@ -23,30 +28,131 @@ pub enum Question<'a> {
         /// The file's path, that of a directory with a slash at its end.
         path: &'a [u8],
     },
+    /// Whether a task may use a capability.
+    Cap {
+        /// The full name of the profile, child or hat that confines the task, or the word `unconfined`.
+        who: &'a [u8],
+        /// The capability's number, from 0 to 40.
+        number: u8,
+    },
+    /// Whether a task may use sockets.
+    Net {
+        /// The full name of the profile, child or hat that confines the task, or the word `unconfined`.
+        who: &'a [u8],
+        /// The number of the sockets' domain, from 0 to 43.
+        domain: u8,
+        /// The number of their type, from 0 to 5.
+        kind: u8,
+    },
 }
 
 impl<'a> Question<'a> {
-    /// The question of the words after `ask`: `file`, the asker's full name or `unconfined`, the access letters, `owner`
-    /// or `other`, and the path. It takes no memory.
+    /// The question of the words after `ask`, each with the asker's full name or `unconfined`: `file`, the asker, the access letters, `owner` or
+    /// `other`, and the path; `cap`, the asker, and the capability's name; or `net`, the asker, and the names of the domain and the type. It takes
+    /// no memory.
     ///
     /// # Errors
     ///
     /// - `BadCommand` for another kind of question or another number of words.
-    /// - Then `BadRequest` where a letter is unknown or stands twice or none does, where the owner's word is another, and
-    ///   where the path doesn't begin with `/` or holds a zero byte.
+    /// - Then `BadRequest` where a letter is unknown or stands twice or none does, where the owner's word is another, where the path doesn't
+    ///   begin with `/` or holds a zero byte, and where no capability, domain or type has the name.
     pub fn read(words: &[&'a [u8]]) -> Result<Question<'a>, Refusal>
         ensures ok { IfOk result (λ question. question_of (map (λ word. word.now) words.now) ≡ Ok (asked question)) }
         ensures refused { IfErr result (λ refusal. question_of (map (λ word. word.now) words.now) ≡ Err refusal) }
         ensures known { IfOk result (λ question. IsWellFormed question) }
     {
-        let [kind, who, access, owner, path] = words else {
-            return Err(plain(RefusalKind::BadCommand));
-        };
-        if *kind != b"file".as_slice() {
-            return Err(plain(RefusalKind::BadCommand));
+        match words {
+            [kind, who, name] => of_three_words(kind, who, name),
+            [kind, who, domain, sort] => of_four_words(kind, who, domain, sort),
+            [kind, who, access, owner, path] => of_five_words(kind, who, access, owner, path),
+            _ => Err(plain(RefusalKind::BadCommand)),
         }
-        file_question(who, access, owner, path)
     }
+}
+
+// The question of three words: for a capability.
+fn of_three_words<'a>(kind: &[u8], who: &'a [u8], name: &[u8]) -> Result<Question<'a>, Refusal>
+    ensures ok { IfOk result (λ question. question_of (kind.now ∷ who.now ∷ name.now ∷ []) ≡ Ok (asked question)) }
+    ensures refused { IfErr result (λ refusal. question_of (kind.now ∷ who.now ∷ name.now ∷ []) ≡ Err refusal) }
+    ensures known { IfOk result (λ question. IsWellFormed question) }
+{
+    if kind != b"cap".as_slice() {
+        return Err(plain(RefusalKind::BadCommand));
+    }
+    capability_question(who, name)
+}
+
+// The question of four words: for sockets.
+fn of_four_words<'a>(
+    kind: &[u8],
+    who: &'a [u8],
+    domain: &[u8],
+    sort: &[u8],
+) -> Result<Question<'a>, Refusal>
+    ensures ok { IfOk result (λ question. question_of (kind.now ∷ who.now ∷ domain.now ∷ sort.now ∷ []) ≡ Ok (asked question)) }
+    ensures refused { IfErr result (λ refusal. question_of (kind.now ∷ who.now ∷ domain.now ∷ sort.now ∷ []) ≡ Err refusal) }
+    ensures known { IfOk result (λ question. IsWellFormed question) }
+{
+    if kind != b"net".as_slice() {
+        return Err(plain(RefusalKind::BadCommand));
+    }
+    socket_question(who, domain, sort)
+}
+
+// The question of five words: for a file.
+fn of_five_words<'a>(
+    kind: &[u8],
+    who: &'a [u8],
+    access: &[u8],
+    owner: &[u8],
+    path: &'a [u8],
+) -> Result<Question<'a>, Refusal>
+    ensures ok { IfOk result (λ question. question_of (kind.now ∷ who.now ∷ access.now ∷ owner.now ∷ path.now ∷ []) ≡ Ok (asked question)) }
+    ensures refused { IfErr result (λ refusal. question_of (kind.now ∷ who.now ∷ access.now ∷ owner.now ∷ path.now ∷ []) ≡ Err refusal) }
+    ensures known { IfOk result (λ question. IsWellFormed question) }
+{
+    if kind != b"file".as_slice() {
+        return Err(plain(RefusalKind::BadCommand));
+    }
+    file_question(who, access, owner, path)
+}
+
+// The question for a capability, of the words after `cap`.
+fn capability_question<'a>(who: &'a [u8], name: &[u8]) -> Result<Question<'a>, Refusal>
+    ensures ok { IfOk result (λ question. capability_question who.now (capability_number name.now) ≡ Ok (asked question)) }
+    ensures refused { IfErr result (λ refusal. capability_question who.now (capability_number name.now) ≡ Err refusal) }
+    ensures known { IfOk result (λ question. IsWellFormed question) }
+{
+    let Some(number) = capability_number(name) else {
+        return Err(plain(RefusalKind::BadRequest));
+    };
+    which_numbers_names_have();
+    Ok(Question::Cap { who, number })
+}
+
+// The number of the type of a name, which no protocol's is.
+fn type_number(name: &[u8]) -> Option<u8>
+    ensures number { result ≡ type_number name.now }
+    ensures known { IfSome result (λ kind. kind < 6) }
+{
+    let kind = kind_number(name)?;
+    if is_protocol(kind) { None } else { Some(kind) }
+}
+
+// The question for sockets, of the words after `net`.
+fn socket_question<'a>(who: &'a [u8], domain: &[u8], sort: &[u8]) -> Result<Question<'a>, Refusal>
+    ensures ok { IfOk result (λ question. socket_question who.now (domain_number domain.now) (type_number sort.now) ≡ Ok (asked question)) }
+    ensures refused { IfErr result (λ refusal. socket_question who.now (domain_number domain.now) (type_number sort.now) ≡ Err refusal) }
+    ensures known { IfOk result (λ question. IsWellFormed question) }
+{
+    let Some(domain) = domain_number(domain) else {
+        return Err(plain(RefusalKind::BadRequest));
+    };
+    let Some(kind) = type_number(sort) else {
+        return Err(plain(RefusalKind::BadRequest));
+    };
+    which_numbers_names_have();
+    Ok(Question::Net { who, domain, kind })
 }
 
 // The question for a file, of the words after `file`.

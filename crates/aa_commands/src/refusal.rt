@@ -5,7 +5,7 @@ ghost use Rattle.aa_commands.specs.Refusal.{name_of, number_of, plain, refusal_o
 ghost use Rattle.aa_commands.specs.declared.refusal.RefusalKind.TheVariants.{Memory};
 
 use aa_files::Place;
-use aa_profile::{ProfileError, ProfileRefusal};
+use aa_refusals::{ProfileError, ProfileRefusal};
 use std::alloc::{AllocError, AllocFailed};
 use std::fmt::{self, Display, Formatter, Write};
 use thiserror::Error;
@@ -65,6 +65,10 @@ pub enum RefusalKind {
     BadAccess,
     /// An access holds both `w` and `a`.
     WriteAppend,
+    /// A word of a capability rule that is no capability.
+    BadCapability,
+    /// A word of a network rule that is no domain, type or protocol, or can't stand there.
+    BadNetwork,
     /// Two profiles of a file have one name, or two children or hats of a profile.
     TwiceNamed,
     /// A child stands within a child.
@@ -143,6 +147,8 @@ impl Refusal {
             RefusalKind::BadFlag => 42,
             RefusalKind::BadAccess => 43,
             RefusalKind::WriteAppend => 44,
+            RefusalKind::BadCapability => 48,
+            RefusalKind::BadNetwork => 49,
             RefusalKind::TwiceNamed => 50,
             RefusalKind::NestedChild => 51,
             RefusalKind::LateAssignment => 52,
@@ -189,6 +195,8 @@ impl Refusal {
             RefusalKind::BadFlag => "BadFlag",
             RefusalKind::BadAccess => "BadAccess",
             RefusalKind::WriteAppend => "WriteAppend",
+            RefusalKind::BadCapability => "BadCapability",
+            RefusalKind::BadNetwork => "BadNetwork",
             RefusalKind::TwiceNamed => "TwiceNamed",
             RefusalKind::NestedChild => "NestedChild",
             RefusalKind::LateAssignment => "LateAssignment",
@@ -249,6 +257,8 @@ impl From<ProfileRefusal> for RefusalKind {
             ProfileRefusal::BadFlag => RefusalKind::BadFlag,
             ProfileRefusal::BadAccess => RefusalKind::BadAccess,
             ProfileRefusal::WriteAppend => RefusalKind::WriteAppend,
+            ProfileRefusal::BadCapability => RefusalKind::BadCapability,
+            ProfileRefusal::BadNetwork => RefusalKind::BadNetwork,
             ProfileRefusal::TwiceNamed => RefusalKind::TwiceNamed,
             ProfileRefusal::NestedChild => RefusalKind::NestedChild,
             ProfileRefusal::LateAssignment => RefusalKind::LateAssignment,

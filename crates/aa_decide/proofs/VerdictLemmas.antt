@@ -13,7 +13,7 @@ use Rattle.aa_access.specs.Request.{Request}
 use Rattle.aa_policy.specs.declared.profile.Mode.{Mode}
 use Rattle.aa_policy.specs.declared.profile.Mode.TheVariants.{Complain, Enforce}
 use Rattle.aa_policy.specs.declared.profile.Rule.{Rule}
-use Rattle.aa_decide.specs.Verdict.{allows, allows_aloud, audited, covers, denied, denies, denies_aloud, granted, logged, loud, mask, missing, verdict, when_missing, with_covered, with_rule}
+use Rattle.aa_decide.specs.Verdict.{allows, allows_aloud, audited, covers, denied, denies, denies_aloud, granted, letters_among, logged, loud, mask, missing, needs, verdict, when_missing, with_covered, with_rule}
 use Rattle.aa_decide.specs.VerdictLaws.{HaveSameRules, in_complain}
 use Rattle.aa_decide.specs.declared.verdict.Answer.TheVariants.{Allow, Complain as Complained, Deny, Refuse}
 use Rattle.aa_decide.specs.declared.verdict.Tag.TheVariants.{Allowed, Audit, Denied}
@@ -93,7 +93,7 @@ mask-step request test set next rules at rule within is n =
 -- the verdict where these are the masks
 abbrev verdict-by : Mode → Request → ℕ → ℕ → ℕ → ℕ → Verdict
 verdict-by mode request denied loud granted audited =
-    let missing = without request.needs (union denied (without granted denied)) in
+    let missing = without (needs request) (union denied (without granted denied)) in
     if not (denied == 0) then logged Deny Denied (union loud missing) else
     if not (missing == 0) then when_missing mode missing else
     logged Allow Audit audited
@@ -115,10 +115,9 @@ verdict-complain flag rules request = by (denied request rules == 0) refl (missi
     by false d m e = rw (verdict, d) refl
     by true d true e = rw (verdict, d, e) refl
     by true d false e =
-        let enforce : verdict Enforce flag rules request ≡ record { answer = Refuse; tag = Some Denied; mask = record { 0 = missing request rules } } = rw (verdict, d, e) refl in
-        let complain : verdict Complain flag rules request ≡ record { answer = Complained; tag = Some Allowed; mask = record { 0 = missing request rules } } = rw (verdict, d, e) refl in
-        let said : logged Complained Allowed (missing request rules) ≡ record { answer = Complained; tag = Some Allowed; mask = record { 0 = missing request rules } } = rw (logged, e) refl in
-        complain ∙ sym said ∙ sym (ap in_complain enforce)
+        let enforce : verdict Enforce flag rules request ≡ record { answer = Refuse; tag = Some Denied; mask = record { 0 = letters_among (missing request rules) } } = rw (verdict, d, e) refl in
+        let complain : verdict Complain flag rules request ≡ record { answer = Complained; tag = Some Allowed; mask = record { 0 = letters_among (missing request rules) } } = rw (verdict, d, e) refl in
+        complain ∙ sym (ap in_complain enforce)
 
 -- what isn't there is nothing
 from-none : (n : ℕ) → (n == 0) ≡ true → n ≡ 0
@@ -194,8 +193,8 @@ allow-from mode flag rules request d m =
     rw (verdict, none, few) refl
 
 -- what is missing where nothing is denied
-missing-of : (request : Request) (rules : List Rule) → denied request rules ≡ 0 → missing request rules ≡ lacking request.needs (granted request rules)
-missing-of request rules none = ap (λ n. without request.needs (union n (without (granted request rules) n))) none
+missing-of : (request : Request) (rules : List Rule) → denied request rules ≡ 0 → missing request rules ≡ lacking (needs request) (granted request rules)
+missing-of request rules none = ap (λ n. without (needs request) (union n (without (granted request rules) n))) none
 
 -- a mask with one rule more
 mask-more : (request : Request) (test : Rule → Bool) (rule : Rule) (rules : List Rule) → mask request test (rule ∷ rules) ≡ union (part request test rule) (mask request test rules)
@@ -212,10 +211,10 @@ pub verdict-allow : (mode : Mode) (flag : Bool) (rule : Rule) (rules : List Rule
 verdict-allow mode flag rule rules request h before =
     let parts = allow-parts mode flag rules request before in
     let none : denied request (rule ∷ rules) ≡ 0 = mask-else request denies rule rules h ∙ parts.0 in
-    let few : lacking request.needs (granted request rules) ≡ 0 = sym (missing-of request rules parts.0) ∙ parts.1 in
+    let few : lacking (needs request) (granted request rules) ≡ 0 = sym (missing-of request rules parts.0) ∙ parts.1 in
     allow-from mode flag (rule ∷ rules) request none
-    (missing-of request (rule ∷ rules) none ∙ ap (λ set. lacking request.needs set) (mask-more request allows rule rules)
-    ∙ none-lacking request.needs (granted request rules) (part request allows rule) few)
+    (missing-of request (rule ∷ rules) none ∙ ap (λ set. lacking (needs request) set) (mask-more request allows rule rules)
+    ∙ none-lacking (needs request) (granted request rules) (part request allows rule) few)
 
 -- one deny rule more allows nothing that wasn't
 pub verdict-deny : (mode : Mode) (flag : Bool) (rule : Rule) (rules : List Rule) (request : Request) → denies rule ≡ true → (verdict mode flag (rule ∷ rules) request).answer ≡ Allow
@@ -227,4 +226,4 @@ verdict-deny mode flag rule rules request h before =
     let none : denied request rules ≡ 0 = omega arith in
     let same : granted request (rule ∷ rules) ≡ granted request rules = mask-else request allows rule rules (ap not h) in
     allow-from mode flag rules request none
-    (missing-of request rules none ∙ ap (λ set. lacking request.needs set) (sym same) ∙ sym (missing-of request (rule ∷ rules) parts.0) ∙ parts.1)
+    (missing-of request rules none ∙ ap (λ set. lacking (needs request) set) (sym same) ∙ sym (missing-of request (rule ∷ rules) parts.0) ∙ parts.1)

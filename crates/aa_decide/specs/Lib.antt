@@ -1,3 +1,7 @@
 pub mod Answer
+pub mod Entries
+pub mod LogLines
+pub mod Ready
 pub mod Verdict
 pub mod VerdictLaws
+pub mod code

@@ -1,43 +1,58 @@
--- What rules say of a file request: cover, applicability, masks and the verdict (apparmor.d(5), "Rule
--- Qualifiers" and "Access Permission Accumulation"; see docs/policy.md).
-use Rattle.std.specs.Prelude.{ℕ, Bool, false, not, ◌&&◌, ◌||◌, ◌==◌, if◌then◌else◌, List, fold, None, Some}
-use Rattle.aa_access.specs.Request.{Request}
+-- What rules say of a request: cover, applicability, masks and the verdict (apparmor.d(5), "Rule Qualifiers", "Access Permission
+-- Accumulation", "Capability Rules" and "Network Rules"; see docs/policy.md). Requests of all kinds are decided alike, by sets of needs.
+use Rattle.std.specs.Prelude.{ℕ, Bool, false, not, ◌-◌, ◌&&◌, ◌||◌, ◌==◌, if◌then◌else◌, List, fold, None, Some}
+use Rattle.aa_access.specs.Request.{Request, ForCapability, ForFile, ForSockets}
 use Rattle.aa_glob.specs.Matching.{matches}
 use Rattle.aa_glob.specs.Reading.{items_of}
-use Rattle.aa_access.specs.Access.{common, union, without, covered}
+use Rattle.aa_access.specs.Access.{all_letters, common, union, without, covered}
+use Rattle.aa_policy.specs.Cover.{covers_capability, covers_socket}
 use Rattle.aa_policy.specs.declared.profile.Mode.{Mode}
 use Rattle.aa_policy.specs.declared.profile.Mode.TheVariants.{Enforce, Complain}
 use Rattle.aa_policy.specs.declared.profile.Rule.{Rule}
-use Rattle.aa_policy.specs.declared.profile.Rule.TheVariants.{File, Other}
-use Rattle.aa_decide.specs.declared.verdict.FileRequest.{FileRequest}
+use Rattle.aa_policy.specs.declared.profile.Rule.TheVariants.{Cap, File, Net, Other}
 use Rattle.aa_decide.specs.declared.verdict.Answer.{Answer}
 use Rattle.aa_decide.specs.declared.verdict.Answer.TheVariants.{Allow, Deny, Refuse, Complain as Complained}
 use Rattle.aa_decide.specs.declared.verdict.Tag.{Tag}
 use Rattle.aa_decide.specs.declared.verdict.Tag.TheVariants.{Allowed, Audit, Denied}
 use Rattle.aa_decide.specs.declared.verdict.Verdict.{Verdict}
 
--- the request of the code's value
-abbrev pub request_of : FileRequest → Request
-request_of r = record { needs = r.needs.0; owned = r.owned; path = r.path.now }
+-- The need of a request that isn't for a file: there is one, and it is no letter.
+abbrev pub the_need : ℕ
+the_need = 128
 
--- A rule on files applies where its pattern matches the path and, if it is an owner's rule, the file is owned. No other rule applies.
+-- what a request needs, as a set: the letters of a file's, or the one need
+abbrev pub needs : Request → ℕ
+needs (ForFile letters owned path) = letters
+needs (ForCapability number) = the_need
+needs (ForSockets domain kind) = the_need
+
+-- A rule on files applies where its pattern matches the path and, if it is an owner's rule, the file is owned. A rule on capabilities or sockets
+-- applies where it covers what is asked for. No other rule applies.
 abbrev pub applies : Request → Rule → Bool
-applies request (File rule) = matches (items_of rule.pattern) request.path && (not rule.owner || request.owned)
-applies request (Other rule) = false
+applies (ForFile letters owned path) (File rule) = matches (items_of rule.pattern) path && (not rule.owner || owned)
+applies (ForCapability number) (Cap rule) = covers_capability number rule
+applies (ForSockets domain kind) (Net rule) = covers_socket domain kind rule
+applies _ _ = false
 
 -- the needs that a rule covers
 abbrev pub covered_by : Rule → ℕ
 covered_by (File rule) = covered rule.access.0
+covered_by (Cap rule) = the_need
+covered_by (Net rule) = the_need
 covered_by (Other rule) = 0
 
 -- a rule denies what it covers
 abbrev pub denies : Rule → Bool
 denies (File rule) = rule.deny
+denies (Cap rule) = rule.deny
+denies (Net rule) = rule.deny
 denies (Other rule) = rule.deny
 
 -- a rule is audited by a word of its own, or by the flag of its profile
 abbrev pub is_audited : Bool → Rule → Bool
 is_audited flag (File rule) = flag || rule.audit
+is_audited flag (Cap rule) = flag || rule.audit
+is_audited flag (Net rule) = flag || rule.audit
 is_audited flag (Other rule) = flag || rule.audit
 
 -- a deny rule that is audited, and an allow rule that is
@@ -52,7 +67,7 @@ allows_aloud flag rule = allows rule && is_audited flag rule
 
 -- the needs of a request that a rule covers: none, where it doesn't apply
 abbrev pub covers : Request → Rule → ℕ
-covers request rule = if applies request rule then common request.needs (covered_by rule) else 0
+covers request rule = if applies request rule then common (needs request) (covered_by rule) else 0
 
 -- a set, and the needs that a rule covers, if it passes a test
 abbrev pub with_rule : Request → (Rule → Bool) → ℕ → Rule → ℕ
@@ -86,11 +101,15 @@ allowed request rules = without (granted request rules) (denied request rules)
 
 -- the needs that are neither denied nor allowed
 abbrev pub missing : Request → List Rule → ℕ
-missing request rules = without request.needs (union (denied request rules) (allowed request rules))
+missing request rules = without (needs request) (union (denied request rules) (allowed request rules))
 
--- an answer, and how it is logged: by this tag with these needs, unless there are none
+-- the letters among some needs
+abbrev pub letters_among : ℕ → ℕ
+letters_among mask = common mask (all_letters - 1)
+
+-- An answer, and how it is logged: by this tag, with the letters among these needs, unless there are none.
 abbrev pub logged : Answer → Tag → ℕ → Verdict
-logged answer tag mask = record { answer = answer; tag = if mask == 0 then None else Some tag; mask = record { 0 = mask } }
+logged answer tag mask = record { answer = answer; tag = if mask == 0 then None else Some tag; mask = record { 0 = letters_among mask } }
 
 -- what is not allowed is refused in enforce mode, and let through in complain mode
 abbrev pub when_missing : Mode → ℕ → Verdict

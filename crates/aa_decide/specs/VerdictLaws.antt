@@ -1,8 +1,7 @@
 -- Words that the laws of verdicts are said in.
-use Rattle.std.specs.Prelude.{List}
+use Rattle.std.specs.Prelude.{List, Some}
 use Rattle.std.specs.List.{Contains}
 use Rattle.aa_policy.specs.declared.profile.Rule.{Rule}
-use Rattle.aa_decide.specs.Verdict.{logged}
 use Rattle.aa_decide.specs.declared.verdict.Answer.{Answer}
 use Rattle.aa_decide.specs.declared.verdict.Answer.TheVariants.{Complain, Refuse}
 use Rattle.aa_decide.specs.declared.verdict.Tag.TheVariants.{Allowed}
@@ -10,7 +9,7 @@ use Rattle.aa_decide.specs.declared.verdict.Verdict.{Verdict}
 
 -- what complain mode says where enforce mode says this
 abbrev pub complained : Answer → Verdict → Verdict
-complained Refuse verdict = logged Complain Allowed verdict.mask.0
+complained Refuse verdict = record { answer = Complain; tag = Some Allowed; mask = verdict.mask }
 complained answer verdict = verdict
 
 -- What enforce mode refuses is let through, and logged with the same needs; nothing else changes.

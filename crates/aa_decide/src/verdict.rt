@@ -1,9 +1,11 @@
-//! What rules say of a request.
+//! What rules say of a request, and how that is logged.
 
 ghost use Rattle.std.specs.Prelude.{◌≡◌};
 ghost use Rattle.aa_decide.specs.Answer.{answer_word};
-ghost use Rattle.aa_decide.specs.Verdict.{allows, allows_aloud, applies, audited, covered_by, covers, denied, denies, denies_aloud, granted, is_audited, logged, loud, request_of, verdict, with_rule};
+ghost use Rattle.aa_decide.specs.Verdict.{allows, allows_aloud, applies, audited, covered_by, covers, denied, denies, denies_aloud, granted, is_audited, letters_among, logged, loud, needs, the_need, verdict, with_rule};
+ghost use Rattle.aa_decide.specs.code.Requests.{request_of};
 
+use crate::request::Request;
 use aa_access::Perms;
 use aa_policy::{Mode, Rule};
 use bitflags::Flags;
@@ -11,8 +13,6 @@ use bitflags::Flags;
 /// The answer to a request, by a word of its own in the reply.
 #[derive(Clone, Copy, Debug, PartialEq, Eq)]
 pub enum Answer {
-    /// No profile confines the asker.
-    Unconfined,
     /// The rules allow each need, and deny none.
     Allow,
     /// A rule denies some need, in whichever mode.
@@ -29,24 +29,12 @@ impl Answer {
         ensures { result.now ≡ answer_word self }
     {
         match self {
-            Answer::Unconfined => "unconfined",
             Answer::Allow => "allow",
             Answer::Deny => "deny",
             Answer::Refuse => "refuse",
             Answer::Complain => "complain",
         }
     }
-}
-
-/// A request for a file, as a profile's rules are asked.
-#[derive(Clone, Copy, Debug)]
-pub struct FileRequest<'a> {
-    /// The letters that are needed.
-    pub needs: Perms,
-    /// Whether the task's user owns the file.
-    pub owned: bool,
-    /// The path.
-    pub path: &'a [u8],
 }
 
 /// What the line begins with that logs an answer.
@@ -67,7 +55,7 @@ pub struct Verdict {
     pub answer: Answer,
     /// What the line begins with that logs it; none where it isn't logged.
     pub tag: Option<Tag>,
-    /// The needs that the line tells. Where there are none, the answer isn't logged.
+    /// The letters that the line tells; none of a request that isn't for a file.
     pub mask: Perms,
 }
 
@@ -82,25 +70,50 @@ struct Masks {
     audited: Perms,
 }
 
-// An answer, and how it is logged: by this tag with these needs, unless there are none.
+// The need of a request that isn't for a file: there is one, and it is no letter.
+fn the_need() -> Perms
+    ensures { result.0 ≡ the_need }
+{
+    Perms::from_bits_retain(128)
+}
+
+// What a request needs.
+fn needs(request: &Request<'_>) -> Perms
+    ensures { result.0 ≡ needs (request_of request.entry.now) }
+{
+    match request {
+        Request::File { needs, .. } => *needs,
+        Request::Cap(_) => the_need(),
+        Request::Net { .. } => the_need(),
+    }
+}
+
+// The letters among some needs.
+fn letters_among(mask: Perms) -> Perms
+    ensures { result.0 ≡ letters_among mask.0 }
+{
+    mask.intersection(Perms::from_bits_retain(63))
+}
+
+// An answer, and how it is logged: by this tag, with the letters among these needs, unless there are none.
 fn logged(answer: Answer, tag: Tag, mask: Perms) -> Verdict
     ensures { result ≡ logged answer tag mask.0 }
 {
     Verdict {
         answer,
         tag: if mask.is_empty() { None } else { Some(tag) },
-        mask,
+        mask: letters_among(mask),
     }
 }
 
-/// What rules say of a request, in a mode. Rules that aren't on files decide nothing of it. `audit` says whether each of the rules is
-/// audited, whatever its own words are: that is the flag of their profile.
-pub fn decide(mode: Mode, audit: bool, rules: &[Rule], request: FileRequest<'_>) -> Verdict
-    ensures { result ≡ verdict mode audit rules.now (request_of request.entry) }
+/// What rules say of a request, in a mode. `audit` says whether each of the rules is audited, whatever its own words are: that is the flag of
+/// their profile. It goes over the rules once, and takes no memory.
+pub fn rules_verdict(mode: Mode, audit: bool, rules: &[Rule], request: &Request<'_>) -> Verdict
+    ensures { result ≡ verdict mode audit rules.now (request_of request.entry.now) }
 {
     let masks = masks_of(audit, rules, request);
     let allowed = masks.granted.difference(masks.denied);
-    let missing = request.needs.difference(masks.denied.union(allowed));
+    let missing = needs(request).difference(masks.denied.union(allowed));
     if !masks.denied.is_empty() {
         return logged(Answer::Deny, Tag::Denied, masks.loud.union(missing));
     }
@@ -114,11 +127,11 @@ pub fn decide(mode: Mode, audit: bool, rules: &[Rule], request: FileRequest<'_>)
 }
 
 // The needs that rules cover.
-fn masks_of(audit: bool, rules: &[Rule], request: FileRequest<'_>) -> Masks
-    ensures denied { result.denied.0 ≡ denied (request_of request.entry) rules.now }
-    ensures loud { result.loud.0 ≡ loud audit (request_of request.entry) rules.now }
-    ensures granted { result.granted.0 ≡ granted (request_of request.entry) rules.now }
-    ensures audited { result.audited.0 ≡ audited audit (request_of request.entry) rules.now }
+fn masks_of(audit: bool, rules: &[Rule], request: &Request<'_>) -> Masks
+    ensures denied { result.denied.0 ≡ denied (request_of request.entry.now) rules.now }
+    ensures loud { result.loud.0 ≡ loud audit (request_of request.entry.now) rules.now }
+    ensures granted { result.granted.0 ≡ granted (request_of request.entry.now) rules.now }
+    ensures audited { result.audited.0 ≡ audited audit (request_of request.entry.now) rules.now }
 {
     let mut masks = Masks {
         denied: Perms::empty(),
@@ -133,11 +146,11 @@ fn masks_of(audit: bool, rules: &[Rule], request: FileRequest<'_>) -> Masks
 }
 
 // The same with one rule more.
-fn with_rule(masks: Masks, audit: bool, rule: &Rule, request: FileRequest<'_>) -> Masks
-    ensures denied { result.denied.0 ≡ with_rule (request_of request.entry) denies masks.denied.0 rule.now }
-    ensures loud { result.loud.0 ≡ with_rule (request_of request.entry) (denies_aloud audit) masks.loud.0 rule.now }
-    ensures granted { result.granted.0 ≡ with_rule (request_of request.entry) allows masks.granted.0 rule.now }
-    ensures audited { result.audited.0 ≡ with_rule (request_of request.entry) (allows_aloud audit) masks.audited.0 rule.now }
+fn with_rule(masks: Masks, audit: bool, rule: &Rule, request: &Request<'_>) -> Masks
+    ensures denied { result.denied.0 ≡ with_rule (request_of request.entry.now) denies masks.denied.0 rule.now }
+    ensures loud { result.loud.0 ≡ with_rule (request_of request.entry.now) (denies_aloud audit) masks.loud.0 rule.now }
+    ensures granted { result.granted.0 ≡ with_rule (request_of request.entry.now) allows masks.granted.0 rule.now }
+    ensures audited { result.audited.0 ≡ with_rule (request_of request.entry.now) (allows_aloud audit) masks.audited.0 rule.now }
 {
     let covered = covers(rule, request);
     let mut masks = masks;
@@ -156,30 +169,36 @@ fn with_rule(masks: Masks, audit: bool, rule: &Rule, request: FileRequest<'_>) -
 }
 
 // The needs of a request that a rule covers: none, where it doesn't apply.
-fn covers(rule: &Rule, request: FileRequest<'_>) -> Perms
-    ensures { result.0 ≡ covers (request_of request.entry) rule.now }
+fn covers(rule: &Rule, request: &Request<'_>) -> Perms
+    ensures { result.0 ≡ covers (request_of request.entry.now) rule.now }
 {
     if !is_applying(rule, request) {
         return Perms::empty();
     }
-    request.needs.intersection(covered_by(rule))
+    needs(request).intersection(covered_by(rule))
 }
 
-fn is_applying(rule: &Rule, request: FileRequest<'_>) -> bool
-    ensures { result ≡ applies (request_of request.entry) rule.now }
+fn is_applying(rule: &Rule, request: &Request<'_>) -> bool
+    ensures { result ≡ applies (request_of request.entry.now) rule.now }
 {
-    match rule {
-        Rule::File(rule) => rule.pattern.matches(request.path) && (!rule.owner || request.owned),
-        Rule::Other(_) => false,
+    match (request, rule) {
+        (Request::File { owned, path, .. }, Rule::File(rule)) => {
+            rule.pattern.matches(path) && (!rule.owner || *owned)
+        }
+        (Request::Cap(number), Rule::Cap(rule)) => rule.covers(*number),
+        (Request::Net { domain, kind }, Rule::Net(rule)) => rule.covers(*domain, *kind),
+        _ => false,
     }
 }
 
-// The letters that a rule covers.
+// The needs that a rule covers.
 fn covered_by(rule: &Rule) -> Perms
     ensures { result.0 ≡ covered_by rule.now }
 {
     match rule {
         Rule::File(rule) => rule.access.covered(),
+        Rule::Cap(_) => the_need(),
+        Rule::Net(_) => the_need(),
         Rule::Other(_) => Perms::empty(),
     }
 }
@@ -189,6 +208,8 @@ fn denies(rule: &Rule) -> bool
 {
     match rule {
         Rule::File(rule) => rule.deny,
+        Rule::Cap(rule) => rule.deny,
+        Rule::Net(rule) => rule.deny,
         Rule::Other(rule) => rule.deny,
     }
 }
@@ -199,6 +220,8 @@ fn is_audited(audit: bool, rule: &Rule) -> bool
 {
     match rule {
         Rule::File(rule) => audit || rule.audit,
+        Rule::Cap(rule) => audit || rule.audit,
+        Rule::Net(rule) => audit || rule.audit,
         Rule::Other(rule) => audit || rule.audit,
     }
 }

@@ -1,7 +1,5 @@
 pub mod Blocks
 pub mod Files
-pub mod FlagText
-pub mod Flags
 pub mod Heads
 pub mod Preamble
 pub mod Sequences

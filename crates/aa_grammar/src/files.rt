@@ -7,9 +7,8 @@ ghost use Rattle.aa_grammar.specs.Files.{file};
 ghost use Rattle.aa_grammar.specs.code.Seen.{seen_file};
 
 use crate::blocks::{Profile, read_profiles};
-use crate::grammar_error::GrammarError;
 use crate::preamble::{Assignment, read_preamble};
-use aa_rules::{Fault, GrammarRefusal};
+use aa_rules::{Fault, GrammarError, GrammarRefusal};
 use aa_text::Spliced;
 use std::alloc::Global;
 

@@ -8,8 +8,8 @@ ghost use Rattle.aa_rules.specs.code.SeenTokens.{seen_tokens};
 ghost use Rattle.aa_grammar.specs.Heads.{attachment, begins_child, child_name, head, is_short_hat, name_behind, top_name};
 ghost use Rattle.aa_grammar.specs.code.Seen.{seen_head, seen_named};
 
-use crate::flags::{Flags, read_flags};
 use aa_bytes::{begins_with_byte, behind};
+use aa_flags::{Flags, read_flags};
 use aa_rules::{Fault, GrammarRefusal, is_pattern, is_word_of, read_text, refusal_at};
 use aa_text::{Spliced, TokenKind};
 

@@ -3,19 +3,14 @@
 
 mod blocks;
 mod files;
-mod flags;
-mod grammar_error;
 mod heads;
-mod laws;
 mod preamble;
 mod sequence;
 mod so_far;
 
-pub use aa_rules::{GrammarRefusal, Qualifiers, Rule};
+pub use aa_flags::{Flags, what_flags_say};
+pub use aa_rules::{GrammarError, GrammarRefusal, Qualifiers, Rule, Sockets};
 pub use blocks::{Child, Member, Profile};
 pub use files::{File, read_file};
-pub use flags::Flags;
-pub use grammar_error::GrammarError;
 pub use heads::Head;
-pub use laws::what_flags_say;
 pub use preamble::Assignment;

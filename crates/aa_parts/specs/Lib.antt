@@ -1,4 +1,9 @@
 pub mod Choices
+pub mod Counting
+pub mod Expanding
 pub mod Joining
+pub mod Missing
+pub mod Names
+pub mod Numbers
 pub mod Parts
 pub mod code

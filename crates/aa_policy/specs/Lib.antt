@@ -1,1 +1,3 @@
+pub mod Cover
+pub mod Numbers
 pub mod Profile

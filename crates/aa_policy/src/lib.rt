@@ -1,6 +1,7 @@
-//! Profiles, their children and hats, and their rules, as plain data.
+//! Profiles, their children and hats, and their rules, as plain data, and what rules cover.
 #![tactic(auto)]
 
+mod cover;
 mod profile;
 
-pub use profile::{Child, FileRule, Mode, OtherRule, Profile, Rule};
+pub use profile::{CapRule, Child, FileRule, Mode, NetRule, OtherRule, Profile, Rule};

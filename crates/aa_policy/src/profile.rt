@@ -31,6 +31,30 @@ pub struct FileRule {
     pub audit: bool,
 }
 
+/// A rule on capabilities.
+#[derive(Clone, Copy, Debug, PartialEq, Eq)]
+pub struct CapRule {
+    /// The set of the capabilities that it is about: the bit of each number of `aa_tables` tells whether that one is.
+    pub caps: u64,
+    /// Whether it denies what it covers.
+    pub deny: bool,
+    /// Whether what it decides is logged.
+    pub audit: bool,
+}
+
+/// A rule on sockets.
+#[derive(Clone, Copy, Debug, PartialEq, Eq)]
+pub struct NetRule {
+    /// The number of the domain that it is about; none where it is about all.
+    pub domain: Option<u8>,
+    /// The number of the type or the protocol that it is about; none where it is about all.
+    pub kind: Option<u8>,
+    /// Whether it denies what it covers.
+    pub deny: bool,
+    /// Whether what it decides is logged.
+    pub audit: bool,
+}
+
 /// A rule that decides nothing here, and is kept and shown as it is written.
 #[derive(Debug, Drop)]
 pub struct OtherRule {
@@ -49,6 +73,10 @@ pub struct OtherRule {
 pub enum Rule {
     /// A rule on files.
     File(FileRule),
+    /// A rule on capabilities.
+    Cap(CapRule),
+    /// A rule on sockets.
+    Net(NetRule),
     /// A rule that decides nothing here.
     Other(OtherRule),
 }
@@ -123,6 +151,8 @@ impl Rule {
     {
         match self {
             Rule::File(rule) => Ok(Rule::File(rule.try_copy(alloc)?)),
+            Rule::Cap(rule) => Ok(Rule::Cap(*rule)),
+            Rule::Net(rule) => Ok(Rule::Net(*rule)),
             Rule::Other(rule) => Ok(Rule::Other(rule.try_copy(alloc)?)),
         }
     }

@@ -19,8 +19,8 @@ use Rattle.aa_profile.specs.Assignments.{all_assigned, assigned, cycle, first_of
 use Rattle.aa_profile.specs.code.FileReadingProgress.{first_undefined_value, have_expansions}
 use Rattle.aa_grammar.specs.Preamble.{Assignment}
 use Rattle.aa_rules.specs.Tokens.{place_of, text_of}
-use Rattle.aa_profile.specs.ProfileError.{placed}
-use Rattle.aa_profile.specs.declared.profile_error.ProfileRefusal.TheVariants.{Cycle, Undefined}
+use Rattle.aa_refusals.specs.ProfileError.{placed}
+use Rattle.aa_refusals.specs.declared.profile_error.ProfileRefusal.TheVariants.{Cycle, Undefined}
 
 -- what is found in some tokens is found in them and others
 pub find-front : {X : Type 0} (p : X → Bool) (xs ys : List X) (x : X) → find p xs ≡ Some x → find p (xs ++ ys) ≡ Some x

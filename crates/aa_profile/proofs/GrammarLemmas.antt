@@ -6,9 +6,10 @@ use Rattle.std.proofs.lemmas.Bool.{or_parts}
 use Rattle.aa_bytes.specs.Texts.{is_empty}
 use Rattle.aa_text.specs.Splicing.{Placed}
 use Rattle.aa_grammar.specs.Blocks.{Profile as WrittenProfile, next_profile, profile}
-use Rattle.aa_grammar.specs.Files.{File, file, told}
+use Rattle.aa_grammar.specs.Files.{File, file}
 use Rattle.aa_grammar.specs.Preamble.{Assignment, assignment, behind_version, is_value, next_assignment, preamble, value_count}
-use Rattle.aa_grammar.specs.declared.grammar_error.GrammarError.{GrammarError}
+use Rattle.aa_rules.specs.GrammarError.{told}
+use Rattle.aa_rules.specs.declared.grammar_error.GrammarError.{GrammarError}
 use Rattle.aa_profile.specs.code.FileReadingProgress.{has_no_value}
 use Rattle.aa_tokens.specs.declared.cut.TokenKind.{TokenKind}
 use Rattle.aa_tokens.specs.declared.cut.TokenKind.TheVariants.{Include, Assign, Value, Quoted, Word, Comma, OpenBrace, CloseBrace}

@@ -15,7 +15,7 @@ use Rattle.aa_rules.specs.Rules.{rule}
 use Rattle.aa_rules.specs.Tokens.{is_close_brace, is_word_of}
 use Rattle.aa_grammar.specs.Blocks.{OfChild, OfRule, Child as WrittenChild, Member, Profile as WrittenProfile, child, child_behind, child_block, closed, is_child_of_name, is_hat, is_of_name, member, next_member, next_profile, profile, profile_behind, profile_block, refusal_of_name}
 use Rattle.aa_grammar.specs.Files.{File, file}
-use Rattle.aa_grammar.specs.Flags.{flags}
+use Rattle.aa_flags.specs.Flags.{flags}
 use Rattle.aa_grammar.specs.Heads.{Head, Named, attachment, begins_child, child_name, head, top_name}
 use Rattle.aa_grammar.specs.Preamble.{behind_version}
 use Rattle.aa_grammar.specs.Sequences.{skipped}
@@ -41,7 +41,7 @@ names-differ xs ys h = by (bytes_eq ys xs) refl
     by false e = e
 
 -- one more at the end that passes, behind others that do
-all-push : {X : Type 0} (p : X → Bool) (xs : List X) (x : X) → list_all p xs ≡ true → p x ≡ true → list_all p (xs ++ x ∷ []) ≡ true
+pub all-push : {X : Type 0} (p : X → Bool) (xs : List X) (x : X) → list_all p xs ≡ true → p x ≡ true → list_all p (xs ++ x ∷ []) ≡ true
 all-push p xs x all h = rw (list_all-append p xs (x ∷ []), all, h) refl
 
 -- one more profile, whose name none has
@@ -81,23 +81,50 @@ head-named named tokens rest found h =
     let whole = first-told (record { name = named.name; attachment = (attachment named tokens).0; flags = flagged.0.0; brace = flagged.0.1 }, flagged.1) (found, rest) flagged.3 in
     ap (λ head. head.name) (sym whole)
 
--- a child or a hat has the name that stands before its head
-child-named : (named : Named) (tokens rest : List Placed) (found : WrittenChild) → child_behind named tokens ≡ Ok (found, rest) → found.head.name ≡ named.name
-child-named named tokens rest found h =
+-- a child or a hat has the name that stands before its head, and holds what its block does
+child-behind : (named : Named) (tokens rest : List Placed) (found : WrittenChild) → child_behind named tokens ≡ Ok (found, rest)
+    → (found.head.name ≡ named.name) × (inside : List Placed) × (behind : List Placed) × (child_block inside ≡ Ok (found.rules, behind))
+child-behind named tokens rest found h =
     let headed = followed-ok (head named tokens) (λ head behind. followed (closed head.brace (child_block behind)) (λ rules rest. Ok (record { hat = is_hat named.form; head = head; rules = rules }, rest))) (found, rest) h in
     let inside = followed-ok (closed headed.0.brace (child_block headed.1)) (λ rules rest. Ok (record { hat = is_hat named.form; head = headed.0; rules = rules }, rest)) (found, rest) headed.3 in
     let whole = first-told (record { hat = is_hat named.form; head = headed.0; rules = inside.0 }, inside.1) (found, rest) inside.3 in
-    ap (λ child. child.head.name) (sym whole) ∙ head-named named tokens headed.1 headed.0 headed.2
+    let read = closed-ok headed.0.brace (child_block headed.1) (inside.0, inside.1) inside.2 in
+    (ap (λ child. child.head.name) (sym whole) ∙ head-named named tokens headed.1 headed.0 headed.2, headed.1, inside.1, subst (λ (child : WrittenChild). child_block headed.1 ≡ Ok (child.rules, inside.1)) whole read)
+
+-- a child or a hat of a block has an accepted name that none before it has, and holds what its own block does
+pub child-parts : (read : List Member) (token : Placed) (tokens rest : List Placed) (found : WrittenChild) → child read token tokens ≡ Ok (found, rest)
+    → (is_name found.head.name ≡ true) × (list_any (is_child_of_name found.head.name) read ≡ false) × (inside : List Placed) × (behind : List Placed) × (child_block inside ≡ Ok (found.rules, behind))
+child-parts read token tokens rest found h =
+    let named = followed-ok (child_name token tokens) (λ named behind. elim (refusal_of_name (is_name named.name) (list_any (is_child_of_name named.name) read)) [ Some refusal ↦ refused refusal named.token | None ↦ child_behind named behind ]) (found, rest) h in
+    let fine = not-refused (is_name named.0.name) (list_any (is_child_of_name named.0.name) read) named.0.token (child_behind named.0 named.1) (found, rest) named.3 in
+    let parts = child-behind named.0 named.1 rest found fine.2 in
+    (ap is_name parts.0 ∙ fine.0, ap (λ name. list_any (is_child_of_name name) read) parts.0 ∙ fine.1, parts.1, parts.2, parts.3)
 
 -- a profile has the name that stands before its head, and holds what its block does
-profile-parts : (named : Named) (tokens rest : List Placed) (found : WrittenProfile) → profile_behind named tokens ≡ Ok (found, rest)
+profile-behind : (named : Named) (tokens rest : List Placed) (found : WrittenProfile) → profile_behind named tokens ≡ Ok (found, rest)
     → (found.head.name ≡ named.name) × (inside : List Placed) × (behind : List Placed) × (profile_block inside ≡ Ok (found.members, behind))
-profile-parts named tokens rest found h =
+profile-behind named tokens rest found h =
     let headed = followed-ok (head named tokens) (λ head behind. followed (closed head.brace (profile_block behind)) (λ members rest. Ok (record { head = head; members = members }, rest))) (found, rest) h in
     let inside = followed-ok (closed headed.0.brace (profile_block headed.1)) (λ members rest. Ok (record { head = headed.0; members = members }, rest)) (found, rest) headed.3 in
     let whole = first-told (record { head = headed.0; members = inside.0 }, inside.1) (found, rest) inside.3 in
     let read = closed-ok headed.0.brace (profile_block headed.1) (inside.0, inside.1) inside.2 in
     (ap (λ profile. profile.head.name) (sym whole) ∙ head-named named tokens headed.1 headed.0 headed.2, headed.1, inside.1, subst (λ (profile : WrittenProfile). profile_block headed.1 ≡ Ok (profile.members, inside.1)) whole read)
+
+-- a profile of a file has an accepted name that none before it has, and holds what its block does
+abbrev ProfileParts : List WrittenProfile → WrittenProfile → Type 0
+ProfileParts read found =
+    (is_top_name found.head.name ≡ true) × (list_any (is_of_name found.head.name) read ≡ false) × (inside : List Placed) × (behind : List Placed) × (profile_block inside ≡ Ok (found.members, behind))
+
+pub profile-parts : (read : List WrittenProfile) (tokens more : List Placed) (item : WrittenProfile) → next_profile read tokens ≡ Ok (Item item, more) → ProfileParts read item
+profile-parts read [] more item h = let wrong : End ≡ Item item = first-told (End, []) (Item item, more) h in absurd (cc)
+profile-parts read (token ∷ tokens) more item h =
+    let whole = followed-ok (profile read token tokens) (λ profile behind. Ok (Item profile, behind)) (Item item, more) h in
+    let one : Item whole.0 ≡ Item item = first-told (Item whole.0, whole.1) (Item item, more) whole.3 in
+    let same : whole.0 ≡ item = cc in
+    let named = followed-ok (top_name token tokens) (λ named behind. elim (refusal_of_name (is_top_name named.name) (list_any (is_of_name named.name) read)) [ Some refusal ↦ refused refusal named.token | None ↦ profile_behind named behind ]) (whole.0, whole.1) whole.2 in
+    let fine = not-refused (is_top_name named.0.name) (list_any (is_of_name named.0.name) read) named.0.token (profile_behind named.0 named.1) (whole.0, whole.1) named.3 in
+    let parts = profile-behind named.0 named.1 whole.1 whole.0 fine.2 in
+    subst (ProfileParts read) same (ap is_top_name parts.0 ∙ fine.0, ap (λ name. list_any (is_of_name name) read) parts.0 ∙ fine.1, parts.1, parts.2, parts.3)
 
 -- a member may stand behind others: it is a rule, or a child or a hat whose name is accepted, and none of them has it
 abbrev FitsBehind : List Member → Member → Type 0
@@ -105,11 +132,7 @@ FitsBehind read (OfRule rule) = Unit {0}
 FitsBehind read (OfChild child) = (is_name child.head.name ≡ true) × (list_any (is_child_of_name child.head.name) read ≡ false)
 
 child-fits : (read : List Member) (token : Placed) (tokens rest : List Placed) (found : WrittenChild) → child read token tokens ≡ Ok (found, rest) → FitsBehind read (OfChild found)
-child-fits read token tokens rest found h =
-    let named = followed-ok (child_name token tokens) (λ named behind. elim (refusal_of_name (is_name named.name) (list_any (is_child_of_name named.name) read)) [ Some refusal ↦ refused refusal named.token | None ↦ child_behind named behind ]) (found, rest) h in
-    let fine = not-refused (is_name named.0.name) (list_any (is_child_of_name named.0.name) read) named.0.token (child_behind named.0 named.1) (found, rest) named.3 in
-    let name = child-named named.0 named.1 rest found fine.2 in
-    (ap is_name name ∙ fine.0, ap (λ name. list_any (is_child_of_name name) read) name ∙ fine.1)
+child-fits read token tokens rest found h = let parts = child-parts read token tokens rest found h in (parts.0, parts.1)
 
 member-fits : (read : List Member) (tokens rest : List Placed) (item : Member) → member read tokens ≡ Ok (item, rest) → FitsBehind read item
 member-fits read [] rest item h = absurd (cc)
@@ -187,29 +210,18 @@ fresh-profile variables name (profile ∷ read) fresh =
 -- one more profile
 profile-push : (variables : List Variable) (read : List WrittenProfile) (tokens more : List Placed) (item : WrittenProfile)
     → ProfilesFit (map (profile_of variables) read) → next_profile read tokens ≡ Ok (Item item, more) → ProfilesFit (map (profile_of variables) (read ++ item ∷ []))
-profile-push variables read [] more item before h = let wrong : End ≡ Item item = first-told (End, []) (Item item, more) h in absurd (cc)
-profile-push variables read (token ∷ tokens) more item before h =
-    let whole = followed-ok (profile read token tokens) (λ profile behind. Ok (Item profile, behind)) (Item item, more) h in
-    let one : Item whole.0 ≡ Item item = first-told (Item whole.0, whole.1) (Item item, more) whole.3 in
-    let same : whole.0 ≡ item = cc in
-    let named = followed-ok (top_name token tokens) (λ named behind. elim (refusal_of_name (is_top_name named.name) (list_any (is_of_name named.name) read)) [ Some refusal ↦ refused refusal named.token | None ↦ profile_behind named behind ]) (whole.0, whole.1) whole.2 in
-    let fine = not-refused (is_top_name named.0.name) (list_any (is_of_name named.0.name) read) named.0.token (profile_behind named.0 named.1) (whole.0, whole.1) named.3 in
-    subst (λ (item : WrittenProfile). ProfilesFit (map (profile_of variables) (read ++ item ∷ []))) same (behind named.0 named.1 whole.1 whole.0 fine.0 fine.1 fine.2)
-  where
-    behind : (named : Named) (tokens rest : List Placed) (found : WrittenProfile) → is_top_name named.name ≡ true → list_any (is_of_name named.name) read ≡ false
-        → profile_behind named tokens ≡ Ok (found, rest) → ProfilesFit (map (profile_of variables) (read ++ found ∷ []))
-    behind named tokens rest found fits fresh h =
-        let profiles = map (profile_of variables) read in
-        let last = profile_of variables found in
-        let parts = profile-parts named tokens rest found h in
-        let children = block-fits variables parts.1 parts.2 found.members parts.3 in
-        let accepted : is_top_name last.name ≡ true = ap is_top_name parts.0 ∙ fits in
-        let alone : list_any (is_named last.name) profiles ≡ false = fresh-profile variables found.head.name read (ap (λ name. list_any (is_of_name name) read) parts.0 ∙ fresh) in
-        subst ProfilesFit (sym (map-append (profile_of variables) read (found ∷ []))) (record {
-          distinct = distinct-push profiles last before.distinct alone;
-          named = all-push is_named_well profiles last before.named (rw (accepted, children.named) refl);
-          children = all-push has_distinct_children profiles last before.children children.distinct;
-        })
+profile-push variables read tokens more item before h =
+    let profiles = map (profile_of variables) read in
+    let last = profile_of variables item in
+    let parts = profile-parts read tokens more item h in
+    let children = block-fits variables parts.2 parts.3 item.members parts.4 in
+    let accepted : is_top_name last.name ≡ true = parts.0 in
+    let alone : list_any (is_named last.name) profiles ≡ false = fresh-profile variables item.head.name read parts.1 in
+    subst ProfilesFit (sym (map-append (profile_of variables) read (item ∷ []))) (record {
+      distinct = distinct-push profiles last before.distinct alone;
+      named = all-push is_named_well profiles last before.named (rw (accepted, children.named) refl);
+      children = all-push has_distinct_children profiles last before.children children.distinct;
+    })
 
 -- the profiles of a file, whatever its variables are
 pub profiles-fit : (variables : List Variable) (tokens : List Placed) (read : File) → file tokens ≡ Ok read → ProfilesFit (map (profile_of variables) read.profiles)

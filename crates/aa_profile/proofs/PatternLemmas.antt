@@ -7,8 +7,8 @@ use Rattle.std.proofs.lemmas.List.{length-take-le, take_all}
 use Rattle.aa_glob.specs.Reading.{longest}
 use Rattle.aa_parts.specs.Joining.{most_kept}
 use Rattle.aa_profile.specs.Patterns.{collapsed, refusal_of_expansion, refusal_of_expansions}
-use Rattle.aa_profile.specs.declared.profile_error.ProfileRefusal.{ProfileRefusal}
-use Rattle.aa_profile.specs.declared.profile_error.ProfileRefusal.TheVariants.{TooLong}
+use Rattle.aa_refusals.specs.declared.profile_error.ProfileRefusal.{ProfileRefusal}
+use Rattle.aa_refusals.specs.declared.profile_error.ProfileRefusal.TheVariants.{TooLong}
 
 -- a text that is too long makes no pattern
 refusal-long : (text : List ℕ) → longest < length text → refusal_of_expansion text ≡ Some TooLong

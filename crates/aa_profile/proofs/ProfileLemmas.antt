@@ -11,7 +11,7 @@ use Rattle.aa_rules.specs.declared.rules.Rule.{Rule}
 use Rattle.aa_profile.specs.PatternTokens.{of_rule, of_rules}
 use Rattle.aa_profile.specs.Patterns.{first_bad, refusal_of_token}
 use Rattle.aa_profile.specs.code.FileReadingProgress.{have_expansions}
-use Rattle.aa_profile.specs.declared.profile_error.ProfileError.{ProfileError}
+use Rattle.aa_refusals.specs.declared.profile_error.ProfileError.{ProfileError}
 
 -- where some tokens are fine, those behind them decide
 pub first_bad_behind : (variables : List Variable) (front rest : List Placed) → first_bad variables front ≡ None → first_bad variables (front ++ rest) ≡ first_bad variables rest

@@ -3,53 +3,53 @@ use Rattle.std.proofs.Common.{◌≡◌, subst, map, refl, Option, None, Some, R
 use Rattle.std.specs.Prelude.{IfOk}
 use Rattle.aa_files.specs.Files.{File as HandedIn}
 use Rattle.aa_grammar.specs.Files.{File, file}
-use Rattle.aa_grammar.specs.declared.grammar_error.GrammarError.{GrammarError}
+use Rattle.aa_rules.specs.declared.grammar_error.GrammarError.{GrammarError}
 use Rattle.aa_policy.specs.declared.profile.Profile.{Profile}
 use Rattle.aa_profile.specs.Assignments.{variables_of}
 use Rattle.aa_profile.specs.FileReading.{file_profiles, profiles_in, profiles_of, profiles_with, refusal_of_patterns}
 use Rattle.aa_profile.specs.PatternTokens.{of_profiles}
 use Rattle.aa_profile.specs.Profiles.{profile_of}
-use Rattle.aa_profile.specs.declared.profile_error.ProfileError.{ProfileError}
-use Rattle.aa_profile.proofs.NameLemmas.{ProfilesFit, profiles-fit}
-use Rattle.aa_profile.specs.ProfileError.{error_of_grammar, refusal_of_text}
+use Rattle.aa_refusals.specs.declared.profile_error.ProfileError.{ProfileError}
+use Rattle.aa_refusals.specs.ProfileError.{error_of_grammar, refusal_of_text}
 use Rattle.aa_text.specs.Splicing.{Fault, Placed, spliced}
 use Rattle.aa_variables.specs.Variables.{Variable}
 
--- the names of the profiles that come of a file
-fit-profiles : (tokens : List Placed) (written : File) (profiles : List Profile) → file tokens ≡ Ok written → profiles_in written ≡ Ok profiles → ProfilesFit profiles
-fit-profiles tokens written profiles is h = by (variables_of written.assignments (of_profiles written.profiles)) refl
-  where
-    within : (variables : List Variable) (refusal : Option ProfileError) → refusal_of_patterns variables (of_profiles written.profiles) ≡ refusal → profiles_with variables written ≡ Ok profiles
-        → ProfilesFit profiles
-    within variables (Some refusal) e told = let wrong : Err refusal ≡ Ok profiles = rw (profiles_with, e) at told in absurd (cc)
-    within variables None e told =
-        let there : Ok (map (profile_of variables) written.profiles) ≡ Ok profiles = rw (profiles_with, e) at told in
-        let same : map (profile_of variables) written.profiles ≡ profiles = cc in
-        subst ProfilesFit same (profiles-fit variables tokens written is)
+-- what holds of the profiles that a file's tokens make, whatever its variables are, holds of those that its reading gives
+module _ (Fit : List Profile → Type 0) (fit : (variables : List Variable) (tokens : List Placed) (written : File) → file tokens ≡ Ok written → Fit (map (profile_of variables) written.profiles)) where
+  fit-profiles : (tokens : List Placed) (written : File) (profiles : List Profile) → file tokens ≡ Ok written → profiles_in written ≡ Ok profiles → Fit profiles
+  fit-profiles tokens written profiles is h = by (variables_of written.assignments (of_profiles written.profiles)) refl
+    where
+      within : (variables : List Variable) (refusal : Option ProfileError) → refusal_of_patterns variables (of_profiles written.profiles) ≡ refusal → profiles_with variables written ≡ Ok profiles
+          → Fit profiles
+      within variables (Some refusal) e told = let wrong : Err refusal ≡ Ok profiles = rw (profiles_with, e) at told in absurd (cc)
+      within variables None e told =
+          let there : Ok (map (profile_of variables) written.profiles) ≡ Ok profiles = rw (profiles_with, e) at told in
+          let same : map (profile_of variables) written.profiles ≡ profiles = cc in
+          subst Fit same (fit variables tokens written is)
 
-    by : (variables : Result (List Variable) ProfileError) → variables_of written.assignments (of_profiles written.profiles) ≡ variables → ProfilesFit profiles
-    by (Err refusal) e = let wrong : Err refusal ≡ Ok profiles = rw (profiles_in, e) at h in absurd (cc)
-    by (Ok variables) e = within variables (refusal_of_patterns variables (of_profiles written.profiles)) refl (rw (profiles_in, e) at h)
+      by : (variables : Result (List Variable) ProfileError) → variables_of written.assignments (of_profiles written.profiles) ≡ variables → Fit profiles
+      by (Err refusal) e = let wrong : Err refusal ≡ Ok profiles = rw (profiles_in, e) at h in absurd (cc)
+      by (Ok variables) e = within variables (refusal_of_patterns variables (of_profiles written.profiles)) refl (rw (profiles_in, e) at h)
 
-pub fit-told : {A E : Type 0} (tokens : List Placed) (written : File) (result : Result (Vec Profile A) E) → file tokens ≡ Ok written
-    → IfOk result (λ profiles. profiles_in written ≡ Ok profiles.items) → IfOk result (λ profiles. ProfilesFit profiles.items)
-fit-told tokens written (Err error) is told = tt
-fit-told tokens written (Ok profiles) is told = fit-profiles tokens written profiles.items is told
+  pub fit-told : {A E : Type 0} (tokens : List Placed) (written : File) (result : Result (Vec Profile A) E) → file tokens ≡ Ok written
+      → IfOk result (λ profiles. profiles_in written ≡ Ok profiles.items) → IfOk result (λ profiles. Fit profiles.items)
+  fit-told tokens written (Err error) is told = tt
+  fit-told tokens written (Ok profiles) is told = fit-profiles tokens written profiles.items is told
 
--- whatever file is read
-pub file-fits : (files : List HandedIn) (name : List ℕ) → IfOk (file_profiles files name) (λ profiles. ProfilesFit profiles)
-file-fits files name = by (file_profiles files name) refl
-  where
-    by : (read : Result (List Profile) ProfileError) → file_profiles files name ≡ read → IfOk read (λ profiles. ProfilesFit profiles)
-    by (Err error) e = tt
-    by (Ok profiles) e = of_file (spliced files name) refl
-      where
-        of_tokens : (tokens : List Placed) (written : Result File GrammarError) → file tokens ≡ written → profiles_of tokens ≡ Ok profiles → ProfilesFit profiles
-        of_tokens tokens (Err error) is told = let wrong : Err (error_of_grammar error) ≡ Ok profiles = rw (profiles_of, is) at told in absurd (cc)
-        of_tokens tokens (Ok written) is told = fit-profiles tokens written profiles is (rw (profiles_of, is) at told)
+  -- whatever file is read
+  pub file-fits : (files : List HandedIn) (name : List ℕ) → IfOk (file_profiles files name) Fit
+  file-fits files name = by (file_profiles files name) refl
+    where
+      by : (read : Result (List Profile) ProfileError) → file_profiles files name ≡ read → IfOk read Fit
+      by (Err error) e = tt
+      by (Ok profiles) e = of_file (spliced files name) refl
+        where
+          of_tokens : (tokens : List Placed) (written : Result File GrammarError) → file tokens ≡ written → profiles_of tokens ≡ Ok profiles → Fit profiles
+          of_tokens tokens (Err error) is told = let wrong : Err (error_of_grammar error) ≡ Ok profiles = rw (profiles_of, is) at told in absurd (cc)
+          of_tokens tokens (Ok written) is told = fit-profiles tokens written profiles is (rw (profiles_of, is) at told)
 
-        of_file : (tokens : Result (List Placed) Fault) → spliced files name ≡ tokens → ProfilesFit profiles
-        of_file (Err fault) is =
-            let wrong : ◌≡◌ {A = Result (List Profile) ProfileError} (Err (record { refusal = refusal_of_text fault.0; place = fault.1 })) (Ok profiles) = rw (file_profiles, is) at e in
-            absurd (cc)
-        of_file (Ok tokens) is = of_tokens tokens (file tokens) refl (rw (file_profiles, is) at e)
+          of_file : (tokens : Result (List Placed) Fault) → spliced files name ≡ tokens → Fit profiles
+          of_file (Err fault) is =
+              let wrong : ◌≡◌ {A = Result (List Profile) ProfileError} (Err (record { refusal = refusal_of_text fault.0; place = fault.1 })) (Ok profiles) = rw (file_profiles, is) at e in
+              absurd (cc)
+          of_file (Ok tokens) is = of_tokens tokens (file tokens) refl (rw (file_profiles, is) at e)

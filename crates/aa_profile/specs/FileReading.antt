@@ -9,9 +9,9 @@ use Rattle.aa_policy.specs.declared.profile.Profile.{Profile}
 use Rattle.aa_profile.specs.Assignments.{variables_of}
 use Rattle.aa_profile.specs.PatternTokens.{of_profiles}
 use Rattle.aa_profile.specs.Patterns.{first_bad, over_limit}
-use Rattle.aa_profile.specs.ProfileError.{error_of_grammar, refusal_of_text}
+use Rattle.aa_refusals.specs.ProfileError.{error_of_grammar, refusal_of_text}
 use Rattle.aa_profile.specs.Profiles.{profile_of}
-use Rattle.aa_profile.specs.declared.profile_error.ProfileError.{ProfileError}
+use Rattle.aa_refusals.specs.declared.profile_error.ProfileError.{ProfileError}
 
 -- the refusal of patterns: there are too many, or some are none
 abbrev pub refusal_of_patterns : List Variable → List Placed → Option ProfileError

@@ -3,7 +3,6 @@ pub mod FileReading
 pub mod Limits
 pub mod PatternTokens
 pub mod Patterns
-pub mod ProfileError
 pub mod ProfileNames
 pub mod Profiles
 pub mod code

@@ -3,11 +3,13 @@ use Rattle.std.specs.Prelude.{List, [], ◌∷◌, ◌++◌, None, Some}
 use Rattle.std.specs.List.{flat_map}
 use Rattle.aa_grammar.specs.Blocks.{OfChild, OfRule, Child, Member, Profile}
 use Rattle.aa_grammar.specs.Heads.{Head}
-use Rattle.aa_rules.specs.Rules.{Kept, OnFile, Rule}
+use Rattle.aa_rules.specs.Rules.{Kept, OnCapabilities, OnFile, OnNetwork, Rule}
 use Rattle.aa_text.specs.Splicing.{Placed}
 
 abbrev pub of_rule : Rule → List Placed
 of_rule (OnFile qualifiers pattern access) = pattern ∷ []
+of_rule (OnCapabilities qualifiers capabilities) = []
+of_rule (OnNetwork qualifiers sockets) = []
 of_rule (Kept qualifiers tokens) = []
 
 abbrev pub of_rules : List Rule → List Placed

@@ -9,10 +9,10 @@ use Rattle.aa_text.specs.Splicing.{Placed}
 use Rattle.aa_variables.specs.Expansions.{expansions}
 use Rattle.aa_variables.specs.Variables.{Variable}
 use Rattle.aa_profile.specs.Limits.{most_rules}
-use Rattle.aa_profile.specs.ProfileError.{placed, refusal_of_pattern}
-use Rattle.aa_profile.specs.declared.profile_error.ProfileError.{ProfileError}
-use Rattle.aa_profile.specs.declared.profile_error.ProfileRefusal.{ProfileRefusal}
-use Rattle.aa_profile.specs.declared.profile_error.ProfileRefusal.TheVariants.{TooLong, TooManyRules}
+use Rattle.aa_refusals.specs.ProfileError.{placed, refusal_of_pattern}
+use Rattle.aa_refusals.specs.declared.profile_error.ProfileError.{ProfileError}
+use Rattle.aa_refusals.specs.declared.profile_error.ProfileRefusal.{ProfileRefusal}
+use Rattle.aa_refusals.specs.declared.profile_error.ProfileRefusal.TheVariants.{TooLong, TooManyRules}
 
 -- The first pattern with which a file has too many, where so many come of the tokens before: a token makes one pattern for each of its
 -- expansions.

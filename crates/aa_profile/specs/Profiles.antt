@@ -5,15 +5,16 @@ use Rattle.aa_bytes.specs.Bytes.{quote, space}
 use Rattle.aa_bytes.specs.Texts.{is_empty}
 use Rattle.aa_grammar.specs.Blocks.{OfChild, OfRule, Child as WrittenChild, Member, Profile as WrittenProfile}
 use Rattle.aa_grammar.specs.Heads.{Head}
-use Rattle.aa_grammar.specs.declared.flags.Flags.{Flags}
+use Rattle.aa_flags.specs.declared.flags.Flags.{Flags}
 use Rattle.aa_policy.specs.declared.profile.Child.{Child}
 use Rattle.aa_policy.specs.declared.profile.Mode.{Mode}
 use Rattle.aa_policy.specs.declared.profile.Mode.TheVariants.{Complain, Enforce}
 use Rattle.aa_policy.specs.declared.profile.Profile.{Profile}
 use Rattle.aa_policy.specs.declared.profile.Rule.{Rule}
-use Rattle.aa_policy.specs.declared.profile.Rule.TheVariants.{File as OfFile, Other}
-use Rattle.aa_rules.specs.Rules.{Kept, OnFile, Rule as WrittenRule}
+use Rattle.aa_policy.specs.declared.profile.Rule.TheVariants.{Cap, File as OfFile, Net, Other}
+use Rattle.aa_rules.specs.Rules.{Kept, OnCapabilities, OnFile, OnNetwork, Rule as WrittenRule}
 use Rattle.aa_rules.specs.Tokens.{is_comma, is_quoted, text_of}
+use Rattle.aa_rules.specs.declared.networks.Sockets.{Sockets}
 use Rattle.aa_rules.specs.declared.qualifiers.Qualifiers.{Qualifiers}
 use Rattle.aa_text.specs.Splicing.{Placed}
 use Rattle.aa_variables.specs.Variables.{Variable}
@@ -36,13 +37,23 @@ abbrev pub file_rule : Qualifiers → ℕ → List ℕ → Rule
 file_rule qualifiers access pattern =
     OfFile (record { pattern = pattern; access = record { 0 = access }; owner = qualifiers.owner; deny = qualifiers.deny; audit = qualifiers.audit })
 
+-- a rule on capabilities
+abbrev pub cap_rule : Qualifiers → ℕ → Rule
+cap_rule qualifiers capabilities = Cap (record { caps = capabilities; deny = qualifiers.deny; audit = qualifiers.audit })
+
+-- a rule on sockets
+abbrev pub net_rule : Qualifiers → Sockets → Rule
+net_rule qualifiers sockets = Net (record { domain = sockets.domain; kind = sockets.kind; deny = qualifiers.deny; audit = qualifiers.audit })
+
 -- a rule that is kept
 abbrev pub other_rule : Qualifiers → List Placed → Rule
 other_rule qualifiers tokens = Other (record { text = kept_text tokens; owner = qualifiers.owner; deny = qualifiers.deny; audit = qualifiers.audit })
 
--- the rules that a written one makes: a file rule makes one for each of its patterns
+-- the rules that a written one makes: a file rule makes one for each of its patterns, any other makes one
 abbrev pub rules_of_rule : List Variable → WrittenRule → List Rule
 rules_of_rule variables (OnFile qualifiers pattern access) = map (file_rule qualifiers access) (patterns_at variables pattern)
+rules_of_rule variables (OnCapabilities qualifiers capabilities) = cap_rule qualifiers capabilities ∷ []
+rules_of_rule variables (OnNetwork qualifiers sockets) = net_rule qualifiers sockets ∷ []
 rules_of_rule variables (Kept qualifiers tokens) = other_rule qualifiers tokens ∷ []
 
 abbrev pub rules_of : List Variable → List WrittenRule → List Rule

@@ -10,11 +10,11 @@ ghost use Rattle.aa_profile.specs.code.FileReadingProgress.{IsRefusal, IsRefusal
 ghost use Rattle.aa_grammar.specs.code.Seen.{seen_assignment};
 ghost use Rattle.aa_rules.specs.Tokens.{place_of, text_of};
 ghost use Rattle.aa_rules.specs.code.SeenTokens.{seen_tokens};
-ghost use Rattle.aa_profile.specs.ProfileError.{plain};
-ghost use Rattle.aa_profile.specs.declared.profile_error.ProfileRefusal.TheVariants.{Memory};
+ghost use Rattle.aa_refusals.specs.ProfileError.{plain};
+ghost use Rattle.aa_refusals.specs.declared.profile_error.ProfileRefusal.TheVariants.{Memory};
 
-use crate::profile_error::{ProfileError, ProfileRefusal, placed};
 use aa_grammar::Assignment;
+use aa_refusals::{ProfileError, ProfileRefusal, placed};
 use aa_rules::place_of;
 use aa_text::{Place, Spliced, TextError, Variables, what_a_text_leads_to};
 use std::alloc::{AllocError, Global};

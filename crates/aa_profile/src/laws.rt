@@ -3,6 +3,7 @@
 ghost use Rattle.std.specs.Prelude.{◌≡◌, ℕ, List, IfOk, true};
 ghost use Rattle.std.specs.List.{list_all};
 ghost use Rattle.aa_files.specs.Files.{File};
+ghost use Rattle.aa_policy.specs.Numbers.{profile_has_known_numbers};
 ghost use Rattle.aa_policy.specs.Profile.{are_distinct};
 ghost use Rattle.aa_profile.specs.FileReading.{file_profiles};
 ghost use Rattle.aa_profile.specs.ProfileNames.{has_distinct_children, is_named_well};
@@ -17,3 +18,12 @@ pub fn how_profiles_are_named()
     ensures children { (files : List File) (name : List ℕ)
         → IfOk (file_profiles files name) (λ profiles. list_all has_distinct_children profiles ≡ true) }
 {}
+
+/// No rule of a file's profiles, or of their children and hats, has a number outside of the tables: its capabilities have numbers below 41, its
+/// domain has one below 44, and its type or protocol one below 9.
+pub fn which_numbers_rules_have()
+    ensures { (files : List File) (name : List ℕ)
+        → IfOk (file_profiles files name) (λ profiles. list_all profile_has_known_numbers profiles ≡ true) }
+{
+    aa_rules::which_numbers_rules_have();
+}

@@ -6,13 +6,12 @@ mod kept_rules;
 mod laws;
 mod pattern_tokens;
 mod patterns;
-mod profile_error;
 mod profiles;
 mod reading;
 
 pub use aa_access::Perms;
-pub use aa_policy::{Child, FileRule, Mode, OtherRule, Profile, Rule};
-pub use laws::how_profiles_are_named;
+pub use aa_policy::{CapRule, Child, FileRule, Mode, NetRule, OtherRule, Profile, Rule};
+pub use aa_refusals::{ProfileError, ProfileRefusal};
+pub use laws::{how_profiles_are_named, which_numbers_rules_have};
 pub use patterns::MOST_RULES;
-pub use profile_error::{ProfileError, ProfileRefusal};
 pub use reading::read_file;

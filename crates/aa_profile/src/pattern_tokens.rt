@@ -60,7 +60,8 @@ fn push_member<'a>(
 {
     match member {
         Member::OfRule(Rule::OnFile { pattern, .. }) => tokens.push(*pattern),
-        Member::OfRule(Rule::Kept { .. }) => Ok(()),
+        Member::OfRule(Rule::OnCapabilities { .. } | Rule::OnNetwork { .. } | Rule::Kept { .. }) =>
+            Ok(()),
         Member::OfChild(child) => push_child(child, tokens),
     }
 }

@@ -6,12 +6,12 @@ ghost use Rattle.aa_text.specs.code.SplicingProgress.{seen_spliced};
 ghost use Rattle.aa_rules.specs.code.SeenTokens.{seen_tokens};
 ghost use Rattle.aa_profile.specs.Patterns.{collapsed, over_limit, patterns_at, refusal_of_expansion, refusal_of_expansions, refusal_of_token};
 ghost use Rattle.aa_profile.specs.code.FileReadingProgress.{IsRefusal, have_expansions};
-ghost use Rattle.aa_profile.specs.ProfileError.{placed, plain};
-ghost use Rattle.aa_profile.specs.declared.profile_error.ProfileRefusal.TheVariants.{Memory};
+ghost use Rattle.aa_refusals.specs.ProfileError.{placed, plain};
+ghost use Rattle.aa_refusals.specs.declared.profile_error.ProfileRefusal.TheVariants.{Memory};
 
-use crate::profile_error::{ProfileError, ProfileRefusal, placed};
 use aa_bytes::begins_with_byte;
 use aa_glob::{LONGEST_PATTERN, Pattern};
+use aa_refusals::{ProfileError, ProfileRefusal, placed};
 use aa_rules::place_of;
 use aa_text::{ExpansionTable, Place, Spliced};
 use std::alloc::{AllocError, Global};

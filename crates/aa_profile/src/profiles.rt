@@ -9,22 +9,22 @@ ghost use Rattle.aa_rules.specs.code.SeenRules.{seen_rule};
 ghost use Rattle.aa_rules.specs.code.SeenTokens.{seen_tokens};
 ghost use Rattle.aa_profile.specs.PatternTokens.{of_child, of_head, of_member, of_members, of_profile, of_profiles, of_rule, of_rules};
 ghost use Rattle.aa_profile.specs.Patterns.{first_bad};
-ghost use Rattle.aa_profile.specs.Profiles.{attachments_of, child_of, children_of, children_of_member, file_rule, mode_of, other_rule, profile_of, rules_of, rules_of_member, rules_of_members, rules_of_rule};
+ghost use Rattle.aa_profile.specs.Profiles.{attachments_of, cap_rule, child_of, children_of, children_of_member, file_rule, mode_of, net_rule, other_rule, profile_of, rules_of, rules_of_member, rules_of_members, rules_of_rule};
 ghost use Rattle.aa_profile.specs.code.FileReadingProgress.{IsRefusal, have_expansions};
-ghost use Rattle.aa_profile.specs.ProfileError.{plain};
-ghost use Rattle.aa_profile.specs.declared.profile_error.ProfileRefusal.TheVariants.{Memory};
+ghost use Rattle.aa_refusals.specs.ProfileError.{plain};
+ghost use Rattle.aa_refusals.specs.declared.profile_error.ProfileRefusal.TheVariants.{Memory};
 
 use crate::kept_rules::kept_text;
 use crate::patterns::read_patterns;
-use crate::profile_error::ProfileError;
 use aa_access::Perms;
 use aa_bytes::Sequence;
 use aa_glob::Pattern;
 use aa_grammar::{
     Child as WrittenChild, Flags, Head, Member, Profile as WrittenProfile, Qualifiers,
-    Rule as WrittenRule,
+    Rule as WrittenRule, Sockets,
 };
-use aa_policy::{Child, FileRule, Mode, OtherRule, Profile, Rule};
+use aa_policy::{CapRule, Child, FileRule, Mode, NetRule, OtherRule, Profile, Rule};
+use aa_refusals::ProfileError;
 use aa_text::{ExpansionTable, Spliced};
 use std::alloc::{AllocError, AllocFailed, Global};
 
@@ -54,6 +54,29 @@ fn push_file_rules(
         rules.push(file_rule(qualifiers, access, pattern))?;
     }
     Ok(())
+}
+
+// A rule on capabilities.
+fn cap_rule(qualifiers: Qualifiers, capabilities: u64) -> Rule
+    ensures { result ≡ cap_rule qualifiers capabilities }
+{
+    Rule::Cap(CapRule {
+        caps: capabilities,
+        deny: qualifiers.deny,
+        audit: qualifiers.audit,
+    })
+}
+
+// A rule on sockets.
+fn net_rule(qualifiers: Qualifiers, sockets: Sockets) -> Rule
+    ensures { result ≡ net_rule qualifiers sockets }
+{
+    Rule::Net(NetRule {
+        domain: sockets.domain,
+        kind: sockets.kind,
+        deny: qualifiers.deny,
+        audit: qualifiers.audit,
+    })
 }
 
 // A rule that is kept.
@@ -94,6 +117,18 @@ fn push_rule(
         } => {
             let patterns = read_patterns(alloc, table, *pattern)?;
             push_file_rules(*qualifiers, *access, patterns, rules)?;
+        }
+        WrittenRule::OnCapabilities {
+            qualifiers,
+            capabilities,
+        } => {
+            rules.push(cap_rule(*qualifiers, *capabilities))?;
+        }
+        WrittenRule::OnNetwork {
+            qualifiers,
+            sockets,
+        } => {
+            rules.push(net_rule(*qualifiers, *sockets))?;
         }
         WrittenRule::Kept { qualifiers, tokens } => {
             rules.push(other_rule(alloc, *qualifiers, tokens)?)?;

@@ -4,21 +4,23 @@ ghost use Rattle.std.specs.Prelude.{◌≡◌, ◌≢◌, Ok, Err, IfOk, IfErr, 
 ghost use Rattle.std.specs.List.{list_all, list_any};
 ghost use Rattle.aa_grammar.specs.code.Seen.{seen_assignment, seen_file, seen_profile};
 ghost use Rattle.aa_rules.specs.code.SeenTokens.{seen_tokens};
+ghost use Rattle.aa_policy.specs.Numbers.{profile_has_known_numbers};
 ghost use Rattle.aa_policy.specs.Profile.{are_distinct};
 ghost use Rattle.aa_profile.specs.FileReading.{file_profiles, profiles_in, profiles_with};
 ghost use Rattle.aa_profile.specs.code.FileReadingProgress.{IsRefusalOf, has_no_value, have_expansions};
 ghost use Rattle.aa_profile.specs.PatternTokens.{of_profiles};
-ghost use Rattle.aa_profile.specs.ProfileError.{plain};
+ghost use Rattle.aa_refusals.specs.ProfileError.{plain};
 ghost use Rattle.aa_profile.specs.ProfileNames.{has_distinct_children, is_named_well};
-ghost use Rattle.aa_profile.specs.declared.profile_error.ProfileRefusal.TheVariants.{Memory};
+ghost use Rattle.aa_refusals.specs.declared.profile_error.ProfileRefusal.TheVariants.{Memory};
 
 use crate::assignments::read_variables;
 use crate::pattern_tokens::pattern_tokens;
 use crate::patterns::check_limit;
-use crate::profile_error::ProfileError;
 use crate::profiles::read_profiles;
 use aa_grammar::File;
 use aa_policy::Profile;
+use aa_refusals::ProfileError;
+use aa_rules::which_numbers_rules_have;
 use aa_text::{ExpansionTable, Files, Spliced, Variables, spliced};
 use std::alloc::Global;
 
@@ -69,8 +71,10 @@ pub fn read_file(alloc: Global, files: &Files, name: &[u8]) -> Result<Vec<Profil
     ensures distinct { IfOk result (λ profiles. are_distinct profiles.items ≡ true) }
     ensures named { IfOk result (λ profiles. list_all is_named_well profiles.items ≡ true) }
     ensures children { IfOk result (λ profiles. list_all has_distinct_children profiles.items ≡ true) }
+    ensures numbers { IfOk result (λ profiles. list_all profile_has_known_numbers profiles.items ≡ true) }
     ensures refused { IsRefusalOf (file_profiles files.now name.now) result }
 {
+    which_numbers_rules_have();
     let tokens = spliced(alloc, files, name)?;
     let file = aa_grammar::read_file(alloc, &tokens)?;
     read_written(alloc, &file)

@@ -2,17 +2,23 @@
 use Rattle.std.specs.Prelude.{ℕ, Bool, ◌||◌, if◌then◌else◌, List, [], ◌∷◌, Ok, Err, codes}
 use Rattle.aa_text.specs.Splicing.{Placed}
 use Rattle.aa_rules.specs.Access.{access}
+use Rattle.aa_rules.specs.Capabilities.{capabilities}
 use Rattle.aa_rules.specs.KeptRules.{begins_kept, kept}
+use Rattle.aa_rules.specs.Networks.{sockets}
 use Rattle.aa_rules.specs.Parts.{Part, behind_comma, expected, followed, refused}
 use Rattle.aa_rules.specs.Qualifiers.{qualifiers, unqualified}
 use Rattle.aa_rules.specs.Tokens.{is_pattern, is_word_of}
 use Rattle.aa_rules.specs.declared.fault.Fault.TheVariants.{RanOut}
 use Rattle.aa_rules.specs.declared.fault.GrammarRefusal.TheVariants.{BadToken}
+use Rattle.aa_rules.specs.declared.networks.Sockets.{Sockets}
 use Rattle.aa_rules.specs.declared.qualifiers.Qualifiers.{Qualifiers}
 
--- A rule: on the files of a pattern, with its letters; or one that is kept, with its tokens up to the Comma that ends it.
+-- A rule: on the files of a pattern, with its letters; on a set of capabilities; on sockets; or one that is kept, with its tokens up to the
+-- Comma that ends it.
 pub data Rule : Type 0 where
   OnFile : (qualifiers : Qualifiers) (pattern : Placed) (access : ℕ) → Rule
+  OnCapabilities : (qualifiers : Qualifiers) (capabilities : ℕ) → Rule
+  OnNetwork : (qualifiers : Qualifiers) (sockets : Sockets) → Rule
   Kept : (qualifiers : Qualifiers) (tokens : List Placed) → Rule
 
 -- a rule, where a Comma ends it
@@ -38,9 +44,30 @@ file_rule qualifiers (token ∷ tokens) =
 abbrev pub kept_rule : Qualifiers → List Placed → Part Rule
 kept_rule qualifiers tokens = followed (kept tokens) (λ kept behind. Ok (Kept qualifiers kept, behind))
 
--- Rules that aren't read yet: nothing that follows their word would be accepted.
-abbrev pub begins_unread : Placed → Bool
-begins_unread token = is_word_of (codes "capability") token || is_word_of (codes "network") token
+-- a rule on capabilities, behind its word
+abbrev pub capability_rule : Qualifiers → List Placed → Part Rule
+capability_rule qualifiers tokens = followed (capabilities tokens) (λ set behind. ended (OnCapabilities qualifiers set) behind)
+
+-- a rule on sockets, behind its word
+abbrev pub network_rule : Qualifiers → List Placed → Part Rule
+network_rule qualifiers tokens = followed (sockets tokens) (λ found behind. ended (OnNetwork qualifiers found) behind)
+
+-- the words of rules on what has no owner
+abbrev pub begins_unowned : Placed → Bool
+begins_unowned token = is_word_of (codes "capability") token || is_word_of (codes "network") token
+
+-- A rule on what has no owner, behind its word. Where `owner` stands before that word, nothing that follows would be accepted.
+abbrev pub unowned_rule : Qualifiers → Placed → List Placed → Part Rule
+unowned_rule qualifiers word tokens =
+    if qualifiers.owner then refused BadToken word else
+    if is_word_of (codes "capability") word then capability_rule qualifiers tokens else
+    network_rule qualifiers tokens
+
+-- a rule that begins with no word of its own is on files
+abbrev pub plain_rule : Qualifiers → List Placed → Part Rule
+plain_rule qualifiers [] = Err RanOut
+plain_rule qualifiers (token ∷ tokens) =
+    if begins_unowned token then unowned_rule qualifiers token tokens else file_rule qualifiers (token ∷ tokens)
 
 -- a rule behind its qualifiers; the word `file` may stand before a file rule
 abbrev pub rule_behind : Qualifiers → List Placed → Part Rule
@@ -48,8 +75,7 @@ rule_behind qualifiers [] = Err RanOut
 rule_behind qualifiers (token ∷ tokens) =
     if is_word_of (codes "file") token then file_rule qualifiers tokens else
     if begins_kept token then kept_rule qualifiers (token ∷ tokens) else
-    if begins_unread token then refused BadToken token else
-    file_rule qualifiers (token ∷ tokens)
+    plain_rule qualifiers (token ∷ tokens)
 
 -- the rule that tokens begin with
 abbrev pub rule : List Placed → Part Rule

@@ -22,6 +22,10 @@ pub enum GrammarRefusal {
     BadAccess,
     /// The letters `w` and `a` in one access.
     WriteAppend,
+    /// A word of a capability rule that is no capability.
+    BadCapability,
+    /// A word of a network rule that is no domain, type or protocol, or can't stand there.
+    BadNetwork,
     /// A second profile of a name, or child or hat of a name within a profile.
     TwiceNamed,
     /// A child within a child.

@@ -10,14 +10,14 @@ use Rattle.aa_lines.specs.Limits.{longest_line}
 use Rattle.aa_profile.specs.FileReading.{file_profiles}
 use Rattle.aa_policy.specs.Profile.{are_distinct}
 use Rattle.aa_policy.specs.declared.profile.Profile.{Profile}
-use Rattle.aa_profile.specs.declared.profile_error.ProfileError.{ProfileError}
+use Rattle.aa_refusals.specs.declared.profile_error.ProfileError.{ProfileError}
 use Rattle.aa_set.specs.Answers.{reply_lines}
 use Rattle.aa_set.specs.Laws.{AreDistinct, GivesBack, NoneGoesBack, all_sets, changes, goes_back, is_change, order_in}
 use Rattle.aa_set.specs.Manager.{Managed, after_change, changed_by_add, gone_back_by, new_manager, then_undone, undone, with_profiles}
 use Rattle.aa_set.specs.PolicySet.{are_there, have_distinct_names, loaded}
 use Rattle.aa_set.specs.Reply.{is_refusal}
 use Rattle.aa_set.specs.Run.{Outcome, after_lines, line_outcome, changed, obeyed, order_outcome, refused, takes_memory, told}
-use Rattle.aa_set.specs.declared.policy.Entry.{Entry}
+use Rattle.aa_decide.specs.Entries.{Loaded}
 use Rattle.aa_set.specs.declared.reply.Reply.{Reply}
 use Rattle.aa_set.specs.declared.reply.Reply.TheVariants.{Refused, Silent, Told}
 use Rattle.aa_set.proofs.MachineLemmas.{earlier-gone_back, gone_back-sum}
@@ -27,12 +27,12 @@ abbrev Files : Type 0
 Files = List (List ℕ × List ℕ)
 
 -- the sets that a manager has behind it, and then the one it has now
-abbrev sets_of : Managed → List (List Entry)
+abbrev sets_of : Managed → List (List Loaded)
 sets_of m = m.machine.earlier ++ m.machine.now ∷ []
 
 -- an answer put one set behind the others, if it accepted a change, and else none
 Grows : Bool → Managed → Outcome → Type 0
-Grows change m a = (new : List (List Entry)) × (sets_of a.managed ≡ sets_of m ++ new) × (length new ≡ cond (change && not (is_refusal a.reply)) 1 0)
+Grows change m a = (new : List (List Loaded)) × (sets_of a.managed ≡ sets_of m ++ new) × (length new ≡ cond (change && not (is_refusal a.reply)) 1 0)
 
 stays : (change : Bool) (m : Managed) (reply : Reply) → (change && not (is_refusal reply)) ≡ false → Grows change m (record { reply = reply; managed = m })
 unfolding Grows
@@ -46,7 +46,7 @@ either_grows : (t change : Bool) (m : Managed) (a b : Outcome) → Grows change 
 either_grows true change m a b p q = p
 either_grows false change m a b p q = q
 
-change_grows : (m : Managed) (r : Result (List Entry) Refusal) → Grows true m (changed m (after_change m r))
+change_grows : (m : Managed) (r : Result (List Loaded) Refusal) → Grows true m (changed m (after_change m r))
 unfolding Grows
 change_grows m (Ok entries) = (entries ∷ [], refl, refl)
 change_grows m (Err refusal) = refusal_stays true m refusal
@@ -71,7 +71,7 @@ line_grows files m line flag h =
 
 -- lines of which none goes back put as many sets behind the others as they made changes
 lines_grow : (files : Files) (m : Managed) (lines : List (List ℕ × Bool)) → NoneGoesBack lines
-    → (new : List (List Entry)) × (sets_of (after_lines files m lines) ≡ sets_of m ++ new) × (length new ≡ changes files m lines)
+    → (new : List (List Loaded)) × (sets_of (after_lines files m lines) ≡ sets_of m ++ new) × (length new ≡ changes files m lines)
 unfolding Grows
 lines_grow files m [] h = ([], sym (append-nil (sets_of m)), refl)
 lines_grow files m (line ∷ lines) h =
@@ -84,7 +84,7 @@ lines_grow files m (line ∷ lines) h =
     )
 
 -- a manager that put n sets behind those of another gives them back by n changes back
-given_back : (m after : Managed) (new : List (List Entry)) (n : ℕ) → sets_of after ≡ sets_of m ++ new → length new ≡ n → GivesBack m (undone n after)
+given_back : (m after : Managed) (new : List (List Loaded)) (n : ℕ) → sets_of after ≡ sets_of m ++ new → length new ≡ n → GivesBack m (undone n after)
 given_back m after new n sets size =
     let whole : sets_of after ≡ m.machine.earlier ++ m.machine.now ∷ new = sets ∙ append_assoc m.machine.earlier (m.machine.now ∷ []) new in
     let longer = length_push after.machine.earlier after.machine.now in
@@ -102,22 +102,22 @@ pub restored : (files : Files) (m : Managed) (lines : List (List ℕ × Bool)) �
 restored files m lines h = let grown = lines_grow files m lines h in given_back m (after_lines files m lines) grown.0 (changes files m lines) grown.1 grown.2
 
 -- distinct sets, and distinct sets behind them
-distinct-append : (xs ys : List (List Entry)) → AreDistinct xs → AreDistinct ys → AreDistinct (xs ++ ys)
+distinct-append : (xs ys : List (List Loaded)) → AreDistinct xs → AreDistinct ys → AreDistinct (xs ++ ys)
 distinct-append [] ys p q = q
 distinct-append (x ∷ xs) ys p q = (p.0, distinct-append xs ys p.1 q)
 
-distinct-front : (xs ys : List (List Entry)) → AreDistinct (xs ++ ys) → AreDistinct xs
+distinct-front : (xs ys : List (List Loaded)) → AreDistinct (xs ++ ys) → AreDistinct xs
 distinct-front [] ys p = tt
 distinct-front (x ∷ xs) ys p = (p.0, distinct-front xs ys p.1)
 
-distinct-behind : (xs ys : List (List Entry)) → AreDistinct (xs ++ ys) → AreDistinct ys
+distinct-behind : (xs ys : List (List Loaded)) → AreDistinct (xs ++ ys) → AreDistinct ys
 distinct-behind [] ys p = p
 distinct-behind (x ∷ xs) ys p = distinct-behind xs ys p.1
 
 -- going back gives no policy set that wasn't there
 all_sets-gone_back : (n : ℕ) (m : Managed) → n ≤ length m.machine.earlier → all_sets (gone_back_by n m) ≡ all_sets m
 all_sets-gone_back n m h =
-    let sets : List (List Entry) = sets_of m in
+    let sets : List (List Loaded) = sets_of m in
     let place : ℕ = length m.machine.earlier - n in
     let longer = length_push m.machine.earlier m.machine.now in
     ap (λ rest. take place sets ++ rest) (ap (λ rest. rest ++ m.machine.later) (sym (drop_more sets place m.machine.now (omega arith))))
@@ -125,21 +125,21 @@ all_sets-gone_back n m h =
     ∙ ap (λ whole. whole ++ m.machine.later) (take-append-drop place sets)
     ∙ append_assoc m.machine.earlier (m.machine.now ∷ []) m.machine.later
 
-changed_distinct : (m : Managed) (r : Result (List Entry) Refusal) → AreDistinct (all_sets m) → IfOk r (λ set. have_distinct_names set ≡ true) → AreDistinct (all_sets (changed m (after_change m r)).managed)
+changed_distinct : (m : Managed) (r : Result (List Loaded) Refusal) → AreDistinct (all_sets m) → IfOk r (λ set. have_distinct_names set ≡ true) → AreDistinct (all_sets (changed m (after_change m r)).managed)
 changed_distinct m (Err refusal) h d = h
 changed_distinct m (Ok set) h d =
     let now = distinct-behind m.machine.earlier (m.machine.now ∷ m.machine.later) h in
     distinct-append (sets_of m) (set ∷ []) (distinct-append m.machine.earlier (m.machine.now ∷ []) (distinct-front m.machine.earlier (m.machine.now ∷ m.machine.later) h) (now.0, tt)) (d, tt)
 
-with_profiles_distinct : (entries : List Entry) (r : Result (List Profile) ProfileError) → have_distinct_names entries ≡ true → IfOk r (λ profiles. are_distinct profiles ≡ true)
+with_profiles_distinct : (entries : List Loaded) (r : Result (List Profile) ProfileError) → have_distinct_names entries ≡ true → IfOk r (λ profiles. are_distinct profiles ≡ true)
     → IfOk (with_profiles entries r) (λ set. have_distinct_names set ≡ true)
 with_profiles_distinct entries (Err error) h d = tt
 with_profiles_distinct entries (Ok profiles) h d = by (are_there profiles entries) refl
   where
     by : (t : Bool) → are_there profiles entries ≡ t
-        → IfOk (cond {A = Result (List Entry) Refusal} (are_there profiles entries) (Err (plain Exists)) (Ok (entries ++ map loaded profiles))) (λ set. have_distinct_names set ≡ true)
-    by true e = subst (λ t. IfOk (cond {A = Result (List Entry) Refusal} t (Err (plain Exists)) (Ok (entries ++ map loaded profiles))) (λ set. have_distinct_names set ≡ true)) (sym e) tt
-    by false e = subst (λ t. IfOk (cond {A = Result (List Entry) Refusal} t (Err (plain Exists)) (Ok (entries ++ map loaded profiles))) (λ set. have_distinct_names set ≡ true)) (sym e)
+        → IfOk (cond {A = Result (List Loaded) Refusal} (are_there profiles entries) (Err (plain Exists)) (Ok (entries ++ map loaded profiles))) (λ set. have_distinct_names set ≡ true)
+    by true e = subst (λ t. IfOk (cond {A = Result (List Loaded) Refusal} t (Err (plain Exists)) (Ok (entries ++ map loaded profiles))) (λ set. have_distinct_names set ≡ true)) (sym e) tt
+    by false e = subst (λ t. IfOk (cond {A = Result (List Loaded) Refusal} t (Err (plain Exists)) (Ok (entries ++ map loaded profiles))) (λ set. have_distinct_names set ≡ true)) (sym e)
         (distinct_with_all entries profiles h e d)
 
 -- the profiles of each file have names of their own

@@ -1,4 +1,3 @@
-pub mod ConfinementLemmas
 pub mod FullNameLemmas
 pub mod LawLemmas
 pub mod LineLemmas
@@ -7,4 +6,5 @@ pub mod MachineLemmas
 pub mod PolicyLemmas
 pub mod ReplyLemmas
 pub mod RunLemmas
+pub mod StayLaws
 pub mod StreamLemmas

@@ -6,7 +6,7 @@ use Rattle.std.specs.Str.{bytes_eq}
 use Rattle.std.proofs.lemmas.Slice.Eq.{bytes_eq-Decides}
 use Rattle.std.proofs.lemmas.Bool.Decides.{same_from_decides, nat_tests}
 use Rattle.std.proofs.lemmas.List.Folds.{list_any-append}
-use Rattle.aa_set.specs.declared.policy.Entry.{Entry}
+use Rattle.aa_decide.specs.Entries.{Loaded}
 use Rattle.aa_policy.specs.Profile.{are_distinct, is_named as is_profile_named}
 use Rattle.aa_policy.specs.declared.profile.Profile.{Profile}
 use Rattle.aa_set.specs.PolicySet.{are_there, has_name, have_distinct_names, is_named, loaded}
@@ -18,7 +18,7 @@ bytes_eq-comm a b =
     same_from_decides (bytes_eq a b) (bytes_eq b a) one (λ h. sym (other.0 h), λ h. other.1 (sym h))
 
 -- an entry whose name isn't there can go behind distinct ones
-pub distinct_with_last : (entries : List Entry) (entry : Entry) → have_distinct_names entries ≡ true → has_name entry.profile.name entries ≡ false → have_distinct_names (entries ++ entry ∷ []) ≡ true
+pub distinct_with_last : (entries : List Loaded) (entry : Loaded) → have_distinct_names entries ≡ true → has_name entry.profile.name entries ≡ false → have_distinct_names (entries ++ entry ∷ []) ≡ true
 distinct_with_last [] entry h n = refl
 distinct_with_last (e ∷ es) entry h n =
     let apart = bytes_eq-comm e.profile.name entry.profile.name in
@@ -27,7 +27,7 @@ distinct_with_last (e ∷ es) entry h n =
     grind (arith, nat_tests, apart, joined, rest)
 
 -- names that are apart from those that are there and from one more are apart from all of these
-there-more : (profiles : List Profile) (entries : List Entry) (profile : Profile) → are_there profiles entries ≡ false → list_any (is_profile_named profile.name) profiles ≡ false
+there-more : (profiles : List Profile) (entries : List Loaded) (profile : Profile) → are_there profiles entries ≡ false → list_any (is_profile_named profile.name) profiles ≡ false
     → are_there profiles (entries ++ loaded profile ∷ []) ≡ false
 there-more [] entries profile h n = refl
 there-more (other ∷ profiles) entries profile h n =
@@ -40,7 +40,7 @@ there-more (other ∷ profiles) entries profile h n =
     (there-more profiles entries profile first.1 second.1)
 
 -- profiles whose names are their own can go behind entries of distinct names
-pub distinct_with_all : (entries : List Entry) (profiles : List Profile) → have_distinct_names entries ≡ true → are_there profiles entries ≡ false → are_distinct profiles ≡ true
+pub distinct_with_all : (entries : List Loaded) (profiles : List Profile) → have_distinct_names entries ≡ true → are_there profiles entries ≡ false → are_distinct profiles ≡ true
     → have_distinct_names (entries ++ map loaded profiles) ≡ true
 distinct_with_all entries [] h n d = ap have_distinct_names (append-nil entries) ∙ h
 distinct_with_all entries (profile ∷ profiles) h n d =

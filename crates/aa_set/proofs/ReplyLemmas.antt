@@ -1,6 +1,6 @@
 -- What a command that takes memory is answered.
-use Rattle.std.proofs.Common.{◌≡◌, ◌≢◌, ◌<◌, arith, map, ◌⊎◌, ℕ, zero, suc, ◌/◌, ◌%◌, [], ◌∷◌, ◌++◌, Bool, true, false, List, Option, None, Some, Result, Ok, Err, refl, sym, ap, ◌∙◌, inl, inr}
-use Rattle.std.specs.Prelude.{slice_get, slice_index}
+use Rattle.std.proofs.Common.{◌≡◌, ◌≢◌, ◌⊎◌, ℕ, zero, suc, [], ◌∷◌, Bool, true, false, List, Option, None, Some, Result, Ok, Err, refl, sym, ap, ◌∙◌, inl, inr}
+use Rattle.std.specs.Prelude.{slice_get}
 use Rattle.std.specs.Option.{option_map}
 use Rattle.std.specs.Result.{IfErr, OnOk, OnErr, MatchResult}
 use Rattle.aa_set.specs.Answers.{asks_absent, reply_lines}
@@ -9,10 +9,6 @@ use Rattle.aa_set.specs.Manager.{Managed, added}
 use Rattle.aa_commands.specs.Question.{Asked}
 use Rattle.aa_commands.specs.Refusal.{plain}
 use Rattle.aa_set.specs.Run.{obeyed_flagged}
-use Rattle.std.specs.Char.{to_ascii_uppercase}
-use Rattle.std.proofs.lemmas.List.{get_or-map}
-use Rattle.hex.specs.Hex.{encode_lower, encode_with, lower_digits, upper_digits}
-use Rattle.aa_set.specs.Reply.{hexadecimal}
 use Rattle.aa_files.specs.Files.{File, name_at}
 use Rattle.aa_files.specs.declared.text_error.Place.{Place}
 use Rattle.aa_commands.specs.declared.refusal.Refusal.{Refusal}
@@ -59,25 +55,3 @@ pub name_at-none : (files : List File) (file : ℕ) → None ≡ option_map (λ 
 name_at-none [] file h = refl
 name_at-none (f ∷ files) zero h = absurd (cc)
 name_at-none (f ∷ files) (suc file) h = name_at-none files file h
-
--- the digits of one byte more
-pub hexadecimal-append : (front back : List ℕ) → hexadecimal (front ++ back) ≡ hexadecimal front ++ hexadecimal back
-unfolding encode_with
-hexadecimal-append [] back = refl
-hexadecimal-append (b ∷ front) back = ap (λ rest. slice_index upper_digits (b / 16) ∷ slice_index upper_digits (b % 16) ∷ rest) (hexadecimal-append front back)
-
--- no digits of no bytes
-pub hexadecimal-none : [] ≡ hexadecimal []
-unfolding encode_with
-hexadecimal-none = refl
-
--- a digit in lower case is one in upper case
-upper-digit : (n : ℕ) → n < 16 → to_ascii_uppercase (slice_index lower_digits n) ≡ slice_index upper_digits n
-upper-digit n h = sym (get_or-map to_ascii_uppercase lower_digits n 0 0 h)
-
--- the digits of a byte
-pub hexadecimal-one : (b : ℕ) → b < 256 → map to_ascii_uppercase (encode_lower (b ∷ [])) ≡ hexadecimal (b ∷ [])
-unfolding encode_with
-hexadecimal-one b h =
-    ap (λ digit. digit ∷ to_ascii_uppercase (slice_index lower_digits (b % 16)) ∷ []) (upper-digit (b / 16) (omega arith))
-    ∙ ap (λ digit. slice_index upper_digits (b / 16) ∷ digit ∷ []) (upper-digit (b % 16) (omega arith))

@@ -1,46 +1,54 @@
 -- What confines who asks: nothing, or the rules of a profile, a child or a hat (docs/commands.md).
-use Rattle.std.specs.Prelude.{ℕ, Bool, if◌then◌else◌, List, [], ◌∷◌, find, Option, None, Some, option_and_then, codes}
-use Rattle.std.specs.List.{zip}
+use Rattle.std.specs.Prelude.{ℕ, if◌then◌else◌, List, [], ◌∷◌, Option, None, Some, option_and_then, codes, position, slice_index_or}
 use Rattle.std.specs.Option.{option_map}
 use Rattle.std.specs.Str.{bytes_eq}
+use Rattle.aa_policy.specs.Profile.{is_child_named}
 use Rattle.aa_policy.specs.declared.profile.Child.{Child}
 use Rattle.aa_policy.specs.declared.profile.Mode.{Mode}
+use Rattle.aa_policy.specs.declared.profile.Mode.TheVariants.{Enforce}
 use Rattle.aa_policy.specs.declared.profile.Profile.{Profile}
-use Rattle.aa_policy.specs.declared.profile.Rule.{Rule}
+use Rattle.aa_decide.specs.Entries.{Loaded}
+use Rattle.aa_decide.specs.declared.entry.State.{State}
+use Rattle.aa_decide.specs.declared.entry.State.TheVariants.{Disabled, Modes}
 use Rattle.aa_set.specs.FullNames.{FullName, full_name}
 use Rattle.aa_set.specs.PolicySet.{entry_named}
 use Rattle.aa_set.specs.declared.confinement.Confinement.{Confinement as Found}
-use Rattle.aa_set.specs.declared.confinement.Confinement.TheVariants.{Unconfined as FoundNone, By as FoundRules}
-use Rattle.aa_set.specs.declared.policy.Entry.{Entry}
+use Rattle.aa_set.specs.declared.confinement.Confinement.TheVariants.{Unconfined as FoundNone, By as FoundProfile}
 
--- what confines a task: nothing, or rules in a mode; all of them may be audited, whatever their own words are
+-- what confines a task: nothing, or a profile in a mode, or its child or hat at a place
 pub data Confinement : Type 0 where
   Unconfined : Confinement
-  By : (mode : Mode) (audit : Bool) (rules : List Rule) → Confinement
+  By : (profile : Profile) (child : Option ℕ) (mode : Mode) → Confinement
 
 -- what the code found
 abbrev pub found : Found → Confinement
 found FoundNone = Unconfined
-found (FoundRules mode audit rules) = By mode audit rules.now
+found (FoundProfile ready child mode) = By ready.now child mode
 
--- a child or a hat has the name
-abbrev pub is_child_named : List ℕ → Child → Bool
-is_child_named name child = bytes_eq child.name name
+-- the place of the child or hat of a name
+abbrev pub child_place : List ℕ → List Child → Option ℕ
+child_place name children = position (is_child_named name) children
 
--- of children with their modes, the one of a name confines by its own rules in its own mode
-abbrev pub child_confinement : List ℕ → List (Child × Mode) → Option Confinement
-child_confinement name children = option_map (λ child. By child.1 child.0.audit child.0.rules) (find (λ child. is_child_named name child.0) children)
+-- The first mode is the profile's, and those behind it are its children's and hats', in their order.
+abbrev pub mode_at : List Mode → Option ℕ → Mode
+mode_at [] child = Enforce
+mode_at (mode ∷ modes) None = mode
+mode_at (mode ∷ modes) (Some place) = slice_index_or modes place mode
 
--- A profile confines by its own rules, in the first mode. The others are those of its children and hats, in their order.
-abbrev pub profile_confinement : Profile → List Mode → Option (List ℕ) → Option Confinement
-profile_confinement profile [] child = None
-profile_confinement profile (mode ∷ modes) None = Some (By mode profile.audit profile.rules)
-profile_confinement profile (mode ∷ modes) (Some name) = child_confinement name (zip profile.children modes)
+-- A profile that is disabled confines nothing, nor do its children and hats; else it or they do in their modes.
+abbrev pub in_state : Profile → State → Option ℕ → Confinement
+in_state profile Disabled child = Unconfined
+in_state profile (Modes modes) child = By profile child (mode_at modes child)
+
+-- what confines by an entry, or by its child or hat of a name, if there is one
+abbrev pub entry_confinement : Loaded → Option (List ℕ) → Option Confinement
+entry_confinement entry None = Some (in_state entry.profile entry.state None)
+entry_confinement entry (Some name) = option_map (λ place. in_state entry.profile entry.state (Some place)) (child_place name entry.profile.children)
 
 -- what confines by this full name, if there is such a profile, child or hat
-abbrev pub named_confinement : List Entry → FullName → Option Confinement
-named_confinement entries name = option_and_then (λ entry. profile_confinement entry.profile entry.modes name.child) (entry_named name.profile entries)
+abbrev pub named_confinement : List Loaded → FullName → Option Confinement
+named_confinement entries name = option_and_then (λ entry. entry_confinement entry name.child) (entry_named name.profile entries)
 
 -- what confines who asks: nothing, where it is the word `unconfined`, and else what its full name says
-abbrev pub confinement : List Entry → List ℕ → Option Confinement
+abbrev pub confinement : List Loaded → List ℕ → Option Confinement
 confinement entries who = if bytes_eq who (codes "unconfined") then Some Unconfined else named_confinement entries (full_name who)

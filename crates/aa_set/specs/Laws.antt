@@ -7,7 +7,7 @@ use Rattle.aa_set.specs.PolicySet.{have_distinct_names}
 use Rattle.aa_set.specs.Reply.{is_refusal}
 use Rattle.aa_set.specs.Run.{after_lines, line_outcome}
 use Rattle.aa_lines.specs.Words.{words_of}
-use Rattle.aa_set.specs.declared.policy.Entry.{Entry}
+use Rattle.aa_decide.specs.Entries.{Loaded}
 use Rattle.aa_commands.specs.declared.refusal.Refusal.{Refusal}
 
 -- the command in a line
@@ -47,12 +47,12 @@ GivesBack managed (Ok after) = (after.machine.now ≡ managed.machine.now) × (a
 GivesBack managed (Err refusal) = ⊥
 
 -- each of these policy sets has distinct names
-abbrev pub AreDistinct : List (List Entry) → Type 0
+abbrev pub AreDistinct : List (List Loaded) → Type 0
 AreDistinct [] = Unit {0}
 AreDistinct (set ∷ sets) = (have_distinct_names set ≡ true) × AreDistinct sets
 
 -- every policy set of a manager: the earlier ones, the one now and the later ones
-abbrev pub all_sets : Managed → List (List Entry)
+abbrev pub all_sets : Managed → List (List Loaded)
 all_sets managed = managed.machine.earlier ++ managed.machine.now ∷ managed.machine.later
 
 -- A refused line leaves the policy set and both lists of sets.

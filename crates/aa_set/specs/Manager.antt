@@ -4,36 +4,36 @@ use Rattle.aa_files.specs.Files.{File}
 use Rattle.aa_profile.specs.FileReading.{file_profiles}
 use Rattle.aa_set.specs.Machine.{Machine, started, accepted, gone_back}
 use Rattle.aa_set.specs.PolicySet.{are_there, loaded}
-use Rattle.aa_set.specs.declared.policy.Entry.{Entry}
+use Rattle.aa_decide.specs.Entries.{Loaded}
 use Rattle.aa_policy.specs.declared.profile.Profile.{Profile}
 use Rattle.aa_commands.specs.Refusal.{plain, refusal_of_profile}
-use Rattle.aa_profile.specs.declared.profile_error.ProfileError.{ProfileError}
+use Rattle.aa_refusals.specs.declared.profile_error.ProfileError.{ProfileError}
 use Rattle.aa_commands.specs.declared.refusal.Refusal.{Refusal}
 use Rattle.aa_commands.specs.declared.refusal.RefusalKind.TheVariants.{Exists, NothingToUndo}
 
 -- a manager, as contracts see it: whether profiles are loaded in complain mode, and the machine
 pub record Managed : Type 0 where
   pub force_complain : Bool
-  pub machine : Machine (List Entry)
+  pub machine : Machine (List Loaded)
 
 -- a manager of the empty policy set
 abbrev pub new_manager : Bool → Managed
 new_manager force_complain = record { force_complain = force_complain; machine = started [] }
 
 -- the policy set with, at its end, the profiles that were read, if none of their names is there yet
-abbrev pub with_profiles : List Entry → Result (List Profile) ProfileError → Result (List Entry) Refusal
+abbrev pub with_profiles : List Loaded → Result (List Profile) ProfileError → Result (List Loaded) Refusal
 with_profiles entries (Err error) = Err (refusal_of_profile error)
 with_profiles entries (Ok profiles) = if are_there profiles entries then Err (plain Exists) else Ok (entries ++ map loaded profiles)
 
 -- the policy set after `add FILE`, or its refusal
-abbrev pub changed_by_add : List File → List Entry → List ℕ → Result (List Entry) Refusal
+abbrev pub changed_by_add : List File → List Loaded → List ℕ → Result (List Loaded) Refusal
 changed_by_add files entries name = with_profiles entries (file_profiles files name)
 
 -- after an accepted change to a policy set
-abbrev pub after_commit : Managed → List Entry → Managed
+abbrev pub after_commit : Managed → List Loaded → Managed
 after_commit managed entries = record managed { machine = accepted managed.machine entries }
 
-abbrev pub after_change : Managed → Result (List Entry) Refusal → Result Managed Refusal
+abbrev pub after_change : Managed → Result (List Loaded) Refusal → Result Managed Refusal
 after_change managed (Ok entries) = Ok (after_commit managed entries)
 after_change managed (Err refusal) = Err refusal
 

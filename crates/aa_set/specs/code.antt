@@ -1,2 +1,3 @@
--- What is about the code: what the loop over pieces of an input keeps true.
+-- What is about the code: what the loop over pieces of an input keeps true, and the lines that a request is told in.
 pub mod Session
+pub mod Told

@@ -1,27 +1,27 @@
 //! What confines who asks: nothing, or the rules of a profile, a child or a hat.
 
 ghost use Rattle.std.specs.Prelude.{◌≡◌};
-ghost use Rattle.std.specs.List.{zip};
 ghost use Rattle.std.specs.Option.{option_copied, option_map};
-ghost use Rattle.aa_set.specs.Confinement.{child_confinement, confinement, found, profile_confinement};
+ghost use Rattle.aa_set.specs.Confinement.{child_place, confinement, entry_confinement, found, in_state, mode_at};
 
 use crate::full_name::cut;
-use crate::policy::{Entry, PolicySet};
-use aa_policy::{Child, Mode, Rule};
+use crate::policy::PolicySet;
+use aa_decide::{Entry, Ready, State};
+use aa_policy::{Child, Mode};
 
 /// What confines a task.
 #[derive(Clone, Copy, Debug)]
 pub enum Confinement<'a> {
     /// Nothing.
     Unconfined,
-    /// Rules, in a mode.
+    /// A profile, or a child or hat of it.
     By {
+        /// The profile.
+        ready: &'a Ready,
+        /// The place of the child or hat among its children; none where the profile itself confines.
+        child: Option<usize>,
         /// The mode.
         mode: Mode,
-        /// Whether each rule is audited, whatever its own words are.
-        audit: bool,
-        /// The rules.
-        rules: &'a [Rule],
     },
 }
 
@@ -36,35 +36,54 @@ pub fn find_confinement<'a>(set: &'a PolicySet, who: &[u8]) -> Option<Confinemen
     in_entry(set.find(profile)?, child)
 }
 
-// What confines by an entry's profile, or by its child or hat of this name.
+// What confines by an entry, or by its child or hat of this name.
 fn in_entry<'a>(entry: &'a Entry, child: Option<&[u8]>) -> Option<Confinement<'a>>
-    ensures { option_map found result ≡ profile_confinement entry.now.profile entry.now.modes (option_copied child.entry) }
+    ensures { option_map found result ≡ entry_confinement entry.now (option_copied child.entry) }
 {
-    let [mode, modes @ ..] = entry.modes.as_slice() else {
-        return None;
-    };
     match child {
-        None => Some(Confinement::By {
-            mode: *mode,
-            audit: entry.profile.audit,
-            rules: entry.profile.rules.as_slice(),
-        }),
-        Some(name) => among_children(entry.profile.children.as_slice(), modes, name),
+        None => Some(in_state(entry, None)),
+        Some(name) => {
+            let place = child_place(name, entry.profile().children.as_slice())?;
+            Some(in_state(entry, Some(place)))
+        }
     }
 }
 
-// What confines by the child or hat of a name among these, each with the mode at its place.
-fn among_children<'a>(children: &'a [Child], modes: &[Mode], name: &[u8]) -> Option<Confinement<'a>>
-    ensures { option_map found result ≡ child_confinement name.now (zip children.now modes.now) }
+// What confines by an entry, or by its child or hat at a place, in its state.
+fn in_state(entry: &Entry, child: Option<usize>) -> Confinement<'_>
+    ensures { found result ≡ in_state entry.now.profile entry.now.state child }
 {
-    for (child, mode) in children.iter().zip(modes) {
-        if child.name.as_slice() == name {
-            return Some(Confinement::By {
-                mode: *mode,
-                audit: child.audit,
-                rules: child.rules.as_slice(),
-            });
-        }
+    match entry.state() {
+        State::Disabled => Confinement::Unconfined,
+        State::Modes(modes) => Confinement::By {
+            ready: entry.ready(),
+            child,
+            mode: mode_at(modes.as_slice(), child),
+        },
     }
-    None
+}
+
+// The mode of a profile, or of its child or hat at a place.
+fn mode_at(modes: &[Mode], child: Option<usize>) -> Mode
+    ensures { result ≡ mode_at modes.now child }
+{
+    let [mode, rest @ ..] = modes else {
+        return Mode::Enforce;
+    };
+    match child {
+        None => *mode,
+        Some(place) => match rest.get(place) {
+            Some(own) => *own,
+            None => *mode,
+        },
+    }
+}
+
+// The place of the child or hat of a name among these.
+fn child_place(name: &[u8], children: &[Child]) -> Option<usize>
+    ensures { result ≡ child_place name.now children.now }
+{
+    children
+        .iter()
+        .position(|child| child.name.as_slice() == name)
 }

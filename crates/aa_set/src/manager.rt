@@ -1,18 +1,18 @@
 //! The manager: a policy set with its history.
 
-ghost use Rattle.std.specs.Prelude.{◌≡◌, ◌≢◌, ◌<◌, Ok, Err, Some, IfOk, IfErr, OnOk, OnErr, length, false};
-ghost use Rattle.aa_commands.specs.Question.{IsWellFormed, asked};
+ghost use Rattle.std.specs.Prelude.{◌≡◌, ◌≢◌, ◌<◌, ◌++◌, Ok, Err, IfOk, IfErr, OnOk, OnErr, length, false};
+ghost use Rattle.aa_commands.specs.Question.{IsWellFormed, OfAccess, asked};
 ghost use Rattle.aa_commands.specs.Refusal.{plain};
-ghost use Rattle.aa_commands.specs.declared.refusal.RefusalKind.TheVariants.{Absent, Memory};
-ghost use Rattle.aa_decide.specs.Answer.{answer_word};
-ghost use Rattle.aa_decide.specs.Verdict.{request_of};
-ghost use Rattle.aa_set.specs.Answers.{answer_of, asks_absent, confined_answer, line_with, reply_lines};
+ghost use Rattle.aa_commands.specs.declared.refusal.RefusalKind.TheVariants.{Memory};
+ghost use Rattle.aa_decide.specs.code.Requests.{request_of};
+ghost use Rattle.aa_set.specs.Answers.{asks_absent, line_with, reply_lines};
+ghost use Rattle.aa_set.specs.code.Told.{IsToldBy};
 ghost use Rattle.aa_set.specs.Confinement.{found};
 
 use crate::confinement::{Confinement, find_confinement};
 use crate::policy::PolicySet;
 use aa_commands::{Question, Refusal, RefusalKind, plain};
-use aa_decide::{Answer, FileRequest, decide};
+use aa_decide::{Request, log_line};
 use aa_files::Files;
 use aa_profile::read_file;
 use std::alloc::{AllocError, Global};
@@ -142,8 +142,9 @@ impl Manager {
         mem::swap(&mut self.set, &mut self.others[self.done]);
     }
 
-    /// The lines of the reply to a question: so far one line, the word of the answer and a line feed. The caller sees to it
-    /// that the question is well-formed, as one of `Question::read` is: it needs known letters alone.
+    /// The lines of the reply to a question, each with its line feed: the word of the answer, and behind it the line that logs it, where it is
+    /// logged (docs/commands.md, "Questions"). The caller sees to it that the question is well-formed, as one of `Question::read` is: it needs
+    /// known letters alone, and its numbers stand in the tables.
     ///
     /// # Errors
     ///
@@ -155,53 +156,79 @@ impl Manager {
         // That it is absent is found without memory.
         ensures memory { IfErr result (λ refusal. refusal ≡ plain Memory → asks_absent self.now.machine.now (asked question.entry.now) ≡ false) }
     {
-        let answer = answer(&self.set, question)?;
-        Ok(answer_line(self.alloc, answer)?)
-    }
-}
-
-// The answer of a policy set.
-fn answer(set: &PolicySet, question: &Question<'_>) -> Result<Answer, Refusal>
-    ensures told { IfOk result (λ answer. answer_of set.now (asked question.entry.now) ≡ Ok answer) }
-    ensures refused { IfErr result (λ refusal. (refusal ≡ plain Absent) × (answer_of set.now (asked question.entry.now) ≡ Err (plain Absent))) }
-{
-    match question {
-        Question::File {
-            who,
-            needs,
-            owned,
-            path,
-        } => {
-            let Some(confinement) = find_confinement(set, who) else {
-                return Err(plain(RefusalKind::Absent));
-            };
-            let request = FileRequest {
-                needs: *needs,
-                owned: *owned,
+        match question {
+            Question::File {
+                who,
+                needs,
+                owned,
                 path,
-            };
-            Ok(confined_answer(confinement, request))
+            } => {
+                let request = Request::File {
+                    needs: *needs,
+                    owned: *owned,
+                    path,
+                };
+                access_lines(self.alloc, &self.set, who, &request)
+            }
+            Question::Cap { who, number } => {
+                access_lines(self.alloc, &self.set, who, &Request::Cap(*number))
+            }
+            Question::Net { who, domain, kind } => {
+                let request = Request::Net {
+                    domain: *domain,
+                    kind: *kind,
+                };
+                access_lines(self.alloc, &self.set, who, &request)
+            }
         }
     }
 }
 
-// The answer to a request, by what confines who asks.
-fn confined_answer(confinement: Confinement<'_>, request: FileRequest<'_>) -> Answer
-    ensures { confined_answer (Some (found confinement.entry)) (request_of request.entry) ≡ Ok result }
+// The lines of the reply to a request of who asks by this full name, or as the word `unconfined`.
+fn access_lines(
+    alloc: Global,
+    set: &PolicySet,
+    who: &[u8],
+    request: &Request<'_>,
+) -> Result<Vec<u8>, Refusal>
+    ensures told { IfOk result (λ lines. reply_lines set.now (OfAccess who.now (request_of request.entry.now)) ≡ Ok lines.items) }
+    ensures refused { IfErr result (λ refusal. refusal ≢ plain Memory → reply_lines set.now (OfAccess who.now (request_of request.entry.now)) ≡ Err refusal) }
+    ensures memory { IfErr result (λ refusal. refusal ≡ plain Memory → asks_absent set.now (OfAccess who.now (request_of request.entry.now)) ≡ false) }
+{
+    let Some(confinement) = find_confinement(set, who) else {
+        return Err(plain(RefusalKind::Absent));
+    };
+    Ok(confined_lines(alloc, who, request, confinement)?)
+}
+
+// The same, by what confines who asks.
+fn confined_lines(
+    alloc: Global,
+    who: &[u8],
+    request: &Request<'_>,
+    confinement: Confinement<'_>,
+) -> Result<Vec<u8>, AllocError>
+    ensures { IfOk result (λ lines. IsToldBy who.now (request_of request.entry.now) (found confinement.entry) lines.items) }
 {
     match confinement {
-        Confinement::Unconfined => Answer::Unconfined,
-        Confinement::By { mode, audit, rules } => decide(mode, audit, rules, request).answer,
+        Confinement::Unconfined => lines_of(alloc, "unconfined", b""),
+        Confinement::By { ready, child, mode } => {
+            let verdict = ready.decide(alloc, child, mode, request)?;
+            let logged = log_line(alloc, who, request, &verdict)?;
+            lines_of(alloc, verdict.answer.word(), logged.as_slice())
+        }
     }
 }
 
-// The line of an answer.
-fn answer_line(alloc: Global, answer: Answer) -> Result<Vec<u8>, AllocError>
-    ensures { IfOk result (λ line. line.items ≡ line_with (answer_word answer)) }
+// The line of a word, and what stands behind it.
+fn lines_of(alloc: Global, word: &str, behind: &[u8]) -> Result<Vec<u8>, AllocError>
+    ensures { IfOk result (λ lines. lines.items ≡ line_with word.now ++ behind.now) }
 {
-    let word = answer.word().as_bytes();
-    let mut line = Vec::with_capacity(alloc, word.len() + 1)?;
-    line.extend_from_slice(word)?;
-    line.push(b'\n')?;
-    Ok(line)
+    let word = word.as_bytes();
+    let size = word.len().saturating_add(1).saturating_add(behind.len());
+    let mut lines = Vec::with_capacity(alloc, size)?;
+    lines.extend_from_slice(word)?;
+    lines.push(b'\n')?;
+    lines.extend_from_slice(behind)?;
+    Ok(lines)
 }

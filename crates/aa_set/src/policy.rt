@@ -6,30 +6,10 @@ ghost use Rattle.aa_policy.specs.Profile.{are_distinct};
 ghost use Rattle.aa_set.specs.PolicySet.{are_there, entry_named, has_name, loaded, own_modes};
 
 use aa_bytes::Sequence;
+use aa_decide::{Entry, Ready, State};
 use aa_policy::{Mode, Profile};
 use std::alloc::{AllocError, Global};
 use std::marker::Model;
-
-/// A loaded profile with its modes.
-#[derive(Debug, Drop)]
-pub struct Entry {
-    /// The profile.
-    pub profile: Profile,
-    /// Its mode, and then one for each of its children and hats, in their order.
-    pub modes: Sequence<Mode>,
-}
-
-impl Entry {
-    // An equal entry.
-    fn try_copy(&self, alloc: Global) -> Result<Entry, AllocError>
-        ensures { IfOk result (λ copy. copy ≡ self.now) }
-    {
-        Ok(Entry {
-            profile: self.profile.try_copy(alloc)?,
-            modes: Sequence::from_slice(alloc, self.modes.as_slice())?,
-        })
-    }
-}
 
 // Equal entries, with room for so many more.
 fn copied_entries(alloc: Global, entries: &[Entry], more: usize) -> Result<Vec<Entry>, AllocError>
@@ -60,10 +40,8 @@ fn loaded(alloc: Global, profile: Profile) -> Result<Entry, AllocError>
     ensures { IfOk result (λ entry. entry ≡ loaded profile) }
 {
     let modes = own_modes(alloc, &profile)?;
-    Ok(Entry {
-        profile,
-        modes: Sequence::from_vec(modes),
-    })
+    let ready = Ready::build(alloc, profile)?;
+    Ok(Entry::new(ready, State::Modes(Sequence::from_vec(modes))))
 }
 
 // Puts an entry for each profile behind others.
@@ -81,7 +59,7 @@ fn some_has_name(entries: &[Entry], name: &[u8]) -> bool
 {
     entries
         .iter()
-        .any(|entry| entry.profile.name.as_slice() == name)
+        .any(|entry| entry.profile().name.as_slice() == name)
 }
 
 /// A policy set: loaded profiles in the order in which they were loaded, no two of one name. Contracts see the list
@@ -93,10 +71,10 @@ pub struct PolicySet {
 
 impl Model for PolicySet {
     ghost use Rattle.std.specs.Prelude.{List, IsTrue};
-    ghost use Rattle.aa_set.specs.declared.policy.Entry.{Entry};
+    ghost use Rattle.aa_decide.specs.Entries.{Loaded};
     ghost use Rattle.aa_set.specs.PolicySet.{have_distinct_names};
 
-    ghost Value = { List Entry };
+    ghost Value = { List Loaded };
 
     ghost view = { λ s. s.entries.items };
 
@@ -125,7 +103,7 @@ impl PolicySet {
         ensures { option_copied result ≡ entry_named name.now self.now }
     {
         for entry in &self.entries {
-            if entry.profile.name.as_slice() == name {
+            if entry.profile().name.as_slice() == name {
                 return Some(entry);
             }
         }

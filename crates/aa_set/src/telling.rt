@@ -1,17 +1,17 @@
 //! The texts of replies, told to a writer without memory.
 
-ghost use Rattle.std.specs.Prelude.{◌≡◌, ◌∷◌, [], true, OnOk, OnErr};
+ghost use Rattle.std.specs.Prelude.{◌≡◌, true, OnOk, OnErr};
 ghost use Rattle.std.specs.Fmt.{decimal};
-ghost use Rattle.std.specs.List.{list_all};
 ghost use Rattle.aa_files.specs.Files.{name_at};
 ghost use Rattle.aa_lines.specs.Streams.{Tells};
-ghost use Rattle.aa_set.specs.Reply.{hexadecimal, is_shown, place_text, refusal_text, reply_text, told_text};
+ghost use Rattle.aa_set.specs.Reply.{place_text, refusal_text, reply_text};
+ghost use Rattle.aa_texts.specs.Texts.{hexadecimal, told_text};
 
 use crate::reply::Reply;
 use aa_commands::Refusal;
 use aa_files::{Files, Place};
 use aa_lines::{Failed, Sink, tell};
-use hex::encode_to_slice;
+use aa_texts::{are_shown, two_digits};
 use itoa::Buffer;
 
 /// Tells a reply to a writer, behind what waits to be written. It takes no memory. The places of refusals are those of these files.
@@ -86,13 +86,6 @@ fn file_name(files: &Files, file: usize) -> &[u8]
     }
 }
 
-// Whether a text shows all of its bytes as they are.
-fn are_shown(text: &[u8]) -> bool
-    ensures { result ≡ list_all is_shown text.now }
-{
-    text.iter().all(|byte| is_shown(*byte))
-}
-
 // Tells a text: between quotes, or in hexadecimal where one of its bytes isn't shown.
 fn tell_text<W: Sink>(writer: &mut W, waiting: &mut Vec<u8>, text: &[u8]) -> Result<(), Failed>
     ensures ok { OnOk result (Tells (W.written writer.old) (W.written writer.new) waiting.old.items waiting.new.items (told_text text.now)) }
@@ -105,13 +98,6 @@ fn tell_text<W: Sink>(writer: &mut W, waiting: &mut Vec<u8>, text: &[u8]) -> Res
     tell(writer, waiting, b"\"")?;
     tell(writer, waiting, text)?;
     tell(writer, waiting, b"\"")
-}
-
-// Whether a text shows a byte as it is.
-fn is_shown(byte: u8) -> bool
-    ensures { result ≡ is_shown byte }
-{
-    byte.is_ascii_graphic() && byte != b'"'
 }
 
 // Tells bytes as two hexadecimal digits each.
@@ -128,19 +114,6 @@ fn tell_hexadecimal<W: Sink>(
         tell(writer, waiting, &two_digits(*byte))?;
     }
     Ok(())
-}
-
-// The two hexadecimal digits of a byte.
-fn two_digits(byte: u8) -> [u8; 2]
-    ensures { result ≡ hexadecimal (byte ∷ []) }
-{
-    let mut digits = [0; 2];
-    match encode_to_slice([byte], &mut digits) {
-        Ok(()) => {}
-        Err(_) => unreachable!(),
-    }
-    digits.make_ascii_uppercase();
-    digits
 }
 
 // Tells a number in decimal.

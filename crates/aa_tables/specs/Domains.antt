@@ -1,5 +1,5 @@
 -- The table of domains (docs/policy.md, "Tables").
-use Rattle.std.specs.Prelude.{ℕ, List, map, Option, slice_get}
+use Rattle.std.specs.Prelude.{ℕ, Bool, ◌==◌, ◌||◌, List, map, Option, slice_get}
 use Rattle.aa_tables.specs.Names.{number_in}
 use Rattle.aa_tables.specs.declared.domains.TheConstants.{DOMAINS}
 
@@ -12,3 +12,7 @@ domain_number name = number_in names name
 
 abbrev pub domain_name : ℕ → Option (List ℕ)
 domain_name number = slice_get names number
+
+-- the domains in which protocols stand: `inet` and `inet6`
+abbrev pub has_protocols : ℕ → Bool
+has_protocols domain = domain == 1 || domain == 9

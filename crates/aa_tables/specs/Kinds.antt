@@ -1,5 +1,5 @@
 -- The table of kinds (docs/policy.md, "Tables").
-use Rattle.std.specs.Prelude.{ℕ, ◌==◌, if◌then◌else◌, List, map, Option, slice_get}
+use Rattle.std.specs.Prelude.{ℕ, Bool, nat_le, ◌==◌, if◌then◌else◌, List, map, Option, slice_get}
 use Rattle.aa_tables.specs.Names.{number_in}
 use Rattle.aa_tables.specs.declared.kinds.TheConstants.{KINDS}
 
@@ -20,3 +20,7 @@ type_of kind =
     if kind == 7 then 1 else
     if kind == 8 then 4 else
     kind
+
+-- the kinds behind the types are protocols
+abbrev pub is_protocol : ℕ → Bool
+is_protocol kind = nat_le 6 kind

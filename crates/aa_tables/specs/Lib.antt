@@ -1,4 +1,5 @@
 pub mod Capabilities
 pub mod Domains
 pub mod Kinds
+pub mod KnownNumbers
 pub mod Names

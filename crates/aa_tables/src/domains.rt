@@ -1,7 +1,7 @@
 //! The domains of sockets (socket(2)), by the numbers of this project's table.
 
 ghost use Rattle.std.specs.Prelude.{◌≡◌, option_map};
-ghost use Rattle.aa_tables.specs.Domains.{domain_name, domain_number};
+ghost use Rattle.aa_tables.specs.Domains.{domain_name, domain_number, has_protocols};
 
 use crate::names::{name_in, number_in};
 
@@ -65,4 +65,11 @@ pub fn domain_name(number: u8) -> Option<&'static str>
     ensures { option_map (λ name. name.now) result ≡ domain_name number }
 {
     name_in(&DOMAINS, number)
+}
+
+/// Whether the sockets of the domain of a number have protocols that rules name: those of `inet` and `inet6` do. It takes no memory.
+pub fn has_protocols(domain: u8) -> bool
+    ensures { result ≡ has_protocols domain }
+{
+    domain == 1 || domain == 9
 }

@@ -1,7 +1,7 @@
 //! The kinds of sockets that a rule may name: types, and protocols, each of which goes with a type (socket(2)).
 
 ghost use Rattle.std.specs.Prelude.{◌≡◌, option_map};
-ghost use Rattle.aa_tables.specs.Kinds.{kind_name, kind_number, type_of};
+ghost use Rattle.aa_tables.specs.Kinds.{is_protocol, kind_name, kind_number, type_of};
 
 use crate::names::{name_in, number_in};
 
@@ -42,4 +42,11 @@ pub fn type_of(kind: u8) -> u8
         8 => 4,
         _ => kind,
     }
+}
+
+/// Whether the kind of a number is a protocol. It takes no memory.
+pub fn is_protocol(kind: u8) -> bool
+    ensures { result ≡ is_protocol kind }
+{
+    kind >= 6
 }

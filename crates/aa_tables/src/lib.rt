@@ -4,8 +4,10 @@
 mod capabilities;
 mod domains;
 mod kinds;
+mod laws;
 mod names;
 
 pub use capabilities::{CAPABILITIES, capability_name, capability_number};
-pub use domains::{DOMAINS, domain_name, domain_number};
-pub use kinds::{KINDS, kind_name, kind_number, type_of};
+pub use domains::{DOMAINS, domain_name, domain_number, has_protocols};
+pub use kinds::{KINDS, is_protocol, kind_name, kind_number, type_of};
+pub use laws::which_numbers_names_have;

@@ -1,8 +1,8 @@
 -- What a table says of the texts whose values it holds, and what it keeps.
-use Rattle.std.proofs.Common.{◌≡◌, ℕ, zero, suc, ◌+◌, ◌<◌, Bool, true, false, not, nat_eq, List, [], ◌∷◌, ◌++◌, length, length-append, map, take, drop, set, arith, refl, sym, ap, subst, ◌∙◌, inl, inr}
+use Rattle.std.proofs.Common.{◌≡◌, ℕ, zero, suc, ◌<◌, Bool, true, false, not, nat_eq, List, [], ◌∷◌, ◌++◌, length, length-append, map, take, drop, set, arith, refl, sym, ap, subst, ◌∙◌, inl, inr}
 use Rattle.std.specs.Prelude.{Option, None, Some, Result, Ok, Err, IfOk, Vec, nat_lt, option_map, position, slice_get, slice_index_or}
-use Rattle.std.specs.List.{flat_map, list_all, list_any, position_or_len}
-use Rattle.std.proofs.lemmas.Bool.{and_parts, or_from, or_left, or_parts}
+use Rattle.std.specs.List.{list_all, list_any, position_or_len}
+use Rattle.std.proofs.lemmas.Bool.{and_parts, or_from, or_parts}
 use Rattle.std.proofs.lemmas.Bool.Decides.{nat_tests}
 use Rattle.std.proofs.lemmas.List.{get_or_past, length-map, length-set, map-append, map-set, take-append-drop}
 use Rattle.std.proofs.lemmas.Map.Keys.{any_passes_from_place}
@@ -10,50 +10,32 @@ use Rattle.std.proofs.lemmas.Option.{get_or_from_slice_get, slice_get_cases, sli
 use Rattle.std.proofs.Math.Seq.{drop-append_seam, take-append_seam}
 use Rattle.aa_bytes.specs.Texts.{is_empty}
 use Rattle.aa_variables.proofs.CycleLemmas.{refusal-none}
-use Rattle.aa_variables.proofs.ExpandLemmas.{parts-cut, words-cut}
-use Rattle.aa_variables.proofs.ListLemmas.{drop-some, index-found, listed, slice_get-front, slice_get-push}
+use Rattle.aa_variables.proofs.ExpandLemmas.{values-beside}
+use Rattle.aa_variables.proofs.ListLemmas.{index-found, listed, slice_get-front, slice_get-push}
 use Rattle.aa_variables.proofs.OrderLemmas.{values-settled}
 use Rattle.aa_variables.proofs.ReachedLemmas.{leads-none}
 use Rattle.aa_variables.proofs.TableLemmas.{Settled}
 use Rattle.aa_variables.proofs.TestLemmas.{any-left, any-split, same-from_test}
 use Rattle.aa_variables.proofs.VariableLemmas.{shifted}
 use Rattle.aa_variables.proofs.WalkLemmas.{settled-few}
-use Rattle.aa_parts.specs.Choices.{choices}
+use Rattle.aa_parts.specs.Choices.{choices_within}
+use Rattle.aa_parts.specs.Expanding.{AreCutOff}
 use Rattle.aa_parts.specs.Joining.{as_texts, cut_off, texts_of}
+use Rattle.aa_parts.specs.Missing.{is_missing}
+use Rattle.aa_parts.specs.Names.{EachName, EachNameIn, EachNameWithin}
 use Rattle.aa_parts.specs.Parts.{Byte, Name, Part, Unclosed, parts}
-use Rattle.aa_variables.specs.Expansions.{expansion_refusal, expansions, values}
+use Rattle.aa_variables.specs.Expansions.{expansion_refusal, values}
 use Rattle.aa_variables.specs.Variables.{Variable, is_defined, is_undefined, names_undefined}
+use Rattle.aa_variables.specs.code.Columns.{IsBeside, values_in}
 use Rattle.aa_variables.specs.code.ExpansionOrder.{are_texts_known, is_part_known, is_text_known}
-use Rattle.aa_variables.specs.code.ExpansionTables.{AreFirstCounts, count_at, cut_off_at, expanded_words, looked_up, row_of}
-use Rattle.aa_variables.specs.code.HeldValues.{AreFewer, AreRows, AreValuesAt, IsSpent, IsTable, are_texts_lacking, is_part_lacking, is_text_lacking, names_undefined_at, values_held}
+use Rattle.aa_variables.specs.code.ExpansionTables.{AreFirstCounts, count_at, cut_off_at, cut_off_by, looked_up, row_of}
+use Rattle.aa_variables.specs.code.HeldValues.{AreFewer, AreValuesAt, IsSpent, IsTable, are_texts_lacking, is_text_lacking, names_undefined_at}
 use Rattle.aa_variables.specs.code.VariableIndexes.{index_of, words_at}
 use Rattle.aa_variables.specs.code.VariableWalks.{IsOrderOf}
+use Rattle.aa_variables.specs.declared.variables.column.Column.{Column}
 use Rattle.aa_variables.specs.declared.variables.table.Rows.{Rows}
 use Rattle.std.specs.Cmp.Derive.{both_true}
 use Rattle.std.specs.Str.{bytes_eq}
-
--- bytes lack nothing
-pub bytes-held : (values : List ℕ → List (List ℕ)) (bytes : List ℕ) → false ≡ list_any (is_part_lacking values) (map Byte bytes)
-bytes-held values [] = refl
-bytes-held values (b ∷ bs) = bytes-held values bs
-
--- where nothing passes a test, everything fails it
-none-all : {X : Type 0} (test : X → Bool) (xs : List X) → list_any test xs ≡ false → list_all (λ x. not (test x)) xs ≡ true
-none-all test [] h = refl
-none-all test (x ∷ xs) h = let both = or_parts (test x) (list_any test xs) h in both_true (ap not both.0) (none-all test xs both.1)
-
--- the same of texts, each by its parts
-texts-none-all : (test : Part → Bool) (texts : List (List ℕ)) → list_any (λ text. list_any test (parts text)) texts ≡ false
-    → list_all (λ text. list_all (λ part. not (test part)) (parts text)) texts ≡ true
-texts-none-all test [] h = refl
-texts-none-all test (text ∷ texts) h =
-    let both = or_parts (list_any test (parts text)) (list_any (λ text. list_any test (parts text)) texts) h in
-    both_true (none-all test (parts text) both.0) (texts-none-all test texts both.1)
-
--- what fails a test doesn't pass it
-not-false : (b : Bool) → not b ≡ true → b ≡ false
-not-false true h = absurd (cc)
-not-false false h = refl
 
 -- where none of some numbers passes, one of them doesn't
 none-at : (test : ℕ → Bool) (xs : List ℕ) (q : ℕ) → list_any test xs ≡ false → list_any (nat_eq q) xs ≡ true → test q ≡ false
@@ -65,10 +47,6 @@ none-at test xs q none has = by (test q) refl
         let there : list_any test xs ≡ true = any_passes_from_place test xs found.0 q found.1 e in
         absurd (cc)
     by false e = e
-
--- one that passes is among those from its place on
-pub any-here : (test : ℕ → Bool) (xs : List ℕ) (at q : ℕ) → Some q ≡ slice_get xs at → test q ≡ true → list_any test (drop at xs) ≡ true
-any-here test xs at q here passes = ap (list_any test) (drop-some xs at q here) ∙ or_left (test q) (list_any test (drop (at + 1) xs)) passes
 
 -- all pass another test that is weaker
 all-weaker : {X : Type 0} (test other : X → Bool) → ((x : X) → test x ≡ true → other x ≡ true) → (xs : List X) → list_all test xs ≡ true → list_all other xs ≡ true
@@ -147,37 +125,44 @@ module _ (variables : List Variable) (order counts : List ℕ) (held : List (Lis
       by None e = let wrong : true ≡ false = rw (looked_up, row_of, e) at some in absurd (cc)
       by (Some index) e = by_row index e (position (nat_eq index) order) refl
 
-  -- the same, by a part that doesn't fail the test
-  name-same : (name : List ℕ) → not (is_part_lacking looked (Name name)) ≡ true → looked name ≡ cut_off (values variables name)
-  name-same name h = (name-held name (not-false (is_empty (looked name)) h)).3
-
-  parts-known_held : (ps : List Part) → list_any (is_part_lacking looked) ps ≡ false → list_all (is_part_known variables order) ps ≡ true
+  parts-known_held : (ps : List Part) → list_any (is_missing (λ name. is_empty (looked name))) ps ≡ false → list_all (is_part_known variables order) ps ≡ true
   parts-known_held [] h = refl
   parts-known_held (Byte b ∷ ps) h = parts-known_held ps h
   parts-known_held (Unclosed ∷ ps) h = absurd (cc)
   parts-known_held (Name name ∷ ps) h =
-      let both = or_parts (is_empty (looked name)) (list_any (is_part_lacking looked) ps) h in
+      let both = or_parts (is_empty (looked name)) (list_any (is_missing (λ name. is_empty (looked name))) ps) h in
       let found = name-held name both.0 in
       let here : is_part_known variables order (Name name) ≡ true = rw (found.1, is_part_known) found.2 in
       both_true here (parts-known_held ps both.1)
 
-  parts-defined_held : (ps : List Part) → list_any (is_part_lacking looked) ps ≡ false → list_any (is_undefined variables) ps ≡ false
+  parts-defined_held : (ps : List Part) → list_any (is_missing (λ name. is_empty (looked name))) ps ≡ false → list_any (is_undefined variables) ps ≡ false
   parts-defined_held [] h = refl
   parts-defined_held (Byte b ∷ ps) h = parts-defined_held ps h
   parts-defined_held (Unclosed ∷ ps) h = absurd (cc)
   parts-defined_held (Name name ∷ ps) h =
-      let both = or_parts (is_empty (looked name)) (list_any (is_part_lacking looked) ps) h in
+      let both = or_parts (is_empty (looked name)) (list_any (is_missing (λ name. is_empty (looked name))) ps) h in
       let here : is_undefined variables (Name name) ≡ false = ap not (index-defined variables name (name-held name both.0).0 (name-held name both.0).1) in
       or_from (is_undefined variables (Name name)) (list_any (is_undefined variables) ps) here (parts-defined_held ps both.1)
 
-  -- the expansions of a text for whose names all values are held
-  pub text-held : (text : List ℕ) → is_text_lacking looked text ≡ false → cut_off (choices looked (parts text)) ≡ cut_off (expansions variables text)
-  text-held text h = parts-cut (λ part. not (is_part_lacking looked part)) looked (values variables) name-same (parts text) (none-all (is_part_lacking looked) (parts text) h)
+  -- what a table has for each name among parts for which values are held
+  parts-held : (ps : List Part) → list_any (is_missing (λ name. is_empty (looked name))) ps ≡ false → EachName (AreCutOff looked (values variables)) ps
+  parts-held [] h = tt
+  parts-held (Byte b ∷ ps) h = parts-held ps h
+  parts-held (Unclosed ∷ ps) h = tt
+  parts-held (Name name ∷ ps) h =
+      let both = or_parts (is_empty (looked name)) (list_any (is_missing (λ name. is_empty (looked name))) ps) h in
+      ((name-held name both.0).3, parts-held ps both.1)
 
-  -- those of words
-  pub words-held : (words : List (List ℕ)) → are_texts_lacking looked words ≡ false → expanded_words looked words ≡ cut_off (flat_map (expansions variables) words)
-  words-held words h =
-      words-cut (λ part. not (is_part_lacking looked part)) looked (values variables) name-same words (texts-none-all (is_part_lacking looked) words h)
+  -- for each in a text
+  pub text-held : (text : List ℕ) → is_text_lacking looked text ≡ false → EachNameIn (AreCutOff looked (values variables)) text
+  text-held text h = parts-held (parts text) h
+
+  -- for each in words
+  pub words-held : (words : List (List ℕ)) → are_texts_lacking looked words ≡ false → EachNameWithin (AreCutOff looked (values variables)) words
+  words-held [] h = tt
+  words-held (word ∷ words) h =
+      let both = or_parts (is_text_lacking looked word) (are_texts_lacking looked words) h in
+      (text-held word both.0, words-held words both.1)
 
   -- a variable is known as long as one more stands in an order
   known-first : (k : ℕ) (part : Part) → is_part_known variables (take k order) part ≡ true → is_part_known variables order part ≡ true
@@ -261,12 +246,33 @@ module _ (variables : List Variable) (order counts : List ℕ) (held : List (Lis
 -- ---- the same of tables in memory
 
 -- what is worked out for the variable at an index
-pub words-values : {A B E : Type 0} (variables : List Variable) (rows : Rows) → AreRows variables rows → (index : ℕ) (result : Result (Vec (Vec ℕ A) B) E)
-    → are_texts_lacking (values_held variables rows) (words_at variables index) ≡ false
-    → IfOk result (λ texts. texts_of texts ≡ expanded_words (values_held variables rows) (words_at variables index))
+pub words-values : {A B E : Type 0} (variables : List Variable) (order counts : List ℕ) (held : List (Vec (Vec ℕ A) B)) → IsTable variables order counts (map texts_of held)
+    → (column : Column (Vec (Vec ℕ A) B)) → IsBeside column variables order held → (index : ℕ) (result : Result (Vec (Vec ℕ A) B) E)
+    → are_texts_lacking (values_in column) (words_at column.variables.now index) ≡ false
+    → IfOk result (λ texts. (whole : List ℕ → List (List ℕ)) → EachNameWithin (AreCutOff (values_in column) whole) (words_at column.variables.now index)
+    → texts_of texts ≡ cut_off (choices_within whole (words_at column.variables.now index)))
     → IfOk result (λ texts. AreValuesAt variables index (texts_of texts))
-words-values variables rows table index (Ok texts) held is = λ full. is ∙ words-held variables rows.order.keys rows.counts.items (map texts_of rows.values.items) table (words_at variables index) held
-words-values variables rows table index (Err error) held is = tt
+words-values variables order counts held table column beside index (Err error) none is = tt
+words-values variables order counts held table column beside index (Ok texts) none is = λ full.
+    let looks = values-beside column variables order held beside in
+    let nothing : are_texts_lacking (cut_off_by variables order held) (words_at variables index) ≡ false =
+    subst (λ all. are_texts_lacking (cut_off_by variables order held) (words_at all index) ≡ false) beside.holder
+    (subst (λ has. are_texts_lacking has (words_at column.variables.now index) ≡ false) looks none)
+    in
+    let each = words-held variables order counts (map texts_of held) table (words_at variables index) nothing in
+    subst (λ all. EachNameWithin (AreCutOff (values_in column) (values variables)) (words_at all index) → texts_of texts ≡ cut_off (choices_within (values variables) (words_at all index)))
+    beside.holder (is (values variables)) (subst (λ has. EachNameWithin (AreCutOff has (values variables)) (words_at variables index)) (sym looks) each)
+
+-- a text for whose names a column has values
+pub column-held : {A B : Type 0} (variables : List Variable) (order counts : List ℕ) (held : List (Vec (Vec ℕ A) B)) → IsTable variables order counts (map texts_of held)
+    → (column : Column (Vec (Vec ℕ A) B)) → IsBeside column variables order held → (text : List ℕ) → is_text_lacking (values_in column) text ≡ false
+    → (expansion_refusal variables text ≡ None) × EachNameIn (AreCutOff (values_in column) (values variables)) text
+column-held variables order counts held table column beside text none =
+    let looks = values-beside column variables order held beside in
+    let nothing : is_text_lacking (cut_off_by variables order held) text ≡ false = subst (λ has. is_text_lacking has text ≡ false) looks none in (
+      held-fine variables order counts (map texts_of held) table text nothing,
+      subst (λ has. EachNameIn (AreCutOff has (values variables)) text) (sym looks) (text-held variables order counts (map texts_of held) table text nothing),
+    )
 
 -- as many are held as were
 pub fewer-same : (values : List (List (List ℕ))) → AreFewer values values

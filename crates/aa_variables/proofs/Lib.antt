@@ -1,7 +1,5 @@
 pub mod AreVariablesLemmas
 pub mod ChainLemmas
-pub mod ChoiceCountLemmas
-pub mod ChoiceLemmas
 pub mod CountLemmas
 pub mod CycleLaws
 pub mod CycleLemmas
@@ -9,7 +7,6 @@ pub mod ExpandLemmas
 pub mod ExpansionLaws
 pub mod HeldLemmas
 pub mod IndexLemmas
-pub mod JoiningLemmas
 pub mod LeadLaws
 pub mod ListLemmas
 pub mod OrderLemmas

@@ -1,9 +1,8 @@
 -- What stands at the indexes of lists.
-use Rattle.std.proofs.Common.{◌≡◌, ℕ, Bool, true, false, nat_eq, List, [], ◌∷◌, ◌++◌, ◌+◌, ◌<◌, ◌≤◌, zero, suc, length, slice_get, take, drop, arith, add-one, drop-cons, refl, sym, ap, ◌∙◌, ◌⊎◌, inl, inr}
+use Rattle.std.proofs.Common.{◌≡◌, ℕ, Bool, true, false, nat_eq, List, [], ◌∷◌, ◌++◌, ◌<◌, ◌≤◌, zero, suc, length, slice_get, take, drop, arith, refl, sym, ap, ◌⊎◌, inl, inr}
 use Rattle.std.specs.Prelude.{None, Some}
 use Rattle.std.specs.List.{list_any}
 use Rattle.std.proofs.lemmas.Map.Keys.{any_passes_from_place}
-use Rattle.std.proofs.lemmas.Option.{get_or_from_slice_get, slice_get_within}
 use Rattle.std.proofs.Math.Seq.{take-length}
 use Rattle.aa_variables.proofs.TestLemmas.{same-from_test, same-test}
 
@@ -19,12 +18,6 @@ drop-none [] zero h = refl
 drop-none [] (suc at) h = refl
 drop-none (x ∷ xs) zero h = absurd cc
 drop-none (x ∷ xs) (suc at) h = drop-none xs at h
-
--- the element at an index, and those that are left behind it
-pub drop-some : {X : Type 0} (xs : List X) (at : ℕ) (x : X) → Some x ≡ slice_get xs at → drop at xs ≡ x ∷ drop (at + 1) xs
-drop-some xs at x h =
-    let within : at < length xs = slice_get_within xs at x (sym h) in
-    drop-cons xs at x within ∙ rw (get_or_from_slice_get xs at x x (sym h), add-one) refl
 
 -- where a number stands that is among the first ones
 pub index-among_first : (order : List ℕ) (count index : ℕ) → list_any (nat_eq index) (take count order) ≡ true

@@ -1,5 +1,5 @@
 -- What the gathered indexes are, and that they are those of all variables that a text leads to.
-use Rattle.std.proofs.Common.{◌≡◌, ℕ, Bool, true, false, nat_eq, List, [], ◌∷◌, ◌++◌, ◌+◌, ◌-◌, ◌<◌, ◌≤◌, zero, suc, length, map, slice_get, drop, arith, length-append, refl, sym, ap, subst, ◌∙◌, ◌⊎◌, inl, inr}
+use Rattle.std.proofs.Common.{append_assoc, ◌≡◌, ℕ, Bool, true, false, nat_eq, List, [], ◌∷◌, ◌++◌, ◌+◌, ◌-◌, ◌<◌, ◌≤◌, zero, suc, length, slice_get, arith, length-append, refl, sym, ap, subst, ◌∙◌, ◌⊎◌, inl, inr}
 use Rattle.std.specs.Prelude.{Option, None, Some}
 use Rattle.std.specs.List.{list_all, list_any, IsDistinct}
 use Rattle.std.specs.Cmp.Derive.{both_true}
@@ -12,31 +12,13 @@ use Rattle.aa_parts.specs.Parts.{Part, Byte, Name, Unclosed, parts}
 use Rattle.aa_variables.specs.Variables.{Variable, names_undefined}
 use Rattle.aa_variables.specs.Expansions.{leads_to_undefined, leads_to_undefined_within, words_behind, words_behind_parts, words_named}
 use Rattle.aa_variables.specs.code.ExpansionOrder.{are_texts_known, is_part_known, is_text_known}
-use Rattle.aa_variables.specs.code.ReachedVariables.{indexes_in, indexes_of, indexes_within, with_index, with_indexes, IsReachedSoFar}
+use Rattle.aa_parts.specs.Numbers.{numbers_of, with_index, with_indexes}
+use Rattle.aa_variables.specs.code.ReachedVariables.{indexes_in, indexes_of, indexes_within, IsReachedSoFar}
 use Rattle.aa_variables.specs.code.VariableIndexes.{index_of, words_at}
 use Rattle.aa_variables.proofs.ChainLemmas.{no_word_behind}
-use Rattle.aa_variables.proofs.ListLemmas.{drop-some, listed, past-none, index-found, slice_get-push}
+use Rattle.aa_variables.proofs.ListLemmas.{listed, past-none, index-found, slice_get-push}
 use Rattle.aa_variables.proofs.IndexLemmas.{index_of-within, words_named-from_none, words_named-from_some}
-use Rattle.aa_variables.proofs.TestLemmas.{any-behind, any-left, any-right, any-split, any-weaker, or-split, same-from_test, same-test}
-
--- ---- the parts of a text
-
--- bytes have no indexes
-pub indexes_of-bytes : (variables : List Variable) (bytes : List ℕ) → indexes_of variables (map Byte bytes) ≡ []
-indexes_of-bytes variables [] = refl
-indexes_of-bytes variables (b ∷ bs) = indexes_of-bytes variables bs
-
--- the indexes of parts are those of the first ones and then those of the others
-pub indexes_of-append : (variables : List Variable) (ps qs : List Part) → indexes_of variables (ps ++ qs) ≡ indexes_of variables ps ++ indexes_of variables qs
-indexes_of-append variables [] qs = refl
-indexes_of-append variables (Byte b ∷ ps) qs = indexes_of-append variables ps qs
-indexes_of-append variables (Name name ∷ ps) qs = by (index_of variables name) refl (indexes_of-append variables ps qs)
-  where
-    by : (found : Option ℕ) → index_of variables name ≡ found → indexes_of variables (ps ++ qs) ≡ indexes_of variables ps ++ indexes_of variables qs
-        → indexes_of variables ((Name name ∷ ps) ++ qs) ≡ indexes_of variables (Name name ∷ ps) ++ indexes_of variables qs
-    by None e rest = rw (e, indexes_of) rest
-    by (Some index) e rest = rw (e, indexes_of) (ap (◌∷◌ index) rest)
-indexes_of-append variables (Unclosed ∷ ps) qs = indexes_of-append variables ps qs
+use Rattle.aa_variables.proofs.TestLemmas.{any-left, any-right, any-split, any-weaker, or-split, same-from_test, same-test}
 
 -- indexes with those of two lists
 pub with_indexes-append : (known xs ys : List ℕ) → with_indexes known (xs ++ ys) ≡ with_indexes (with_indexes known xs) ys
@@ -142,38 +124,29 @@ with_indexes-distinct known (x ∷ xs) d = with_indexes-distinct (with_index kno
 
 -- ---- steps of the loops
 
--- the indexes of parts, and then those of the ones behind them
-pub indexes_of-behind : (variables : List Variable) (known more : List ℕ) (ps qs all : List Part) → more ≡ with_indexes known (indexes_of variables ps) → ps ++ qs ≡ all
-    → with_indexes more (indexes_of variables qs) ≡ with_indexes known (indexes_of variables all)
-indexes_of-behind variables known more ps qs all m e =
-    ap (λ l. with_indexes l (indexes_of variables qs)) m
-    ∙ sym (with_indexes-append known (indexes_of variables ps) (indexes_of variables qs))
-    ∙ ap (with_indexes known) (sym (indexes_of-append variables ps qs) ∙ ap (indexes_of variables) e)
+-- the indexes of texts, and of others
+indexes_within-append : (variables : List Variable) (texts more : List (List ℕ)) → indexes_within variables (texts ++ more) ≡ indexes_within variables texts ++ indexes_within variables more
+indexes_within-append variables [] more = refl
+indexes_within-append variables (text ∷ texts) more =
+    ap (λ rest. indexes_in variables text ++ rest) (indexes_within-append variables texts more) ∙ sym (append_assoc (indexes_in variables text) (indexes_within variables texts) (indexes_within variables more))
 
--- the indexes of a text, and then those of the texts behind it
-pub indexes_within-behind : (variables : List Variable) (known more : List ℕ) (texts : List (List ℕ)) (at : ℕ) (text : List ℕ) → Some text ≡ slice_get texts at
-    → more ≡ with_indexes known (indexes_in variables text)
-    → with_indexes more (indexes_within variables (drop (at + 1) texts)) ≡ with_indexes known (indexes_within variables (drop at texts))
-indexes_within-behind variables known more texts at text h m =
-    ap (λ l. with_indexes l (indexes_within variables (drop (at + 1) texts))) m
-    ∙ sym (with_indexes-append known (indexes_in variables text) (indexes_within variables (drop (at + 1) texts)))
-    ∙ ap (λ l. with_indexes known (indexes_within variables l)) (sym (drop-some texts at text h))
-
--- a text that names nothing undefined, and the texts behind it
-pub any-drop : {X : Type 0} (test : X → Bool) (xs : List X) (at : ℕ) (x : X) → Some x ≡ slice_get xs at → test x ≡ false
-    → list_any test (drop (at + 1) xs) ≡ list_any test (drop at xs)
-any-drop test xs at x h f = any-behind test (x ∷ []) (drop (at + 1) xs) (drop at xs) (or_from (test x) false f refl) (sym (drop-some xs at x h))
+-- first those of texts, and then those of others behind them
+pub indexes_within-both : (variables : List Variable) (known some : List ℕ) (texts more all : List (List ℕ)) → texts ++ more ≡ all → some ≡ with_indexes known (indexes_within variables texts)
+    → with_indexes some (indexes_within variables more) ≡ with_indexes known (indexes_within variables all)
+indexes_within-both variables known some texts more all e s =
+    ap (λ l. with_indexes l (indexes_within variables more)) s ∙ sym (with_indexes-append known (indexes_within variables texts) (indexes_within variables more))
+    ∙ ap (with_indexes known) (sym (indexes_within-append variables texts more) ∙ ap (indexes_within variables) e)
 
 -- ---- what the names of texts lead to
 
 module _ (variables : List Variable) where
   -- a name that has no index adds none
   indexes_of-none : (name : List ℕ) (ps : List Part) → index_of variables name ≡ None → indexes_of variables (Name name ∷ ps) ≡ indexes_of variables ps
-  indexes_of-none name ps h = rw (h, indexes_of) refl
+  indexes_of-none name ps h = rw (h, numbers_of) refl
 
   -- where the name has an index, that comes first
   indexes_of-some : (name : List ℕ) (ps : List Part) (index : ℕ) → index_of variables name ≡ Some index → indexes_of variables (Name name ∷ ps) ≡ index ∷ indexes_of variables ps
-  indexes_of-some name ps index h = rw (h, indexes_of) refl
+  indexes_of-some name ps index h = rw (h, numbers_of) refl
 
   -- the indexes that parts name are indexes of variables
   pub indexes_of-below : (ps : List Part) (q : ℕ) → list_any (nat_eq q) (indexes_of variables ps) ≡ true → q < length variables

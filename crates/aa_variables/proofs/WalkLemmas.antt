@@ -15,7 +15,8 @@ use Rattle.aa_variables.proofs.TestLemmas.{any-left, any-right, any-split, any-w
 use Rattle.aa_variables.specs.Expansions.{has_chain, leads_to_cycle}
 use Rattle.aa_variables.specs.Variables.{Variable}
 use Rattle.aa_variables.specs.code.ExpansionOrder.{IsOrder, are_texts_known, is_text_known}
-use Rattle.aa_variables.specs.code.ReachedVariables.{indexes_in, indexes_within, with_index, with_indexes}
+use Rattle.aa_parts.specs.Numbers.{with_index, with_indexes}
+use Rattle.aa_variables.specs.code.ReachedVariables.{indexes_in, indexes_within}
 use Rattle.aa_variables.specs.code.VariableIndexes.{words_at}
 use Rattle.aa_variables.specs.code.VariableWalks.{AllBelow, AreSeenTo, BeginsWith, IsBeginning, IsEndless, IsOrderOf, IsSettled, IsStack, IsWalk, IsWalked, Progress, SomeEndless, after_task, is_for, leaves, names_at}
 use Rattle.aa_variables.specs.declared.variables.walk.Task.{Task}

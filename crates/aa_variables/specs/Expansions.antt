@@ -70,7 +70,3 @@ expansion_refusal variables text =
     if leads_to_undefined variables text then Some Undefined else
     if leads_to_cycle variables text then Some Cycle else
     None
-
--- no count goes on behind this one, which no file may reach
-abbrev pub most_counted : ℕ
-most_counted = 16385

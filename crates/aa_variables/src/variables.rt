@@ -1,14 +1,12 @@
 //! The variables that a profile's text defines, by name.
 
 ghost use Rattle.std.specs.Prelude.{◌≡◌, ◌≢◌, ◌<◌, ◌++◌, ◌∷◌, [], true, false, length, map, Ok, Err, None, IfOk, IfErr, OnOk, OnErr, option_map, slice_get};
-ghost use Rattle.std.specs.List.{list_any};
-ghost use Rattle.aa_parts.specs.code.TextParts.{parts_of};
-ghost use Rattle.aa_variables.specs.Variables.{after_append, after_define, is_defined, is_undefined, named, names_undefined, same_texts};
+ghost use Rattle.aa_variables.specs.Variables.{after_append, after_define, is_defined, named, names_undefined, same_texts};
 ghost use Rattle.aa_files.specs.declared.text_error.TextRefusal.TheVariants.{Memory};
 
 use aa_bytes::Sequence;
 use aa_files::{TextError, TextRefusal, plain};
-use aa_parts::{TextPart, first_part};
+use aa_parts::has_missing;
 use indexmap::IndexMap;
 use std::alloc::{AllocError, Global};
 use std::marker::Model;
@@ -163,32 +161,15 @@ impl Variables {
         Ok(())
     }
 
-    // Whether a part of a text names a variable that isn't defined, or is a name that isn't closed.
-    fn is_undefined(&self, part: TextPart<'_>) -> bool
-        ensures { result ≡ list_any (is_undefined self.now) (parts_of part.entry) }
-    {
-        match part {
-            TextPart::Text(_) => false,
-            TextPart::Name(name) => !self.by_name.contains_key(name),
-            TextPart::Unclosed => true,
-        }
-    }
-
     /// Whether a text itself names a variable that isn't defined, or doesn't close a name. It takes no memory.
     pub fn undefined(&self, text: &[u8]) -> bool
         ensures { result ≡ names_undefined self.now text.now }
     {
-        let mut rest = text;
-        while let Some((part, after)) = first_part(rest) {
-            if self.is_undefined(part) {
-                return true;
-            }
-            rest = after;
-        }
-        false
+        has_missing(text, |name| self.index_of(name).is_none())
     }
 }
 
+mod column;
 mod count;
 mod expand;
 mod indexes;

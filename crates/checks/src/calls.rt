@@ -35,7 +35,12 @@ fn adds_profiles(alloc: Global) -> Result<bool, Fail> {
     Ok(
         added
             && is_answered(&manager, b"first", b"/a", b"allow\n")
-            && is_answered(&manager, b"first", b"/b", b"refuse\n"),
+            && is_answered(
+                &manager,
+                b"first",
+                b"/b",
+                b"refuse\napparmor=\"DENIED\" operation=\"file\" profile=\"first\" name=\"/b\" requested_mask=\"r\" denied_mask=\"r\"\n",
+            ),
     )
 }
 

@@ -23,9 +23,14 @@ impl Asks for PolicySets {
     ) -> Result<(), RowError> {
         match kind {
             "refusals" => refusals::ask(tally, parts),
-            "commands" | "profiles" | "grammar" | "includes" | "places" | "lengths" | "streams" => {
-                runs::ask(tally, common, parts)
-            }
+            "commands"
+            | "profiles"
+            | "grammar"
+            | "decisions"
+            | "includes"
+            | "places"
+            | "lengths"
+            | "streams" => runs::ask(tally, common, parts),
             _ => Err(RowError::NoSuchKind),
         }
     }

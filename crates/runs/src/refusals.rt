@@ -42,7 +42,7 @@ const TEXT_REFUSALS: [TextRefusal; 11] = [
     TextRefusal::Memory,
 ];
 
-const REFUSAL_KINDS: [RefusalKind; 38] = [
+const REFUSAL_KINDS: [RefusalKind; 40] = [
     RefusalKind::NotAbsolute,
     RefusalKind::UnclosedClass,
     RefusalKind::EmptyClass,
@@ -69,6 +69,8 @@ const REFUSAL_KINDS: [RefusalKind; 38] = [
     RefusalKind::BadFlag,
     RefusalKind::BadAccess,
     RefusalKind::WriteAppend,
+    RefusalKind::BadCapability,
+    RefusalKind::BadNetwork,
     RefusalKind::TwiceNamed,
     RefusalKind::NestedChild,
     RefusalKind::LateAssignment,

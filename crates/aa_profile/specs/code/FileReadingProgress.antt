@@ -7,9 +7,9 @@ use Rattle.aa_text.specs.Splicing.{Placed}
 use Rattle.aa_variables.specs.Variables.{Variable}
 use Rattle.aa_files.specs.declared.text_error.Place.{Place}
 use Rattle.aa_profile.specs.Assignments.{first_undefined}
-use Rattle.aa_profile.specs.ProfileError.{plain}
-use Rattle.aa_profile.specs.declared.profile_error.ProfileError.{ProfileError}
-use Rattle.aa_profile.specs.declared.profile_error.ProfileRefusal.TheVariants.{Memory}
+use Rattle.aa_refusals.specs.ProfileError.{plain}
+use Rattle.aa_refusals.specs.declared.profile_error.ProfileError.{ProfileError}
+use Rattle.aa_refusals.specs.declared.profile_error.ProfileRefusal.TheVariants.{Memory}
 use Rattle.aa_grammar.specs.Preamble.{Assignment}
 use Rattle.aa_rules.specs.Tokens.{place_of, text_of}
 

@@ -1,11 +1,9 @@
 -- Tables that stand beside an order of variables: what the variable at each index of the order has.
-use Rattle.std.specs.Prelude.{ℕ, ◌≡◌, nat_eq, List, [], length, map, flat_map, min, take, position, slice_index_or, Option, None, Some, Vec}
-use Rattle.std.specs.List.{sum_by}
-use Rattle.aa_parts.specs.Choices.{choice_count, choices}
-use Rattle.aa_parts.specs.Joining.{cut_off, joined, texts_of}
-use Rattle.aa_parts.specs.Parts.{Part, parts}
+use Rattle.std.specs.Prelude.{ℕ, ◌≡◌, nat_eq, List, [], length, map, flat_map, take, position, slice_index_or, Option, None, Some, Vec}
+use Rattle.aa_parts.specs.Counting.{count_of}
+use Rattle.aa_parts.specs.Joining.{cut_off, texts_of}
 use Rattle.aa_variables.specs.Variables.{Variable}
-use Rattle.aa_variables.specs.Expansions.{expansions, most_counted}
+use Rattle.aa_variables.specs.Expansions.{expansions}
 use Rattle.aa_variables.specs.code.VariableIndexes.{index_of, words_at}
 
 -- the row of a name's variable in each table that stands beside an order
@@ -21,21 +19,13 @@ row_or other table (Some row) = slice_index_or table row other
 abbrev pub looked_up : {A : Type 0} → A → List Variable → List ℕ → List A → List ℕ → A
 looked_up other variables order table name = row_or other table (row_of variables order name)
 
--- how many expansions a text has by a table of counts, as far as they are counted
-abbrev pub counted : (List ℕ → ℕ) → List ℕ → ℕ
-counted counts text = min (choice_count counts (parts text)) most_counted
-
--- how many expansions words have together, as far as they are counted
-abbrev pub counted_words : (List ℕ → ℕ) → List (List ℕ) → ℕ
-counted_words counts words = min (sum_by (counted counts) words) most_counted
-
 -- the values of the variable at an index
 abbrev pub values_at : List Variable → ℕ → List (List ℕ)
 values_at variables index = flat_map (expansions variables) (words_at variables index)
 
 -- how many values the variable at an index has, as far as they are counted
 abbrev pub count_at : List Variable → ℕ → ℕ
-count_at variables index = min (length (values_at variables index)) most_counted
+count_at variables index = count_of (values_at variables index)
 
 -- counts of the first variables of an order
 abbrev pub AreFirstCounts : List Variable → List ℕ → List ℕ → Type 0
@@ -44,14 +34,6 @@ AreFirstCounts variables order counts = counts ≡ map (count_at variables) (tak
 -- the values of the variable at an index, each cut off
 abbrev pub cut_off_at : List Variable → ℕ → List (List ℕ)
 cut_off_at variables index = cut_off (values_at variables index)
-
--- texts with each choice of values for parts behind them, each cut off
-abbrev pub extended : (List ℕ → List (List ℕ)) → List (List ℕ) → List Part → List (List ℕ)
-extended values texts parts = cut_off (joined texts (choices values parts))
-
--- the expansions of words by a table of values, one list behind the other
-abbrev pub expanded_words : (List ℕ → List (List ℕ)) → List (List ℕ) → List (List ℕ)
-expanded_words values words = flat_map (λ word. cut_off (choices values (parts word))) words
 
 -- the values that a table in memory has for a name
 abbrev pub cut_off_by : {A B : Type 0} → List Variable → List ℕ → List (Vec (Vec ℕ A) B) → List ℕ → List (List ℕ)

@@ -3,10 +3,10 @@ use Rattle.std.specs.Prelude.{ℕ, Bool, true, false, nat_eq, ◌≡◌, ◌≤�
 use Rattle.std.specs.List.{list_any}
 use Rattle.aa_bytes.specs.Texts.{is_empty}
 use Rattle.aa_parts.specs.Joining.{texts_of}
-use Rattle.aa_parts.specs.Parts.{Part, Byte, Name, Unclosed, parts}
+use Rattle.aa_parts.specs.Missing.{has_missing}
 use Rattle.aa_variables.specs.Variables.{Variable, names_undefined}
 use Rattle.aa_variables.specs.code.ExpansionOrder.{is_text_known}
-use Rattle.aa_variables.specs.code.ExpansionTables.{count_at, cut_off_at, cut_off_by}
+use Rattle.aa_variables.specs.code.ExpansionTables.{count_at, cut_off_at}
 use Rattle.aa_variables.specs.code.VariableIndexes.{words_at}
 use Rattle.aa_variables.specs.code.VariableWalks.{IsSettled}
 use Rattle.aa_variables.specs.declared.variables.table.Rows.{Rows}
@@ -46,19 +46,9 @@ pub record HasText (variables : List Variable) (text : List ℕ) (rows : Rows) :
   pub known : is_text_known variables rows.order.keys text ≡ true
   pub defined : names_undefined variables text ≡ false
 
--- the values that a table in memory holds for a name
-abbrev pub values_held : List Variable → Rows → List ℕ → List (List ℕ)
-values_held variables rows = cut_off_by variables rows.order.keys rows.values.items
-
--- no values are held for what a part names
-abbrev pub is_part_lacking : (List ℕ → List (List ℕ)) → Part → Bool
-is_part_lacking values (Byte b) = false
-is_part_lacking values (Name name) = is_empty (values name)
-is_part_lacking values Unclosed = true
-
--- for something that a text names
+-- no values are held for something that a text names
 abbrev pub is_text_lacking : (List ℕ → List (List ℕ)) → List ℕ → Bool
-is_text_lacking values text = list_any (is_part_lacking values) (parts text)
+is_text_lacking values text = has_missing (λ name. is_empty (values name)) text
 
 -- for something that texts name
 abbrev pub are_texts_lacking : (List ℕ → List (List ℕ)) → List (List ℕ) → Bool

@@ -1,7 +1,8 @@
 -- The variables that a text leads to, as the code gathers them: a list of indexes, each of which is looked at in turn.
-use Rattle.std.specs.Prelude.{ℕ, Bool, suc, true, false, ◌≡◌, ◌+◌, ◌<◌, ◌≤◌, nat_eq, List, [], ◌∷◌, ◌++◌, length, slice_get, None, Some, if◌then◌else◌}
+use Rattle.std.specs.Prelude.{ℕ, Bool, suc, true, false, ◌≡◌, ◌+◌, ◌<◌, ◌≤◌, nat_eq, List, length, slice_get, Some}
 use Rattle.std.specs.List.{list_any, IsDistinct}
-use Rattle.aa_parts.specs.Parts.{Part, Byte, Name, Unclosed, parts}
+use Rattle.aa_parts.specs.Numbers.{numbers_in, numbers_of, numbers_within}
+use Rattle.aa_parts.specs.Parts.{Part}
 use Rattle.aa_variables.specs.Variables.{Variable, names_undefined}
 use Rattle.aa_variables.specs.Expansions.{leads_to_undefined_within}
 use Rattle.aa_files.specs.declared.text_error.TextRefusal.{TextRefusal}
@@ -10,31 +11,15 @@ use Rattle.aa_variables.specs.code.VariableIndexes.{index_of, words_at}
 
 -- the indexes of the variables that parts name, as far as they are defined
 abbrev pub indexes_of : List Variable → List Part → List ℕ
-indexes_of variables [] = []
-indexes_of variables (Byte b ∷ ps) = indexes_of variables ps
-indexes_of variables (Name name ∷ ps) = elim (index_of variables name) [
-  | None ↦ indexes_of variables ps
-  | Some index ↦ index ∷ indexes_of variables ps
-]
-indexes_of variables (Unclosed ∷ ps) = indexes_of variables ps
+indexes_of variables ps = numbers_of (index_of variables) ps
 
 -- the indexes of the variables that a text names
 abbrev pub indexes_in : List Variable → List ℕ → List ℕ
-indexes_in variables text = indexes_of variables (parts text)
+indexes_in variables text = numbers_in (index_of variables) text
 
 -- the indexes of the variables that texts name
 abbrev pub indexes_within : List Variable → List (List ℕ) → List ℕ
-indexes_within variables [] = []
-indexes_within variables (text ∷ texts) = indexes_in variables text ++ indexes_within variables texts
-
--- indexes with one more, which goes last unless it is there
-abbrev pub with_index : List ℕ → ℕ → List ℕ
-with_index known index = if list_any (nat_eq index) known then known else known ++ index ∷ []
-
--- indexes with each of others in turn
-abbrev pub with_indexes : List ℕ → List ℕ → List ℕ
-with_indexes known [] = known
-with_indexes known (index ∷ indexes) = with_indexes (with_index known index) indexes
+indexes_within variables texts = numbers_within (index_of variables) texts
 
 -- a refusal says that something undefined was found, and it was
 abbrev pub SaysUndefined : TextRefusal → Bool → Type 0

@@ -4,7 +4,8 @@ use Rattle.std.specs.List.{list_any, IsDistinct}
 use Rattle.aa_variables.specs.Variables.{Variable}
 use Rattle.aa_variables.specs.Expansions.{has_chain}
 use Rattle.aa_variables.specs.code.ExpansionOrder.{IsOrder, is_text_known}
-use Rattle.aa_variables.specs.code.ReachedVariables.{indexes_within, with_index, with_indexes}
+use Rattle.aa_parts.specs.Numbers.{with_index, with_indexes}
+use Rattle.aa_variables.specs.code.ReachedVariables.{indexes_within}
 use Rattle.aa_variables.specs.code.VariableIndexes.{words_at}
 use Rattle.aa_variables.specs.declared.variables.walk.Task.{Task}
 use Rattle.aa_variables.specs.declared.variables.walk.Task.TheVariants.{Enter, Leave}

@@ -1,22 +1,38 @@
 //! The expansions of a text: one for each choice of a value for each of its names.
 
-ghost use Rattle.std.specs.Prelude.{◌≡◌, ◌≢◌, ◌<◌, ◌≤◌, [], None, Some, IfOk, IfErr, OnOk, length, map, take};
+ghost use Rattle.std.specs.Prelude.{◌≡◌, ◌≢◌, ◌<◌, ◌≤◌, ℕ, List, None, Some, IfOk, IfErr, OnOk, length, map, take};
+ghost use Rattle.aa_parts.specs.Choices.{choices_within};
+ghost use Rattle.aa_parts.specs.Expanding.{AreCutOff};
+ghost use Rattle.aa_parts.specs.Joining.{cut_off, most_kept, texts_of};
+ghost use Rattle.aa_parts.specs.Names.{EachNameWithin};
+ghost use Rattle.aa_variables.specs.code.Columns.{values_in};
 ghost use Rattle.aa_variables.specs.code.ExpansionOrder.{IsOrder};
-ghost use Rattle.aa_variables.specs.code.ExpansionTables.{cut_off_at, cut_off_by, expanded_words, extended};
+ghost use Rattle.aa_variables.specs.code.ExpansionTables.{cut_off_at};
 ghost use Rattle.aa_variables.specs.Expansions.{expansion_refusal, expansions};
 ghost use Rattle.aa_variables.specs.code.VariableIndexes.{words_at};
-ghost use Rattle.aa_parts.specs.Choices.{choices};
-ghost use Rattle.aa_parts.specs.Joining.{as_texts, cut_off, most_kept, texts_of};
-ghost use Rattle.aa_parts.specs.Parts.{parts};
-ghost use Rattle.aa_parts.specs.code.TextParts.{parts_of};
 ghost use Rattle.aa_files.specs.declared.text_error.TextRefusal.TheVariants.{Memory};
 
 use crate::variables::Variables;
-use aa_bytes::Sequence;
+use crate::variables::column::Column;
 use aa_files::TextError;
-use aa_parts::{TextPart, first_part, with_bytes, with_ends};
+use aa_parts::{expand_text, expand_words};
 use indexmap::IndexSet;
 use std::alloc::AllocError;
+
+// The values of the variable at an index, by those of the variables that its words name.
+pub(super) fn expanded_at(
+    values: &Column<'_, Vec<Vec<u8>>>,
+    index: usize,
+) -> Result<Vec<Vec<u8>>, AllocError>
+    ensures { IfOk result (λ texts. (whole : List ℕ → List (List ℕ)) → EachNameWithin (AreCutOff (values_in values.now) whole) (words_at values.now.variables.now index) → texts_of texts ≡ cut_off (choices_within whole (words_at values.now.variables.now index))) }
+{
+    let alloc = *values.order.allocator();
+    let (defined, added) = values.variables.words(index);
+    let mut texts = expand_words(alloc, values, defined)?;
+    let mut more = expand_words(alloc, values, added)?;
+    texts.append(&mut more)?;
+    Ok(texts)
+}
 
 impl Variables {
     /// The expansions of a text, at least one: one for each choice of a value for each name, the first name changing slowest. Of each,
@@ -39,7 +55,8 @@ impl Variables {
     {
         let order = self.order(text)?;
         let table = self.table(&order)?;
-        Ok(self.expand_text(&order, table.as_slice(), text)?)
+        let values = self.beside(&order, table.as_slice());
+        Ok(expand_text(*order.allocator(), &values, text)?)
     }
 
     // The values of each variable of an order.
@@ -49,107 +66,11 @@ impl Variables {
         ensures { IfOk result (λ table. map texts_of table.items ≡ map (cut_off_at self.now) order.now.keys) }
     {
         let indexes = order.as_slice();
-        let mut table = Vec::with_capacity(*self.by_name.allocator(), indexes.len())?;
+        let mut table = Vec::with_capacity(*order.allocator(), indexes.len())?;
         for index in indexes {
-            let texts = self.expand_variable(order, table.as_slice(), *index)?;
+            let texts = expanded_at(&self.beside(order, table.as_slice()), *index)?;
             table.push(texts)?;
         }
         Ok(table)
-    }
-
-    // The values of the variable at an index, by a table of values.
-    pub(super) fn expand_variable(
-        &self,
-        order: &IndexSet<usize>,
-        table: &[Vec<Vec<u8>>],
-        index: usize,
-    ) -> Result<Vec<Vec<u8>>, AllocError>
-        ensures { IfOk result (λ texts. texts_of texts ≡ expanded_words (cut_off_by self.now order.now.keys table.now) (words_at self.now index)) }
-    {
-        match self.by_name.get_index(index) {
-            Some((_, values)) => {
-                let mut texts = self.expand_words(order, table, values.defined.as_slice())?;
-                let mut added = self.expand_words(order, table, values.added.as_slice())?;
-                texts.append(&mut added)?;
-                Ok(texts)
-            }
-            None => Ok(Vec::new(*self.by_name.allocator())),
-        }
-    }
-
-    // The expansions of words, by a table of values, one list behind the other.
-    fn expand_words(
-        &self,
-        order: &IndexSet<usize>,
-        table: &[Vec<Vec<u8>>],
-        words: &[Sequence<u8>],
-    ) -> Result<Vec<Vec<u8>>, AllocError>
-        ensures { IfOk result (λ texts. texts_of texts ≡ expanded_words (cut_off_by self.now order.now.keys table.now) words.now) }
-    {
-        let mut texts = Vec::new(*self.by_name.allocator());
-        for word in words {
-            let mut more = self.expand_text(order, table, word.as_slice())?;
-            texts.append(&mut more)?;
-        }
-        Ok(texts)
-    }
-
-    // The expansions of a text, by a table of values.
-    pub(super) fn expand_text(
-        &self,
-        order: &IndexSet<usize>,
-        table: &[Vec<Vec<u8>>],
-        text: &[u8],
-    ) -> Result<Vec<Vec<u8>>, AllocError>
-        ensures { IfOk result (λ texts. texts_of texts ≡ cut_off (choices (cut_off_by self.now order.now.keys table.now) (parts text.now))) }
-    {
-        let alloc = *self.by_name.allocator();
-        let mut texts = Vec::with_capacity(alloc, 1)?;
-        texts.push(Vec::new(alloc))?;
-        let mut rest = text;
-        while let Some((part, after)) = first_part(rest) {
-            texts = self.expand_part(order, table, part, texts)?;
-            rest = after;
-        }
-        Ok(texts)
-    }
-
-    // Texts with the expansions of a part behind them, by a table of values.
-    fn expand_part(
-        &self,
-        order: &IndexSet<usize>,
-        table: &[Vec<Vec<u8>>],
-        part: TextPart<'_>,
-        texts: Vec<Vec<u8>>,
-    ) -> Result<Vec<Vec<u8>>, AllocError>
-        ensures { IfOk result (λ all. texts_of all ≡ extended (cut_off_by self.now order.now.keys table.now) (texts_of texts) (parts_of part.entry)) }
-    {
-        let alloc = *self.by_name.allocator();
-        match part {
-            TextPart::Text(bytes) => with_bytes(texts, bytes),
-            TextPart::Name(name) => {
-                let values = self.values(order, table, name);
-                with_ends(alloc, texts.as_slice(), values)
-            }
-            TextPart::Unclosed => Ok(Vec::new(alloc)),
-        }
-    }
-
-    // The values of a name, by a table of values.
-    pub(super) fn values<'a>(
-        &self,
-        order: &IndexSet<usize>,
-        table: &'a [Vec<Vec<u8>>],
-        name: &[u8],
-    ) -> &'a [Vec<u8>]
-        ensures { as_texts result.now ≡ cut_off_by self.now order.now.keys table.now name.now }
-    {
-        match self.row(order, name) {
-            Some(row) => match table.get(row) {
-                Some(values) => values.as_slice(),
-                None => &[],
-            },
-            None => &[],
-        }
     }
 }

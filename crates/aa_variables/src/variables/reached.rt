@@ -3,15 +3,15 @@
 ghost use Rattle.std.specs.Prelude.{◌≡◌, ◌≢◌, ◌<◌, ◌-◌, ◌^◌, true, false, slice_get, None, IfSome, IfErr, OnOk, length};
 ghost use Rattle.std.specs.List.{list_any};
 ghost use Rattle.aa_variables.specs.Expansions.{leads_to_undefined};
-ghost use Rattle.aa_variables.specs.code.ReachedVariables.{SaysUndefined, indexes_in, indexes_of, indexes_within, with_indexes};
-ghost use Rattle.aa_parts.specs.code.TextParts.{parts_of};
+ghost use Rattle.aa_variables.specs.code.ReachedVariables.{SaysUndefined, indexes_in, indexes_within};
+ghost use Rattle.aa_parts.specs.Numbers.{with_indexes};
 ghost use Rattle.aa_variables.specs.code.VariableIndexes.{words_at};
 ghost use Rattle.aa_variables.specs.Variables.{are_variables, names_undefined};
 ghost use Rattle.aa_files.specs.declared.text_error.TextRefusal.TheVariants.{Memory};
 
 use crate::variables::Variables;
 use aa_files::{TextError, TextRefusal, plain};
-use aa_parts::{TextPart, first_part};
+use aa_parts::{gather_numbers, gather_numbers_within, have_missing};
 use indexmap::IndexSet;
 use std::alloc::AllocError;
 
@@ -24,31 +24,11 @@ pub(super) fn gathered(reached: &IndexSet<usize>, at: usize) -> Option<usize>
 }
 
 impl Variables {
-    // Gathers the index of the variable that a part of a text names, if it is defined.
-    fn note_part(&self, part: TextPart<'_>, reached: &mut IndexSet<usize>) -> Result<(), AllocError>
-        ensures { OnOk result (reached.new.keys ≡ with_indexes reached.old.keys (indexes_of self.now (parts_of part.entry))) }
-    {
-        let name = match part {
-            TextPart::Text(_) => return Ok(()),
-            TextPart::Name(name) => name,
-            TextPart::Unclosed => return Ok(()),
-        };
-        if let Some(index) = self.index_of(name) {
-            reached.insert(index)?;
-        }
-        Ok(())
-    }
-
     // Gathers the indexes of the variables that a text names, as far as they are defined.
     pub(super) fn note(&self, text: &[u8], reached: &mut IndexSet<usize>) -> Result<(), AllocError>
         ensures { OnOk result (reached.new.keys ≡ with_indexes reached.old.keys (indexes_in self.now text.now)) }
     {
-        let mut rest = text;
-        while let Some((part, after)) = first_part(rest) {
-            self.note_part(part, reached)?;
-            rest = after;
-        }
-        Ok(())
+        gather_numbers(text, |name| self.index_of(name), reached)
     }
 
     // Gathers the indexes of the variables that the words of the variable at an index name, as far as they are defined.
@@ -59,26 +39,18 @@ impl Variables {
     ) -> Result<(), AllocError>
         ensures { OnOk result (reached.new.keys ≡ with_indexes reached.old.keys (indexes_within self.now (words_at self.now index))) }
     {
-        let mut at = 0;
-        while let Some(word) = self.word(index, at) {
-            self.note(word, reached)?;
-            at += 1;
-        }
-        Ok(())
+        let (defined, added) = self.words(index);
+        gather_numbers_within(defined, |name| self.index_of(name), reached)?;
+        gather_numbers_within(added, |name| self.index_of(name), reached)
     }
 
     // Whether a word of the variable at an index names a variable that isn't defined, or doesn't close a name.
     pub(super) fn undefined_at(&self, index: usize) -> bool
         ensures { result ≡ list_any (names_undefined self.now) (words_at self.now index) }
     {
-        let mut at = 0;
-        while let Some(word) = self.word(index, at) {
-            if self.undefined(word) {
-                return true;
-            }
-            at += 1;
-        }
-        false
+        let (defined, added) = self.words(index);
+        have_missing(defined, |name| self.index_of(name).is_none())
+            || have_missing(added, |name| self.index_of(name).is_none())
     }
 
     // Refuses a text that leads to a name that isn't defined or isn't closed: looks at all variables that it leads to.

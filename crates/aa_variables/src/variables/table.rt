@@ -5,19 +5,22 @@
 //! long an answer takes, not what it is: what isn't held is worked out anew.
 
 ghost use Rattle.std.specs.Prelude.{◌≡◌, ◌≢◌, ◌<◌, [], None, Some, IfOk, IfErr, IfSome, OnOk, drop, length, true, map, min, take};
+ghost use Rattle.aa_parts.specs.Counting.{most_counted};
 ghost use Rattle.aa_parts.specs.Joining.{most_kept, texts_of};
-ghost use Rattle.aa_variables.specs.code.HeldValues.{AreRows, AreValuesAt, HasText, IsSpent, are_texts_lacking, is_part_lacking, is_text_lacking, names_undefined_at, values_held};
-ghost use Rattle.aa_parts.specs.code.TextParts.{parts_of};
+ghost use Rattle.aa_variables.specs.code.HeldValues.{AreRows, AreValuesAt, HasText, IsSpent, are_texts_lacking, names_undefined_at};
+ghost use Rattle.aa_variables.specs.code.Columns.{values_in};
 ghost use Rattle.aa_variables.specs.code.VariableIndexes.{words_at};
-ghost use Rattle.aa_variables.specs.Expansions.{expansion_refusal, expansions, most_counted};
+ghost use Rattle.aa_variables.specs.Expansions.{expansion_refusal, expansions};
 ghost use Rattle.aa_variables.specs.Variables.{are_variables};
 ghost use Rattle.std.specs.List.{list_any};
 ghost use Rattle.aa_files.specs.declared.text_error.TextRefusal.TheVariants.{Memory};
 
 use crate::variables::Variables;
+use crate::variables::column::Column;
+use crate::variables::expand::expanded_at;
 use crate::variables::reached::gathered;
 use aa_files::TextError;
-use aa_parts::{TextPart, first_part};
+use aa_parts::{count_text, expand_text, has_missing, have_missing};
 use indexmap::IndexSet;
 use std::alloc::{AllocError, Global};
 use std::marker::Model;
@@ -88,6 +91,20 @@ fn note_uses(order: &IndexSet<usize>, indexes: &[usize], uses: &mut Vec<usize>)
     }
 }
 
+// Whether no values are held for something that the words of the variable at an index name.
+fn lacks_at(held: &Column<'_, Vec<Vec<u8>>>, index: usize) -> bool
+    ensures { result ≡ are_texts_lacking (values_in held.now) (words_at held.now.variables.now index) }
+{
+    let (defined, added) = held.variables.words(index);
+    have_missing(defined, |name| held.lacks(name)) || have_missing(added, |name| held.lacks(name))
+}
+
+// How many rows there are up to the last of some variables.
+fn rows_needed(order: &IndexSet<usize>, indexes: &[usize]) -> usize {
+    let rows = indexes.iter().filter_map(|index| order.get_index_of(index));
+    rows.max().map_or(0, |row| row.saturating_add(1))
+}
+
 impl Variables {
     // They are variables. It costs nothing.
     fn lawful(&self)
@@ -96,71 +113,24 @@ impl Variables {
         let _ = &self.by_name;
     }
 
-    // Whether no values are held for what a part of a text names.
-    fn lacks_part(&self, rows: &Rows, part: TextPart<'_>) -> bool
-        ensures { result ≡ list_any (is_part_lacking (values_held self.now rows.now)) (parts_of part.entry) }
-    {
-        match part {
-            TextPart::Text(_) => false,
-            TextPart::Name(name) => {
-                let values = self.values(&rows.order, rows.values.as_slice(), name);
-                values.is_empty()
-            }
-            TextPart::Unclosed => true,
-        }
-    }
-
-    // Whether none are held for something that a text names.
-    fn lacks(&self, rows: &Rows, text: &[u8]) -> bool
-        ensures { result ≡ is_text_lacking (values_held self.now rows.now) text.now }
-    {
-        let mut rest = text;
-        while let Some((part, after)) = first_part(rest) {
-            if self.lacks_part(rows, part) {
-                return true;
-            }
-            rest = after;
-        }
-        false
-    }
-
-    // Whether none are held for something that the words of the variable at an index name.
-    fn lacks_at(&self, rows: &Rows, index: usize) -> bool
-        ensures { result ≡ are_texts_lacking (values_held self.now rows.now) (words_at self.now index) }
-    {
-        let mut at = 0;
-        while let Some(word) = self.word(index, at) {
-            if self.lacks(rows, word) {
-                return true;
-            }
-            at += 1;
-        }
-        false
-    }
-
     // The values of the variable at an index, or none where those aren't held that its words name.
     fn row_values(&self, rows: &Rows, index: usize) -> Result<Vec<Vec<u8>>, AllocError>
         requires { AreRows self.now rows.now }
         ensures { IfOk result (λ values. AreValuesAt self.now index (texts_of values)) }
     {
-        if self.lacks_at(rows, index) {
+        let held = self.beside(&rows.order, rows.values.as_slice());
+        if lacks_at(&held, index) {
             return Ok(Vec::new(*rows.order.allocator()));
         }
-        self.expand_variable(&rows.order, rows.values.as_slice(), index)
+        expanded_at(&held, index)
     }
 
     // Whether a word of the variables behind the first ones of an order names a variable that isn't defined, or doesn't close a name.
     fn undefined_behind(&self, order: &IndexSet<usize>, first: usize) -> bool
         ensures { result ≡ list_any (names_undefined_at self.now) (drop first order.now.keys) }
     {
-        let mut at = first;
-        while let Some(index) = gathered(order, at) {
-            if self.undefined_at(index) {
-                return true;
-            }
-            at += 1;
-        }
-        false
+        let mut behind = order.as_slice().iter().skip(first);
+        behind.any(|index| self.undefined_at(*index))
     }
 
     // How often the values of each row will be asked for, with those of the rows behind the first ones, and of a text.
@@ -168,10 +138,9 @@ impl Variables {
         &self,
         order: &IndexSet<usize>,
         text: &[u8],
-        uses: Vec<usize>,
+        mut uses: Vec<usize>,
     ) -> Result<Vec<usize>, AllocError> {
         let alloc = *order.allocator();
-        let mut uses = uses;
         while let Some(index) = gathered(order, uses.len()) {
             let mut names = IndexSet::new(alloc);
             self.note_words(index, &mut names)?;
@@ -213,21 +182,6 @@ impl Variables {
             values,
             uses,
         }))
-    }
-
-    // How many rows there are up to the last that a text names.
-    fn rows_needed(&self, rows: &Rows, text: &[u8]) -> usize {
-        let mut needed = 0;
-        let mut rest = text;
-        while let Some((part, after)) = first_part(rest) {
-            if let TextPart::Name(name) = part {
-                if let Some(row) = self.row(&rows.order, name) {
-                    needed = needed.max(row.saturating_add(1));
-                }
-            }
-            rest = after;
-        }
-        needed
     }
 }
 
@@ -281,9 +235,8 @@ impl<'v> ExpansionTable<'v> {
         match self.variables.grown(text, rows)? {
             Some(rows) => {
                 self.variables.lawful();
-                let count = self
-                    .variables
-                    .count_text(&rows.order, rows.counts.as_slice(), text);
+                let counts = self.variables.beside(&rows.order, rows.counts.as_slice());
+                let count = count_text(&counts, text);
                 self.rows = rows;
                 Ok(count)
             }
@@ -306,11 +259,11 @@ impl<'v> ExpansionTable<'v> {
         Ok(())
     }
 
-    // Works out the values of all rows up to the last that a text names.
-    fn fill(&mut self, text: &[u8]) -> Result<(), AllocError>
+    // Works out the values of all rows up to the last of some variables.
+    fn fill(&mut self, indexes: &[usize]) -> Result<(), AllocError>
         ensures { self.new ≡ self.old }
     {
-        let needed = self.variables.rows_needed(&self.rows, text);
+        let needed = rows_needed(&self.rows.order, indexes);
         for _ in self.rows.values.len()..needed {
             self.fill_row()?;
         }
@@ -332,17 +285,17 @@ impl<'v> ExpansionTable<'v> {
         ensures place { IfErr result (λ e. e.place ≡ None) }
         ensures same { self.new ≡ self.old }
     {
-        self.fill(text)?;
-        if self.variables.lacks(&self.rows, text) {
+        let alloc = *self.rows.order.allocator();
+        let mut names = IndexSet::new(alloc);
+        self.variables.note(text, &mut names)?;
+        self.fill(names.as_slice())?;
+        let rows = &self.rows;
+        let held = self.variables.beside(&rows.order, rows.values.as_slice());
+        if has_missing(text, |name| held.lacks(name)) {
             return self.variables.expand(text);
         }
         self.variables.lawful();
-        let rows = &self.rows;
-        let texts = self
-            .variables
-            .expand_text(&rows.order, rows.values.as_slice(), text)?;
-        let mut names = IndexSet::new(*self.rows.order.allocator());
-        self.variables.note(text, &mut names)?;
+        let texts = expand_text(alloc, &held, text)?;
         self.rows.spend(names.as_slice());
         Ok(texts)
     }

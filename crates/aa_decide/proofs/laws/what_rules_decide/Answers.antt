@@ -1,4 +1,6 @@
 use Rattle.aa_decide.proofs.VerdictLemmas.{verdict-allow, verdict-complain, verdict-deny, verdict-order}
+use Rattle.std.proofs.Common.{ap}
+use Rattle.aa_decide.specs.LogLines.{log_line}
 use Rattle.aa_decide.proofs.laws.what_rules_decide.Goals as goal
 
 pub returns-clause-complain : goal.returns-clause-complain
@@ -12,3 +14,6 @@ returns-clause-allow c = verdict-allow
 
 pub returns-clause-deny : goal.returns-clause-deny
 returns-clause-deny c = verdict-deny
+
+pub returns-clause-line : goal.returns-clause-line
+returns-clause-line c asker mode flag rules others request same = ap (log_line asker request) (verdict-order mode flag rules others request same)

@@ -1,11 +1,12 @@
 use Rattle.std.proofs.Common.{◌∙◌}
-use Rattle.aa_decide.specs.Verdict.{allows, allows_aloud, denies, denies_aloud, request_of}
+use Rattle.aa_decide.specs.Verdict.{allows, allows_aloud, denies, denies_aloud}
 use Rattle.aa_decide.proofs.VerdictLemmas.{mask-step}
+use Rattle.aa_decide.specs.code.Requests.{request_of}
 use Rattle.aa_decide.proofs.verdict.masks_of.Goals as goal
 
 pub loop-rule-preserved : goal.loop-rule-preserved
 loop-rule-preserved c =
-    let request = request_of c.args.request in
+    let request = request_of c.args.request.now in
     let rules = c.args.rules.now in
     let at = c.loop-rule.rule-index in
     let masks = c.loop-rule.masks in

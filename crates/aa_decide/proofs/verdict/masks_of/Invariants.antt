@@ -1,5 +1,6 @@
 use Rattle.std.proofs.Common.{◌≡◌, drop}
-use Rattle.aa_decide.specs.Verdict.{allows, allows_aloud, audited, denied, denies, denies_aloud, granted, loud, request_of, with_covered}
+use Rattle.aa_decide.specs.Verdict.{allows, allows_aloud, audited, denied, denies, denies_aloud, granted, loud, with_covered}
+use Rattle.aa_decide.specs.code.Requests.{request_of}
 use Rattle.aa_decide.proofs.verdict.masks_of.Given as goal
 
 -- what the rules so far cover and what the others do is what all do

@@ -6,7 +6,7 @@ use Rattle.aa_rules.specs.Tokens.{place_of, text_of}
 use Rattle.aa_parts.specs.Joining.{most_kept}
 use Rattle.aa_variables.specs.Expansions.{expansions}
 use Rattle.aa_profile.specs.Patterns.{collapsed, refusal_of_expansions}
-use Rattle.aa_profile.specs.ProfileError.{placed}
+use Rattle.aa_refusals.specs.ProfileError.{placed}
 use Rattle.aa_profile.proofs.PatternLemmas.{both, patterns_told, refusals_told}
 use Rattle.aa_profile.proofs.patterns.read_patterns.Goals as goal
 

@@ -1,5 +1,5 @@
 use Rattle.std.proofs.Common.{◌≡◌, take}
-use Rattle.aa_set.specs.Reply.{hexadecimal}
+use Rattle.aa_texts.specs.Texts.{hexadecimal}
 use Rattle.aa_lines.specs.Streams.{Tells}
 use Rattle.aa_set.proofs.telling.tell_hexadecimal.Given as goal
 

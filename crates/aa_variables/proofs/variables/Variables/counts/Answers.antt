@@ -11,7 +11,7 @@ pub loop-index-smaller : goal.loop-index-smaller
 loop-index-smaller c =
     let size : c.len.result ≡ length c.loop-index.counts.items = omega (arith, c.loop-index.counts.ok) in
     let within : length c.loop-index.counts.items < length c.args.order.now.keys = slice_get_within c.args.order.now.keys (length c.loop-index.counts.items) c.in-Some.index (sym (rw size at c.in-Some.ensures.value)) in
-    let longer = ap length c.in_ok-push.ensures.items ∙ length-append c.loop-index.counts.items (c.count_variable-count.result ∷ []) in
+    let longer = ap length c.in_ok-push.ensures.items ∙ length-append c.loop-index.counts.items (c.counted_at-count.result ∷ []) in
     omega arith
 
 pub loop-index-preserved : goal.loop-index-preserved
@@ -19,8 +19,8 @@ loop-index-preserved c =
     let size : c.len.result ≡ length c.loop-index.counts.items = omega (arith, c.loop-index.counts.ok) in
     let variables = c.args.self.now in
     let order = c.args.order.now.keys in
-    counts-more variables order (values-settled variables order c.requires.order c.requires.few) c.requires.order c.in-Some.index c.loop-index.counts.items c.push.new.self.items c.count_variable-count.result
-    (sym (rw size at c.in-Some.ensures.value)) c.loop-index.invariant (rw c.as_slice.ensures.value at c.count_variable-count.ensures) c.in_ok-push.ensures.items
+    counts-more variables order (values-settled variables order c.requires.order c.requires.few) c.requires.order c.beside.result c.in-Some.index c.loop-index.counts.items c.push.new.self.items c.counted_at-count.result
+    (rw c.as_slice.ensures.value at c.beside.ensures) (sym (rw size at c.in-Some.ensures.value)) c.loop-index.invariant c.counted_at-count.ensures c.in_ok-push.ensures.items
 
 pub returns : goal.returns
 returns c =

@@ -1,26 +1,19 @@
-use Rattle.std.proofs.Common.{◌<◌, sym, ap, ◌∙◌, length, arith}
+use Rattle.std.proofs.Common.{◌∙◌, ap, sym, rules}
 use Rattle.std.specs.List.{list_any}
-use Rattle.std.proofs.lemmas.Map.Keys.{any_passes_from_place}
-use Rattle.std.proofs.lemmas.Option.{slice_get_within}
-use Rattle.aa_variables.specs.code.VariableIndexes.{words_at}
 use Rattle.aa_variables.specs.Variables.{names_undefined}
-use Rattle.aa_variables.proofs.ListLemmas.{drop-none}
-use Rattle.aa_variables.proofs.ReachedLemmas.{any-drop}
+use Rattle.aa_variables.proofs.TestLemmas.{any-behind, any-left}
+use Rattle.aa_variables.proofs.PartLemmas.{has_no_index, words-undefined}
 use Rattle.aa_variables.proofs.variables.Variables.undefined_at.Goals as goal
 
-pub returns-then-undefined : goal.returns-then-undefined
-returns-then-undefined c =
-    sym (any_passes_from_place (names_undefined c.args.self.now) (words_at c.args.self.now c.args.index) c.loop-word.at c.in-Some.word.now (sym c.in-Some.ensures.value) (sym c.if-undefined.ensures))
+pub returns-then-have_missing : goal.returns-then-have_missing
+returns-then-have_missing c =
+    let test = names_undefined c.args.self.now in
+    let first = c.have_missing.ensures (has_no_index c.args.self.now) (λ name answer says. search rules) ∙ words-undefined c.args.self.now c.words.result.0.now in
+    c.if-have_missing.true ∙ sym (any-left test c.words.result.0.now c.words.result.1.now (sym first ∙ c.if-have_missing.true)) ∙ ap (list_any test) c.words.ensures
 
-pub loop-word-smaller : goal.loop-word-smaller
-loop-word-smaller c =
-    let within : c.loop-word.at < length (words_at c.args.self.now c.args.index) = slice_get_within (words_at c.args.self.now c.args.index) c.loop-word.at c.in-Some.word.now (sym c.in-Some.ensures.value) in
-    omega arith
-
-pub loop-word-preserved : goal.loop-word-preserved
-loop-word-preserved c =
-    any-drop (names_undefined c.args.self.now) (words_at c.args.self.now c.args.index) c.loop-word.at c.in-Some.word.now c.in-Some.ensures.value (sym c.if-undefined.ensures) ∙ c.loop-word.invariant
-
-pub returns : goal.returns
-returns c =
-    sym (ap (list_any (names_undefined c.args.self.now)) (drop-none (words_at c.args.self.now c.args.index) c.loop-word.at c.in_default.ensures.value)) ∙ c.loop-word.invariant
+pub returns-else-have_missing : goal.returns-else-have_missing
+returns-else-have_missing c =
+    let test = names_undefined c.args.self.now in
+    let first = c.have_missing.ensures (has_no_index c.args.self.now) (λ name answer says. search rules) ∙ words-undefined c.args.self.now c.words.result.0.now in
+    let second = c.have_missing-else-have_missing.ensures (has_no_index c.args.self.now) (λ name answer says. search rules) ∙ words-undefined c.args.self.now c.words.result.1.now in
+    second ∙ any-behind test c.words.result.0.now c.words.result.1.now _ (sym first ∙ c.if-have_missing.false) c.words.ensures

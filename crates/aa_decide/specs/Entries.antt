@@ -1,0 +1,15 @@
+-- Loaded profiles with their states.
+use Rattle.std.specs.Prelude.{Bool, true, ◌+◌, ◌==◌, length}
+use Rattle.aa_policy.specs.declared.profile.Profile.{Profile}
+use Rattle.aa_decide.specs.declared.entry.State.{State}
+use Rattle.aa_decide.specs.declared.entry.State.TheVariants.{Disabled, Modes}
+
+-- a loaded profile with its state
+pub record Loaded : Type 0 where
+  pub profile : Profile
+  pub state : State
+
+-- a state fits a profile: it has a mode for the profile, and one for each of its children and hats
+abbrev pub fits : Profile → State → Bool
+fits profile Disabled = true
+fits profile (Modes modes) = length modes == length profile.children + 1

@@ -1,0 +1,3 @@
+pub mod FlagLemmas
+pub mod FlagListLemmas
+pub mod FlagTextLemmas

@@ -1,0 +1,3 @@
+pub mod FlagText
+pub mod Flags
+pub mod code

@@ -1,0 +1,8 @@
+//! FLAGS of profiles, children and hats: their tokens, one by one, and what they say.
+#![tactic(auto)]
+
+mod flags;
+mod laws;
+
+pub use flags::{Flags, read_flags};
+pub use laws::what_flags_say;

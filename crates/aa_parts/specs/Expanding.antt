@@ -1,0 +1,21 @@
+-- Texts and words in whose names' places values are put, each cut off.
+use Rattle.std.specs.Prelude.{ℕ, ◌≡◌, List, flat_map}
+use Rattle.aa_parts.specs.Choices.{choices}
+use Rattle.aa_parts.specs.Joining.{cut_off, joined}
+use Rattle.aa_parts.specs.Parts.{Part, parts}
+
+-- texts with each choice of values for parts behind them, each cut off
+abbrev pub extended : (List ℕ → List (List ℕ)) → List (List ℕ) → List Part → List (List ℕ)
+extended values texts parts = cut_off (joined texts (choices values parts))
+
+-- all choices of values for the names of a text, each cut off
+abbrev pub expanded : (List ℕ → List (List ℕ)) → List ℕ → List (List ℕ)
+expanded values text = cut_off (choices values (parts text))
+
+-- those of words, one list behind the other
+abbrev pub expanded_words : (List ℕ → List (List ℕ)) → List (List ℕ) → List (List ℕ)
+expanded_words values words = flat_map (expanded values) words
+
+-- what is held of a name's values is each of them, cut off
+abbrev pub AreCutOff : (List ℕ → List (List ℕ)) → (List ℕ → List (List ℕ)) → List ℕ → Type 0
+AreCutOff held values name = held name ≡ cut_off (values name)

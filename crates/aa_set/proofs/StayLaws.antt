@@ -1,0 +1,92 @@
+-- What a line leaves as it was, and what decides its reply.
+use Rattle.std.proofs.Common.{◌≡◌, ℕ, Bool, true, false, not, cond, leb, ◌&&◌, List, length, Option, None, Some, Result, Ok, Err, refl, ap}
+use Rattle.aa_commands.specs.Command.{Order, Add, Undo, Ask}
+use Rattle.aa_commands.specs.Refusal.{plain}
+use Rattle.aa_commands.specs.declared.refusal.Refusal.{Refusal}
+use Rattle.aa_commands.specs.declared.refusal.RefusalKind.TheVariants.{LineTooLong, Memory}
+use Rattle.aa_files.specs.Files.{File}
+use Rattle.aa_lines.specs.Limits.{longest_line}
+use Rattle.aa_set.specs.Answers.{asks_absent, reply_lines}
+use Rattle.aa_set.specs.Laws.{OtherLineLeavesAll, RefusedLineLeavesAll, SetDecidesAnswer, goes_back, is_change, is_question, order_in}
+use Rattle.aa_set.specs.Manager.{Managed, added, undone}
+use Rattle.aa_set.specs.Reply.{is_refusal}
+use Rattle.aa_set.specs.Run.{Outcome, changed, obeyed, order_outcome, refused, takes_memory, told}
+
+-- an outcome leaves a manager, if its reply is a refusal
+abbrev LeavesIfRefused : Managed → Outcome → Type 0
+LeavesIfRefused m outcome = is_refusal outcome.reply ≡ true → outcome.managed ≡ m
+
+either-leaves : (t : Bool) (m : Managed) (a b : Outcome) → LeavesIfRefused m a → LeavesIfRefused m b → LeavesIfRefused m (cond t a b)
+either-leaves true m a b p q = p
+either-leaves false m a b p q = q
+
+changed-leaves : (m : Managed) (r : Result Managed Refusal) → LeavesIfRefused m (changed m r)
+changed-leaves m (Ok after) h = absurd (cc)
+changed-leaves m (Err refusal) h = refl
+
+told-leaves : (m : Managed) (r : Result (List ℕ) Refusal) → (told m r).managed ≡ m
+told-leaves m (Ok lines) = refl
+told-leaves m (Err refusal) = refl
+
+order-leaves : (files : List File) (m : Managed) (flag : Bool) (order : Result (Option Order) Refusal) → LeavesIfRefused m (order_outcome files m flag order)
+order-leaves files m flag (Err refusal) h = refl
+order-leaves files m flag (Ok None) h = refl
+order-leaves files m flag (Ok (Some (Add file))) h =
+    either-leaves (flag && true) m (refused m (plain Memory)) (obeyed files m (Add file)) (λ h. refl) (changed-leaves m (added files m file)) h
+order-leaves files m flag (Ok (Some (Undo n))) h =
+    either-leaves (flag && false) m (refused m (plain Memory)) (obeyed files m (Undo n)) (λ h. refl) (changed-leaves m (undone n m)) h
+order-leaves files m flag (Ok (Some (Ask question))) h =
+    either-leaves (flag && takes_memory m (Ask question)) m (refused m (plain Memory)) (obeyed files m (Ask question)) (λ h. refl)
+    (λ h. told-leaves m (reply_lines m.machine.now question)) h
+
+-- a refused line leaves all
+pub refused-leaves : RefusedLineLeavesAll
+refused-leaves files m line flag =
+    either-leaves (leb (length line) longest_line) m (order_outcome files m flag (order_in line)) (refused m (plain LineTooLong)) (order-leaves files m flag (order_in line)) (λ h. refl)
+
+either-stays : (t : Bool) (m : Managed) (a b : Outcome) → a.managed ≡ m → b.managed ≡ m → (cond t a b).managed ≡ m
+either-stays true m a b p q = p
+either-stays false m a b p q = q
+
+order-stays : (files : List File) (m : Managed) (flag : Bool) (order : Result (Option Order) Refusal) → is_change order ≡ false → goes_back order ≡ false
+    → (order_outcome files m flag order).managed ≡ m
+order-stays files m flag (Err refusal) h g = refl
+order-stays files m flag (Ok None) h g = refl
+order-stays files m flag (Ok (Some (Add file))) h g = absurd (cc)
+order-stays files m flag (Ok (Some (Undo n))) h g = absurd (cc)
+order-stays files m flag (Ok (Some (Ask question))) h g =
+    either-stays (flag && takes_memory m (Ask question)) m (refused m (plain Memory)) (obeyed files m (Ask question)) refl (told-leaves m (reply_lines m.machine.now question))
+
+-- so does a line whose command neither changes nor goes back
+pub other-leaves : OtherLineLeavesAll
+other-leaves files m line flag h g =
+    either-stays (leb (length line) longest_line) m (order_outcome files m flag (order_in line)) (refused m (plain LineTooLong)) (order-stays files m flag (order_in line) h g) refl
+
+either-same : (t u : Bool) (a b c d : Outcome) → t ≡ u → a.reply ≡ c.reply → b.reply ≡ d.reply → (cond t a b).reply ≡ (cond u c d).reply
+either-same true true a b c d e p q = p
+either-same false false a b c d e p q = q
+either-same true false a b c d e p q = absurd (cc)
+either-same false true a b c d e p q = absurd (cc)
+
+told-same : (one other : Managed) (r s : Result (List ℕ) Refusal) → r ≡ s → (told one r).reply ≡ (told other s).reply
+told-same one other (Ok lines) s e = ap (λ r. (told other r).reply) e
+told-same one other (Err refusal) s e = ap (λ r. (told other r).reply) e
+
+order-asks : (files : List File) (one other : Managed) (flag : Bool) (order : Result (Option Order) Refusal) → is_question order ≡ true → one.machine.now ≡ other.machine.now
+    → (order_outcome files one flag order).reply ≡ (order_outcome files other flag order).reply
+order-asks files one other flag (Err refusal) h e = absurd (cc)
+order-asks files one other flag (Ok None) h e = absurd (cc)
+order-asks files one other flag (Ok (Some (Add file))) h e = absurd (cc)
+order-asks files one other flag (Ok (Some (Undo n))) h e = absurd (cc)
+order-asks files one other flag (Ok (Some (Ask question))) h e =
+    either-same (flag && takes_memory one (Ask question)) (flag && takes_memory other (Ask question))
+    (refused one (plain Memory)) (obeyed files one (Ask question)) (refused other (plain Memory)) (obeyed files other (Ask question))
+    (ap (λ set. flag && not (asks_absent set question)) e) refl
+    (told-same one other (reply_lines one.machine.now question) (reply_lines other.machine.now question) (ap (λ set. reply_lines set question) e))
+
+-- the reply to a question depends on the policy set alone
+pub set-decides : SetDecidesAnswer
+set-decides files one other line flag h e =
+    either-same (leb (length line) longest_line) (leb (length line) longest_line)
+    (order_outcome files one flag (order_in line)) (refused one (plain LineTooLong)) (order_outcome files other flag (order_in line)) (refused other (plain LineTooLong))
+    refl (order-asks files one other flag (order_in line) h e) refl

@@ -1,0 +1,25 @@
+-- How names and paths are told, in replies and in the lines that log answers (docs/commands.md, "Replies").
+use Rattle.std.specs.Prelude.{ℕ, Bool, not, ◌&&◌, ◌==◌, nat_le, if◌then◌else◌, List, [], ◌∷◌, ◌++◌, flat_map}
+use Rattle.std.specs.List.{list_all}
+use Rattle.hex.specs.Hex.{encode_upper}
+use Rattle.aa_bytes.specs.Bytes.{quote}
+
+-- a byte that a text shows as it is: a visible ASCII character, but no quote
+abbrev pub is_shown : ℕ → Bool
+is_shown b = nat_le 33 b && nat_le b 126 && not (b == quote)
+
+-- the two hexadecimal digits of a byte, in upper case
+abbrev pub digits_of : ℕ → List ℕ
+digits_of byte = encode_upper (byte ∷ [])
+
+-- those of each byte in turn
+abbrev pub hexadecimal : List ℕ → List ℕ
+hexadecimal bytes = flat_map digits_of bytes
+
+-- between quotes
+abbrev pub quoted : List ℕ → List ℕ
+quoted text = quote ∷ text ++ quote ∷ []
+
+-- how a text is told: between quotes, or in hexadecimal where one of its bytes isn't shown
+abbrev pub told_text : List ℕ → List ℕ
+told_text text = if list_all is_shown text then quoted text else hexadecimal text
