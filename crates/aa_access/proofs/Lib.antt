@@ -1,1 +1,2 @@
 pub mod AccessLemmas
+pub mod WrittenLemmas

@@ -2,7 +2,7 @@
 use Rattle.std.specs.Prelude.{ℕ, Bool, ◌==◌, if◌then◌else◌, List, [], ◌∷◌, flat_map, Option, None, Some, option_and_then, bit_and, bit_or, codes}
 use Rattle.bitflags.specs.Sets.{without as bits_without}
 
--- each letter's code and its bit: r, w, a, l, k, m
+-- each letter's code and its bit, of those that a question may ask for: r, w, a, l, k, m
 abbrev pub letters : List (ℕ × ℕ)
 letters = (114, 1) ∷ (119, 2) ∷ (97, 4) ∷ (108, 8) ∷ (107, 16) ∷ (109, 32) ∷ []
 
@@ -14,6 +14,10 @@ bit_in (row ∷ rows) letter = if letter == row.0 then Some row.1 else bit_in ro
 abbrev pub bit_of : ℕ → Option ℕ
 bit_of letter = bit_in letters letter
 
+-- the code of the letter of exec, which rules have by an exec word
+abbrev pub exec_letter : ℕ
+exec_letter = 120
+
 abbrev pub READ : ℕ
 READ = 1
 
@@ -23,9 +27,29 @@ WRITE = 2
 abbrev pub APPEND : ℕ
 APPEND = 4
 
+abbrev pub LINK : ℕ
+LINK = 8
+
+abbrev pub LOCK : ℕ
+LOCK = 16
+
+abbrev pub MAP : ℕ
+MAP = 32
+
+abbrev pub EXEC : ℕ
+EXEC = 64
+
+-- the bit of each letter that is told, the letter of exec among them
+abbrev pub told_bit : ℕ → Option ℕ
+told_bit letter = if letter == exec_letter then Some EXEC else bit_of letter
+
+-- sets of the letters that a question may ask for are below this one
+abbrev pub asked_letters : ℕ
+asked_letters = 64
+
 -- sets of the known letters are below this one
 abbrev pub all_letters : ℕ
-all_letters = 64
+all_letters = 128
 
 -- what both sets have
 abbrev pub common : ℕ → ℕ → ℕ
@@ -59,11 +83,11 @@ needs_of (letter ∷ more) = letters_onto 0 (letter ∷ more)
 
 -- a letter, where a set has it
 abbrev pub letter_in : ℕ → ℕ → List ℕ
-letter_in set letter = elim (bit_of letter) [
+letter_in set letter = elim (told_bit letter) [
   | None ↦ []
   | Some bit ↦ if has set bit then letter ∷ [] else []
 ]
 
 -- the letters of a set, in their order
 abbrev pub letters_of : ℕ → List ℕ
-letters_of set = flat_map (letter_in set) (codes "rwalkm")
+letters_of set = flat_map (letter_in set) (codes "rwalkmx")

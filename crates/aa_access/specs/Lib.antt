@@ -1,2 +1,5 @@
 pub mod Access
+pub mod ExecWords
 pub mod Request
+pub mod WrittenAccess
+pub mod code

@@ -2,13 +2,13 @@
 
 ghost use Rattle.std.specs.Prelude.{⊤, ◌≡◌, ◌<◌, ◌++◌, [], ◌∷◌, codes, flat_map, IfSome, OnOk};
 ghost use Rattle.std.specs.Option.{option_map};
-ghost use Rattle.aa_access.specs.Access.{all_letters, bit_of, covered, letter_in, letters_of, needs_of};
+ghost use Rattle.aa_access.specs.Access.{asked_letters, bit_of, covered, letter_in, letters_of, needs_of, told_bit};
 
 use bitflags::{Flag, Flags, bitflag_items};
 use std::alloc::AllocError;
 
-/// A set of the access letters `r w a l k m` of a rule or a request: read, write, append, link, lock and map into
-/// memory as code (apparmor.d(5), "File Permission Access Modes").
+/// A set of the access letters `r w a l k m x` of a rule or a request: read, write, append, link, lock, map into
+/// memory as code, and execute (apparmor.d(5), "File Permission Access Modes").
 #[derive(Clone, Copy, PartialEq, Eq, Debug)]
 pub struct Perms(u8);
 
@@ -20,6 +20,7 @@ bitflag_items! {
         const LINK = 8;
         const LOCK = 16;
         const MAP = 32;
+        const EXEC = 64;
     }
 }
 
@@ -28,7 +29,7 @@ impl Flags for Perms {
 
     ghost exact = { ⊤ };
 
-    ghost table = { (codes "READ", 1) ∷ (codes "WRITE", 2) ∷ (codes "APPEND", 4) ∷ (codes "LINK", 8) ∷ (codes "LOCK", 16) ∷ (codes "MAP", 32) ∷ [] };
+    ghost table = { (codes "READ", 1) ∷ (codes "WRITE", 2) ∷ (codes "APPEND", 4) ∷ (codes "LINK", 8) ∷ (codes "LOCK", 16) ∷ (codes "MAP", 32) ∷ (codes "EXEC", 64) ∷ [] };
 
     ghost set_of = { λ p. p.0 };
 
@@ -46,7 +47,7 @@ impl Flags for Perms {
 }
 
 impl Perms {
-    /// The set of one letter, or none where the byte is no access letter.
+    /// The set of one letter of `r w a l k m`, or none where the byte is another: a rule has `x` by its exec word, and a question by its kind.
     pub fn of_letter(letter: u8) -> Option<Perms>
         ensures { option_map (λ p. p.0) result ≡ bit_of letter }
     {
@@ -61,10 +62,10 @@ impl Perms {
         }
     }
 
-    /// The set of access letters that a request needs: at least one, each known and none twice. None for other bytes.
+    /// The set of the letters of `r w a l k m` that a request needs: at least one, each known and none twice. None for other bytes.
     pub fn of_letters(letters: &[u8]) -> Option<Perms>
         ensures needs { option_map (λ p. p.0) result ≡ needs_of letters.now }
-        ensures known { IfSome result (λ p. p.0 < all_letters) }
+        ensures known { IfSome result (λ p. p.0 < asked_letters) }
     {
         if letters.is_empty() {
             return None;
@@ -95,7 +96,7 @@ impl Perms {
     fn push_letter(self, letter: u8, text: &mut Vec<u8>) -> Result<(), AllocError>
         ensures { OnOk result (text.new.items ≡ text.old.items ++ letter_in self.0 letter) }
     {
-        if let Some(one) = Perms::of_letter(letter) {
+        if let Some(one) = told_letter(letter) {
             if self.contains(one) {
                 text.push(letter)?;
             }
@@ -115,7 +116,7 @@ impl Perms {
         Ok(())
     }
 
-    /// Puts the letters of the set behind a text, in the order `r w a l k m`.
+    /// Puts the letters of the set behind a text, in the order `r w a l k m x`.
     ///
     /// # Errors
     ///
@@ -123,6 +124,17 @@ impl Perms {
     pub fn push_letters(self, text: &mut Vec<u8>) -> Result<(), AllocError>
         ensures { OnOk result (text.new.items ≡ text.old.items ++ letters_of self.0) }
     {
-        self.push_letters_among(b"rwalkm", text)
+        self.push_letters_among(b"rwalkmx", text)
+    }
+}
+
+// The set of one letter that is told.
+pub fn told_letter(letter: u8) -> Option<Perms>
+    ensures { option_map (λ p. p.0) result ≡ told_bit letter }
+{
+    if letter == b'x' {
+        Some(Perms::EXEC)
+    } else {
+        Perms::of_letter(letter)
     }
 }

@@ -5,7 +5,7 @@ use Rattle.aa_refusals.specs.declared.profile_error.ProfileRefusal.{ProfileRefus
 use Rattle.aa_refusals.specs.declared.profile_error.ProfileRefusal.TheVariants as profile
 use Rattle.aa_commands.specs.declared.refusal.Refusal.{Refusal}
 use Rattle.aa_commands.specs.declared.refusal.RefusalKind.{RefusalKind}
-use Rattle.aa_commands.specs.declared.refusal.RefusalKind.TheVariants.{NotAbsolute, UnclosedClass, EmptyClass, BadRange, UnclosedGroup, StrayClose, FewAlternatives, BadEscape, TooLong, TooDeep, ZeroByte, OpenQuote, OpenOther, NoFile, IncludeDepth, TextTooBig, Undefined, Redefined, AppendUndefined, Cycle, TooManyRules, BadToken, OpenBlock, BadFlag, BadAccess, WriteAppend, BadCapability, BadNetwork, TwiceNamed, NestedChild, LateAssignment, NoProfile, BadName, Exists, Absent, NothingToUndo, BadCommand, LineTooLong, BadRequest, Memory}
+use Rattle.aa_commands.specs.declared.refusal.RefusalKind.TheVariants.{NotAbsolute, UnclosedClass, EmptyClass, BadRange, UnclosedGroup, StrayClose, FewAlternatives, BadEscape, TooLong, TooDeep, ZeroByte, OpenQuote, OpenOther, NoFile, IncludeDepth, TextTooBig, Undefined, Redefined, AppendUndefined, Cycle, TooManyRules, BadToken, OpenBlock, BadFlag, BadAccess, WriteAppend, TwoExec, ExecQualifier, TargetWithoutExec, BadCapability, BadNetwork, TwiceNamed, NestedChild, LateAssignment, NoProfile, BadName, Exists, Absent, NothingToUndo, BadCommand, LineTooLong, BadRequest, Memory}
 
 -- the one table of numbers and names
 abbrev pub described : RefusalKind → ℕ × List ℕ
@@ -35,6 +35,9 @@ described OpenBlock = (41, codes "OpenBlock")
 described BadFlag = (42, codes "BadFlag")
 described BadAccess = (43, codes "BadAccess")
 described WriteAppend = (44, codes "WriteAppend")
+described TwoExec = (45, codes "TwoExec")
+described ExecQualifier = (46, codes "ExecQualifier")
+described TargetWithoutExec = (47, codes "TargetWithoutExec")
 described BadCapability = (48, codes "BadCapability")
 described BadNetwork = (49, codes "BadNetwork")
 described TwiceNamed = (50, codes "TwiceNamed")
@@ -88,6 +91,9 @@ kind_of_profile profile.OpenBlock = OpenBlock
 kind_of_profile profile.BadFlag = BadFlag
 kind_of_profile profile.BadAccess = BadAccess
 kind_of_profile profile.WriteAppend = WriteAppend
+kind_of_profile profile.TwoExec = TwoExec
+kind_of_profile profile.ExecQualifier = ExecQualifier
+kind_of_profile profile.TargetWithoutExec = TargetWithoutExec
 kind_of_profile profile.BadCapability = BadCapability
 kind_of_profile profile.BadNetwork = BadNetwork
 kind_of_profile profile.TwiceNamed = TwiceNamed

@@ -3,7 +3,7 @@
 ghost use Rattle.std.specs.Prelude.{◌≡◌, ◌==◌, ◌<◌, [], ◌∷◌, Ok, Err, IfOk, IfErr, IfSome, map, codes};
 ghost use Rattle.std.specs.Str.{bytes_eq};
 ghost use Rattle.aa_access.specs.Access.{needs_of};
-ghost use Rattle.aa_commands.specs.Question.{asked, capability_question, file_question, is_path, owned_of, question_of, socket_question, type_number, IsWellFormed};
+ghost use Rattle.aa_commands.specs.Question.{asked, capability_question, exec_question, file_question, is_path, owned_of, question_of, socket_question, type_number, IsWellFormed};
 ghost use Rattle.aa_tables.specs.Capabilities.{capability_number};
 ghost use Rattle.aa_tables.specs.Domains.{domain_number};
 
@@ -28,6 +28,15 @@ pub enum Question<'a> {
         /// The file's path, that of a directory with a slash at its end.
         path: &'a [u8],
     },
+    /// Under what a program runs that a task starts.
+    Exec {
+        /// The full name of the profile, child or hat that confines the task, or the word `unconfined`.
+        who: &'a [u8],
+        /// Whether the task's user owns the program's file.
+        owned: bool,
+        /// The program's path.
+        path: &'a [u8],
+    },
     /// Whether a task may use a capability.
     Cap {
         /// The full name of the profile, child or hat that confines the task, or the word `unconfined`.
@@ -48,8 +57,8 @@ pub enum Question<'a> {
 
 impl<'a> Question<'a> {
     /// The question of the words after `ask`, each with the asker's full name or `unconfined`: `file`, the asker, the access letters, `owner` or
-    /// `other`, and the path; `cap`, the asker, and the capability's name; or `net`, the asker, and the names of the domain and the type. It takes
-    /// no memory.
+    /// `other`, and the path; `exec`, the asker, `owner` or `other`, and the program's path; `cap`, the asker, and the capability's name; or `net`,
+    /// the asker, and the names of the domain and the type. It takes no memory.
     ///
     /// # Errors
     ///
@@ -63,7 +72,7 @@ impl<'a> Question<'a> {
     {
         match words {
             [kind, who, name] => of_three_words(kind, who, name),
-            [kind, who, domain, sort] => of_four_words(kind, who, domain, sort),
+            [kind, who, third, fourth] => of_four_words(kind, who, third, fourth),
             [kind, who, access, owner, path] => of_five_words(kind, who, access, owner, path),
             _ => Err(plain(RefusalKind::BadCommand)),
         }
@@ -82,21 +91,24 @@ fn of_three_words<'a>(kind: &[u8], who: &'a [u8], name: &[u8]) -> Result<Questio
     capability_question(who, name)
 }
 
-// The question of four words: for sockets.
+// The question of four words: for sockets, or about a program that is started.
 fn of_four_words<'a>(
     kind: &[u8],
     who: &'a [u8],
-    domain: &[u8],
-    sort: &[u8],
+    third: &[u8],
+    fourth: &'a [u8],
 ) -> Result<Question<'a>, Refusal>
-    ensures ok { IfOk result (λ question. question_of (kind.now ∷ who.now ∷ domain.now ∷ sort.now ∷ []) ≡ Ok (asked question)) }
-    ensures refused { IfErr result (λ refusal. question_of (kind.now ∷ who.now ∷ domain.now ∷ sort.now ∷ []) ≡ Err refusal) }
+    ensures ok { IfOk result (λ question. question_of (kind.now ∷ who.now ∷ third.now ∷ fourth.now ∷ []) ≡ Ok (asked question)) }
+    ensures refused { IfErr result (λ refusal. question_of (kind.now ∷ who.now ∷ third.now ∷ fourth.now ∷ []) ≡ Err refusal) }
     ensures known { IfOk result (λ question. IsWellFormed question) }
 {
-    if kind != b"net".as_slice() {
-        return Err(plain(RefusalKind::BadCommand));
+    if kind == b"net".as_slice() {
+        socket_question(who, third, fourth)
+    } else if kind == b"exec".as_slice() {
+        exec_question(who, third, fourth)
+    } else {
+        Err(plain(RefusalKind::BadCommand))
     }
-    socket_question(who, domain, sort)
 }
 
 // The question of five words: for a file.
@@ -181,6 +193,18 @@ fn file_question<'a>(
         owned,
         path,
     })
+}
+
+// The question about a program that is started, of the words after `exec`.
+fn exec_question<'a>(who: &'a [u8], owner: &[u8], path: &'a [u8]) -> Result<Question<'a>, Refusal>
+    ensures ok { IfOk result (λ question. exec_question who.now (owned_of owner.now) path.now ≡ Ok (asked question)) }
+    ensures refused { IfErr result (λ refusal. exec_question who.now (owned_of owner.now) path.now ≡ Err refusal) }
+    ensures known { IfOk result (λ question. IsWellFormed question) }
+{
+    match read_owned(owner) {
+        Some(owned) if is_path(path) => Ok(Question::Exec { who, owned, path }),
+        _ => Err(plain(RefusalKind::BadRequest)),
+    }
 }
 
 // Whether a word says that the file is owned.

@@ -61,10 +61,16 @@ pub enum RefusalKind {
     OpenBlock,
     /// A flag isn't known, or `enforce` stands beside `complain`.
     BadFlag,
-    /// An access holds what is no access letter.
+    /// An access holds what is no access letter and no exec word.
     BadAccess,
     /// An access holds both `w` and `a`.
     WriteAppend,
+    /// An access has two different exec words, where a bare `x` counts as one.
+    TwoExec,
+    /// An exec word stands in a deny rule, or a bare `x` in another.
+    ExecQualifier,
+    /// A target stands in a rule that can have none.
+    TargetWithoutExec,
     /// A word of a capability rule that is no capability.
     BadCapability,
     /// A word of a network rule that is no domain, type or protocol, or can't stand there.
@@ -147,6 +153,9 @@ impl Refusal {
             RefusalKind::BadFlag => 42,
             RefusalKind::BadAccess => 43,
             RefusalKind::WriteAppend => 44,
+            RefusalKind::TwoExec => 45,
+            RefusalKind::ExecQualifier => 46,
+            RefusalKind::TargetWithoutExec => 47,
             RefusalKind::BadCapability => 48,
             RefusalKind::BadNetwork => 49,
             RefusalKind::TwiceNamed => 50,
@@ -195,6 +204,9 @@ impl Refusal {
             RefusalKind::BadFlag => "BadFlag",
             RefusalKind::BadAccess => "BadAccess",
             RefusalKind::WriteAppend => "WriteAppend",
+            RefusalKind::TwoExec => "TwoExec",
+            RefusalKind::ExecQualifier => "ExecQualifier",
+            RefusalKind::TargetWithoutExec => "TargetWithoutExec",
             RefusalKind::BadCapability => "BadCapability",
             RefusalKind::BadNetwork => "BadNetwork",
             RefusalKind::TwiceNamed => "TwiceNamed",
@@ -257,6 +269,9 @@ impl From<ProfileRefusal> for RefusalKind {
             ProfileRefusal::BadFlag => RefusalKind::BadFlag,
             ProfileRefusal::BadAccess => RefusalKind::BadAccess,
             ProfileRefusal::WriteAppend => RefusalKind::WriteAppend,
+            ProfileRefusal::TwoExec => RefusalKind::TwoExec,
+            ProfileRefusal::ExecQualifier => RefusalKind::ExecQualifier,
+            ProfileRefusal::TargetWithoutExec => RefusalKind::TargetWithoutExec,
             ProfileRefusal::BadCapability => RefusalKind::BadCapability,
             ProfileRefusal::BadNetwork => RefusalKind::BadNetwork,
             ProfileRefusal::TwiceNamed => RefusalKind::TwiceNamed,

@@ -1,7 +1,5 @@
-pub mod Answer
-pub mod Entries
-pub mod LogLines
-pub mod Ready
-pub mod Verdict
-pub mod VerdictLaws
+pub mod Attachment
+pub mod Exec
+pub mod ExecLaws
+pub mod Slots
 pub mod code

@@ -1,33 +1,40 @@
-//! What holds of verdicts, as laws over the definitions that `decide` is proved to follow.
+//! What holds of attachment and of the start of programs, as laws over the definitions that `attach` and `exec` are proved to follow.
 
-ghost use Rattle.std.specs.Prelude.{◌≡◌, ℕ, Bool, List, true, false, ◌∷◌};
-ghost use Rattle.aa_access.specs.Request.{Request};
-ghost use Rattle.aa_decide.specs.LogLines.{log_line};
-ghost use Rattle.aa_decide.specs.Verdict.{denies, verdict};
-ghost use Rattle.aa_decide.specs.VerdictLaws.{HaveSameRules, in_complain};
-ghost use Rattle.aa_decide.specs.declared.verdict.Answer.TheVariants.{Allow};
+ghost use Rattle.std.specs.Prelude.{◌≡◌, ◌↔◌, ℕ, Bool, List, Option, Some, true};
+ghost use Rattle.aa_access.specs.Access.{EXEC};
+ghost use Rattle.aa_decide.specs.Attachment.{attached};
+ghost use Rattle.aa_verdicts.specs.Confinement.{By, in_state};
+ghost use Rattle.aa_verdicts.specs.Entries.{Loaded, is_in_force};
+ghost use Rattle.aa_decide.specs.Exec.{Asker, Under, exec_answer};
+ghost use Rattle.aa_decide.specs.ExecLaws.{DifferInOrder, FitsBest, HaveDistinctNames, SomeRuleDenies};
+ghost use Rattle.aa_verdicts.specs.declared.verdict.Answer.TheVariants.{Deny};
 ghost use Rattle.aa_policy.specs.declared.profile.Mode.{Mode};
-ghost use Rattle.aa_policy.specs.declared.profile.Mode.TheVariants.{Complain, Enforce};
-ghost use Rattle.aa_policy.specs.declared.profile.Rule.{Rule};
+ghost use Rattle.aa_policy.specs.declared.profile.Profile.{Profile};
 
-/// In complain mode what enforce mode refuses is let through and logged with the same needs, and nothing else changes: what is denied is denied
-/// there too. The order of the rules changes no answer, no tag, no mask and no line, nor does a rule that is written twice. One allow rule more leaves
-/// what is allowed. One deny rule more allows nothing that wasn't.
-pub fn what_rules_decide()
-    ensures complain { (audit : Bool) (rules : List Rule) (request : Request)
-        → verdict Complain audit rules request ≡ in_complain (verdict Enforce audit rules request) }
-    ensures order { (mode : Mode) (audit : Bool) (rules others : List Rule) (request : Request)
-        → HaveSameRules rules others
-        → verdict mode audit rules request ≡ verdict mode audit others request }
-    ensures line { (asker : List ℕ) (mode : Mode) (audit : Bool) (rules others : List Rule) (request : Request)
-        → HaveSameRules rules others
-        → log_line asker request (verdict mode audit rules request) ≡ log_line asker request (verdict mode audit others request) }
-    ensures allow { (mode : Mode) (audit : Bool) (rule : Rule) (rules : List Rule) (request : Request)
-        → denies rule ≡ false
-        → (verdict mode audit rules request).answer ≡ Allow
-        → (verdict mode audit (rule ∷ rules) request).answer ≡ Allow }
-    ensures deny { (mode : Mode) (audit : Bool) (rule : Rule) (rules : List Rule) (request : Request)
-        → denies rule ≡ true
-        → (verdict mode audit (rule ∷ rules) request).answer ≡ Allow
-        → (verdict mode audit rules request).answer ≡ Allow }
-{}
+use aa_attach::which_rank_stands_out;
+
+/// A program never runs under a disabled profile, nor under a child or hat of one. Of profiles of different names a path is attached to one exactly
+/// where this has an attachment that matches and ranks above all others. The order of the profiles changes neither that nor any answer. A
+/// deny rule that covers the start of the program wins over all other rules. The mask of each answer is `x`.
+pub fn where_programs_run()
+    ensures in_force { (entries : List Loaded) (asker : Option Asker) (owned : Bool) (path : List ℕ) (entry : Loaded) (child : Option ℕ)
+        → (exec_answer entries asker owned path).to ≡ Under entry child
+        → is_in_force entry.state ≡ true }
+    ensures attached { (path : List ℕ) (entries : List Loaded) (entry : Loaded)
+        → HaveDistinctNames entries
+        → (attached path entries ≡ Some entry) ↔ FitsBest path entries entry }
+    ensures attached_order { (path : List ℕ) (entries others : List Loaded)
+        → DifferInOrder entries others
+        → attached path entries ≡ attached path others }
+    ensures order { (entries others : List Loaded) (asker : Option Asker) (owned : Bool) (path : List ℕ)
+        → DifferInOrder entries others
+        → exec_answer entries asker owned path ≡ exec_answer others asker owned path }
+    ensures deny { (entries : List Loaded) (asker : Asker) (owned : Bool) (path : List ℕ) (profile : Profile) (child : Option ℕ) (mode : Mode)
+        → in_state asker.entry.profile asker.entry.state asker.child ≡ By profile child mode
+        → SomeRuleDenies owned path profile child
+        → (exec_answer entries (Some asker) owned path).verdict.answer ≡ Deny }
+    ensures mask { (entries : List Loaded) (asker : Option Asker) (owned : Bool) (path : List ℕ)
+        → (exec_answer entries asker owned path).verdict.mask.0 ≡ EXEC }
+{
+    which_rank_stands_out();
+}

@@ -1,16 +1,17 @@
-//! What rules say of a request, and how that is logged.
+//! What a profile's rules say of a request or of the start of a program, and how that is logged.
 #![tactic(auto)]
 
-mod entry;
+mod attachment;
+mod execution;
 mod laws;
 mod log;
-mod ready;
-mod request;
-mod verdict;
+mod slots;
 
-pub use entry::{Entry, State};
-pub use laws::what_rules_decide;
-pub use log::log_line;
-pub use ready::Ready;
-pub use request::Request;
-pub use verdict::{Answer, Tag, Verdict};
+pub use aa_verdicts::{
+    Answer, Confinement, Entry, Ready, Request, State, Tag, Verdict, log_line, what_rules_decide,
+};
+pub use attachment::attach;
+pub use execution::{ExecTo, ExecVerdict, exec};
+pub use laws::where_programs_run;
+pub use log::exec_line;
+pub use slots::{Who, entry_at};

@@ -11,10 +11,10 @@ use Rattle.aa_bytes.specs.Texts.{begins_with, is_empty}
 use Rattle.aa_text.specs.Splicing.{Placed}
 use Rattle.aa_tokens.specs.declared.cut.TokenKind.{TokenKind}
 use Rattle.aa_tokens.specs.declared.cut.TokenKind.TheVariants.{Include, Assign, Value, Quoted, Word, Comma, OpenBrace, CloseBrace}
-use Rattle.aa_rules.specs.Parts.{Part, refused}
-use Rattle.aa_rules.specs.Tokens.{text_of}
-use Rattle.aa_rules.specs.declared.fault.GrammarRefusal.{GrammarRefusal}
-use Rattle.aa_rules.specs.declared.fault.GrammarRefusal.TheVariants.{BadFlag, BadToken}
+use Rattle.aa_faults.specs.Parts.{Part, refused}
+use Rattle.aa_faults.specs.Tokens.{text_of}
+use Rattle.aa_faults.specs.declared.fault.GrammarRefusal.{GrammarRefusal}
+use Rattle.aa_faults.specs.declared.fault.GrammarRefusal.TheVariants.{BadFlag, BadToken}
 use Rattle.aa_flags.specs.Flags.{behind_keyword, behind_sign, finished, flags, flags_behind, listed, opened, separates, unflagged, with_comma, with_flags, with_token, with_word}
 use Rattle.aa_flags.specs.FlagText.{IsReadAs, are_blanks_escaped, behind_blanks, is_flag_token, said, said_behind_sign, said_in_parentheses, said_up_to_parenthesis, spaced, with_keyword}
 use Rattle.aa_flags.specs.declared.flags.Flags.{Flags}

@@ -6,8 +6,8 @@ use Rattle.aa_bytes.specs.Bytes.{backslash, closing_parenthesis, comma, equals, 
 use Rattle.aa_bytes.specs.Texts.{begins_with, begins_with_byte, is_empty}
 use Rattle.aa_text.specs.Splicing.{Placed}
 use Rattle.aa_tokens.specs.declared.cut.TokenKind.TheVariants.{Comma, Word}
-use Rattle.aa_rules.specs.Parts.{Part}
-use Rattle.aa_rules.specs.Tokens.{text_of}
+use Rattle.aa_faults.specs.Parts.{Part}
+use Rattle.aa_faults.specs.Tokens.{text_of}
 use Rattle.aa_flags.specs.Flags.{is_idle, separates, unflagged}
 use Rattle.aa_flags.specs.declared.flags.Flags.{Flags}
 

@@ -7,11 +7,11 @@ use Rattle.aa_bytes.specs.Bytes.{closing_parenthesis, comma, equals, is_blank, o
 use Rattle.aa_bytes.specs.Texts.{begins_with, begins_with_byte, is_empty}
 use Rattle.aa_text.specs.Splicing.{Placed}
 use Rattle.aa_tokens.specs.declared.cut.TokenKind.TheVariants.{Comma, Word, OpenBrace}
-use Rattle.aa_rules.specs.Parts.{Part, refused}
-use Rattle.aa_rules.specs.Tokens.{text_of}
-use Rattle.aa_rules.specs.declared.fault.Fault.TheVariants.{RanOut}
-use Rattle.aa_rules.specs.declared.fault.GrammarRefusal.{GrammarRefusal}
-use Rattle.aa_rules.specs.declared.fault.GrammarRefusal.TheVariants.{BadFlag, BadToken}
+use Rattle.aa_faults.specs.Parts.{Part, refused}
+use Rattle.aa_faults.specs.Tokens.{text_of}
+use Rattle.aa_faults.specs.declared.fault.Fault.TheVariants.{RanOut}
+use Rattle.aa_faults.specs.declared.fault.GrammarRefusal.{GrammarRefusal}
+use Rattle.aa_faults.specs.declared.fault.GrammarRefusal.TheVariants.{BadFlag, BadToken}
 use Rattle.aa_flags.specs.declared.flags.Flags.{Flags}
 use Rattle.aa_flags.specs.declared.flags.FlagsSoFar.{FlagsSoFar}
 use Rattle.aa_flags.specs.declared.flags.FlagsSoFar.TheVariants.{Absent, Keyword, Sign, Listing, Closed}

@@ -4,13 +4,13 @@ ghost use Rattle.std.specs.Prelude.{◌≡◌, ◌<◌, ◌≤◌, ◌∷◌, no
 ghost use Rattle.std.specs.Option.{option_map};
 ghost use Rattle.std.specs.List.{prefix_len, slice_split};
 ghost use Rattle.aa_text.specs.code.SplicingProgress.{seen_spliced};
-ghost use Rattle.aa_rules.specs.code.Readings.{IsFault};
-ghost use Rattle.aa_rules.specs.code.SeenTokens.{seen_tokens};
+ghost use Rattle.aa_faults.specs.code.Readings.{IsFault};
+ghost use Rattle.aa_faults.specs.code.SeenTokens.{seen_tokens};
 ghost use Rattle.aa_flags.specs.code.FlagWords.{words_of_rest};
 ghost use Rattle.aa_flags.specs.Flags.{behind_keyword, behind_sign, finished, flags, is_idle, listed, opened, separates, unflagged, with_flag, with_flags, with_item, with_token, with_word};
 
 use aa_bytes::{begins_with, behind, length_while};
-use aa_rules::{Fault, GrammarRefusal, refusal_at};
+use aa_faults::{Fault, GrammarRefusal, refusal_at};
 use aa_text::{Spliced, TokenKind};
 
 /// The flags of a profile, a child or a hat that decide something.

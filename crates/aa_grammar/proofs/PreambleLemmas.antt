@@ -6,8 +6,8 @@ use Rattle.std.proofs.lemmas.List.{drop-map, take-map, take_rest}
 use Rattle.aa_text.specs.Splicing.{Placed}
 use Rattle.aa_text.specs.code.SplicingProgress.{seen_spliced}
 use Rattle.aa_text.specs.declared.spliced_token.Spliced.{Spliced}
-use Rattle.aa_rules.specs.Parts.{Part}
-use Rattle.aa_rules.specs.code.SeenTokens.{seen_tokens}
+use Rattle.aa_faults.specs.Parts.{Part}
+use Rattle.aa_faults.specs.code.SeenTokens.{seen_tokens}
 use Rattle.aa_grammar.specs.Preamble.{Assignment, assignment, value_count}
 
 -- at least one value

@@ -4,9 +4,9 @@ use Rattle.std.proofs.lemmas.List.{length-map}
 use Rattle.aa_text.specs.Splicing.{Placed}
 use Rattle.aa_text.specs.code.SplicingProgress.{seen_spliced}
 use Rattle.aa_text.specs.declared.spliced_token.Spliced.{Spliced}
-use Rattle.aa_rules.specs.Parts.{Part}
-use Rattle.aa_rules.specs.code.SeenTokens.{seen_tokens}
-use Rattle.aa_rules.specs.declared.fault.Fault.{Fault}
+use Rattle.aa_faults.specs.Parts.{Part}
+use Rattle.aa_faults.specs.code.SeenTokens.{seen_tokens}
+use Rattle.aa_faults.specs.declared.fault.Fault.{Fault}
 use Rattle.aa_grammar.specs.Sequences.{row, rows}
 use Rattle.aa_grammar.specs.declared.sequence.Next.{Next}
 use Rattle.aa_grammar.specs.declared.sequence.Next.TheVariants.{Item, Nothing, End}

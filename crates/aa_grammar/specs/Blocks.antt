@@ -3,14 +3,14 @@ use Rattle.std.specs.Prelude.{ℕ, Bool, true, false, not, if◌then◌else◌, 
 use Rattle.std.specs.List.{list_any}
 use Rattle.std.specs.Str.{bytes_eq}
 use Rattle.aa_text.specs.Splicing.{Placed}
-use Rattle.aa_rules.specs.Names.{is_name, is_top_name}
-use Rattle.aa_rules.specs.Parts.{Part, followed, refused}
+use Rattle.aa_names.specs.Names.{is_name, is_top_name}
+use Rattle.aa_faults.specs.Parts.{Part, followed, refused}
+use Rattle.aa_faults.specs.Tokens.{is_close_brace, is_word_of, place_of}
+use Rattle.aa_faults.specs.declared.fault.Fault.{Fault}
+use Rattle.aa_faults.specs.declared.fault.Fault.TheVariants.{At, Memory, RanOut}
+use Rattle.aa_faults.specs.declared.fault.GrammarRefusal.{GrammarRefusal}
+use Rattle.aa_faults.specs.declared.fault.GrammarRefusal.TheVariants.{BadName, NestedChild, OpenBlock, TwiceNamed}
 use Rattle.aa_rules.specs.Rules.{Rule, rule}
-use Rattle.aa_rules.specs.Tokens.{is_close_brace, is_word_of, place_of}
-use Rattle.aa_rules.specs.declared.fault.Fault.{Fault}
-use Rattle.aa_rules.specs.declared.fault.Fault.TheVariants.{At, Memory, RanOut}
-use Rattle.aa_rules.specs.declared.fault.GrammarRefusal.{GrammarRefusal}
-use Rattle.aa_rules.specs.declared.fault.GrammarRefusal.TheVariants.{BadName, NestedChild, OpenBlock, TwiceNamed}
 use Rattle.aa_grammar.specs.Heads.{Head, Named, begins_child, child_name, head, top_name}
 use Rattle.aa_grammar.specs.Preamble.{behind_version}
 use Rattle.aa_grammar.specs.Sequences.{rows, skipped}

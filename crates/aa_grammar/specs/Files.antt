@@ -2,11 +2,11 @@
 use Rattle.std.specs.Prelude.{if◌then◌else◌, List, None, Result, Ok, Err}
 use Rattle.aa_text.specs.Splicing.{Placed}
 use Rattle.aa_bytes.specs.Texts.{is_empty}
-use Rattle.aa_rules.specs.GrammarError.{told}
-use Rattle.aa_rules.specs.declared.fault.GrammarRefusal.TheVariants.{NoProfile}
+use Rattle.aa_faults.specs.GrammarError.{told}
+use Rattle.aa_faults.specs.declared.fault.GrammarRefusal.TheVariants.{NoProfile}
 use Rattle.aa_grammar.specs.Blocks.{Profile, all_profiles}
 use Rattle.aa_grammar.specs.Preamble.{Assignment, preamble}
-use Rattle.aa_rules.specs.declared.grammar_error.GrammarError.{GrammarError}
+use Rattle.aa_faults.specs.declared.grammar_error.GrammarError.{GrammarError}
 
 -- a file: the assignments of its preamble, and its profiles
 pub record File : Type 0 where

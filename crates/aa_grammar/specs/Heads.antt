@@ -4,9 +4,9 @@ use Rattle.aa_bytes.specs.Bytes.{caret, slash}
 use Rattle.aa_bytes.specs.Texts.{begins_with_byte}
 use Rattle.aa_text.specs.Splicing.{Placed}
 use Rattle.aa_tokens.specs.declared.cut.TokenKind.TheVariants.{Assign}
-use Rattle.aa_rules.specs.Parts.{Part, expected, followed, refused}
-use Rattle.aa_rules.specs.Tokens.{is_pattern, is_text, is_word, is_word_of, text_of}
-use Rattle.aa_rules.specs.declared.fault.GrammarRefusal.TheVariants.{BadToken, LateAssignment}
+use Rattle.aa_faults.specs.Parts.{Part, expected, followed, refused}
+use Rattle.aa_faults.specs.Tokens.{is_pattern, is_text, is_word, is_word_of, text_of}
+use Rattle.aa_faults.specs.declared.fault.GrammarRefusal.TheVariants.{BadToken, LateAssignment}
 use Rattle.aa_flags.specs.Flags.{flags}
 use Rattle.aa_flags.specs.declared.flags.Flags.{Flags}
 use Rattle.aa_grammar.specs.declared.heads.Form.{Form}

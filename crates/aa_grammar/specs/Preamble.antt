@@ -8,9 +8,9 @@ use Rattle.aa_tokens.specs.declared.cut.TokenKind.TheVariants.{Assign, Value}
 use Rattle.aa_grammar.specs.Sequences.{rows, skipped}
 use Rattle.aa_grammar.specs.declared.sequence.Next.{Next}
 use Rattle.aa_grammar.specs.declared.sequence.Next.TheVariants.{End, Item}
-use Rattle.aa_rules.specs.Parts.{Part, behind_comma, expected, followed, unexpected}
-use Rattle.aa_rules.specs.Tokens.{is_text, is_word_of}
-use Rattle.aa_rules.specs.declared.fault.Fault.{Fault}
+use Rattle.aa_faults.specs.Parts.{Part, behind_comma, expected, followed, unexpected}
+use Rattle.aa_faults.specs.Tokens.{is_text, is_word_of}
+use Rattle.aa_faults.specs.declared.fault.Fault.{Fault}
 
 -- an assignment: the token that names the variable, whether its sign is `+=`, and the tokens of its values
 pub record Assignment : Type 0 where

@@ -1,9 +1,9 @@
 -- Parts of one kind in a row.
 use Rattle.std.specs.Prelude.{ℕ, zero, suc, List, [], ◌∷◌, ◌++◌, length, Result, Ok, Err}
 use Rattle.aa_text.specs.Splicing.{Placed}
-use Rattle.aa_rules.specs.Parts.{Part}
-use Rattle.aa_rules.specs.declared.fault.Fault.{Fault}
-use Rattle.aa_rules.specs.declared.fault.Fault.TheVariants.{RanOut}
+use Rattle.aa_faults.specs.Parts.{Part}
+use Rattle.aa_faults.specs.declared.fault.Fault.{Fault}
+use Rattle.aa_faults.specs.declared.fault.Fault.TheVariants.{RanOut}
 use Rattle.aa_grammar.specs.declared.sequence.Next.{Next}
 use Rattle.aa_grammar.specs.declared.sequence.Next.TheVariants.{Item, Nothing, End}
 

@@ -2,7 +2,7 @@
 
 ghost use Rattle.std.specs.Prelude.{◌≡◌, ◌<◌, IfOk, IfErr, false, length, map};
 ghost use Rattle.aa_text.specs.code.SplicingProgress.{seen_spliced};
-ghost use Rattle.aa_rules.specs.code.Readings.{IsFault, IsFaultOrMemory, IsRead};
+ghost use Rattle.aa_faults.specs.code.Readings.{IsFault, IsFaultOrMemory, IsRead};
 ghost use Rattle.aa_rules.specs.code.SeenRules.{seen_rule};
 ghost use Rattle.aa_grammar.specs.Blocks.{all_profiles, child_behind, child_block, profile_behind, profile_block};
 ghost use Rattle.aa_grammar.specs.Blocks.{child, child_rule, member, next_member, next_profile, next_rule, profile};
@@ -14,9 +14,9 @@ use crate::heads::{Form, Head, Named, begins_child, read_child_name, read_head, 
 use crate::preamble::read_version;
 use crate::sequence::{Next, Rest};
 use crate::so_far::{MembersSoFar, ProfilesSoFar};
-use aa_rules::{
-    Fault, GrammarRefusal, Rule, is_name, is_top_name, is_word_of, read_rule, refusal_at,
-};
+use aa_faults::{Fault, GrammarRefusal, is_word_of, refusal_at};
+use aa_names::{is_name, is_top_name};
+use aa_rules::{Rule, read_rule};
 use aa_text::{Spliced, TokenKind};
 use std::alloc::Global;
 

@@ -1,14 +1,14 @@
 //! Profile files, whole.
 
 ghost use Rattle.std.specs.Prelude.{◌≡◌, ◌≢◌, Ok, Err, None, IfOk, IfErr};
-ghost use Rattle.aa_rules.specs.code.SeenTokens.{seen_tokens};
-ghost use Rattle.aa_rules.specs.declared.fault.GrammarRefusal.TheVariants.{Memory};
+ghost use Rattle.aa_faults.specs.code.SeenTokens.{seen_tokens};
+ghost use Rattle.aa_faults.specs.declared.fault.GrammarRefusal.TheVariants.{Memory};
 ghost use Rattle.aa_grammar.specs.Files.{file};
 ghost use Rattle.aa_grammar.specs.code.Seen.{seen_file};
 
 use crate::blocks::{Profile, read_profiles};
 use crate::preamble::{Assignment, read_preamble};
-use aa_rules::{Fault, GrammarError, GrammarRefusal};
+use aa_faults::{Fault, GrammarError, GrammarRefusal};
 use aa_text::Spliced;
 use std::alloc::Global;
 
@@ -28,7 +28,10 @@ pub struct File<'a> {
 /// The first fault from the left, at the first token at which nothing that could follow would be accepted (docs/policy.md, "Files").
 /// - `BadToken`: a token that can't stand there; without a place where the tokens run out outside of a block.
 /// - `OpenBlock`: the tokens run out in a block; at the innermost brace that isn't closed.
-/// - `BadFlag`, `BadAccess`, `WriteAppend`, `BadName`: the token that holds the flag, the access or the name.
+/// - `BadFlag`, `BadAccess`, `TwoExec`, `ExecQualifier`, `WriteAppend`, `BadName`: the token that holds the flag, the access, the name or the
+///   target.
+/// - `TargetWithoutExec`: the word `->`.
+/// - `BadCapability`, `BadNetwork`: the word of the rule that is at fault.
 /// - `TwiceNamed`: the token of a name that another profile of the file has, or another child or hat of the profile.
 /// - `NestedChild`: the word that a child within a child begins with.
 /// - `LateAssignment`: an assignment behind a profile.

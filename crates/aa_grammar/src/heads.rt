@@ -3,14 +3,14 @@
 ghost use Rattle.std.specs.Prelude.{◌≡◌, ◌<◌, ◌≤◌, IfOk, IfErr, length};
 ghost use Rattle.std.specs.Option.{option_map};
 ghost use Rattle.aa_text.specs.code.SplicingProgress.{seen_spliced};
-ghost use Rattle.aa_rules.specs.code.Readings.{IsFault, IsRead};
-ghost use Rattle.aa_rules.specs.code.SeenTokens.{seen_tokens};
+ghost use Rattle.aa_faults.specs.code.Readings.{IsFault, IsRead};
+ghost use Rattle.aa_faults.specs.code.SeenTokens.{seen_tokens};
 ghost use Rattle.aa_grammar.specs.Heads.{attachment, begins_child, child_name, head, is_short_hat, name_behind, top_name};
 ghost use Rattle.aa_grammar.specs.code.Seen.{seen_head, seen_named};
 
 use aa_bytes::{begins_with_byte, behind};
+use aa_faults::{Fault, GrammarRefusal, is_pattern, is_word_of, read_text, refusal_at};
 use aa_flags::{Flags, read_flags};
-use aa_rules::{Fault, GrammarRefusal, is_pattern, is_word_of, read_text, refusal_at};
 use aa_text::{Spliced, TokenKind};
 
 /// How a head begins.

@@ -8,8 +8,9 @@ mod preamble;
 mod sequence;
 mod so_far;
 
+pub use aa_faults::{GrammarError, GrammarRefusal};
 pub use aa_flags::{Flags, what_flags_say};
-pub use aa_rules::{GrammarError, GrammarRefusal, Qualifiers, Rule, Sockets};
+pub use aa_rules::{Access, Qualifiers, Rule, Sockets};
 pub use blocks::{Child, Member, Profile};
 pub use files::{File, read_file};
 pub use heads::Head;

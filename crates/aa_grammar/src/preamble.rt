@@ -2,14 +2,14 @@
 
 ghost use Rattle.std.specs.Prelude.{◌≡◌, ◌<◌, ◌≤◌, Ok, IfOk, IfErr, false, length};
 ghost use Rattle.aa_text.specs.code.SplicingProgress.{seen_spliced};
-ghost use Rattle.aa_rules.specs.code.Readings.{IsFault, IsFaultOrMemory, IsRead};
-ghost use Rattle.aa_rules.specs.code.SeenTokens.{seen_tokens};
+ghost use Rattle.aa_faults.specs.code.Readings.{IsFault, IsFaultOrMemory, IsRead};
+ghost use Rattle.aa_faults.specs.code.SeenTokens.{seen_tokens};
 ghost use Rattle.aa_grammar.specs.Preamble.{assignment, behind_version, next_assignment, preamble, value_count, version_or_end};
 ghost use Rattle.aa_grammar.specs.code.Readings.{IsNext};
 ghost use Rattle.aa_grammar.specs.code.Seen.{is_end, seen_assignment, seen_items};
 
 use crate::sequence::{Next, Rest};
-use aa_rules::{Fault, is_word_of, read_comma, read_text, unexpected};
+use aa_faults::{Fault, is_word_of, read_comma, read_text, unexpected};
 use aa_text::{Spliced, TokenKind};
 use std::alloc::Global;
 

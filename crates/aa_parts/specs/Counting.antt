@@ -1,7 +1,8 @@
 -- Counts of choices, which go on to a bound and no further.
 use Rattle.std.specs.Prelude.{ℕ, ◌≡◌, List, length, min}
 use Rattle.std.specs.List.{sum_by}
-use Rattle.aa_parts.specs.Choices.{choice_count}
+use Rattle.aa_parts.specs.Choices.{choice_count, choices, choices_within}
+use Rattle.aa_parts.specs.Names.{EachNameIn, EachNameWithin}
 use Rattle.aa_parts.specs.Parts.{parts}
 
 -- no count goes on behind this one, which no file may reach
@@ -23,3 +24,13 @@ count_of texts = min (length texts) most_counted
 -- a name has as many values by its count as there are, as far as they are counted
 abbrev pub IsCounted : (List ℕ → ℕ) → (List ℕ → List (List ℕ)) → List ℕ → Type 0
 IsCounted counts values name = counts name ≡ count_of (values name)
+
+-- Where the counts of a text's names are those of their values, a count is that of the text's choices.
+abbrev pub CountsChoices : (List ℕ → ℕ) → List ℕ → ℕ → Type 0
+CountsChoices counts text count =
+    (values : List ℕ → List (List ℕ)) → EachNameIn (IsCounted counts values) text → count ≡ count_of (choices values (parts text))
+
+-- the same of words
+abbrev pub CountsChoicesWithin : (List ℕ → ℕ) → List (List ℕ) → ℕ → Type 0
+CountsChoicesWithin counts words count =
+    (values : List ℕ → List (List ℕ)) → EachNameWithin (IsCounted counts values) words → count ≡ count_of (choices_within values words)

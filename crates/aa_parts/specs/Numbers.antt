@@ -1,6 +1,7 @@
 -- Numbers that stand for names, and sets of numbers in the order in which they came.
-use Rattle.std.specs.Prelude.{ℕ, nat_eq, List, [], ◌∷◌, ◌++◌, Option, None, Some, if◌then◌else◌}
+use Rattle.std.specs.Prelude.{ℕ, ◌≡◌, nat_eq, List, [], ◌∷◌, ◌++◌, Option, None, Some, if◌then◌else◌}
 use Rattle.std.specs.List.{list_any}
+use Rattle.aa_parts.specs.Names.{Answers}
 use Rattle.aa_parts.specs.Parts.{Part, Byte, Name, Unclosed, parts}
 
 -- the numbers of the names among parts, as far as they have some
@@ -30,3 +31,7 @@ with_index known index = if list_any (nat_eq index) known then known else known 
 abbrev pub with_indexes : List ℕ → List ℕ → List ℕ
 with_indexes known [] = known
 with_indexes known (index ∷ indexes) = with_indexes (with_index known index) indexes
+
+-- Where calls answer for each name its number, the numbers of some names were gathered behind those that were there before.
+abbrev pub Gathers : (List ℕ → Option ℕ → Type 0) → ((List ℕ → Option ℕ) → List ℕ) → List ℕ → List ℕ → Type 0
+Gathers answers numbers before after = (number : List ℕ → Option ℕ) → Answers answers number → after ≡ with_indexes before (numbers number)

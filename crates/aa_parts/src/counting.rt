@@ -1,10 +1,8 @@
 //! How many choices of values texts have, where it is known how many values each name has.
 
 ghost use Rattle.std.specs.Prelude.{◌≡◌, ℕ, List};
-ghost use Rattle.aa_parts.specs.Choices.{choice_count, choices, choices_within};
-ghost use Rattle.aa_parts.specs.Counting.{IsCounted, count_of, counted, counted_words};
-ghost use Rattle.aa_parts.specs.Names.{EachNameIn, EachNameWithin};
-ghost use Rattle.aa_parts.specs.Parts.{parts};
+ghost use Rattle.aa_parts.specs.Choices.{choice_count};
+ghost use Rattle.aa_parts.specs.Counting.{CountsChoices, CountsChoicesWithin, counted, counted_words};
 ghost use Rattle.aa_parts.specs.code.TextParts.{parts_of};
 
 use crate::parts::{TextPart, first_part};
@@ -39,7 +37,7 @@ fn count_part<C: Counts>(counts: &C, part: TextPart<'_>) -> usize
 pub fn count_text<C: Counts>(counts: &C, text: &[u8]) -> usize
     ensures value { result ≡ counted (C.counts counts.now) text.now }
     // Where the counts are those of values, as far as they are counted, so is what they give.
-    ensures right { (values : List ℕ → List (List ℕ)) → EachNameIn (IsCounted (C.counts counts.now) values) text.now → result ≡ count_of (choices values (parts text.now)) }
+    ensures right { CountsChoices (C.counts counts.now) text.now result }
 {
     let mut so_far: usize = 1;
     let mut rest = text;
@@ -54,7 +52,7 @@ pub fn count_text<C: Counts>(counts: &C, text: &[u8]) -> usize
 /// How many choices words have together, where that is less than 16,385, and else 16,385. It takes no memory.
 pub fn count_words<C: Counts>(counts: &C, words: &[Sequence<u8>]) -> usize
     ensures value { result ≡ counted_words (C.counts counts.now) words.now }
-    ensures right { (values : List ℕ → List (List ℕ)) → EachNameWithin (IsCounted (C.counts counts.now) values) words.now → result ≡ count_of (choices_within values words.now) }
+    ensures right { CountsChoicesWithin (C.counts counts.now) words.now result }
 {
     let mut so_far: usize = 0;
     for word in words {

@@ -1,11 +1,8 @@
 //! Texts in whose names' places values are put: one for each choice of a value for each name.
 
 ghost use Rattle.std.specs.Prelude.{◌≡◌, ℕ, List, IfOk};
-ghost use Rattle.aa_parts.specs.Choices.{choices, choices_within};
-ghost use Rattle.aa_parts.specs.Expanding.{AreCutOff, expanded, expanded_words, extended};
-ghost use Rattle.aa_parts.specs.Joining.{as_texts, cut_off, texts_of};
-ghost use Rattle.aa_parts.specs.Names.{EachNameIn, EachNameWithin};
-ghost use Rattle.aa_parts.specs.Parts.{parts};
+ghost use Rattle.aa_parts.specs.Expanding.{AreChoices, AreChoicesWithin, expanded, expanded_words, extended};
+ghost use Rattle.aa_parts.specs.Joining.{as_texts, texts_of};
 ghost use Rattle.aa_parts.specs.code.TextParts.{parts_of};
 
 use crate::joining::{with_bytes, with_ends};
@@ -52,7 +49,7 @@ pub fn expand_text<V: Values>(
 ) -> Result<Vec<Vec<u8>>, AllocError>
     ensures value { IfOk result (λ texts. texts_of texts ≡ expanded (V.values values.now) text.now) }
     // Where the values are cut off already, that is the same.
-    ensures same { IfOk result (λ texts. (whole : List ℕ → List (List ℕ)) → EachNameIn (AreCutOff (V.values values.now) whole) text.now → texts_of texts ≡ cut_off (choices whole (parts text.now))) }
+    ensures same { IfOk result (λ texts. AreChoices (V.values values.now) text.now (texts_of texts)) }
 {
     let mut texts = Vec::with_capacity(alloc, 1)?;
     texts.push(Vec::new(alloc))?;
@@ -75,7 +72,7 @@ pub fn expand_words<V: Values>(
     words: &[Sequence<u8>],
 ) -> Result<Vec<Vec<u8>>, AllocError>
     ensures value { IfOk result (λ texts. texts_of texts ≡ expanded_words (V.values values.now) words.now) }
-    ensures same { IfOk result (λ texts. (whole : List ℕ → List (List ℕ)) → EachNameWithin (AreCutOff (V.values values.now) whole) words.now → texts_of texts ≡ cut_off (choices_within whole words.now)) }
+    ensures same { IfOk result (λ texts. AreChoicesWithin (V.values values.now) words.now (texts_of texts)) }
 {
     let mut texts = Vec::new(alloc);
     for word in words {

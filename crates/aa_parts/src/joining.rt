@@ -5,22 +5,18 @@ ghost use Rattle.aa_parts.specs.Joining.{as_texts, cut_off, joined, most_kept, t
 
 use std::alloc::{AllocError, Global};
 
-/// How many bytes of a text are kept.
-pub const MOST_KEPT: usize = 4_097;
+// How many bytes of a text are kept.
+const MOST_KEPT: usize = 4_097;
 
-/// A text, cut off behind its first 4,097 bytes.
-pub fn cut(text: &[u8]) -> &[u8]
+// A text, cut off behind its first 4,097 bytes.
+fn cut(text: &[u8]) -> &[u8]
     ensures { result.now ≡ take most_kept text.now }
 {
     &text[..text.len().min(MOST_KEPT)]
 }
 
-/// A text with another behind it, cut off, in memory of its own.
-///
-/// # Errors
-///
-/// Memory ran out.
-pub fn joined_text(alloc: Global, text: &[u8], end: &[u8]) -> Result<Vec<u8>, AllocError>
+// A text with another behind it, cut off, in memory of its own.
+fn joined_text(alloc: Global, text: &[u8], end: &[u8]) -> Result<Vec<u8>, AllocError>
     ensures { IfOk result (λ all. all.items ≡ take most_kept (text.now ++ end.now)) }
 {
     let text = cut(text);
@@ -32,12 +28,8 @@ pub fn joined_text(alloc: Global, text: &[u8], end: &[u8]) -> Result<Vec<u8>, Al
     Ok(all)
 }
 
-/// A text with each end behind it, each cut off, in the order of the ends.
-///
-/// # Errors
-///
-/// Memory ran out.
-pub fn with_each(alloc: Global, text: &[u8], ends: &[Vec<u8>]) -> Result<Vec<Vec<u8>>, AllocError>
+// A text with each end behind it, each cut off, in the order of the ends.
+fn with_each(alloc: Global, text: &[u8], ends: &[Vec<u8>]) -> Result<Vec<Vec<u8>>, AllocError>
     ensures { IfOk result (λ all. texts_of all ≡ cut_off (map (λ end. text.now ++ end) (as_texts ends.now))) }
 {
     let mut all = Vec::with_capacity(alloc, ends.len())?;
@@ -67,12 +59,8 @@ pub fn with_ends(
     Ok(all)
 }
 
-/// Puts bytes behind a text, and cuts it off.
-///
-/// # Errors
-///
-/// Memory ran out. What the text then holds is not said.
-pub fn put_behind(text: &mut Vec<u8>, bytes: &[u8]) -> Result<(), AllocError>
+// Puts bytes behind a text, and cuts it off. Where memory runs out, what the text then holds is not said.
+fn put_behind(text: &mut Vec<u8>, bytes: &[u8]) -> Result<(), AllocError>
     ensures { OnOk result (text.new.items ≡ take most_kept (text.old.items ++ bytes.now)) }
 {
     text.truncate(MOST_KEPT);

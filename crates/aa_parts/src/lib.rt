@@ -10,7 +10,5 @@ mod parts;
 
 pub use counting::{Counts, MOST_COUNTED, count_text, count_words};
 pub use expanding::{Values, expand_text, expand_words};
-pub use joining::{MOST_KEPT, cut, joined_text, put_behind, with_bytes, with_each, with_ends};
 pub use missing::{has_missing, have_missing};
 pub use numbers::{gather_numbers, gather_numbers_within};
-pub use parts::{TextPart, first_part};

@@ -1,9 +1,8 @@
 //! The numbers of the names in texts, gathered in a set.
 
-ghost use Rattle.std.specs.Prelude.{◌≡◌, ℕ, List, Option, OnOk};
+ghost use Rattle.std.specs.Prelude.{OnOk};
 ghost use Rattle.std.specs.Fn.{FnReturnsAt};
-ghost use Rattle.aa_parts.specs.Names.{Answers};
-ghost use Rattle.aa_parts.specs.Numbers.{numbers_in, numbers_of, numbers_within, with_indexes};
+ghost use Rattle.aa_parts.specs.Numbers.{Gathers, numbers_in, numbers_of, numbers_within};
 ghost use Rattle.aa_parts.specs.code.TextParts.{parts_of};
 
 use crate::parts::{TextPart, first_part};
@@ -18,7 +17,7 @@ fn gather_part<F: Fn(&[u8]) -> Option<usize>>(
     gathered: &mut IndexSet<usize>,
 ) -> Result<(), AllocError>
     requires { F.IsAlwaysCallable number.now }
-    ensures { OnOk result ((index : List ℕ → Option ℕ) → Answers (FnReturnsAt F.Fn number.now) index → gathered.new.keys ≡ with_indexes gathered.old.keys (numbers_of index (parts_of part.entry))) }
+    ensures { OnOk result (Gathers (FnReturnsAt F.Fn number.now) (λ n. numbers_of n (parts_of part.entry)) gathered.old.keys gathered.new.keys) }
 {
     let name = match part {
         TextPart::Text(_) => return Ok(()),
@@ -38,7 +37,7 @@ fn gather<F: Fn(&[u8]) -> Option<usize>>(
     gathered: &mut IndexSet<usize>,
 ) -> Result<(), AllocError>
     requires { F.IsAlwaysCallable number.now }
-    ensures { OnOk result ((index : List ℕ → Option ℕ) → Answers (FnReturnsAt F.Fn number.now) index → gathered.new.keys ≡ with_indexes gathered.old.keys (numbers_in index text.now)) }
+    ensures { OnOk result (Gathers (FnReturnsAt F.Fn number.now) (λ n. numbers_in n text.now) gathered.old.keys gathered.new.keys) }
 {
     let mut rest = text;
     while let Some((part, after)) = first_part(rest) {
@@ -60,7 +59,7 @@ pub fn gather_numbers<F: Fn(&[u8]) -> Option<usize>>(
 ) -> Result<(), AllocError>
     requires { F.IsAlwaysCallable number }
     // For each function in definitions that the call answers.
-    ensures { OnOk result ((index : List ℕ → Option ℕ) → Answers (FnReturnsAt F.Fn number) index → gathered.new.keys ≡ with_indexes gathered.old.keys (numbers_in index text.now)) }
+    ensures { OnOk result (Gathers (FnReturnsAt F.Fn number) (λ n. numbers_in n text.now) gathered.old.keys gathered.new.keys) }
 {
     gather(text, &number, gathered)
 }
@@ -76,7 +75,7 @@ pub fn gather_numbers_within<F: Fn(&[u8]) -> Option<usize>>(
     gathered: &mut IndexSet<usize>,
 ) -> Result<(), AllocError>
     requires { F.IsAlwaysCallable number }
-    ensures { OnOk result ((index : List ℕ → Option ℕ) → Answers (FnReturnsAt F.Fn number) index → gathered.new.keys ≡ with_indexes gathered.old.keys (numbers_within index words.now)) }
+    ensures { OnOk result (Gathers (FnReturnsAt F.Fn number) (λ n. numbers_within n words.now) gathered.old.keys gathered.new.keys) }
 {
     for word in words {
         gather(word.as_slice(), &number, gathered)?;

@@ -1,5 +1,5 @@
 -- Profiles, children and hats by their names.
-use Rattle.std.specs.Prelude.{ℕ, Bool, true, not, ◌&&◌, List, [], ◌∷◌}
+use Rattle.std.specs.Prelude.{ℕ, Bool, true, not, ◌&&◌, List, [], ◌∷◌, Option, position}
 use Rattle.std.specs.List.{list_any}
 use Rattle.std.specs.Str.{bytes_eq}
 use Rattle.aa_policy.specs.declared.profile.Child.{Child}
@@ -17,6 +17,10 @@ are_distinct (profile ∷ profiles) = not (list_any (is_named profile.name) prof
 -- a child or a hat has the name
 abbrev pub is_child_named : List ℕ → Child → Bool
 is_child_named name child = bytes_eq child.name name
+
+-- the place of the child or hat of a name
+abbrev pub child_place : List ℕ → List Child → Option ℕ
+child_place name children = position (is_child_named name) children
 
 -- no two children or hats have one name
 abbrev pub are_distinct_children : List Child → Bool

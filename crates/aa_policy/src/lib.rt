@@ -4,4 +4,6 @@
 mod cover;
 mod profile;
 
-pub use profile::{CapRule, Child, FileRule, Mode, NetRule, OtherRule, Profile, Rule};
+pub use profile::{
+    CapRule, Child, FileRule, Mode, NetRule, OtherRule, Profile, Rule, Transition, child_place,
+};

@@ -1,8 +1,9 @@
 //! Profiles, their children and hats, and their rules, as plain data: names and texts are lists of bytes.
 
 ghost use Rattle.std.specs.Prelude.{◌≡◌, IfOk};
+ghost use Rattle.aa_policy.specs.Profile.{child_place};
 
-use aa_access::Perms;
+use aa_access::{ExecWord, Perms};
 use aa_bytes::Sequence;
 use aa_glob::Pattern;
 use std::alloc::{AllocError, Global};
@@ -16,13 +17,26 @@ pub enum Mode {
     Complain,
 }
 
+/// Under what a program runs that a rule lets be started.
+#[derive(Debug, Drop)]
+pub struct Transition {
+    /// The exec word.
+    pub word: ExecWord,
+    /// The name of the profile, child or hat that the rule names; none where it names none.
+    pub target: Option<Sequence<u8>>,
+}
+
 /// A rule on files.
 #[derive(Debug, Drop)]
 pub struct FileRule {
     /// The pattern of the paths that it is about.
     pub pattern: Pattern,
-    /// The access letters.
+    /// The access letters; the bare `x` of a deny rule is among them.
     pub access: Perms,
+    /// Under what the programs run that it lets be started; none where it has no exec word.
+    pub exec: Option<Transition>,
+    /// The target of hard links that it names, which decides nothing.
+    pub link: Option<Sequence<u8>>,
     /// Whether it applies only where the task's user owns the file.
     pub owner: bool,
     /// Whether it denies what it covers.
@@ -115,6 +129,44 @@ pub struct Profile {
     pub children: Sequence<Child>,
 }
 
+// An equal text, where there is one.
+fn copied_text(
+    alloc: Global,
+    text: &Option<Sequence<u8>>,
+) -> Result<Option<Sequence<u8>>, AllocError>
+    ensures { IfOk result (λ copy. copy ≡ text.now) }
+{
+    match text {
+        None => Ok(None),
+        Some(text) => Ok(Some(Sequence::from_slice(alloc, text.as_slice())?)),
+    }
+}
+
+impl Transition {
+    // An equal transition.
+    fn try_copy(&self, alloc: Global) -> Result<Transition, AllocError>
+        ensures { IfOk result (λ copy. copy ≡ self.now) }
+    {
+        Ok(Transition {
+            word: self.word,
+            target: copied_text(alloc, &self.target)?,
+        })
+    }
+}
+
+// An equal transition, where there is one.
+fn copied_transition(
+    alloc: Global,
+    exec: &Option<Transition>,
+) -> Result<Option<Transition>, AllocError>
+    ensures { IfOk result (λ copy. copy ≡ exec.now) }
+{
+    match exec {
+        None => Ok(None),
+        Some(transition) => Ok(Some(transition.try_copy(alloc)?)),
+    }
+}
+
 impl FileRule {
     // An equal rule.
     fn try_copy(&self, alloc: Global) -> Result<FileRule, AllocError>
@@ -123,6 +175,8 @@ impl FileRule {
         Ok(FileRule {
             pattern: self.pattern.try_copy(alloc)?,
             access: self.access,
+            exec: copied_transition(alloc, &self.exec)?,
+            link: copied_text(alloc, &self.link)?,
             owner: self.owner,
             deny: self.deny,
             audit: self.audit,
@@ -229,4 +283,13 @@ fn copied_children(alloc: Global, children: &[Child]) -> Result<Vec<Child>, Allo
         copies.push(child.try_copy(alloc)?)?;
     }
     Ok(copies)
+}
+
+/// The place of the child or hat of a name among some, or none where none has it. It takes no memory.
+pub fn child_place(name: &[u8], children: &[Child]) -> Option<usize>
+    ensures { result ≡ child_place name.now children.now }
+{
+    children
+        .iter()
+        .position(|child| child.name.as_slice() == name)
 }

@@ -18,7 +18,7 @@ use Rattle.aa_files.specs.declared.text_error.TextRefusal.{TextRefusal}
 use Rattle.aa_profile.specs.Assignments.{all_assigned, assigned, cycle, first_of, first_undefined, naming, undefined_name}
 use Rattle.aa_profile.specs.code.FileReadingProgress.{first_undefined_value, have_expansions}
 use Rattle.aa_grammar.specs.Preamble.{Assignment}
-use Rattle.aa_rules.specs.Tokens.{place_of, text_of}
+use Rattle.aa_faults.specs.Tokens.{place_of, text_of}
 use Rattle.aa_refusals.specs.ProfileError.{placed}
 use Rattle.aa_refusals.specs.declared.profile_error.ProfileRefusal.TheVariants.{Cycle, Undefined}
 

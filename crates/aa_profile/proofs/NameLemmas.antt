@@ -9,10 +9,10 @@ use Rattle.std.proofs.lemmas.List.{append-nil, map-append}
 use Rattle.std.proofs.lemmas.List.Folds.{list_all-append}
 use Rattle.std.proofs.lemmas.Slice.Eq.{bytes_eq-Decides}
 use Rattle.aa_text.specs.Splicing.{Placed}
-use Rattle.aa_rules.specs.Names.{is_name, is_top_name}
-use Rattle.aa_rules.specs.Parts.{Part, followed, refused}
+use Rattle.aa_names.specs.Names.{is_name, is_top_name}
+use Rattle.aa_faults.specs.Parts.{Part, followed, refused}
+use Rattle.aa_faults.specs.Tokens.{is_close_brace, is_word_of}
 use Rattle.aa_rules.specs.Rules.{rule}
-use Rattle.aa_rules.specs.Tokens.{is_close_brace, is_word_of}
 use Rattle.aa_grammar.specs.Blocks.{OfChild, OfRule, Child as WrittenChild, Member, Profile as WrittenProfile, child, child_behind, child_block, closed, is_child_of_name, is_hat, is_of_name, member, next_member, next_profile, profile, profile_behind, profile_block, refusal_of_name}
 use Rattle.aa_grammar.specs.Files.{File, file}
 use Rattle.aa_flags.specs.Flags.{flags}

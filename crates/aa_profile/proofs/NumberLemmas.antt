@@ -6,11 +6,11 @@ use Rattle.std.proofs.lemmas.Bool.{and_parts}
 use Rattle.std.proofs.lemmas.List.Folds.{list_all-append}
 use Rattle.std.proofs.lemmas.Result.{IfOk-at_ok}
 use Rattle.aa_text.specs.Splicing.{Placed}
-use Rattle.aa_rules.specs.Parts.{Part, followed, refused}
+use Rattle.aa_faults.specs.Parts.{Part, followed, refused}
+use Rattle.aa_faults.specs.Tokens.{is_close_brace, is_word_of}
+use Rattle.aa_faults.specs.declared.fault.GrammarRefusal.TheVariants.{NestedChild}
 use Rattle.aa_rules.specs.RuleNumbers.{has_known_numbers as is_known}
 use Rattle.aa_rules.specs.Rules.{Kept, OnCapabilities, OnFile, OnNetwork, Rule as WrittenRule, rule}
-use Rattle.aa_rules.specs.Tokens.{is_close_brace, is_word_of}
-use Rattle.aa_rules.specs.declared.fault.GrammarRefusal.TheVariants.{NestedChild}
 use Rattle.aa_grammar.specs.Blocks.{OfChild, OfRule, Child as WrittenChild, Member, Profile as WrittenProfile, child, child_block, child_rule, member, next_member, next_profile, next_rule, profile_block}
 use Rattle.aa_grammar.specs.Files.{File, file}
 use Rattle.aa_grammar.specs.Heads.{begins_child}
@@ -43,7 +43,7 @@ file_rules-known make fine [] = refl
 file_rules-known make fine (pattern ∷ patterns) = rw (fine pattern, file_rules-known make fine patterns) refl
 
 made-rule : (variables : List Variable) (rule : WrittenRule) → is_known rule ≡ true → list_all has_known_numbers (rules_of_rule variables rule) ≡ true
-made-rule variables (OnFile qualifiers pattern access) h = file_rules-known (file_rule qualifiers access) (λ pattern. refl) (patterns_at variables pattern)
+made-rule variables (OnFile qualifiers pattern access target) h = file_rules-known (file_rule qualifiers access target) (λ pattern. refl) (patterns_at variables pattern)
 made-rule variables (OnCapabilities qualifiers capabilities) h = rw h refl
 made-rule variables (OnNetwork qualifiers sockets) h = rw h refl
 made-rule variables (Kept qualifiers tokens) h = refl

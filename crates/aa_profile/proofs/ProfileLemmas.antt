@@ -5,7 +5,7 @@ use Rattle.std.specs.Prelude.{is_none}
 use Rattle.aa_text.specs.Splicing.{Placed}
 use Rattle.aa_variables.specs.Expansions.{expansion_refusal}
 use Rattle.aa_variables.specs.Variables.{Variable}
-use Rattle.aa_rules.specs.Tokens.{text_of}
+use Rattle.aa_faults.specs.Tokens.{text_of}
 use Rattle.aa_rules.specs.code.SeenRules.{seen_rule}
 use Rattle.aa_rules.specs.declared.rules.Rule.{Rule}
 use Rattle.aa_profile.specs.PatternTokens.{of_rule, of_rules}

@@ -3,7 +3,7 @@ use Rattle.std.proofs.Common.{◌≡◌, subst, map, refl, Option, None, Some, R
 use Rattle.std.specs.Prelude.{IfOk}
 use Rattle.aa_files.specs.Files.{File as HandedIn}
 use Rattle.aa_grammar.specs.Files.{File, file}
-use Rattle.aa_rules.specs.declared.grammar_error.GrammarError.{GrammarError}
+use Rattle.aa_faults.specs.declared.grammar_error.GrammarError.{GrammarError}
 use Rattle.aa_policy.specs.declared.profile.Profile.{Profile}
 use Rattle.aa_profile.specs.Assignments.{variables_of}
 use Rattle.aa_profile.specs.FileReading.{file_profiles, profiles_in, profiles_of, profiles_with, refusal_of_patterns}

@@ -8,7 +8,7 @@ use Rattle.aa_text.specs.Splicing.{Placed}
 use Rattle.aa_variables.specs.Variables.{Variable, after_append, after_define, names_undefined}
 use Rattle.aa_files.specs.declared.text_error.TextRefusal.{TextRefusal}
 use Rattle.aa_grammar.specs.Preamble.{Assignment}
-use Rattle.aa_rules.specs.Tokens.{place_of, text_of}
+use Rattle.aa_faults.specs.Tokens.{place_of, text_of}
 use Rattle.aa_refusals.specs.ProfileError.{refusal_of_text, placed}
 use Rattle.aa_refusals.specs.declared.profile_error.ProfileError.{ProfileError}
 use Rattle.aa_refusals.specs.declared.profile_error.ProfileRefusal.TheVariants.{Cycle, Undefined}

@@ -7,7 +7,7 @@ use Rattle.aa_rules.specs.Rules.{Kept, OnCapabilities, OnFile, OnNetwork, Rule}
 use Rattle.aa_text.specs.Splicing.{Placed}
 
 abbrev pub of_rule : Rule → List Placed
-of_rule (OnFile qualifiers pattern access) = pattern ∷ []
+of_rule (OnFile qualifiers pattern access target) = pattern ∷ []
 of_rule (OnCapabilities qualifiers capabilities) = []
 of_rule (OnNetwork qualifiers sockets) = []
 of_rule (Kept qualifiers tokens) = []

@@ -4,7 +4,7 @@ use Rattle.std.specs.Prelude.{ℕ, ◌+◌, ◌&&◌, ◌==◌, nat_le, if◌the
 use Rattle.aa_bytes.specs.Bytes.{slash}
 use Rattle.aa_bytes.specs.Texts.{begins_with_byte}
 use Rattle.aa_glob.specs.Reading.{longest, reading}
-use Rattle.aa_rules.specs.Tokens.{place_of, text_of}
+use Rattle.aa_faults.specs.Tokens.{place_of, text_of}
 use Rattle.aa_text.specs.Splicing.{Placed}
 use Rattle.aa_variables.specs.Expansions.{expansions}
 use Rattle.aa_variables.specs.Variables.{Variable}

@@ -1,6 +1,7 @@
 -- Profiles as their files write them, with the patterns that their variables make (docs/policy.md, "Files").
-use Rattle.std.specs.Prelude.{ℕ, ◌||◌, if◌then◌else◌, List, [], ◌∷◌, ◌++◌, fold, map, None, Some}
+use Rattle.std.specs.Prelude.{ℕ, ◌||◌, if◌then◌else◌, List, [], ◌∷◌, ◌++◌, fold, map, Option, None, Some}
 use Rattle.std.specs.List.{flat_map}
+use Rattle.std.specs.Option.{option_map}
 use Rattle.aa_bytes.specs.Bytes.{quote, space}
 use Rattle.aa_bytes.specs.Texts.{is_empty}
 use Rattle.aa_grammar.specs.Blocks.{OfChild, OfRule, Child as WrittenChild, Member, Profile as WrittenProfile}
@@ -12,8 +13,10 @@ use Rattle.aa_policy.specs.declared.profile.Mode.TheVariants.{Complain, Enforce}
 use Rattle.aa_policy.specs.declared.profile.Profile.{Profile}
 use Rattle.aa_policy.specs.declared.profile.Rule.{Rule}
 use Rattle.aa_policy.specs.declared.profile.Rule.TheVariants.{Cap, File as OfFile, Net, Other}
+use Rattle.aa_policy.specs.declared.profile.Transition.{Transition}
+use Rattle.aa_faults.specs.Tokens.{is_comma, is_quoted, text_of}
 use Rattle.aa_rules.specs.Rules.{Kept, OnCapabilities, OnFile, OnNetwork, Rule as WrittenRule}
-use Rattle.aa_rules.specs.Tokens.{is_comma, is_quoted, text_of}
+use Rattle.aa_rules.specs.declared.access.Access.{Access}
 use Rattle.aa_rules.specs.declared.networks.Sockets.{Sockets}
 use Rattle.aa_rules.specs.declared.qualifiers.Qualifiers.{Qualifiers}
 use Rattle.aa_text.specs.Splicing.{Placed}
@@ -32,10 +35,32 @@ with_token text token = if is_empty text || is_comma token.token.kind then text 
 abbrev pub kept_text : List Placed → List ℕ
 kept_text tokens = fold with_token [] tokens
 
+-- the text of a target, where there is one
+abbrev pub text_of_target : Option Placed → Option (List ℕ)
+text_of_target target = option_map text_of target
+
+-- under what programs run that an access lets be started, where it has an exec word
+abbrev pub transition_of : Access → Option Placed → Option Transition
+transition_of access target = elim access.word [
+  | None ↦ None
+  | Some word ↦ Some (record { word = word; target = text_of_target target })
+]
+
+-- the target of hard links, where an access has no exec word
+abbrev pub link_of : Access → Option Placed → Option (List ℕ)
+link_of access target = elim access.word [ None ↦ text_of_target target | Some word ↦ None ]
+
 -- the file rule of a pattern
-abbrev pub file_rule : Qualifiers → ℕ → List ℕ → Rule
-file_rule qualifiers access pattern =
-    OfFile (record { pattern = pattern; access = record { 0 = access }; owner = qualifiers.owner; deny = qualifiers.deny; audit = qualifiers.audit })
+abbrev pub file_rule : Qualifiers → Access → Option Placed → List ℕ → Rule
+file_rule qualifiers access target pattern = OfFile (record {
+  pattern = pattern;
+  access = access.letters;
+  exec = transition_of access target;
+  link = link_of access target;
+  owner = qualifiers.owner;
+  deny = qualifiers.deny;
+  audit = qualifiers.audit;
+})
 
 -- a rule on capabilities
 abbrev pub cap_rule : Qualifiers → ℕ → Rule
@@ -51,7 +76,7 @@ other_rule qualifiers tokens = Other (record { text = kept_text tokens; owner = 
 
 -- the rules that a written one makes: a file rule makes one for each of its patterns, any other makes one
 abbrev pub rules_of_rule : List Variable → WrittenRule → List Rule
-rules_of_rule variables (OnFile qualifiers pattern access) = map (file_rule qualifiers access) (patterns_at variables pattern)
+rules_of_rule variables (OnFile qualifiers pattern access target) = map (file_rule qualifiers access target) (patterns_at variables pattern)
 rules_of_rule variables (OnCapabilities qualifiers capabilities) = cap_rule qualifiers capabilities ∷ []
 rules_of_rule variables (OnNetwork qualifiers sockets) = net_rule qualifiers sockets ∷ []
 rules_of_rule variables (Kept qualifiers tokens) = other_rule qualifiers tokens ∷ []

@@ -8,14 +8,14 @@ ghost use Rattle.aa_files.specs.declared.text_error.TextRefusal.TheVariants as t
 ghost use Rattle.aa_profile.specs.Assignments.{all_assigned, assigned, cycle, first_of, first_undefined, naming, undefined_name, variables_of};
 ghost use Rattle.aa_profile.specs.code.FileReadingProgress.{IsRefusal, IsRefusalOf, first_undefined_value, has_no_value, have_expansions};
 ghost use Rattle.aa_grammar.specs.code.Seen.{seen_assignment};
-ghost use Rattle.aa_rules.specs.Tokens.{place_of, text_of};
-ghost use Rattle.aa_rules.specs.code.SeenTokens.{seen_tokens};
+ghost use Rattle.aa_faults.specs.Tokens.{place_of, text_of};
+ghost use Rattle.aa_faults.specs.code.SeenTokens.{seen_tokens};
 ghost use Rattle.aa_refusals.specs.ProfileError.{plain};
 ghost use Rattle.aa_refusals.specs.declared.profile_error.ProfileRefusal.TheVariants.{Memory};
 
+use aa_faults::place_of;
 use aa_grammar::Assignment;
 use aa_refusals::{ProfileError, ProfileRefusal, placed};
-use aa_rules::place_of;
 use aa_text::{Place, Spliced, TextError, Variables, what_a_text_leads_to};
 use std::alloc::{AllocError, Global};
 

@@ -2,6 +2,7 @@
 #![tactic(auto)]
 
 mod assignments;
+mod file_rules;
 mod kept_rules;
 mod laws;
 mod pattern_tokens;
@@ -9,8 +10,10 @@ mod patterns;
 mod profiles;
 mod reading;
 
-pub use aa_access::Perms;
-pub use aa_policy::{CapRule, Child, FileRule, Mode, NetRule, OtherRule, Profile, Rule};
+pub use aa_access::{ExecWord, Perms};
+pub use aa_policy::{
+    CapRule, Child, FileRule, Mode, NetRule, OtherRule, Profile, Rule, Transition,
+};
 pub use aa_refusals::{ProfileError, ProfileRefusal};
 pub use laws::{how_profiles_are_named, which_numbers_rules_have};
 pub use patterns::MOST_RULES;

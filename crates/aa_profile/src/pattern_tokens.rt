@@ -2,8 +2,8 @@
 
 ghost use Rattle.std.specs.Prelude.{◌≡◌, ◌++◌, IfOk, OnOk, map};
 ghost use Rattle.aa_grammar.specs.code.Seen.{seen_child, seen_head, seen_member, seen_profile};
+ghost use Rattle.aa_faults.specs.code.SeenTokens.{seen_tokens};
 ghost use Rattle.aa_rules.specs.code.SeenRules.{seen_rule};
-ghost use Rattle.aa_rules.specs.code.SeenTokens.{seen_tokens};
 ghost use Rattle.aa_profile.specs.PatternTokens.{of_child, of_head, of_member, of_members, of_profile, of_profiles, of_rules};
 
 use aa_grammar::{Child, Head, Member, Profile, Rule};

@@ -3,16 +3,16 @@
 ghost use Rattle.std.specs.Prelude.{◌≡◌, ◌≢◌, ◌∷◌, [], Ok, Err, None, Some, IfOk, IfErr, OnOk, true, map};
 ghost use Rattle.std.specs.Option.{option_map};
 ghost use Rattle.aa_text.specs.code.SplicingProgress.{seen_spliced};
-ghost use Rattle.aa_rules.specs.code.SeenTokens.{seen_tokens};
+ghost use Rattle.aa_faults.specs.code.SeenTokens.{seen_tokens};
 ghost use Rattle.aa_profile.specs.Patterns.{collapsed, over_limit, patterns_at, refusal_of_expansion, refusal_of_expansions, refusal_of_token};
 ghost use Rattle.aa_profile.specs.code.FileReadingProgress.{IsRefusal, have_expansions};
 ghost use Rattle.aa_refusals.specs.ProfileError.{placed, plain};
 ghost use Rattle.aa_refusals.specs.declared.profile_error.ProfileRefusal.TheVariants.{Memory};
 
 use aa_bytes::begins_with_byte;
+use aa_faults::place_of;
 use aa_glob::{LONGEST_PATTERN, Pattern};
 use aa_refusals::{ProfileError, ProfileRefusal, placed};
-use aa_rules::place_of;
 use aa_text::{ExpansionTable, Place, Spliced};
 use std::alloc::{AllocError, Global};
 

@@ -5,56 +5,28 @@
 ghost use Rattle.std.specs.Prelude.{◌≡◌, ◌≢◌, ◌++◌, ◌∷◌, [], None, Some, IfOk, IfErr, OnOk, true, map};
 ghost use Rattle.aa_text.specs.code.SplicingProgress.{seen_spliced};
 ghost use Rattle.aa_grammar.specs.code.Seen.{seen_child, seen_head, seen_member, seen_profile};
+ghost use Rattle.aa_faults.specs.code.SeenTokens.{seen_tokens};
 ghost use Rattle.aa_rules.specs.code.SeenRules.{seen_rule};
-ghost use Rattle.aa_rules.specs.code.SeenTokens.{seen_tokens};
 ghost use Rattle.aa_profile.specs.PatternTokens.{of_child, of_head, of_member, of_members, of_profile, of_profiles, of_rule, of_rules};
 ghost use Rattle.aa_profile.specs.Patterns.{first_bad};
-ghost use Rattle.aa_profile.specs.Profiles.{attachments_of, cap_rule, child_of, children_of, children_of_member, file_rule, mode_of, net_rule, other_rule, profile_of, rules_of, rules_of_member, rules_of_members, rules_of_rule};
+ghost use Rattle.aa_profile.specs.Profiles.{attachments_of, cap_rule, child_of, children_of, children_of_member, mode_of, net_rule, other_rule, profile_of, rules_of, rules_of_member, rules_of_members, rules_of_rule};
 ghost use Rattle.aa_profile.specs.code.FileReadingProgress.{IsRefusal, have_expansions};
 ghost use Rattle.aa_refusals.specs.ProfileError.{plain};
 ghost use Rattle.aa_refusals.specs.declared.profile_error.ProfileRefusal.TheVariants.{Memory};
 
+use crate::file_rules::push_file_rules;
 use crate::kept_rules::kept_text;
 use crate::patterns::read_patterns;
-use aa_access::Perms;
 use aa_bytes::Sequence;
 use aa_glob::Pattern;
 use aa_grammar::{
     Child as WrittenChild, Flags, Head, Member, Profile as WrittenProfile, Qualifiers,
     Rule as WrittenRule, Sockets,
 };
-use aa_policy::{CapRule, Child, FileRule, Mode, NetRule, OtherRule, Profile, Rule};
+use aa_policy::{CapRule, Child, Mode, NetRule, OtherRule, Profile, Rule};
 use aa_refusals::ProfileError;
 use aa_text::{ExpansionTable, Spliced};
-use std::alloc::{AllocError, AllocFailed, Global};
-
-// The file rule of a pattern.
-fn file_rule(qualifiers: Qualifiers, access: Perms, pattern: Pattern) -> Rule
-    ensures { result ≡ file_rule qualifiers access.0 pattern }
-{
-    Rule::File(FileRule {
-        pattern,
-        access,
-        owner: qualifiers.owner,
-        deny: qualifiers.deny,
-        audit: qualifiers.audit,
-    })
-}
-
-// Puts a file rule for each pattern behind others.
-fn push_file_rules(
-    qualifiers: Qualifiers,
-    access: Perms,
-    patterns: Vec<Pattern>,
-    rules: &mut Vec<Rule>,
-) -> Result<(), AllocFailed<Rule>>
-    ensures { OnOk result (rules.new.items ≡ rules.old.items ++ map (file_rule qualifiers access.0) patterns.items) }
-{
-    for pattern in patterns {
-        rules.push(file_rule(qualifiers, access, pattern))?;
-    }
-    Ok(())
-}
+use std::alloc::{AllocError, Global};
 
 // A rule on capabilities.
 fn cap_rule(qualifiers: Qualifiers, capabilities: u64) -> Rule
@@ -114,9 +86,10 @@ fn push_rule(
             qualifiers,
             pattern,
             access,
+            target,
         } => {
             let patterns = read_patterns(alloc, table, *pattern)?;
-            push_file_rules(*qualifiers, *access, patterns, rules)?;
+            push_file_rules(alloc, *qualifiers, *access, *target, patterns, rules)?;
         }
         WrittenRule::OnCapabilities {
             qualifiers,

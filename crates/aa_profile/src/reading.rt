@@ -3,7 +3,7 @@
 ghost use Rattle.std.specs.Prelude.{◌≡◌, ◌≢◌, Ok, Err, IfOk, IfErr, false, true, map};
 ghost use Rattle.std.specs.List.{list_all, list_any};
 ghost use Rattle.aa_grammar.specs.code.Seen.{seen_assignment, seen_file, seen_profile};
-ghost use Rattle.aa_rules.specs.code.SeenTokens.{seen_tokens};
+ghost use Rattle.aa_faults.specs.code.SeenTokens.{seen_tokens};
 ghost use Rattle.aa_policy.specs.Numbers.{profile_has_known_numbers};
 ghost use Rattle.aa_policy.specs.Profile.{are_distinct};
 ghost use Rattle.aa_profile.specs.FileReading.{file_profiles, profiles_in, profiles_with};
@@ -52,7 +52,8 @@ fn read_written(alloc: Global, file: &File<'_>) -> Result<Vec<Profile>, ProfileE
     read_with(alloc, &variables, &patterns, file)
 }
 
-/// The profiles that a file of the handed-in ones spells, in its order.
+/// The profiles that a file of the handed-in ones spells, in its order. A file rule is one rule for each expansion of its pattern, each with a
+/// copy of its target. Variables are put into attachments and patterns alone: names, targets and rules that are kept stay as they are written.
 ///
 /// # Errors
 ///
@@ -62,7 +63,7 @@ fn read_written(alloc: Global, file: &File<'_>) -> Result<Vec<Profile>, ProfileE
 /// - `Redefined` and `AppendUndefined`, at the first assignment that is refused so; then `Undefined`, at the first value, attachment or
 ///   pattern that names a variable that isn't defined, or doesn't close a name; then `Cycle`, at the first assignment of the first variable
 ///   that leads to itself or to one that does.
-/// - `TooManyRules`, at the attachment or pattern with which the file has more than 16,384, each expansion counted.
+/// - `TooManyRules`, at the attachment or pattern with which the file has more than 16,384, each expansion counted; the word `file` alone is one.
 /// - As `Pattern::read` refuses the first expansion that is no pattern, once its runs of slashes are collapsed; `TooLong` goes by the
 ///   bytes before that. It is told at the attachment or pattern.
 /// - `Memory`, without a place: memory ran out.

@@ -5,12 +5,12 @@ use Rattle.aa_files.specs.declared.text_error.TextRefusal.{TextRefusal}
 use Rattle.aa_files.specs.declared.text_error.TextRefusal.TheVariants as text
 use Rattle.aa_glob.specs.declared.pattern_error.PatternError.{PatternError}
 use Rattle.aa_glob.specs.declared.pattern_error.PatternError.TheVariants as pattern
-use Rattle.aa_rules.specs.declared.grammar_error.GrammarError.{GrammarError}
-use Rattle.aa_rules.specs.declared.fault.GrammarRefusal.{GrammarRefusal}
-use Rattle.aa_rules.specs.declared.fault.GrammarRefusal.TheVariants as grammar
+use Rattle.aa_faults.specs.declared.grammar_error.GrammarError.{GrammarError}
+use Rattle.aa_faults.specs.declared.fault.GrammarRefusal.{GrammarRefusal}
+use Rattle.aa_faults.specs.declared.fault.GrammarRefusal.TheVariants as grammar
 use Rattle.aa_refusals.specs.declared.profile_error.ProfileError.{ProfileError}
 use Rattle.aa_refusals.specs.declared.profile_error.ProfileRefusal.{ProfileRefusal}
-use Rattle.aa_refusals.specs.declared.profile_error.ProfileRefusal.TheVariants.{NotAbsolute, UnclosedClass, EmptyClass, BadRange, UnclosedGroup, StrayClose, FewAlternatives, BadEscape, TooLong, TooDeep, ZeroByte, OpenQuote, OpenOther, NoFile, IncludeDepth, TextTooBig, Undefined, Redefined, AppendUndefined, Cycle, TooManyRules, BadToken, OpenBlock, BadFlag, BadAccess, WriteAppend, BadCapability, BadNetwork, TwiceNamed, NestedChild, LateAssignment, NoProfile, BadName, Memory}
+use Rattle.aa_refusals.specs.declared.profile_error.ProfileRefusal.TheVariants.{NotAbsolute, UnclosedClass, EmptyClass, BadRange, UnclosedGroup, StrayClose, FewAlternatives, BadEscape, TooLong, TooDeep, ZeroByte, OpenQuote, OpenOther, NoFile, IncludeDepth, TextTooBig, Undefined, Redefined, AppendUndefined, Cycle, TooManyRules, BadToken, OpenBlock, BadFlag, BadAccess, WriteAppend, TwoExec, ExecQualifier, TargetWithoutExec, BadCapability, BadNetwork, TwiceNamed, NestedChild, LateAssignment, NoProfile, BadName, Memory}
 
 -- the one table of numbers and names
 abbrev pub described : ProfileRefusal → ℕ × List ℕ
@@ -40,6 +40,9 @@ described OpenBlock = (41, codes "OpenBlock")
 described BadFlag = (42, codes "BadFlag")
 described BadAccess = (43, codes "BadAccess")
 described WriteAppend = (44, codes "WriteAppend")
+described TwoExec = (45, codes "TwoExec")
+described ExecQualifier = (46, codes "ExecQualifier")
+described TargetWithoutExec = (47, codes "TargetWithoutExec")
 described BadCapability = (48, codes "BadCapability")
 described BadNetwork = (49, codes "BadNetwork")
 described TwiceNamed = (50, codes "TwiceNamed")
@@ -100,6 +103,9 @@ refusal_of_grammar grammar.OpenBlock = OpenBlock
 refusal_of_grammar grammar.BadFlag = BadFlag
 refusal_of_grammar grammar.BadAccess = BadAccess
 refusal_of_grammar grammar.WriteAppend = WriteAppend
+refusal_of_grammar grammar.TwoExec = TwoExec
+refusal_of_grammar grammar.ExecQualifier = ExecQualifier
+refusal_of_grammar grammar.TargetWithoutExec = TargetWithoutExec
 refusal_of_grammar grammar.BadCapability = BadCapability
 refusal_of_grammar grammar.BadNetwork = BadNetwork
 refusal_of_grammar grammar.TwiceNamed = TwiceNamed

@@ -4,9 +4,9 @@ ghost use Rattle.std.specs.Prelude.{◌≡◌};
 ghost use Rattle.aa_refusals.specs.ProfileError.{name_of, number_of, placed, plain};
 ghost use Rattle.aa_refusals.specs.declared.profile_error.ProfileRefusal.TheVariants.{Memory};
 
+use aa_faults::{GrammarError, GrammarRefusal};
 use aa_files::{Place, TextError, TextRefusal};
 use aa_glob::PatternError;
-use aa_rules::{GrammarError, GrammarRefusal};
 use std::alloc::{AllocError, AllocFailed};
 use std::fmt::{self, Display, Formatter, Write};
 use thiserror::Error;
@@ -62,10 +62,16 @@ pub enum ProfileRefusal {
     OpenBlock,
     /// A flag isn't known, or `enforce` stands beside `complain`.
     BadFlag,
-    /// An access holds what is no access letter.
+    /// An access holds what is no access letter and no exec word.
     BadAccess,
     /// An access holds both `w` and `a`.
     WriteAppend,
+    /// An access has two different exec words, where a bare `x` counts as one.
+    TwoExec,
+    /// An exec word stands in a deny rule, or a bare `x` in another.
+    ExecQualifier,
+    /// A target stands in a rule that can have none.
+    TargetWithoutExec,
     /// A word of a capability rule that is no capability.
     BadCapability,
     /// A word of a network rule that is no domain, type or protocol, or can't stand there.
@@ -118,7 +124,7 @@ pub fn placed(refusal: ProfileRefusal, place: Place) -> ProfileError
 }
 
 impl ProfileRefusal {
-    /// The number of the refusal: 1 to 10, 20 to 30, 40 to 44, 48 to 54, or 99.
+    /// The number of the refusal: 1 to 10, 20 to 30, 40 to 54, or 99.
     pub fn number(self) -> u8
         ensures { result ≡ number_of self }
     {
@@ -149,6 +155,9 @@ impl ProfileRefusal {
             ProfileRefusal::BadFlag => 42,
             ProfileRefusal::BadAccess => 43,
             ProfileRefusal::WriteAppend => 44,
+            ProfileRefusal::TwoExec => 45,
+            ProfileRefusal::ExecQualifier => 46,
+            ProfileRefusal::TargetWithoutExec => 47,
             ProfileRefusal::BadCapability => 48,
             ProfileRefusal::BadNetwork => 49,
             ProfileRefusal::TwiceNamed => 50,
@@ -191,6 +200,9 @@ impl ProfileRefusal {
             ProfileRefusal::BadFlag => "BadFlag",
             ProfileRefusal::BadAccess => "BadAccess",
             ProfileRefusal::WriteAppend => "WriteAppend",
+            ProfileRefusal::TwoExec => "TwoExec",
+            ProfileRefusal::ExecQualifier => "ExecQualifier",
+            ProfileRefusal::TargetWithoutExec => "TargetWithoutExec",
             ProfileRefusal::BadCapability => "BadCapability",
             ProfileRefusal::BadNetwork => "BadNetwork",
             ProfileRefusal::TwiceNamed => "TwiceNamed",
@@ -301,6 +313,9 @@ impl From<GrammarRefusal> for ProfileRefusal {
             GrammarRefusal::BadFlag => ProfileRefusal::BadFlag,
             GrammarRefusal::BadAccess => ProfileRefusal::BadAccess,
             GrammarRefusal::WriteAppend => ProfileRefusal::WriteAppend,
+            GrammarRefusal::TwoExec => ProfileRefusal::TwoExec,
+            GrammarRefusal::ExecQualifier => ProfileRefusal::ExecQualifier,
+            GrammarRefusal::TargetWithoutExec => ProfileRefusal::TargetWithoutExec,
             GrammarRefusal::BadCapability => ProfileRefusal::BadCapability,
             GrammarRefusal::BadNetwork => ProfileRefusal::BadNetwork,
             GrammarRefusal::TwiceNamed => ProfileRefusal::TwiceNamed,

@@ -8,17 +8,19 @@ use Rattle.aa_tables.specs.Capabilities.{capability_number}
 use Rattle.aa_tables.specs.Domains.{domain_number}
 use Rattle.aa_tables.specs.Kinds.{kind_number}
 use Rattle.aa_tables.specs.KnownNumbers.{is_kind}
+use Rattle.aa_faults.specs.Parts.{Part, behind_comma, expected, followed, refused}
+use Rattle.aa_faults.specs.Tokens.{is_comma, is_pattern, is_word, is_word_of, text_of}
+use Rattle.aa_faults.specs.declared.fault.Fault.{Fault}
+use Rattle.aa_faults.specs.declared.fault.GrammarRefusal.TheVariants.{BadCapability, BadNetwork, BadToken}
 use Rattle.aa_rules.specs.Access.{access}
 use Rattle.aa_rules.specs.Capabilities.{all_capabilities, capabilities, named_capabilities, with_capability}
 use Rattle.aa_rules.specs.KeptRules.{begins_kept, kept}
 use Rattle.aa_rules.specs.Networks.{all_sockets, first_named, named_in, second_named, sockets, sockets_behind, stands_behind}
-use Rattle.aa_rules.specs.Parts.{Part, behind_comma, expected, followed, refused}
 use Rattle.aa_rules.specs.Qualifiers.{qualifiers, unqualified}
 use Rattle.aa_rules.specs.RuleNumbers.{are_sockets, has_known_numbers}
-use Rattle.aa_rules.specs.Rules.{Kept, OnCapabilities, OnFile, OnNetwork, Rule, access_first, begins_unowned, capability_rule, ended, file_rule, kept_rule, network_rule, pattern_first, plain_rule, rule, rule_behind, unowned_rule}
-use Rattle.aa_rules.specs.Tokens.{is_pattern, is_word, is_word_of, text_of}
-use Rattle.aa_rules.specs.declared.fault.Fault.{Fault}
-use Rattle.aa_rules.specs.declared.fault.GrammarRefusal.TheVariants.{BadCapability, BadNetwork, BadToken}
+use Rattle.aa_rules.specs.Rules.{Kept, OnCapabilities, OnFile, OnNetwork, Rule, access_first, begins_unowned, capability_rule, ended, file_rule, kept_rule, network_rule, pattern_first, plain_rule, rule, rule_behind, rule_behind_file, targeted_rule, unowned_rule, whole_rule}
+use Rattle.aa_rules.specs.Targets.{target}
+use Rattle.aa_rules.specs.declared.access.Access.{Access}
 use Rattle.aa_rules.specs.declared.networks.Sockets.{Sockets}
 use Rattle.aa_rules.specs.declared.qualifiers.Qualifiers.{Qualifiers}
 
@@ -61,24 +63,35 @@ ended-known rule tokens h = by (behind_comma tokens)
     by (Ok behind) = h
 
 -- file rules and kept rules have no numbers
+targeted_rule-known : (qualifiers : Qualifiers) (pattern : Placed) (access : Access) (tokens : List Placed) → Reads Known (targeted_rule qualifiers pattern access tokens)
+targeted_rule-known qualifiers pattern access tokens =
+    reads-followed (λ _. Unit {0}) Known (target access tokens) (λ target behind. ended (OnFile qualifiers pattern access target) behind) (reads-any (target access tokens))
+    (λ target behind _. ended-known (OnFile qualifiers pattern access target) behind refl)
+
 pattern_first-known : (qualifiers : Qualifiers) (pattern : Placed) (tokens : List Placed) → Reads Known (pattern_first qualifiers pattern tokens)
 pattern_first-known qualifiers pattern tokens =
-    reads-followed (λ _. Unit {0}) Known (access tokens) (λ access behind. ended (OnFile qualifiers pattern access) behind) (reads-any (access tokens))
-    (λ access behind _. ended-known (OnFile qualifiers pattern access) behind refl)
+    reads-followed (λ _. Unit {0}) Known (access qualifiers.deny tokens) (λ access behind. targeted_rule qualifiers pattern access behind) (reads-any (access qualifiers.deny tokens))
+    (λ access behind _. targeted_rule-known qualifiers pattern access behind)
 
 access_first-known : (qualifiers : Qualifiers) (tokens : List Placed) → Reads Known (access_first qualifiers tokens)
 access_first-known qualifiers tokens =
-    reads-followed (λ _. Unit {0}) Known (access tokens)
-    (λ access behind. followed (expected is_pattern behind) (λ pattern rest. ended (OnFile qualifiers pattern access) rest)) (reads-any (access tokens))
+    reads-followed (λ _. Unit {0}) Known (access qualifiers.deny tokens)
+    (λ access behind. followed (expected is_pattern behind) (λ pattern rest. targeted_rule qualifiers pattern access rest)) (reads-any (access qualifiers.deny tokens))
     (λ access behind _.
-    reads-followed (λ _. Unit {0}) Known (expected is_pattern behind) (λ pattern rest. ended (OnFile qualifiers pattern access) rest) (reads-any (expected is_pattern behind))
-    (λ pattern rest _. ended-known (OnFile qualifiers pattern access) rest refl))
+    reads-followed (λ _. Unit {0}) Known (expected is_pattern behind) (λ pattern rest. targeted_rule qualifiers pattern access rest) (reads-any (expected is_pattern behind))
+    (λ pattern rest _. targeted_rule-known qualifiers pattern access rest))
 
 file_rule-known : (qualifiers : Qualifiers) (tokens : List Placed) → Reads Known (file_rule qualifiers tokens)
 file_rule-known qualifiers [] = tt
 file_rule-known qualifiers (token ∷ tokens) =
     reads-either Known (is_pattern token) (pattern_first qualifiers token tokens) (access_first qualifiers (token ∷ tokens))
     (pattern_first-known qualifiers token tokens) (access_first-known qualifiers (token ∷ tokens))
+
+rule_behind_file-known : (qualifiers : Qualifiers) (word : Placed) (tokens : List Placed) → Reads Known (rule_behind_file qualifiers word tokens)
+rule_behind_file-known qualifiers word [] = tt
+rule_behind_file-known qualifiers word (token ∷ tokens) =
+    reads-either Known (is_comma token.token.kind) (Ok (whole_rule qualifiers word, tokens)) (file_rule qualifiers (token ∷ tokens))
+    refl (file_rule-known qualifiers (token ∷ tokens))
 
 kept_rule-known : (qualifiers : Qualifiers) (tokens : List Placed) → Reads Known (kept_rule qualifiers tokens)
 kept_rule-known qualifiers tokens =
@@ -204,7 +217,7 @@ module _ (known : NamesKnown) where
   behind-known : (qualifiers : Qualifiers) (tokens : List Placed) → Reads Known (rule_behind qualifiers tokens)
   behind-known qualifiers [] = tt
   behind-known qualifiers (token ∷ tokens) =
-      reads-either Known (is_word_of (codes "file") token) (file_rule qualifiers tokens) (unnamed (begins_kept token)) (file_rule-known qualifiers tokens)
+      reads-either Known (is_word_of (codes "file") token) (rule_behind_file qualifiers token tokens) (unnamed (begins_kept token)) (rule_behind_file-known qualifiers token tokens)
       (reads-either Known (begins_kept token) (kept_rule qualifiers (token ∷ tokens)) (plain_rule qualifiers (token ∷ tokens))
       (kept_rule-known qualifiers (token ∷ tokens)) (plain_rule-known qualifiers (token ∷ tokens)))
     where

@@ -1,29 +1,53 @@
--- The access of a file rule (apparmor.d(5), "File Permission Access Modes"; docs/policy.md, "Rules").
-use Rattle.std.specs.Prelude.{ℕ, ◌&&◌, if◌then◌else◌, List, [], ◌∷◌, Option, None, Some, Result, Ok, Err, option_and_then}
-use Rattle.aa_access.specs.Access.{APPEND, WRITE, bit_of, has, union}
+-- The access of a file rule (apparmor.d(5), "File Permission Access Modes" and "Execute Rules"; docs/policy.md, "Rules").
+use Rattle.std.specs.Prelude.{ℕ, Bool, ◌&&◌, if◌then◌else◌, List, [], ◌∷◌, Option, None, Some, is_some, Result, Ok, Err}
+use Rattle.aa_access.specs.Access.{APPEND, EXEC, LINK, LOCK, MAP, READ, WRITE, has, union}
+use Rattle.aa_access.specs.WrittenAccess.{access_with, has_two_words, nothing_written}
+use Rattle.aa_access.specs.declared.exec_word.ExecWord.TheVariants.{Inherit}
+use Rattle.aa_access.specs.declared.written.WrittenAccess.{WrittenAccess}
 use Rattle.aa_text.specs.Splicing.{Placed}
-use Rattle.aa_rules.specs.Parts.{Part, refused}
-use Rattle.aa_rules.specs.Tokens.{is_word, text_of}
-use Rattle.aa_rules.specs.declared.fault.Fault.TheVariants.{RanOut}
-use Rattle.aa_rules.specs.declared.fault.GrammarRefusal.{GrammarRefusal}
-use Rattle.aa_rules.specs.declared.fault.GrammarRefusal.TheVariants.{BadAccess, BadToken, WriteAppend}
+use Rattle.aa_faults.specs.Parts.{Part, refused}
+use Rattle.aa_faults.specs.Tokens.{is_word, text_of}
+use Rattle.aa_faults.specs.declared.fault.Fault.TheVariants.{RanOut}
+use Rattle.aa_faults.specs.declared.fault.GrammarRefusal.{GrammarRefusal}
+use Rattle.aa_faults.specs.declared.fault.GrammarRefusal.TheVariants.{BadAccess, BadToken, ExecQualifier, TwoExec, WriteAppend}
+use Rattle.aa_rules.specs.declared.access.Access.{Access}
 
--- the set of a text's letters and of those before, where each is known; a letter may stand twice
-abbrev pub letters_with : ℕ → List ℕ → Option ℕ
-letters_with set [] = Some set
-letters_with set (letter ∷ more) = option_and_then (λ bit. letters_with (union set bit) more) (bit_of letter)
+-- `x` stands in an access as its rule can't have it: a rule that denies has it bare, without saying under what a program would run, and any other
+-- has it within an exec word
+abbrev pub is_misplaced : Bool → WrittenAccess → Bool
+is_misplaced deny written = if deny then is_some written.word else has written.letters.0 EXEC
 
--- what a word lets or denies: known letters, and not both `w` and `a`, since `w` is more
-abbrev pub access_of : List ℕ → Result ℕ GrammarRefusal
-access_of text = elim (letters_with 0 text) [
+-- why an access can't stand in a rule, by whether that denies; `w` and `a` don't stand together, since `w` is more
+abbrev pub refusal_of_access : Bool → WrittenAccess → Option GrammarRefusal
+refusal_of_access deny written =
+    if has_two_words written then Some TwoExec else
+    if is_misplaced deny written then Some ExecQualifier else
+    if has written.letters.0 WRITE && has written.letters.0 APPEND then Some WriteAppend else
+    None
+
+-- what a word lets or denies in a rule, by whether that denies: known letters and exec words, that can stand there together
+abbrev pub access_of : Bool → List ℕ → Result Access GrammarRefusal
+access_of deny text = elim (access_with nothing_written text) [
   | None ↦ Err BadAccess
-  | Some set ↦ if has set WRITE && has set APPEND then Err WriteAppend else Ok set
+  | Some written ↦ elim (refusal_of_access deny written) [
+    | Some refusal ↦ Err refusal
+    | None ↦ Ok (record { letters = written.letters; word = written.word })
+  ]
 ]
 
--- the access that tokens begin with
-abbrev pub access : List Placed → Part ℕ
-access [] = Err RanOut
-access (token ∷ tokens) =
+-- the access that tokens begin with, in a rule that denies or in one that doesn't
+abbrev pub access : Bool → List Placed → Part Access
+access deny [] = Err RanOut
+access deny (token ∷ tokens) =
     if is_word token.token.kind
-    then elim (access_of (text_of token)) [ Err refusal ↦ refused refusal token | Ok set ↦ Ok (set, tokens) ]
+    then elim (access_of deny (text_of token)) [ Err refusal ↦ refused refusal token | Ok found ↦ Ok (found, tokens) ]
     else refused BadToken token
+
+-- the letters `r w l k m`
+abbrev pub plain_letters : ℕ
+plain_letters = union READ (union WRITE (union LINK (union LOCK MAP)))
+
+-- what `file` alone lets or denies: `rwmlkix`, or `rwmlkx` in a rule that denies
+abbrev pub whole_access : Bool → Access
+whole_access deny =
+    if deny then record { letters = record { 0 = union plain_letters EXEC }; word = None } else record { letters = record { 0 = plain_letters }; word = Some Inherit }

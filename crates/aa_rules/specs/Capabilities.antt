@@ -3,9 +3,9 @@ use Rattle.std.specs.Prelude.{ℕ, ◌^◌, ◌-◌, if◌then◌else◌, List, 
 use Rattle.std.specs.Int.RustNames.{bit_or}
 use Rattle.aa_tables.specs.Capabilities.{capability_number}
 use Rattle.aa_text.specs.Splicing.{Placed}
-use Rattle.aa_rules.specs.Parts.{Part, refused}
-use Rattle.aa_rules.specs.Tokens.{is_word, text_of}
-use Rattle.aa_rules.specs.declared.fault.GrammarRefusal.TheVariants.{BadCapability}
+use Rattle.aa_faults.specs.Parts.{Part, refused}
+use Rattle.aa_faults.specs.Tokens.{is_word, text_of}
+use Rattle.aa_faults.specs.declared.fault.GrammarRefusal.TheVariants.{BadCapability}
 
 -- all capabilities: as many lowest bits as there are
 abbrev pub all_capabilities : ℕ

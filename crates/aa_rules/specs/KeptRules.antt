@@ -5,11 +5,11 @@ use Rattle.std.specs.Str.{bytes_eq}
 use Rattle.aa_bytes.specs.Bytes.{closing_parenthesis, opening_parenthesis}
 use Rattle.aa_text.specs.Splicing.{Placed}
 use Rattle.aa_tokens.specs.declared.cut.TokenKind.TheVariants.{Comma, Quoted, Word}
-use Rattle.aa_rules.specs.Parts.{Part, refused}
-use Rattle.aa_rules.specs.Tokens.{is_word, text_of}
-use Rattle.aa_rules.specs.declared.fault.Fault.{Fault}
-use Rattle.aa_rules.specs.declared.fault.Fault.TheVariants.{RanOut}
-use Rattle.aa_rules.specs.declared.fault.GrammarRefusal.TheVariants.{BadToken}
+use Rattle.aa_faults.specs.Parts.{Part, refused}
+use Rattle.aa_faults.specs.Tokens.{is_word, text_of}
+use Rattle.aa_faults.specs.declared.fault.Fault.{Fault}
+use Rattle.aa_faults.specs.declared.fault.Fault.TheVariants.{RanOut}
+use Rattle.aa_faults.specs.declared.fault.GrammarRefusal.TheVariants.{BadToken}
 
 -- the words of rules on mounts
 abbrev pub mount_words : List (List ℕ)

@@ -1,12 +1,9 @@
 pub mod Access
 pub mod Capabilities
-pub mod GrammarError
 pub mod KeptRules
-pub mod Names
 pub mod Networks
-pub mod Parts
 pub mod Qualifiers
 pub mod RuleNumbers
 pub mod Rules
-pub mod Tokens
+pub mod Targets
 pub mod code

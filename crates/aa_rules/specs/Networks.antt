@@ -3,9 +3,9 @@ use Rattle.std.specs.Prelude.{ℕ, Bool, not, ◌||◌, if◌then◌else◌, Lis
 use Rattle.aa_tables.specs.Domains.{domain_number, has_protocols}
 use Rattle.aa_tables.specs.Kinds.{is_protocol, kind_number}
 use Rattle.aa_text.specs.Splicing.{Placed}
-use Rattle.aa_rules.specs.Parts.{Part, refused}
-use Rattle.aa_rules.specs.Tokens.{is_word, text_of}
-use Rattle.aa_rules.specs.declared.fault.GrammarRefusal.TheVariants.{BadNetwork}
+use Rattle.aa_faults.specs.Parts.{Part, refused}
+use Rattle.aa_faults.specs.Tokens.{is_word, text_of}
+use Rattle.aa_faults.specs.declared.fault.GrammarRefusal.TheVariants.{BadNetwork}
 use Rattle.aa_rules.specs.declared.networks.Sockets.{Sockets}
 
 -- all sockets

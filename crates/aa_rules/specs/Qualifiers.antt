@@ -1,9 +1,9 @@
 -- The words before a rule that say how it counts (apparmor.d(5), "Qualifier Blocks" and "Access Modes"; docs/policy.md, "Rules").
 use Rattle.std.specs.Prelude.{true, false, ◌&&◌, if◌then◌else◌, List, [], ◌∷◌, Option, None, Some, Ok, codes}
 use Rattle.aa_text.specs.Splicing.{Placed}
-use Rattle.aa_rules.specs.Parts.{Part, refused}
-use Rattle.aa_rules.specs.Tokens.{is_word_of}
-use Rattle.aa_rules.specs.declared.fault.GrammarRefusal.TheVariants.{BadToken}
+use Rattle.aa_faults.specs.Parts.{Part, refused}
+use Rattle.aa_faults.specs.Tokens.{is_word_of}
+use Rattle.aa_faults.specs.declared.fault.GrammarRefusal.TheVariants.{BadToken}
 use Rattle.aa_rules.specs.declared.qualifiers.Qualifiers.{Qualifiers}
 
 -- no such words

@@ -1,4 +1,2 @@
--- What is about the code: what its tokens and rules are as the definitions see them, and what it gives for a part of the grammar.
-pub mod Readings
+-- What is about the code: what its rules are as the definitions see them.
 pub mod SeenRules
-pub mod SeenTokens

@@ -1,46 +1,73 @@
 //! The access of a file rule.
 
 ghost use Rattle.std.specs.Prelude.{◌≡◌, ◌<◌, Ok, Err, IfOk, IfErr, length};
-ghost use Rattle.std.specs.Option.{option_map};
-ghost use Rattle.aa_rules.specs.Access.{access, access_of, letters_with};
-ghost use Rattle.aa_rules.specs.code.Readings.{IsFault, IsRead};
+ghost use Rattle.aa_faults.specs.code.Readings.{IsFault, IsRead};
+ghost use Rattle.aa_rules.specs.Access.{access, access_of, is_misplaced, refusal_of_access, whole_access};
 
-use crate::fault::{Fault, GrammarRefusal, refusal_at};
-use aa_access::Perms;
+use aa_access::{ExecWord, Perms, WrittenAccess};
+use aa_faults::{Fault, GrammarRefusal, refusal_at};
 use aa_text::{Spliced, TokenKind};
 use bitflags::Flags;
 
-// The set of a text's letters, if it holds nothing else.
-fn letters_of(text: &[u8]) -> Option<Perms>
-    ensures { option_map (λ set. set.0) result ≡ letters_with 0 text.now }
-{
-    let mut set = Perms::empty();
-    let mut rest = text;
-    while let [letter, more @ ..] = rest {
-        set = set.union(Perms::of_letter(*letter)?);
-        rest = more;
-    }
-    Some(set)
+/// What a file rule lets or denies.
+#[derive(Clone, Copy, Debug, PartialEq, Eq)]
+pub struct Access {
+    /// Its letters; the bare `x` of a deny rule is among them, and no other rule has it.
+    pub letters: Perms,
+    /// Its exec word, if it has one; a deny rule has none.
+    pub word: Option<ExecWord>,
 }
 
-// What a word lets or denies.
-fn access_of(text: &[u8]) -> Result<Perms, GrammarRefusal>
-    ensures ok { IfOk result (λ set. access_of text.now ≡ Ok set.0) }
-    ensures refused { IfErr result (λ refusal. access_of text.now ≡ Err refusal) }
+// Whether an access goes against whether its rule denies: with an exec word in a deny rule, or with a bare `x` in another.
+fn is_misplaced(deny: bool, written: WrittenAccess) -> bool
+    ensures { result ≡ is_misplaced deny written }
 {
-    let Some(set) = letters_of(text) else {
+    if deny {
+        written.word.is_some()
+    } else {
+        written.letters.contains(Perms::EXEC)
+    }
+}
+
+// Why an access can't stand in a rule, by whether that denies.
+fn refusal_of_access(deny: bool, written: WrittenAccess) -> Option<GrammarRefusal>
+    ensures { result ≡ refusal_of_access deny written }
+{
+    if written.has_two_words() {
+        Some(GrammarRefusal::TwoExec)
+    } else if is_misplaced(deny, written) {
+        Some(GrammarRefusal::ExecQualifier)
+    } else if written.letters.contains(Perms::WRITE) && written.letters.contains(Perms::APPEND) {
+        Some(GrammarRefusal::WriteAppend)
+    } else {
+        None
+    }
+}
+
+// What a word lets or denies in a rule, by whether that denies.
+fn access_of(deny: bool, text: &[u8]) -> Result<Access, GrammarRefusal>
+    ensures ok { IfOk result (λ access. access_of deny text.now ≡ Ok access) }
+    ensures refused { IfErr result (λ refusal. access_of deny text.now ≡ Err refusal) }
+{
+    let Some(written) = WrittenAccess::of_text(text) else {
         return Err(GrammarRefusal::BadAccess);
     };
-    if set.contains(Perms::WRITE) && set.contains(Perms::APPEND) {
-        return Err(GrammarRefusal::WriteAppend);
+    match refusal_of_access(deny, written) {
+        Some(refusal) => Err(refusal),
+        None => Ok(Access {
+            letters: written.letters,
+            word: written.word,
+        }),
     }
-    Ok(set)
 }
 
-// The access that tokens begin with, and what stands behind it.
-pub fn read_access<'a>(tokens: &'a [Spliced<'a>]) -> Result<(Perms, &'a [Spliced<'a>]), Fault>
-    ensures ok { IfOk result (IsRead (λ set. set.0) access tokens.now) }
-    ensures refused { IfErr result (IsFault access tokens.now) }
+// The access that tokens begin with, in a rule that denies or in one that doesn't, and what stands behind it.
+pub fn read_access<'a>(
+    deny: bool,
+    tokens: &'a [Spliced<'a>],
+) -> Result<(Access, &'a [Spliced<'a>]), Fault>
+    ensures ok { IfOk result (IsRead (λ found. found) (access deny) tokens.now) }
+    ensures refused { IfErr result (IsFault (access deny) tokens.now) }
     ensures shorter { IfOk result (λ read. length read.1.now < length tokens.now) }
 {
     let [token, behind @ ..] = tokens else {
@@ -49,8 +76,30 @@ pub fn read_access<'a>(tokens: &'a [Spliced<'a>]) -> Result<(Perms, &'a [Spliced
     if token.token.kind != TokenKind::Word {
         return Err(refusal_at(GrammarRefusal::BadToken, *token));
     }
-    match access_of(token.token.text) {
+    match access_of(deny, token.token.text) {
         Ok(access) => Ok((access, behind)),
         Err(refusal) => Err(refusal_at(refusal, *token)),
+    }
+}
+
+// What `file` alone lets or denies.
+pub fn whole_access(deny: bool) -> Access
+    ensures { result ≡ whole_access deny }
+{
+    let letters = Perms::READ
+        .union(Perms::WRITE)
+        .union(Perms::LINK)
+        .union(Perms::LOCK)
+        .union(Perms::MAP);
+    if deny {
+        Access {
+            letters: letters.union(Perms::EXEC),
+            word: None,
+        }
+    } else {
+        Access {
+            letters,
+            word: Some(ExecWord::Inherit),
+        }
     }
 }

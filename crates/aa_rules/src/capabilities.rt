@@ -1,10 +1,10 @@
 //! The capabilities of a rule.
 
 ghost use Rattle.std.specs.Prelude.{◌≡◌, ◌<◌, ◌≤◌, IfOk, IfErr, length};
+ghost use Rattle.aa_faults.specs.code.Readings.{IsFault, IsRead};
 ghost use Rattle.aa_rules.specs.Capabilities.{capabilities, named_capabilities, with_capability};
-ghost use Rattle.aa_rules.specs.code.Readings.{IsFault, IsRead};
 
-use crate::fault::{Fault, GrammarRefusal, refusal_at};
+use aa_faults::{Fault, GrammarRefusal, refusal_at};
 use aa_tables::{capability_number, which_numbers_names_have};
 use aa_text::{Spliced, TokenKind};
 

@@ -2,12 +2,12 @@
 
 ghost use Rattle.std.specs.Prelude.{◌≡◌, ◌≤◌, ◌<◌, Ok, IfOk, IfErr, length};
 ghost use Rattle.aa_text.specs.code.SplicingProgress.{seen_spliced};
+ghost use Rattle.aa_faults.specs.code.Readings.{IsFault, IsRead};
+ghost use Rattle.aa_faults.specs.code.SeenTokens.{seen_tokens};
 ghost use Rattle.aa_rules.specs.KeptRules.{begins_kept, count_of, kept, size_behind};
 ghost use Rattle.aa_rules.specs.KeptRules.{is_among, is_kept_word, mount_words, other_words, process_words};
-ghost use Rattle.aa_rules.specs.code.Readings.{IsFault, IsRead};
-ghost use Rattle.aa_rules.specs.code.SeenTokens.{seen_tokens};
 
-use crate::fault::{Fault, GrammarRefusal, refusal_at};
+use aa_faults::{Fault, GrammarRefusal, refusal_at};
 use aa_text::{Spliced, TokenKind};
 
 /// Whether a token is a word that kept rules begin with.

@@ -1,10 +1,10 @@
 //! The sockets of a rule.
 
 ghost use Rattle.std.specs.Prelude.{◌≡◌, ◌≤◌, IfOk, IfErr, length};
+ghost use Rattle.aa_faults.specs.code.Readings.{IsFault, IsRead};
 ghost use Rattle.aa_rules.specs.Networks.{all_sockets, first_named, named_in, second_named, sockets, sockets_behind, stands_behind};
-ghost use Rattle.aa_rules.specs.code.Readings.{IsFault, IsRead};
 
-use crate::fault::{Fault, GrammarRefusal, refusal_at};
+use aa_faults::{Fault, GrammarRefusal, refusal_at};
 use aa_tables::{domain_number, has_protocols, is_protocol, kind_number};
 use aa_text::{Spliced, TokenKind};
 

@@ -2,11 +2,10 @@
 
 ghost use Rattle.std.specs.Prelude.{◌≡◌, ◌≤◌, IfOk, IfErr, length};
 ghost use Rattle.aa_text.specs.code.SplicingProgress.{seen_spliced};
+ghost use Rattle.aa_faults.specs.code.Readings.{IsFault, IsRead};
 ghost use Rattle.aa_rules.specs.Qualifiers.{qualified_by, qualifiers, unqualified};
-ghost use Rattle.aa_rules.specs.code.Readings.{IsFault, IsRead};
 
-use crate::fault::{Fault, GrammarRefusal, refusal_at};
-use crate::token::is_word_of;
+use aa_faults::{Fault, GrammarRefusal, is_word_of, refusal_at};
 use aa_text::Spliced;
 
 /// The words before a rule that say how it counts (apparmor.d(5)).

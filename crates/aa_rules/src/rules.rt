@@ -2,19 +2,21 @@
 
 ghost use Rattle.std.specs.Prelude.{◌≡◌, ◌<◌, IfOk, IfErr, length};
 ghost use Rattle.aa_text.specs.code.SplicingProgress.{seen_spliced};
-ghost use Rattle.aa_rules.specs.Rules.{access_first, begins_unowned, capability_rule, ended, file_rule, kept_rule, network_rule, pattern_first, plain_rule, rule, rule_behind, unowned_rule};
-ghost use Rattle.aa_rules.specs.code.Readings.{IsFault, IsRead};
+ghost use Rattle.aa_faults.specs.code.Readings.{IsFault, IsRead};
+ghost use Rattle.aa_rules.specs.Rules.{access_first, all_files, file_rule, pattern_first, rule_behind_file, targeted_rule, whole_rule};
+ghost use Rattle.aa_rules.specs.Rules.{begins_unowned, capability_rule, ended, kept_rule, network_rule, plain_rule, rule, rule_behind, unowned_rule};
 ghost use Rattle.aa_rules.specs.code.SeenRules.{seen_rule};
 
-use crate::access::read_access;
+use crate::access::{Access, read_access, whole_access};
 use crate::capabilities::read_capabilities;
-use crate::fault::{Fault, GrammarRefusal, refusal_at};
 use crate::kept_rules::{begins_kept, read_kept};
 use crate::networks::{Sockets, read_sockets};
 use crate::qualifiers::{Qualifiers, read_qualifiers};
-use crate::token::{is_pattern, is_word_of, read_comma, read_pattern};
-use aa_access::Perms;
-use aa_text::Spliced;
+use crate::targets::read_target;
+use aa_faults::{
+    Fault, GrammarRefusal, is_pattern, is_word_of, read_comma, read_pattern, refusal_at,
+};
+use aa_text::{Spliced, Token, TokenKind};
 
 /// A rule as it is written.
 #[derive(Clone, Copy, Debug)]
@@ -23,10 +25,12 @@ pub enum Rule<'a> {
     OnFile {
         /// The words before it.
         qualifiers: Qualifiers,
-        /// The token of its pattern.
+        /// The token of its pattern; of the word `file` alone this word, with the pattern of all files as its text.
         pattern: Spliced<'a>,
-        /// Its access letters.
-        access: Perms,
+        /// What it lets or denies.
+        access: Access,
+        /// The token of the target that it names: of its exec word, or of hard links where it has none.
+        target: Option<Spliced<'a>>,
     },
     /// A rule on capabilities.
     OnCapabilities {
@@ -64,6 +68,29 @@ fn read_end<'a>(
     Ok((rule, behind))
 }
 
+// A file rule behind its pattern and its access, and what stands behind the rule.
+fn read_targeted<'a>(
+    qualifiers: Qualifiers,
+    pattern: Spliced<'a>,
+    access: Access,
+    tokens: &'a [Spliced<'a>],
+) -> Result<(Rule<'a>, &'a [Spliced<'a>]), Fault>
+    ensures ok { IfOk result (IsRead seen_rule (targeted_rule qualifiers (seen_spliced pattern.entry) access) tokens.now) }
+    ensures refused { IfErr result (IsFault (targeted_rule qualifiers (seen_spliced pattern.entry) access) tokens.now) }
+    ensures shorter { IfOk result (λ read. length read.1.now < length tokens.now) }
+{
+    let (target, rest) = read_target(access, tokens)?;
+    read_end(
+        Rule::OnFile {
+            qualifiers,
+            pattern,
+            access,
+            target,
+        },
+        rest,
+    )
+}
+
 // A file rule behind its pattern, and what stands behind the rule.
 fn read_pattern_first<'a>(
     qualifiers: Qualifiers,
@@ -74,15 +101,8 @@ fn read_pattern_first<'a>(
     ensures refused { IfErr result (IsFault (pattern_first qualifiers (seen_spliced pattern.entry)) tokens.now) }
     ensures shorter { IfOk result (λ read. length read.1.now < length tokens.now) }
 {
-    let (access, rest) = read_access(tokens)?;
-    read_end(
-        Rule::OnFile {
-            qualifiers,
-            pattern,
-            access,
-        },
-        rest,
-    )
+    let (access, rest) = read_access(qualifiers.deny, tokens)?;
+    read_targeted(qualifiers, pattern, access, rest)
 }
 
 // A file rule whose access stands before its pattern, and what stands behind the rule.
@@ -94,19 +114,12 @@ fn read_access_first<'a>(
     ensures refused { IfErr result (IsFault (access_first qualifiers) tokens.now) }
     ensures shorter { IfOk result (λ read. length read.1.now < length tokens.now) }
 {
-    let (access, behind) = read_access(tokens)?;
+    let (access, behind) = read_access(qualifiers.deny, tokens)?;
     let (pattern, rest) = read_pattern(behind)?;
-    read_end(
-        Rule::OnFile {
-            qualifiers,
-            pattern,
-            access,
-        },
-        rest,
-    )
+    read_targeted(qualifiers, pattern, access, rest)
 }
 
-// The file rule that tokens begin with, behind its qualifiers: a pattern and its access, in either order.
+// The file rule that tokens begin with, behind its qualifiers: a pattern and its access, in either order, and a target.
 fn read_file_rule<'a>(
     qualifiers: Qualifiers,
     tokens: &'a [Spliced<'a>],
@@ -124,6 +137,50 @@ fn read_file_rule<'a>(
     }
 }
 
+// The token of the word `file`, as the pattern of all files.
+fn all_files(word: Spliced<'_>) -> Spliced<'_>
+    ensures { seen_spliced result ≡ all_files (seen_spliced word.entry) }
+{
+    Spliced {
+        token: Token {
+            text: b"/{**,}",
+            ..word.token
+        },
+        ..word
+    }
+}
+
+// The rule of the word `file` alone.
+fn whole_rule<'a>(qualifiers: Qualifiers, word: Spliced<'a>) -> Rule<'a>
+    ensures { seen_rule result ≡ whole_rule qualifiers (seen_spliced word.entry) }
+{
+    Rule::OnFile {
+        qualifiers,
+        pattern: all_files(word),
+        access: whole_access(qualifiers.deny),
+        target: None,
+    }
+}
+
+// The rule behind the word `file`, and what stands behind the rule.
+fn read_behind_file<'a>(
+    qualifiers: Qualifiers,
+    word: Spliced<'a>,
+    tokens: &'a [Spliced<'a>],
+) -> Result<(Rule<'a>, &'a [Spliced<'a>]), Fault>
+    ensures ok { IfOk result (IsRead seen_rule (rule_behind_file qualifiers (seen_spliced word.entry)) tokens.now) }
+    ensures refused { IfErr result (IsFault (rule_behind_file qualifiers (seen_spliced word.entry)) tokens.now) }
+    ensures shorter { IfOk result (λ read. length read.1.now < length tokens.now) }
+{
+    match tokens {
+        [] => Err(Fault::RanOut),
+        [token, behind @ ..] if token.token.kind == TokenKind::Comma => {
+            Ok((whole_rule(qualifiers, word), behind))
+        }
+        _ => read_file_rule(qualifiers, tokens),
+    }
+}
+
 // The rule that is kept as it is written with which tokens begin, behind its qualifiers, and what stands behind it.
 fn read_kept_rule<'a>(
     qualifiers: Qualifiers,
@@ -137,7 +194,7 @@ fn read_kept_rule<'a>(
     Ok((Rule::Kept { qualifiers, tokens }, rest))
 }
 
-// The rule on capabilities with which tokens go on behind its word, and what stands behind the rule.
+// The rule on capabilities that tokens go on with behind its word, and what stands behind the rule.
 fn read_capability_rule<'a>(
     qualifiers: Qualifiers,
     tokens: &'a [Spliced<'a>],
@@ -156,7 +213,7 @@ fn read_capability_rule<'a>(
     )
 }
 
-// The rule on sockets with which tokens go on behind its word, and what stands behind the rule.
+// The rule on sockets that tokens go on with behind its word, and what stands behind the rule.
 fn read_network_rule<'a>(
     qualifiers: Qualifiers,
     tokens: &'a [Spliced<'a>],
@@ -202,7 +259,8 @@ fn read_unowned_rule<'a>(
     }
 }
 
-// The rule that tokens begin with, behind its qualifiers: where no word of its own begins it, it is on files.
+// The rule that tokens begin with, behind its qualifiers, where it isn't kept: on what has no owner, where it begins with such a word, and else
+// on files.
 fn read_plain_rule<'a>(
     qualifiers: Qualifiers,
     tokens: &'a [Spliced<'a>],
@@ -233,7 +291,7 @@ fn read_behind<'a>(
         return Err(Fault::RanOut);
     };
     if is_word_of(b"file", *token) {
-        read_file_rule(qualifiers, behind)
+        read_behind_file(qualifiers, *token, behind)
     } else if begins_kept(*token) {
         read_kept_rule(qualifiers, tokens)
     } else {
@@ -248,7 +306,13 @@ fn read_behind<'a>(
 /// Each at the first token at which nothing that could follow would be accepted (docs/policy.md, "Rules").
 /// - `BadToken`: `allow` with `deny`, `owner` before `capability` or `network` (told at this word), a token that no rule has there, or a
 ///   missing Comma.
-/// - `BadAccess`: an access with what is no letter of `r w a l k m`; `WriteAppend`: one with both `w` and `a`.
+/// - `BadAccess`: an access with what is neither a letter of `r w a l k m` nor an exec word. Else `TwoExec`: one with two different exec words,
+///   where a bare `x` counts as one; else `ExecQualifier`: one with a bare `x` in a rule without `deny`, or with another exec word in one with it;
+///   else `WriteAppend`: one with both `w` and `a`.
+/// - `TargetWithoutExec`, at `->`: a target in a rule whose exec word leads neither to a profile nor to a child or a hat, or that has neither an
+///   exec word nor the letter `l` without `x`.
+/// - `BadName`, at the target: one of an exec word that leads to a profile and that is no full name, or of one that leads to a child or a hat and
+///   that is no name, or is `unconfined`.
 /// - `BadCapability`: a word behind `capability` that is no capability's name.
 /// - `BadNetwork`: a first word behind `network` that is no domain, type or protocol, or a second one that can't stand behind it: behind a
 ///   domain a type may stand, or a protocol where the domain has protocols, and behind a type or a protocol nothing.

@@ -17,7 +17,7 @@ use Rattle.aa_set.specs.Manager.{Managed, after_change, changed_by_add, gone_bac
 use Rattle.aa_set.specs.PolicySet.{are_there, have_distinct_names, loaded}
 use Rattle.aa_set.specs.Reply.{is_refusal}
 use Rattle.aa_set.specs.Run.{Outcome, after_lines, line_outcome, changed, obeyed, order_outcome, refused, takes_memory, told}
-use Rattle.aa_decide.specs.Entries.{Loaded}
+use Rattle.aa_verdicts.specs.Entries.{Loaded}
 use Rattle.aa_set.specs.declared.reply.Reply.{Reply}
 use Rattle.aa_set.specs.declared.reply.Reply.TheVariants.{Refused, Silent, Told}
 use Rattle.aa_set.proofs.MachineLemmas.{earlier-gone_back, gone_back-sum}

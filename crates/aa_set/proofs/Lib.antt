@@ -1,4 +1,3 @@
-pub mod FullNameLemmas
 pub mod LawLemmas
 pub mod LineLemmas
 pub mod LinesLemmas

@@ -1,12 +1,13 @@
 -- Names that are apart.
-use Rattle.std.proofs.Common.{◌≡◌, ℕ, Bool, true, false, not, ◌||◌, List, [], ◌∷◌, ◌++◌, map, refl, sym, ap, ◌∙◌, append_assoc, append-nil, arith}
+use Rattle.std.proofs.Common.{◌≡◌, ℕ, Bool, true, false, not, ◌||◌, List, [], ◌∷◌, ◌++◌, map, Option, None, Some, refl, sym, ap, ◌∙◌, append_assoc, append-nil, arith}
 use Rattle.std.specs.List.{list_any}
 use Rattle.std.proofs.lemmas.Bool.{and_parts, or_from, or_parts}
 use Rattle.std.specs.Str.{bytes_eq}
 use Rattle.std.proofs.lemmas.Slice.Eq.{bytes_eq-Decides}
 use Rattle.std.proofs.lemmas.Bool.Decides.{same_from_decides, nat_tests}
 use Rattle.std.proofs.lemmas.List.Folds.{list_any-append}
-use Rattle.aa_decide.specs.Entries.{Loaded}
+use Rattle.aa_verdicts.specs.Entries.{Loaded}
+use Rattle.aa_decide.specs.Slots.{filled}
 use Rattle.aa_policy.specs.Profile.{are_distinct, is_named as is_profile_named}
 use Rattle.aa_policy.specs.declared.profile.Profile.{Profile}
 use Rattle.aa_set.specs.PolicySet.{are_there, has_name, have_distinct_names, is_named, loaded}
@@ -53,3 +54,19 @@ distinct_with_all entries (profile ∷ profiles) h n d =
     not-true : (b : Bool) → not b ≡ true → b ≡ false
     not-true true h = absurd (cc)
     not-true false h = refl
+
+-- slots behind others hold their entries behind theirs
+filled-append : (slots others : List (Option Loaded)) → filled (slots ++ others) ≡ filled slots ++ filled others
+filled-append [] others = refl
+filled-append (None ∷ slots) others = filled-append slots others
+filled-append (Some entry ∷ slots) others = ap (λ entries. entry ∷ entries) (filled-append slots others)
+
+-- a slot for each profile
+filled-loaded : (profiles : List Profile) → filled (map (λ profile. Some (loaded profile)) profiles) ≡ map loaded profiles
+filled-loaded [] = refl
+filled-loaded (profile ∷ profiles) = ap (λ entries. loaded profile ∷ entries) (filled-loaded profiles)
+
+-- a slot for each profile, behind others
+pub filled-with : (slots : List (Option Loaded)) (profiles : List Profile)
+    → filled (slots ++ map (λ profile. Some (loaded profile)) profiles) ≡ filled slots ++ map loaded profiles
+filled-with slots profiles = filled-append slots (map (λ profile. Some (loaded profile)) profiles) ∙ ap (λ entries. filled slots ++ entries) (filled-loaded profiles)

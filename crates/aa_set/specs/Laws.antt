@@ -7,7 +7,7 @@ use Rattle.aa_set.specs.PolicySet.{have_distinct_names}
 use Rattle.aa_set.specs.Reply.{is_refusal}
 use Rattle.aa_set.specs.Run.{after_lines, line_outcome}
 use Rattle.aa_lines.specs.Words.{words_of}
-use Rattle.aa_decide.specs.Entries.{Loaded}
+use Rattle.aa_verdicts.specs.Entries.{Loaded}
 use Rattle.aa_commands.specs.declared.refusal.Refusal.{Refusal}
 
 -- the command in a line

@@ -1,6 +1,5 @@
 pub mod Answers
-pub mod Confinement
-pub mod FullNames
+pub mod Askers
 pub mod Laws
 pub mod Limits
 pub mod Machine

@@ -4,7 +4,7 @@ use Rattle.aa_files.specs.Files.{File}
 use Rattle.aa_profile.specs.FileReading.{file_profiles}
 use Rattle.aa_set.specs.Machine.{Machine, started, accepted, gone_back}
 use Rattle.aa_set.specs.PolicySet.{are_there, loaded}
-use Rattle.aa_decide.specs.Entries.{Loaded}
+use Rattle.aa_verdicts.specs.Entries.{Loaded}
 use Rattle.aa_policy.specs.declared.profile.Profile.{Profile}
 use Rattle.aa_commands.specs.Refusal.{plain, refusal_of_profile}
 use Rattle.aa_refusals.specs.declared.profile_error.ProfileError.{ProfileError}

@@ -4,8 +4,8 @@ use Rattle.std.specs.List.{list_any}
 use Rattle.std.specs.Str.{bytes_eq}
 use Rattle.aa_policy.specs.declared.profile.Mode.{Mode}
 use Rattle.aa_policy.specs.declared.profile.Profile.{Profile}
-use Rattle.aa_decide.specs.Entries.{Loaded}
-use Rattle.aa_decide.specs.declared.entry.State.TheVariants.{Modes}
+use Rattle.aa_verdicts.specs.Entries.{Loaded}
+use Rattle.aa_verdicts.specs.declared.entry.State.TheVariants.{Modes}
 
 -- an entry's profile has the name
 abbrev pub is_named : List ℕ → Loaded → Bool

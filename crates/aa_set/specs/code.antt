@@ -1,3 +1,5 @@
--- What is about the code: what the loop over pieces of an input keeps true, and the lines that a request is told in.
+-- What is about the code: what the loop over pieces of an input keeps true, who asks and what is answered by slots, and what slots hold.
+pub mod SeenAskers
+pub mod SeenSlots
+pub mod SeenTexts
 pub mod Session
-pub mod Told

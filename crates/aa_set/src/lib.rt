@@ -1,8 +1,8 @@
 //! A set of AppArmor profiles that answers requests, takes changes and undoes them.
 #![tactic(auto)]
 
-mod confinement;
-mod full_name;
+mod answers;
+mod asker;
 mod laws;
 mod manager;
 mod policy;

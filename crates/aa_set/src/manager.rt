@@ -1,18 +1,15 @@
 //! The manager: a policy set with its history.
 
-ghost use Rattle.std.specs.Prelude.{◌≡◌, ◌≢◌, ◌<◌, ◌++◌, Ok, Err, IfOk, IfErr, OnOk, OnErr, length, false};
-ghost use Rattle.aa_commands.specs.Question.{IsWellFormed, OfAccess, asked};
+ghost use Rattle.std.specs.Prelude.{◌≡◌, ◌≢◌, ◌<◌, Ok, Err, IfOk, IfErr, OnOk, OnErr, length, false};
+ghost use Rattle.aa_commands.specs.Question.{IsWellFormed, asked};
 ghost use Rattle.aa_commands.specs.Refusal.{plain};
 ghost use Rattle.aa_commands.specs.declared.refusal.RefusalKind.TheVariants.{Memory};
-ghost use Rattle.aa_decide.specs.code.Requests.{request_of};
-ghost use Rattle.aa_set.specs.Answers.{asks_absent, line_with, reply_lines};
-ghost use Rattle.aa_set.specs.code.Told.{IsToldBy};
-ghost use Rattle.aa_set.specs.Confinement.{found};
+ghost use Rattle.aa_set.specs.Answers.{asks_absent, reply_lines};
 
-use crate::confinement::{Confinement, find_confinement};
+use crate::answers::{access_lines, exec_lines};
 use crate::policy::PolicySet;
 use aa_commands::{Question, Refusal, RefusalKind, plain};
-use aa_decide::{Request, log_line};
+use aa_decide::Request;
 use aa_files::Files;
 use aa_profile::read_file;
 use std::alloc::{AllocError, Global};
@@ -71,7 +68,8 @@ impl Manager {
     ///   `OpenQuote`, `OpenOther`, `NoFile`, `IncludeDepth`, `TextTooBig`), at its byte, its token or its include;
     /// - the first fault of its grammar, from the left: `BadToken` at the first token at which the grammar can't go on, and without a place
     ///   where the tokens run out outside of a block; `OpenBlock` at the innermost brace that is open where they run out in one; `BadFlag`,
-    ///   `BadAccess` and `WriteAppend` at the token that holds the flag or the access; `TwiceNamed` and `BadName` at the name; `NestedChild`
+    ///   `BadAccess`, `TwoExec`, `ExecQualifier` and `WriteAppend` at the token that holds the flag or the access; `TargetWithoutExec` at `->`;
+    ///   `BadCapability` and `BadNetwork` at the word; `TwiceNamed` and `BadName` at the name; `NestedChild`
     ///   at the word or name that begins a child within a child; `LateAssignment` at an assignment behind a profile; `NoProfile`, without a
     ///   place, where the file has none;
     /// - `Redefined` and `AppendUndefined` at the assignment, then `Undefined` at the token that names the variable, then `Cycle` at the
@@ -156,6 +154,7 @@ impl Manager {
         // That it is absent is found without memory.
         ensures memory { IfErr result (λ refusal. refusal ≡ plain Memory → asks_absent self.now.machine.now (asked question.entry.now) ≡ false) }
     {
+        let set = &self.set;
         match question {
             Question::File {
                 who,
@@ -168,67 +167,19 @@ impl Manager {
                     owned: *owned,
                     path,
                 };
-                access_lines(self.alloc, &self.set, who, &request)
+                access_lines(self.alloc, set, who, &request)
             }
+            Question::Exec { who, owned, path } => exec_lines(self.alloc, set, who, *owned, path),
             Question::Cap { who, number } => {
-                access_lines(self.alloc, &self.set, who, &Request::Cap(*number))
+                access_lines(self.alloc, set, who, &Request::Cap(*number))
             }
             Question::Net { who, domain, kind } => {
                 let request = Request::Net {
                     domain: *domain,
                     kind: *kind,
                 };
-                access_lines(self.alloc, &self.set, who, &request)
+                access_lines(self.alloc, set, who, &request)
             }
         }
     }
-}
-
-// The lines of the reply to a request of who asks by this full name, or as the word `unconfined`.
-fn access_lines(
-    alloc: Global,
-    set: &PolicySet,
-    who: &[u8],
-    request: &Request<'_>,
-) -> Result<Vec<u8>, Refusal>
-    ensures told { IfOk result (λ lines. reply_lines set.now (OfAccess who.now (request_of request.entry.now)) ≡ Ok lines.items) }
-    ensures refused { IfErr result (λ refusal. refusal ≢ plain Memory → reply_lines set.now (OfAccess who.now (request_of request.entry.now)) ≡ Err refusal) }
-    ensures memory { IfErr result (λ refusal. refusal ≡ plain Memory → asks_absent set.now (OfAccess who.now (request_of request.entry.now)) ≡ false) }
-{
-    let Some(confinement) = find_confinement(set, who) else {
-        return Err(plain(RefusalKind::Absent));
-    };
-    Ok(confined_lines(alloc, who, request, confinement)?)
-}
-
-// The same, by what confines who asks.
-fn confined_lines(
-    alloc: Global,
-    who: &[u8],
-    request: &Request<'_>,
-    confinement: Confinement<'_>,
-) -> Result<Vec<u8>, AllocError>
-    ensures { IfOk result (λ lines. IsToldBy who.now (request_of request.entry.now) (found confinement.entry) lines.items) }
-{
-    match confinement {
-        Confinement::Unconfined => lines_of(alloc, "unconfined", b""),
-        Confinement::By { ready, child, mode } => {
-            let verdict = ready.decide(alloc, child, mode, request)?;
-            let logged = log_line(alloc, who, request, &verdict)?;
-            lines_of(alloc, verdict.answer.word(), logged.as_slice())
-        }
-    }
-}
-
-// The line of a word, and what stands behind it.
-fn lines_of(alloc: Global, word: &str, behind: &[u8]) -> Result<Vec<u8>, AllocError>
-    ensures { IfOk result (λ lines. lines.items ≡ line_with word.now ++ behind.now) }
-{
-    let word = word.as_bytes();
-    let size = word.len().saturating_add(1).saturating_add(behind.len());
-    let mut lines = Vec::with_capacity(alloc, size)?;
-    lines.extend_from_slice(word)?;
-    lines.push(b'\n')?;
-    lines.extend_from_slice(behind)?;
-    Ok(lines)
 }

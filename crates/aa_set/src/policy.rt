@@ -1,9 +1,10 @@
 //! Policy sets: profiles in the order in which they were loaded.
 
-ghost use Rattle.std.specs.Prelude.{◌≡◌, [], ◌++◌, IfOk, OnOk, false, map, true};
-ghost use Rattle.std.specs.Option.{option_copied};
+ghost use Rattle.std.specs.Prelude.{◌≡◌, [], ◌++◌, IfOk, OnOk, Some, false, map, true};
+ghost use Rattle.aa_decide.specs.Slots.{filled};
 ghost use Rattle.aa_policy.specs.Profile.{are_distinct};
-ghost use Rattle.aa_set.specs.PolicySet.{are_there, entry_named, has_name, loaded, own_modes};
+ghost use Rattle.aa_set.specs.PolicySet.{are_there, has_name, loaded, own_modes};
+ghost use Rattle.aa_set.specs.code.SeenSlots.{holds};
 
 use aa_bytes::Sequence;
 use aa_decide::{Entry, Ready, State};
@@ -11,13 +12,27 @@ use aa_policy::{Mode, Profile};
 use std::alloc::{AllocError, Global};
 use std::marker::Model;
 
-// Equal entries, with room for so many more.
-fn copied_entries(alloc: Global, entries: &[Entry], more: usize) -> Result<Vec<Entry>, AllocError>
-    ensures { IfOk result (λ copies. copies.items ≡ entries.now) }
+// An equal slot.
+fn copied_slot(alloc: Global, slot: &Option<Entry>) -> Result<Option<Entry>, AllocError>
+    ensures { IfOk result (λ copy. copy ≡ slot.now) }
 {
-    let mut copies = Vec::with_capacity(alloc, entries.len().saturating_add(more))?;
-    for entry in entries {
-        copies.push(entry.try_copy(alloc)?)?;
+    match slot {
+        None => Ok(None),
+        Some(entry) => Ok(Some(entry.try_copy(alloc)?)),
+    }
+}
+
+// Equal slots, with room for so many more.
+fn copied_slots(
+    alloc: Global,
+    slots: &[Option<Entry>],
+    more: usize,
+) -> Result<Vec<Option<Entry>>, AllocError>
+    ensures { IfOk result (λ copies. copies.items ≡ slots.now) }
+{
+    let mut copies = Vec::with_capacity(alloc, slots.len().saturating_add(more))?;
+    for slot in slots {
+        copies.push(copied_slot(alloc, slot)?)?;
     }
     Ok(copies)
 }
@@ -44,41 +59,63 @@ fn loaded(alloc: Global, profile: Profile) -> Result<Entry, AllocError>
     Ok(Entry::new(ready, State::Modes(Sequence::from_vec(modes))))
 }
 
-// Puts an entry for each profile behind others.
-fn load(alloc: Global, entries: &mut Vec<Entry>, profiles: Vec<Profile>) -> Result<(), AllocError>
-    ensures { OnOk result (entries.new.items ≡ entries.old.items ++ map loaded profiles.items) }
+// Puts a filled slot for each profile behind others.
+fn load(
+    alloc: Global,
+    slots: &mut Vec<Option<Entry>>,
+    profiles: Vec<Profile>,
+) -> Result<(), AllocError>
+    ensures { OnOk result (slots.new.items ≡ slots.old.items ++ map (λ profile. Some (loaded profile)) profiles.items) }
 {
     for profile in profiles {
-        entries.push(loaded(alloc, profile)?)?;
+        slots.push(Some(loaded(alloc, profile)?))?;
     }
     Ok(())
 }
 
-fn some_has_name(entries: &[Entry], name: &[u8]) -> bool
-    ensures { result ≡ has_name name.now entries.now }
+// Whether a slot holds a profile of this name.
+fn holds(slot: &Option<Entry>, name: &[u8]) -> bool
+    ensures { result ≡ holds name.now slot.now }
 {
-    entries
-        .iter()
-        .any(|entry| entry.profile().name.as_slice() == name)
+    match slot {
+        None => false,
+        Some(entry) => entry.profile().name.as_slice() == name,
+    }
+}
+
+// Whether some slot holds a profile of this name.
+fn some_has_name(slots: &[Option<Entry>], name: &[u8]) -> bool
+    ensures { result ≡ has_name name.now (filled slots.now) }
+{
+    let mut rest = slots;
+    while let [slot, behind @ ..] = rest {
+        if holds(slot, name) {
+            return true;
+        }
+        rest = behind;
+    }
+    false
 }
 
 /// A policy set: loaded profiles in the order in which they were loaded, no two of one name. Contracts see the list
 /// of its entries.
 #[derive(Debug, Drop)]
 pub struct PolicySet {
-    entries: Vec<Entry>,
+    // Slots, each of which is empty or holds an entry.
+    slots: Vec<Option<Entry>>,
 }
 
 impl Model for PolicySet {
     ghost use Rattle.std.specs.Prelude.{List, IsTrue};
-    ghost use Rattle.aa_decide.specs.Entries.{Loaded};
+    ghost use Rattle.aa_verdicts.specs.Entries.{Loaded};
+    ghost use Rattle.aa_decide.specs.Slots.{filled};
     ghost use Rattle.aa_set.specs.PolicySet.{have_distinct_names};
 
     ghost Value = { List Loaded };
 
-    ghost view = { λ s. s.entries.items };
+    ghost view = { λ s. filled s.slots.items };
 
-    ghost invariant = { λ s. IsTrue (have_distinct_names s.entries.items) };
+    ghost invariant = { λ s. IsTrue (have_distinct_names (filled s.slots.items)) };
 }
 
 impl PolicySet {
@@ -87,34 +124,22 @@ impl PolicySet {
         ensures { result ≡ [] }
     {
         PolicySet {
-            entries: Vec::new(alloc),
+            slots: Vec::new(alloc),
         }
     }
 
-    /// The entries, in the order in which they were loaded.
-    pub fn entries(&self) -> &[Entry]
-        ensures { result.now ≡ self.now }
+    /// The slots: the entries, in the order in which they were loaded, stand in those that are filled. It takes no memory.
+    pub fn slots(&self) -> &[Option<Entry>]
+        ensures { filled result.now ≡ self.now }
     {
-        self.entries.as_slice()
-    }
-
-    /// The entry of a profile's name, or none where no profile has the name.
-    pub fn find(&self, name: &[u8]) -> Option<&Entry>
-        ensures { option_copied result ≡ entry_named name.now self.now }
-    {
-        for entry in &self.entries {
-            if entry.profile().name.as_slice() == name {
-                return Some(entry);
-            }
-        }
-        None
+        self.slots.as_slice()
     }
 
     /// Whether one of these profiles has a name that is there.
     pub fn has_one_of(&self, profiles: &[Profile]) -> bool
         ensures { result ≡ are_there profiles.now self.now }
     {
-        profiles.iter().any(|profile| some_has_name(&self.entries, profile.name.as_slice()))
+        profiles.iter().any(|profile| some_has_name(&self.slots, profile.name.as_slice()))
     }
 
     /// A set of the same entries, and behind them these profiles, whose names are their own.
@@ -123,8 +148,8 @@ impl PolicySet {
         requires distinct { are_distinct profiles.items ≡ true }
         ensures { IfOk result (λ set. set ≡ self.now ++ map loaded profiles.items) }
     {
-        let mut entries = copied_entries(alloc, &self.entries, profiles.len())?;
-        load(alloc, &mut entries, profiles)?;
-        Ok(PolicySet { entries })
+        let mut slots = copied_slots(alloc, &self.slots, profiles.len())?;
+        load(alloc, &mut slots, profiles)?;
+        Ok(PolicySet { slots })
     }
 }

@@ -4,7 +4,7 @@ use Rattle.std.specs.Prelude.{Some, slice_get}
 use Rattle.std.proofs.lemmas.Grind.{flat_map-append}
 use Rattle.std.proofs.lemmas.Option.{slice_get-get_or, slice_get_within}
 use Rattle.aa_parts.specs.Choices.{choices, choices_within}
-use Rattle.aa_parts.specs.Counting.{IsCounted, count_of, most_counted}
+use Rattle.aa_parts.specs.Counting.{CountsChoicesWithin, IsCounted, count_of, most_counted}
 use Rattle.aa_parts.specs.Names.{EachNameIn, EachNameWithin}
 use Rattle.aa_parts.specs.Parts.{parts}
 use Rattle.aa_variables.specs.Variables.{Variable}
@@ -31,8 +31,7 @@ words-counted values words more count other fits h c o =
 -- one more row of the counts
 pub counts-more : (variables : List Variable) (order : List ℕ) → Settled variables order → IsOrder variables order → (column : Column ℕ) (index : ℕ) (counts next : List ℕ) (count : ℕ)
     → IsBeside column variables order counts → slice_get order (length counts) ≡ Some index → AreFirstCounts variables order counts
-    → ((values : List ℕ → List (List ℕ)) → EachNameWithin (IsCounted (counts_in column) values) (words_at column.variables.now index)
-    → count ≡ count_of (choices_within values (words_at column.variables.now index)))
+    → CountsChoicesWithin (counts_in column) (words_at column.variables.now index) count
     → next ≡ counts ++ count ∷ [] → AreFirstCounts variables order next
 counts-more variables order settled ordered column index counts next count beside there first e n =
     let size = length counts in
@@ -42,8 +41,7 @@ counts-more variables order settled ordered column index counts next count besid
     let each : EachNameWithin (IsCounted (counts_in column) (values variables)) (words_at variables index) =
     subst (λ has. EachNameWithin (IsCounted has (values variables)) (words_at variables index)) held filled in
     let value : count ≡ count_at variables index =
-    subst (λ all. EachNameWithin (IsCounted (counts_in column) (values variables)) (words_at all index) → count ≡ count_of (choices_within (values variables) (words_at all index)))
-    beside.holder (e (values variables)) each
+    subst (λ all. CountsChoicesWithin (counts_in column) (words_at all index) count) beside.holder e (values variables) each
     in
     let said : Some index ≡ Some (get_or order size 0) = sym there ∙ slice_get-get_or order size 0 within in
     let same : index ≡ get_or order size 0 = cc in

@@ -5,7 +5,7 @@ use Rattle.std.proofs.lemmas.Grind.{flat_map-append}
 use Rattle.std.proofs.lemmas.List.{map-append}
 use Rattle.std.proofs.lemmas.Option.{slice_get-get_or}
 use Rattle.aa_parts.specs.Choices.{choices, choices_within}
-use Rattle.aa_parts.specs.Expanding.{AreCutOff}
+use Rattle.aa_parts.specs.Expanding.{AreChoicesWithin, AreCutOff}
 use Rattle.aa_parts.specs.Joining.{cut_off, most_kept, texts_of}
 use Rattle.aa_parts.specs.Names.{EachNameIn, EachNameWithin}
 use Rattle.aa_parts.specs.Parts.{parts}
@@ -32,8 +32,7 @@ words-expanded values words more =
 -- one more row of the values
 pub row-expanded : {A B : Type 0} (variables : List Variable) (order : List ℕ) → Settled variables order → IsOrder variables order → (column : Column (Vec (Vec ℕ A) B)) (size : ℕ) → size < length order
     → (table next : List (Vec (Vec ℕ A) B)) (texts : Vec (Vec ℕ A) B) → IsBeside column variables order table → map texts_of table ≡ map (cut_off_at variables) (take size order)
-    → ((whole : List ℕ → List (List ℕ)) → EachNameWithin (AreCutOff (values_in column) whole) (words_at column.variables.now (get_or order size 0))
-    → texts_of texts ≡ cut_off (choices_within whole (words_at column.variables.now (get_or order size 0))))
+    → AreChoicesWithin (values_in column) (words_at column.variables.now (get_or order size 0)) (texts_of texts)
     → next ≡ table ++ texts ∷ [] → map texts_of next ≡ map (cut_off_at variables) (take (size + 1) order)
 row-expanded variables order settled ordered column size within table next texts beside t e n =
     let index = get_or order size 0 in
@@ -42,8 +41,7 @@ row-expanded variables order settled ordered column size within table next texts
     let each : EachNameWithin (AreCutOff (values_in column) (values variables)) (words_at variables index) =
     subst (λ has. EachNameWithin (AreCutOff has (values variables)) (words_at variables index)) held filled in
     let value : texts_of texts ≡ cut_off_at variables index =
-    subst (λ all. EachNameWithin (AreCutOff (values_in column) (values variables)) (words_at all index) → texts_of texts ≡ cut_off (choices_within (values variables) (words_at all index)))
-    beside.holder (e (values variables)) each
+    subst (λ all. AreChoicesWithin (values_in column) (words_at all index) (texts_of texts)) beside.holder e (values variables) each
     in
     ap (map texts_of) n ∙ map-append texts_of table (texts ∷ []) ∙ rw (t, value) (map-take-more (cut_off_at variables) order size within)
 

@@ -18,8 +18,7 @@ use Rattle.aa_variables.proofs.TableLemmas.{Settled}
 use Rattle.aa_variables.proofs.TestLemmas.{any-left, any-split, same-from_test}
 use Rattle.aa_variables.proofs.VariableLemmas.{shifted}
 use Rattle.aa_variables.proofs.WalkLemmas.{settled-few}
-use Rattle.aa_parts.specs.Choices.{choices_within}
-use Rattle.aa_parts.specs.Expanding.{AreCutOff}
+use Rattle.aa_parts.specs.Expanding.{AreChoicesWithin, AreCutOff}
 use Rattle.aa_parts.specs.Joining.{as_texts, cut_off, texts_of}
 use Rattle.aa_parts.specs.Missing.{is_missing}
 use Rattle.aa_parts.specs.Names.{EachName, EachNameIn, EachNameWithin}
@@ -249,8 +248,7 @@ module _ (variables : List Variable) (order counts : List ℕ) (held : List (Lis
 pub words-values : {A B E : Type 0} (variables : List Variable) (order counts : List ℕ) (held : List (Vec (Vec ℕ A) B)) → IsTable variables order counts (map texts_of held)
     → (column : Column (Vec (Vec ℕ A) B)) → IsBeside column variables order held → (index : ℕ) (result : Result (Vec (Vec ℕ A) B) E)
     → are_texts_lacking (values_in column) (words_at column.variables.now index) ≡ false
-    → IfOk result (λ texts. (whole : List ℕ → List (List ℕ)) → EachNameWithin (AreCutOff (values_in column) whole) (words_at column.variables.now index)
-    → texts_of texts ≡ cut_off (choices_within whole (words_at column.variables.now index)))
+    → IfOk result (λ texts. AreChoicesWithin (values_in column) (words_at column.variables.now index) (texts_of texts))
     → IfOk result (λ texts. AreValuesAt variables index (texts_of texts))
 words-values variables order counts held table column beside index (Err error) none is = tt
 words-values variables order counts held table column beside index (Ok texts) none is = λ full.
@@ -260,8 +258,7 @@ words-values variables order counts held table column beside index (Ok texts) no
     (subst (λ has. are_texts_lacking has (words_at column.variables.now index) ≡ false) looks none)
     in
     let each = words-held variables order counts (map texts_of held) table (words_at variables index) nothing in
-    subst (λ all. EachNameWithin (AreCutOff (values_in column) (values variables)) (words_at all index) → texts_of texts ≡ cut_off (choices_within (values variables) (words_at all index)))
-    beside.holder (is (values variables)) (subst (λ has. EachNameWithin (AreCutOff has (values variables)) (words_at variables index)) (sym looks) each)
+    subst (λ all. AreChoicesWithin (values_in column) (words_at all index) (texts_of texts)) beside.holder is (values variables) (subst (λ has. EachNameWithin (AreCutOff has (values variables)) (words_at variables index)) (sym looks) each)
 
 -- a text for whose names a column has values
 pub column-held : {A B : Type 0} (variables : List Variable) (order counts : List ℕ) (held : List (Vec (Vec ℕ A) B)) → IsTable variables order counts (map texts_of held)

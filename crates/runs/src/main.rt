@@ -27,6 +27,7 @@ impl Asks for PolicySets {
             | "profiles"
             | "grammar"
             | "decisions"
+            | "exec"
             | "includes"
             | "places"
             | "lengths"

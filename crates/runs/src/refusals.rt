@@ -42,7 +42,7 @@ const TEXT_REFUSALS: [TextRefusal; 11] = [
     TextRefusal::Memory,
 ];
 
-const REFUSAL_KINDS: [RefusalKind; 40] = [
+const REFUSAL_KINDS: [RefusalKind; 43] = [
     RefusalKind::NotAbsolute,
     RefusalKind::UnclosedClass,
     RefusalKind::EmptyClass,
@@ -69,6 +69,9 @@ const REFUSAL_KINDS: [RefusalKind; 40] = [
     RefusalKind::BadFlag,
     RefusalKind::BadAccess,
     RefusalKind::WriteAppend,
+    RefusalKind::TwoExec,
+    RefusalKind::ExecQualifier,
+    RefusalKind::TargetWithoutExec,
     RefusalKind::BadCapability,
     RefusalKind::BadNetwork,
     RefusalKind::TwiceNamed,

@@ -1,8 +1,8 @@
 -- What the code gives for what comes next in a row.
 use Rattle.std.specs.Prelude.{◌≡◌, List, Ok}
 use Rattle.aa_text.specs.Splicing.{Placed}
-use Rattle.aa_rules.specs.Parts.{Part}
-use Rattle.aa_rules.specs.code.SeenTokens.{seen_tokens}
+use Rattle.aa_faults.specs.Parts.{Part}
+use Rattle.aa_faults.specs.code.SeenTokens.{seen_tokens}
 use Rattle.aa_grammar.specs.code.Seen.{seen_next}
 use Rattle.aa_grammar.specs.declared.sequence.Next.{Next}
 use Rattle.aa_grammar.specs.declared.sequence.Rest.{Rest}

@@ -2,8 +2,8 @@
 use Rattle.std.specs.Prelude.{Bool, true, false, List, Vec, map}
 use Rattle.std.specs.Option.{option_map}
 use Rattle.aa_text.specs.code.SplicingProgress.{seen_spliced}
+use Rattle.aa_faults.specs.code.SeenTokens.{seen_tokens}
 use Rattle.aa_rules.specs.code.SeenRules.{seen_rule}
-use Rattle.aa_rules.specs.code.SeenTokens.{seen_tokens}
 use Rattle.aa_grammar.specs.Blocks.{OfChild, OfRule, Child as SeenChild, Member as SeenMember, Profile as SeenProfile}
 use Rattle.aa_grammar.specs.Files.{File as SeenFile}
 use Rattle.aa_grammar.specs.Heads.{Head as SeenHead, Named as SeenNamed}

@@ -11,7 +11,7 @@ use Rattle.aa_refusals.specs.ProfileError.{plain}
 use Rattle.aa_refusals.specs.declared.profile_error.ProfileError.{ProfileError}
 use Rattle.aa_refusals.specs.declared.profile_error.ProfileRefusal.TheVariants.{Memory}
 use Rattle.aa_grammar.specs.Preamble.{Assignment}
-use Rattle.aa_rules.specs.Tokens.{place_of, text_of}
+use Rattle.aa_faults.specs.Tokens.{place_of, text_of}
 
 -- none of the tokens leads to a name that isn't defined, or to a cycle
 abbrev pub have_expansions : List Variable → List Placed → Bool

@@ -1,9 +1,7 @@
 //! How many expansions a text has.
 
-ghost use Rattle.std.specs.Prelude.{◌≡◌, ◌≢◌, ◌<◌, ◌≤◌, ℕ, List, None, Some, IfOk, IfErr, OnOk, length, map, min};
-ghost use Rattle.aa_parts.specs.Choices.{choices_within};
-ghost use Rattle.aa_parts.specs.Counting.{IsCounted, count_of, most_counted};
-ghost use Rattle.aa_parts.specs.Names.{EachNameWithin};
+ghost use Rattle.std.specs.Prelude.{◌≡◌, ◌≢◌, ◌<◌, ◌≤◌, None, Some, IfOk, IfErr, OnOk, length, map, min};
+ghost use Rattle.aa_parts.specs.Counting.{CountsChoicesWithin, most_counted};
 ghost use Rattle.aa_variables.specs.code.Columns.{counts_in};
 ghost use Rattle.aa_variables.specs.code.ExpansionOrder.{IsOrder};
 ghost use Rattle.aa_variables.specs.code.ExpansionTables.{AreFirstCounts, count_at};
@@ -21,7 +19,7 @@ use std::alloc::AllocError;
 
 // How many values the variable at an index has, by the counts of those that its words name.
 fn counted_at(counts: &Column<'_, usize>, index: usize) -> usize
-    ensures { (values : List ℕ → List (List ℕ)) → EachNameWithin (IsCounted (counts_in counts.now) values) (words_at counts.now.variables.now index) → result ≡ count_of (choices_within values (words_at counts.now.variables.now index)) }
+    ensures { CountsChoicesWithin (counts_in counts.now) (words_at counts.now.variables.now index) result }
 {
     let (defined, added) = counts.variables.words(index);
     let count = count_words(counts, defined).saturating_add(count_words(counts, added));

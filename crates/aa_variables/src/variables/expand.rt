@@ -1,10 +1,8 @@
 //! The expansions of a text: one for each choice of a value for each of its names.
 
-ghost use Rattle.std.specs.Prelude.{◌≡◌, ◌≢◌, ◌<◌, ◌≤◌, ℕ, List, None, Some, IfOk, IfErr, OnOk, length, map, take};
-ghost use Rattle.aa_parts.specs.Choices.{choices_within};
-ghost use Rattle.aa_parts.specs.Expanding.{AreCutOff};
-ghost use Rattle.aa_parts.specs.Joining.{cut_off, most_kept, texts_of};
-ghost use Rattle.aa_parts.specs.Names.{EachNameWithin};
+ghost use Rattle.std.specs.Prelude.{◌≡◌, ◌≢◌, ◌<◌, ◌≤◌, None, Some, IfOk, IfErr, OnOk, length, map, take};
+ghost use Rattle.aa_parts.specs.Expanding.{AreChoicesWithin};
+ghost use Rattle.aa_parts.specs.Joining.{most_kept, texts_of};
 ghost use Rattle.aa_variables.specs.code.Columns.{values_in};
 ghost use Rattle.aa_variables.specs.code.ExpansionOrder.{IsOrder};
 ghost use Rattle.aa_variables.specs.code.ExpansionTables.{cut_off_at};
@@ -24,7 +22,7 @@ pub(super) fn expanded_at(
     values: &Column<'_, Vec<Vec<u8>>>,
     index: usize,
 ) -> Result<Vec<Vec<u8>>, AllocError>
-    ensures { IfOk result (λ texts. (whole : List ℕ → List (List ℕ)) → EachNameWithin (AreCutOff (values_in values.now) whole) (words_at values.now.variables.now index) → texts_of texts ≡ cut_off (choices_within whole (words_at values.now.variables.now index))) }
+    ensures { IfOk result (λ texts. AreChoicesWithin (values_in values.now) (words_at values.now.variables.now index) (texts_of texts)) }
 {
     let alloc = *values.order.allocator();
     let (defined, added) = values.variables.words(index);

@@ -1,5 +1,5 @@
 use Rattle.std.proofs.Common.{◌≡◌, ◌≤◌, length}
-use Rattle.aa_rules.specs.code.SeenTokens.{seen_tokens}
+use Rattle.aa_faults.specs.code.SeenTokens.{seen_tokens}
 use Rattle.aa_flags.specs.Flags.{flags, flags_behind}
 use Rattle.aa_flags.proofs.flags.read_flags.Given as goal
 

@@ -1,8 +1,8 @@
 use Rattle.std.proofs.Common.{sym, ap, ◌∙◌, map, ◌<◌, length, Err, arith}
 use Rattle.std.proofs.lemmas.List.{map-append}
 use Rattle.std.proofs.lemmas.Result.{err_from_is_err_and}
+use Rattle.aa_faults.specs.code.SeenTokens.{seen_tokens}
 use Rattle.aa_rules.specs.code.SeenRules.{seen_rule}
-use Rattle.aa_rules.specs.code.SeenTokens.{seen_tokens}
 use Rattle.aa_grammar.specs.Blocks.{next_rule}
 use Rattle.aa_grammar.proofs.SequenceLemmas.{so_far-end, so_far-fault, so_far-item, so_far-nothing, so_far-start}
 use Rattle.aa_grammar.proofs.blocks.read_rules.Goals as goal

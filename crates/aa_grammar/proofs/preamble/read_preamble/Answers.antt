@@ -2,7 +2,7 @@ use Rattle.std.proofs.Common.{sym, ap, ◌∙◌, map, ◌<◌, length, Err, ari
 use Rattle.std.proofs.lemmas.List.{map-append}
 use Rattle.std.proofs.lemmas.Result.{err_from_is_err_and}
 use Rattle.aa_grammar.specs.code.Seen.{seen_assignment}
-use Rattle.aa_rules.specs.code.SeenTokens.{seen_tokens}
+use Rattle.aa_faults.specs.code.SeenTokens.{seen_tokens}
 use Rattle.aa_grammar.specs.Preamble.{next_assignment}
 use Rattle.aa_grammar.proofs.SequenceLemmas.{so_far-end, so_far-fault, so_far-item, so_far-nothing, so_far-start}
 use Rattle.aa_grammar.proofs.preamble.read_preamble.Goals as goal

@@ -1,5 +1,5 @@
 use Rattle.std.proofs.Common.{◌≡◌, ◌+◌, length}
-use Rattle.aa_rules.specs.code.SeenTokens.{seen_tokens}
+use Rattle.aa_faults.specs.code.SeenTokens.{seen_tokens}
 use Rattle.aa_grammar.specs.Preamble.{value_count}
 use Rattle.aa_grammar.proofs.preamble.value_count.Given as goal
 

@@ -2,7 +2,7 @@ use Rattle.std.proofs.Common.{◌≡◌, ◌∙◌, sym, ap, map, take}
 use Rattle.std.specs.Option.{option_map}
 use Rattle.std.proofs.lemmas.Result.{IfErr-weaker, IfOk-weaker}
 use Rattle.aa_text.specs.code.SplicingProgress.{seen_spliced}
-use Rattle.aa_rules.specs.Tokens.{place_of, text_of}
+use Rattle.aa_faults.specs.Tokens.{place_of, text_of}
 use Rattle.aa_parts.specs.Joining.{most_kept}
 use Rattle.aa_variables.specs.Expansions.{expansions}
 use Rattle.aa_profile.specs.Patterns.{collapsed, refusal_of_expansions}

@@ -1,4 +1,4 @@
-use Rattle.std.proofs.Common.{◌≡◌, ◌∙◌, ℕ, List, sym, ap, map, refl, Some}
+use Rattle.std.proofs.Common.{◌≡◌, ◌∙◌, ℕ, List, sym, ap, map, refl, rules, Some}
 use Rattle.std.proofs.lemmas.Result.{err_from_is_err_and}
 use Rattle.aa_grammar.specs.Blocks.{Profile as WrittenProfile}
 use Rattle.aa_grammar.specs.code.Seen.{seen_head, seen_member, seen_profile}
@@ -30,7 +30,7 @@ pub returns-clause-ok : goal.returns-clause-ok
 returns-clause-ok c =
     let written = seen_profile c.args.profile.now in
     let same = c.in_ok-attachments.ensures.same in
-    made c.args.table.now written _ _ _ _ _ c.in_ok-from_slice.ensures (c.from_vec.ensures ∙ c.in_ok-attachments.ensures.ok) c.mode_of.ensures
+    made c.args.table.now written _ _ _ _ _ c.in_ok-from_slice.ensures (c.from_vec.ensures ∙ c.in_ok-attachments.ensures.ok) (search rules)
     (c.from_vec-2.ensures ∙ (c.in_ok-rules.ensures.rules
     ∙ (ap (λ members. rules_of_members c.read_attachments.new.table (map seen_member members)) c.deref.ensures.value ∙ ap (λ variables. rules_of_members variables written.members) same)))
     (c.from_vec-3.ensures ∙ (c.in_ok-rules.ensures.children

@@ -1,6 +1,6 @@
 use Rattle.std.proofs.Common.{◌≡◌, ◌≤◌, length}
+use Rattle.aa_faults.specs.code.SeenTokens.{seen_tokens}
 use Rattle.aa_rules.specs.Capabilities.{named_capabilities}
-use Rattle.aa_rules.specs.code.SeenTokens.{seen_tokens}
 use Rattle.aa_rules.proofs.capabilities.read_names.Given as goal
 
 -- the set so far, and the rest, decide

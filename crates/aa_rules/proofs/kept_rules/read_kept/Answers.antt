@@ -1,7 +1,7 @@
 use Rattle.std.proofs.Common.{◌∙◌, ◌+◌, ap, Ok, take, drop}
 use Rattle.std.proofs.lemmas.List.{drop-map, take-map, take_rest}
 use Rattle.aa_text.specs.code.SplicingProgress.{seen_spliced}
-use Rattle.aa_rules.specs.code.SeenTokens.{seen_tokens}
+use Rattle.aa_faults.specs.code.SeenTokens.{seen_tokens}
 use Rattle.aa_rules.proofs.kept_rules.read_kept.Goals as goal
 
 pub returns-clause-ok : goal.returns-clause-ok

@@ -1,6 +1,6 @@
 use Rattle.std.proofs.Common.{◌≡◌, ◌≤◌, ◌*◌, drop}
+use Rattle.aa_faults.specs.code.SeenTokens.{seen_tokens}
 use Rattle.aa_rules.specs.KeptRules.{and_then, size_behind}
-use Rattle.aa_rules.specs.code.SeenTokens.{seen_tokens}
 use Rattle.aa_rules.proofs.kept_rules.size_of.Given as goal
 
 -- so many tokens, and those behind them up to the Comma, are all

@@ -1,6 +1,6 @@
 use Rattle.std.proofs.Common.{◌≡◌, ◌≤◌, length}
+use Rattle.aa_faults.specs.code.SeenTokens.{seen_tokens}
 use Rattle.aa_rules.specs.Qualifiers.{qualifiers, unqualified}
-use Rattle.aa_rules.specs.code.SeenTokens.{seen_tokens}
 use Rattle.aa_rules.proofs.qualifiers.read_qualifiers.Given as goal
 
 -- what was found, and the rest, decide

@@ -1,7 +1,8 @@
-use Rattle.std.proofs.Common.{◌≡◌, ◌++◌, map}
+use Rattle.std.proofs.Common.{◌≡◌, ◌++◌, Some, map}
 use Rattle.aa_set.specs.PolicySet.{loaded}
 use Rattle.aa_set.proofs.policy.load.Given as goal
 
--- the entries so far, and those of the profiles that are left, are all
+-- the slots so far, and those of the profiles that are left, are all
 abbrev pub invariant-loop-profile : goal.invariant-loop-profile
-invariant-loop-profile l = l.entries.items ++ map loaded l.profile-iterator.rest.items ≡ l.initial.entries.items ++ map loaded l.fn.profiles.items
+invariant-loop-profile l =
+    l.slots.items ++ map (λ profile. Some (loaded profile)) l.profile-iterator.rest.items ≡ l.initial.slots.items ++ map (λ profile. Some (loaded profile)) l.fn.profiles.items

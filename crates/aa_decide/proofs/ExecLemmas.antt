@@ -1,0 +1,301 @@
+-- The start of programs: what holds of every answer, by its cases.
+use Rattle.std.proofs.Common.{◌≡◌, ℕ, zero, suc, ◌<◌, Bool, true, false, List, [], ◌∷◌, Option, None, Some, arith, ap, refl, sym, ◌∙◌, subst}
+use Rattle.std.specs.Prelude.{◌||◌, IfSome, cond, find, if◌then◌else◌, option_and_then, slice_get}
+use Rattle.std.specs.List.{Contains, list_any}
+use Rattle.std.specs.Option.{option_map}
+use Rattle.std.specs.Str.{bytes_eq}
+use Rattle.std.proofs.lemmas.Bool.{and_parts}
+use Rattle.std.proofs.lemmas.Slice.Eq.{bytes_eq-Decides}
+use Rattle.aa_access.specs.Access.{EXEC}
+use Rattle.aa_access.specs.ExecWords.{row}
+use Rattle.aa_access.specs.declared.exec_word.Destination.{Destination}
+use Rattle.aa_access.specs.declared.exec_word.Destination.TheVariants as to
+use Rattle.aa_attach.specs.Ranks.{best_rank}
+use Rattle.aa_exec.specs.Choices.{Choice, Clashing, Denied as DeniedByRule, Leads, Missing, choice, choice_of, denies}
+use Rattle.aa_exec.specs.ExecRules.{Denying, ExecRule, Leading, exec_rules, said_of}
+use Rattle.aa_names.specs.FullNames.{full_name}
+use Rattle.aa_policy.specs.Profile.{child_place}
+use Rattle.aa_policy.specs.declared.profile.Mode.{Mode}
+use Rattle.aa_policy.specs.declared.profile.Mode.TheVariants.{Complain, Enforce}
+use Rattle.aa_policy.specs.declared.profile.Profile.{Profile}
+use Rattle.aa_policy.specs.declared.profile.Rule.{Rule}
+use Rattle.aa_policy.specs.declared.profile.Transition.{Transition}
+use Rattle.aa_decide.specs.Attachment.{attached}
+use Rattle.aa_verdicts.specs.Confinement.{By, Confinement, Unconfined as NotConfined, in_state}
+use Rattle.aa_verdicts.specs.Entries.{Loaded, is_in_force}
+use Rattle.aa_decide.specs.Exec.{Asker, ExecAnswer, Nowhere, Null, Started, Unconfined, Under, by_choice, by_full_name, carried_out, confined_start, exec_answer, in_profile, is_named_in_force, led, led_by, missing, named_in_force, place_of_child, started, to_child, to_profile, unconfined_start}
+use Rattle.aa_decide.specs.ExecLaws.{DifferInOrder, SomeRuleDenies}
+use Rattle.aa_verdicts.specs.Ready.{audits, rules_at}
+use Rattle.aa_verdicts.specs.declared.entry.State.{State}
+use Rattle.aa_verdicts.specs.declared.entry.State.TheVariants.{Disabled, Modes}
+use Rattle.aa_verdicts.specs.declared.verdict.Answer.TheVariants.{Deny}
+use Rattle.aa_decide.proofs.AttachmentLemmas.{RankLaw, at-there, attached-order, attached-told, one-named}
+
+-- the answer by where a transition leads, and by the profile that is attached
+abbrev carried : Mode → Bool → Bool → Option Started → ExecAnswer
+carried mode audited scrub None = missing mode
+carried mode audited scrub (Some to) = started audited to scrub
+
+abbrev unconfined : Option Loaded → ExecAnswer
+unconfined None = started false Unconfined false
+unconfined (Some entry) = started false (Under entry None) false
+
+-- what a search finds is among the items and passes the test
+found-there : {A : Type 0} (test : A → Bool) (items : List A) (item : A) → find test items ≡ Some item → (test item ≡ true) × Contains items item
+found-there test [] item told = absurd (cc)
+found-there test (first ∷ items) item told = by (test first) refl (found-there test items item) told
+  where
+    by : (here : Bool) → test first ≡ here → (find test items ≡ Some item → (test item ≡ true) × Contains items item) → cond here (Some first) (find test items) ≡ Some item
+        → (test item ≡ true) × Contains (first ∷ items) item
+    by true e rest told = let is : first ≡ item = cc in (ap test (sym is) ∙ e, (0, omega arith, is))
+    by false e rest told = let found = rest told in let place = found.1 in (found.0, (suc place.0, (let within = place.1 in omega arith), place.2))
+
+-- and where some item passes it, one is found
+passes-found : {A : Type 0} (test : A → Bool) (items : List A) (place : ℕ) (item : A) → slice_get items place ≡ Some item → test item ≡ true → find test items ≡ None → ⊥
+passes-found test [] place item at passes none = absurd (cc)
+passes-found test (first ∷ items) zero item at passes none =
+    let is : first ≡ item = cc in
+    let here : test first ≡ true = ap test is ∙ passes in
+    let some : find test (first ∷ items) ≡ Some first = rw here refl in
+    absurd (cc)
+passes-found test (first ∷ items) (suc place) item at passes none = by (test first) (passes-found test items place item at passes) none
+  where
+    by : (here : Bool) → (find test items ≡ None → ⊥) → cond here (Some first) (find test items) ≡ None → ⊥
+    by true rest none = absurd (cc)
+    by false rest none = rest none
+
+-- a profile in force of a name is found in whatever order the profiles stand
+named-order : (name : List ℕ) (entries others : List Loaded) → DifferInOrder entries others → named_in_force name entries ≡ named_in_force name others
+named-order name entries others (distinct, apart, same) = by (named_in_force name entries) refl (named_in_force name others) refl
+  where
+    by : (one : Option Loaded) → named_in_force name entries ≡ one → (other : Option Loaded) → named_in_force name others ≡ other → one ≡ other
+    by None e None f = refl
+    by (Some one) e None f =
+        let found = found-there (is_named_in_force name) entries one e in
+        let there = same.0 one found.1 in
+        absurd (passes-found (is_named_in_force name) others there.0 one (at-there others one there) found.0 f)
+    by None e (Some other) f =
+        let found = found-there (is_named_in_force name) others other f in
+        let there = same.1 other found.1 in
+        absurd (passes-found (is_named_in_force name) entries there.0 other (at-there entries other there) found.0 e)
+    by (Some one) e (Some other) f =
+        let here = found-there (is_named_in_force name) entries one e in
+        let there = found-there (is_named_in_force name) others other f in
+        let first = (bytes_eq-Decides one.profile.name name).0 (and_parts (is_in_force one.state) (bytes_eq one.profile.name name) here.0).1 in
+        let second = (bytes_eq-Decides other.profile.name name).0 (and_parts (is_in_force other.state) (bytes_eq other.profile.name name) there.0).1 in
+        ap Some (one-named entries distinct one other here.1 (same.1 other there.1) (first ∙ sym second))
+
+-- where a program runs is in force
+abbrev IsInForce : Started → Type 0
+IsInForce (Under entry child) = is_in_force entry.state ≡ true
+IsInForce Unconfined = Unit {0}
+IsInForce Null = Unit {0}
+IsInForce Nowhere = Unit {0}
+
+in_profile-in_force : (child : Option (List ℕ)) (entry : Loaded) → is_in_force entry.state ≡ true → IfSome (in_profile child entry) IsInForce
+in_profile-in_force None entry h = h
+in_profile-in_force (Some name) entry h = by (child_place name entry.profile.children)
+  where
+    by : (place : Option ℕ) → IfSome (option_map (λ place. Under entry (Some place)) place) IsInForce
+    by None = tt
+    by (Some place) = h
+
+by_full_name-in_force : (name : List ℕ) (entries : List Loaded) → IfSome (by_full_name name entries) IsInForce
+by_full_name-in_force name entries = by (named_in_force (full_name name).profile entries) refl
+  where
+    by : (found : Option Loaded) → named_in_force (full_name name).profile entries ≡ found → IfSome (option_and_then (in_profile (full_name name).child) found) IsInForce
+    by None e = tt
+    by (Some entry) e =
+        let found = found-there (is_named_in_force (full_name name).profile) entries entry e in
+        in_profile-in_force (full_name name).child entry (and_parts (is_in_force entry.state) (bytes_eq entry.profile.name (full_name name).profile) found.0).0
+
+to_child-in_force : (path : List ℕ) (target : Option (List ℕ)) (asker : Asker) → is_in_force asker.entry.state ≡ true → IfSome (to_child path target asker) IsInForce
+to_child-in_force path target asker h = by asker.child (place_of_child path target asker.entry.profile)
+  where
+    by : (child place : Option ℕ) → IfSome (elim child [ Some place ↦ None | None ↦ option_map (λ place. Under asker.entry (Some place)) place ]) IsInForce
+    by (Some child) place = tt
+    by None None = tt
+    by None (Some place) = h
+
+module _ (law : RankLaw) where
+  -- a profile that is attached is in force
+  attached-in_force : (path : List ℕ) (entries : List Loaded) (entry : Loaded) → attached path entries ≡ Some entry → is_in_force entry.state ≡ true
+  attached-in_force path entries entry told = by (is_in_force entry.state) refl (attached-told law path entries entry told).1
+    where
+      by : (force : Bool) → is_in_force entry.state ≡ force → 0 < (if force then best_rank path entry.profile.attachments else 0) → force ≡ true
+      by true e above = refl
+      by false e above = absurd (omega arith)
+
+  to_profile-in_force : (path : List ℕ) (target : Option (List ℕ)) (entries : List Loaded) → IfSome (to_profile path target entries) IsInForce
+  to_profile-in_force path (Some name) entries = by_full_name-in_force name entries
+  to_profile-in_force path None entries = by (attached path entries) refl
+    where
+      by : (found : Option Loaded) → attached path entries ≡ found → IfSome (option_map (λ entry. Under entry None) found) IsInForce
+      by None e = tt
+      by (Some entry) e = attached-in_force path entries entry e
+
+  led-in_force : (path : List ℕ) (target : Option (List ℕ)) (entries : List Loaded) (asker : Asker) (destination : Destination) → is_in_force asker.entry.state ≡ true
+      → IfSome (led path target entries asker destination) IsInForce
+  led-in_force path target entries asker to.Profile h = to_profile-in_force path target entries
+  led-in_force path target entries asker to.Child h = to_child-in_force path target asker h
+  led-in_force path target entries asker to.Inherit h = h
+  led-in_force path target entries asker to.Unconfined h = tt
+
+  led_by-in_force : (path : List ℕ) (entries : List Loaded) (asker : Asker) (transition : Transition) → is_in_force asker.entry.state ≡ true → IfSome (led_by path entries asker transition) IsInForce
+  led_by-in_force path entries asker transition h =
+      by (led path transition.target entries asker (row transition.word).destination) (led-in_force path transition.target entries asker (row transition.word).destination h) (row transition.word).fallback
+    where
+      by : (first : Option Started) → IfSome first IsInForce → (fallback : Option Destination)
+          → IfSome (elim first [ Some to ↦ Some to | None ↦ option_and_then (led path transition.target entries asker) fallback ]) IsInForce
+      by (Some to) there fallback = there
+      by None there None = tt
+      by None there (Some fallback) = led-in_force path transition.target entries asker fallback h
+
+  missing-in_force : (mode : Mode) → IsInForce (missing mode).to
+  missing-in_force Enforce = tt
+  missing-in_force Complain = tt
+
+  carried-in_force : (path : List ℕ) (entries : List Loaded) (asker : Asker) (mode : Mode) (transition : Transition) (audited : Bool) → is_in_force asker.entry.state ≡ true
+      → IsInForce (carried_out path entries asker mode transition audited).to
+  carried-in_force path entries asker mode transition audited h = by (led_by path entries asker transition) (led_by-in_force path entries asker transition h)
+    where
+      by : (found : Option Started) → IfSome found IsInForce → IsInForce (carried mode audited (row transition.word).scrubs found).to
+      by None there = missing-in_force mode
+      by (Some to) there = there
+
+  choice-in_force : (path : List ℕ) (entries : List Loaded) (asker : Asker) (mode : Mode) (choice : Choice) → is_in_force asker.entry.state ≡ true
+      → IsInForce (by_choice path entries asker mode choice).to
+  choice-in_force path entries asker mode (DeniedByRule audited) h = tt
+  choice-in_force path entries asker mode Missing h = missing-in_force mode
+  choice-in_force path entries asker mode Clashing h = tt
+  choice-in_force path entries asker mode (Leads transition audited) h = carried-in_force path entries asker mode transition audited h
+
+  unconfined-in_force : (path : List ℕ) (entries : List Loaded) → IsInForce (unconfined_start path entries).to
+  unconfined-in_force path entries = by (attached path entries) refl
+    where
+      by : (found : Option Loaded) → attached path entries ≡ found → IsInForce (unconfined found).to
+      by None e = tt
+      by (Some entry) e = attached-in_force path entries entry e
+
+  to-in_force : (entries : List Loaded) (asker : Option Asker) (owned : Bool) (path : List ℕ) → IsInForce (exec_answer entries asker owned path).to
+  to-in_force entries None owned path = unconfined-in_force path entries
+  to-in_force entries (Some asker) owned path = by asker.entry.state refl
+    where
+      by : (state : State) → asker.entry.state ≡ state → IsInForce (confined_start owned path entries asker (in_state asker.entry.profile state asker.child)).to
+      by Disabled e = unconfined-in_force path entries
+      by (Modes modes) e =
+          choice-in_force path entries asker _ (choice (audits asker.entry.profile asker.child) owned path (rules_at asker.entry.profile asker.child)) (ap is_in_force e)
+
+  -- a program never runs under a disabled profile
+  pub answer-in_force : (entries : List Loaded) (asker : Option Asker) (owned : Bool) (path : List ℕ) (entry : Loaded) (child : Option ℕ)
+      → (exec_answer entries asker owned path).to ≡ Under entry child → is_in_force entry.state ≡ true
+  answer-in_force entries asker owned path entry child told = subst IsInForce told (to-in_force entries asker owned path)
+
+  -- in whatever order the profiles stand, the program runs under the same
+  to_profile-order : (path : List ℕ) (target : Option (List ℕ)) (entries others : List Loaded) → DifferInOrder entries others → to_profile path target entries ≡ to_profile path target others
+  to_profile-order path None entries others same = ap (option_map (λ entry. Under entry None)) (attached-order law path entries others same)
+  to_profile-order path (Some name) entries others same =
+      ap (option_and_then (in_profile (full_name name).child)) (named-order (full_name name).profile entries others same)
+
+  led-order : (path : List ℕ) (target : Option (List ℕ)) (entries others : List Loaded) (asker : Asker) (destination : Destination) → DifferInOrder entries others
+      → led path target entries asker destination ≡ led path target others asker destination
+  led-order path target entries others asker to.Profile same = to_profile-order path target entries others same
+  led-order path target entries others asker to.Child same = refl
+  led-order path target entries others asker to.Inherit same = refl
+  led-order path target entries others asker to.Unconfined same = refl
+
+  led_by-order : (path : List ℕ) (entries others : List Loaded) (asker : Asker) (transition : Transition) → DifferInOrder entries others
+      → led_by path entries asker transition ≡ led_by path others asker transition
+  led_by-order path entries others asker transition same =
+      ap (λ first. elim first [ Some to ↦ Some to | None ↦ option_and_then (led path transition.target entries asker) (row transition.word).fallback ])
+      (led-order path transition.target entries others asker (row transition.word).destination same)
+      ∙ ap (λ second. elim (led path transition.target others asker (row transition.word).destination) [ Some to ↦ Some to | None ↦ second ]) (by (row transition.word).fallback)
+    where
+      by : (fallback : Option Destination) → option_and_then (led path transition.target entries asker) fallback ≡ option_and_then (led path transition.target others asker) fallback
+      by None = refl
+      by (Some fallback) = led-order path transition.target entries others asker fallback same
+
+  choice-order : (path : List ℕ) (entries others : List Loaded) (asker : Asker) (mode : Mode) (choice : Choice) → DifferInOrder entries others
+      → by_choice path entries asker mode choice ≡ by_choice path others asker mode choice
+  choice-order path entries others asker mode (DeniedByRule audited) same = refl
+  choice-order path entries others asker mode Missing same = refl
+  choice-order path entries others asker mode Clashing same = refl
+  choice-order path entries others asker mode (Leads transition audited) same =
+      ap (carried mode audited (row transition.word).scrubs) (led_by-order path entries others asker transition same)
+
+  unconfined-order : (path : List ℕ) (entries others : List Loaded) → DifferInOrder entries others → unconfined_start path entries ≡ unconfined_start path others
+  unconfined-order path entries others same =
+      ap unconfined (attached-order law path entries others same)
+
+  -- and the answer is the same
+  pub answer-order : (entries others : List Loaded) (asker : Option Asker) (owned : Bool) (path : List ℕ) → DifferInOrder entries others
+      → exec_answer entries asker owned path ≡ exec_answer others asker owned path
+  answer-order entries others None owned path same = unconfined-order path entries others same
+  answer-order entries others (Some asker) owned path same = by (in_state asker.entry.profile asker.entry.state asker.child)
+    where
+      by : (confinement : Confinement) → confined_start owned path entries asker confinement ≡ confined_start owned path others asker confinement
+      by NotConfined = unconfined-order path entries others same
+      by (By profile child mode) = choice-order path entries others asker mode (choice (audits profile child) owned path (rules_at profile child)) same
+
+-- a rule that denies is among what the rules say
+denies-among : (flag owned : Bool) (path : List ℕ) (rules : List Rule) (place : ℕ) (rule : Rule) (audited : Bool) → slice_get rules place ≡ Some rule
+    → said_of flag owned path rule ≡ Some (Denying audited) → list_any denies (exec_rules flag owned path rules) ≡ true
+denies-among flag owned path [] place rule audited at says = absurd (cc)
+denies-among flag owned path (first ∷ rules) zero rule audited at says =
+    let is : first ≡ rule = cc in
+    by (said_of flag owned path first) (ap (said_of flag owned path) is ∙ says)
+  where
+    by : (said : Option ExecRule) → said ≡ Some (Denying audited)
+        → list_any denies (elim said [ None ↦ exec_rules flag owned path rules | Some said ↦ said ∷ exec_rules flag owned path rules ]) ≡ true
+    by None e = absurd (cc)
+    by (Some (Denying loud)) e = refl
+    by (Some (Leading transition exact loud)) e = absurd (cc)
+denies-among flag owned path (first ∷ rules) (suc place) rule audited at says = by (said_of flag owned path first) (denies-among flag owned path rules place rule audited at says)
+  where
+    by : (said : Option ExecRule) → list_any denies (exec_rules flag owned path rules) ≡ true
+        → list_any denies (elim said [ None ↦ exec_rules flag owned path rules | Some said ↦ said ∷ exec_rules flag owned path rules ]) ≡ true
+    by None rest = rest
+    by (Some said) rest = or (denies said) rest
+      where
+        or : (here : Bool) → list_any denies (exec_rules flag owned path rules) ≡ true → (here || list_any denies (exec_rules flag owned path rules)) ≡ true
+        or true rest = refl
+        or false rest = rest
+
+-- it wins over all others
+pub denied-first : (entries : List Loaded) (asker : Asker) (owned : Bool) (path : List ℕ) (profile : Profile) (child : Option ℕ) (mode : Mode)
+    → in_state asker.entry.profile asker.entry.state asker.child ≡ By profile child mode
+    → SomeRuleDenies owned path profile child
+    → (exec_answer entries (Some asker) owned path).verdict.answer ≡ Deny
+denied-first entries asker owned path profile child mode confined (rule, audited, there, says) =
+    let some = denies-among (audits profile child) owned path (rules_at profile child) there.0 rule audited (at-there (rules_at profile child) rule there) says in
+    rw (confined, choice_of, some) refl
+
+-- the mask of each answer is `x`
+missing-masked : (mode : Mode) → (missing mode).verdict.mask.0 ≡ EXEC
+missing-masked Enforce = refl
+missing-masked Complain = refl
+
+choice-masked : (path : List ℕ) (entries : List Loaded) (asker : Asker) (mode : Mode) (choice : Choice) → (by_choice path entries asker mode choice).verdict.mask.0 ≡ EXEC
+choice-masked path entries asker mode (DeniedByRule audited) = refl
+choice-masked path entries asker mode Missing = missing-masked mode
+choice-masked path entries asker mode Clashing = refl
+choice-masked path entries asker mode (Leads transition audited) = by (led_by path entries asker transition)
+  where
+    by : (found : Option Started) → (carried mode audited (row transition.word).scrubs found).verdict.mask.0 ≡ EXEC
+    by None = missing-masked mode
+    by (Some to) = refl
+
+unconfined-masked : (path : List ℕ) (entries : List Loaded) → (unconfined_start path entries).verdict.mask.0 ≡ EXEC
+unconfined-masked path entries = by (attached path entries)
+  where
+    by : (found : Option Loaded) → (unconfined found).verdict.mask.0 ≡ EXEC
+    by None = refl
+    by (Some entry) = refl
+
+pub answer-masked : (entries : List Loaded) (asker : Option Asker) (owned : Bool) (path : List ℕ) → (exec_answer entries asker owned path).verdict.mask.0 ≡ EXEC
+answer-masked entries None owned path = unconfined-masked path entries
+answer-masked entries (Some asker) owned path = by (in_state asker.entry.profile asker.entry.state asker.child)
+  where
+    by : (confinement : Confinement) → (confined_start owned path entries asker confinement).verdict.mask.0 ≡ EXEC
+    by NotConfined = unconfined-masked path entries
+    by (By profile child mode) = choice-masked path entries asker mode (choice (audits profile child) owned path (rules_at profile child))

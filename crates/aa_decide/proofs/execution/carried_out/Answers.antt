@@ -1,0 +1,10 @@
+use Rattle.std.proofs.Common.{rules}
+use Rattle.aa_decide.specs.Slots.{filled}
+use Rattle.aa_decide.specs.code.SeenExec.{seen_asker}
+use Rattle.aa_decide.proofs.SeenLemmas.{seen_carried}
+use Rattle.aa_decide.proofs.execution.carried_out.Goals as goal
+
+pub returns-in-Some : goal.returns-in-Some
+returns-in-Some c =
+    seen_carried c.args.path.now (filled c.args.slots.now) (seen_asker c.args.asker) c.args.mode c.args.transition.now c.args.audited c.args.slots.now c.in-Some.to c.started.result
+    (search rules) c.started.ensures.verdict c.started.ensures.to (search rules)

@@ -1,0 +1,153 @@
+-- Under what a program runs that is started (apparmor.d(5), "Execute Rules"; docs/policy.md, "Exec and attachment").
+use Rattle.std.specs.Prelude.{ℕ, Bool, false, ◌&&◌, if◌then◌else◌, List, find, Option, None, Some, option_and_then}
+use Rattle.std.specs.Option.{option_map}
+use Rattle.std.specs.Str.{bytes_eq}
+use Rattle.aa_access.specs.Access.{EXEC}
+use Rattle.aa_access.specs.ExecWords.{row}
+use Rattle.aa_access.specs.declared.exec_word.Destination.{Destination}
+use Rattle.aa_access.specs.declared.exec_word.Destination.TheVariants as to
+use Rattle.aa_exec.specs.Choices.{Choice, Clashing, Denied as DeniedByRule, Leads, Missing, choice}
+use Rattle.aa_names.specs.FullNames.{full_name}
+use Rattle.aa_policy.specs.Profile.{child_place}
+use Rattle.aa_policy.specs.declared.profile.Mode.{Mode}
+use Rattle.aa_policy.specs.declared.profile.Mode.TheVariants.{Complain, Enforce}
+use Rattle.aa_policy.specs.declared.profile.Profile.{Profile}
+use Rattle.aa_policy.specs.declared.profile.Transition.{Transition}
+use Rattle.aa_decide.specs.Attachment.{attached, attached_child}
+use Rattle.aa_verdicts.specs.Confinement.{By, Confinement, Unconfined as NotConfined, in_state}
+use Rattle.aa_verdicts.specs.Entries.{Loaded, is_in_force}
+use Rattle.aa_verdicts.specs.Ready.{audits, rules_at}
+use Rattle.aa_verdicts.specs.declared.verdict.Answer.{Answer}
+use Rattle.aa_verdicts.specs.declared.verdict.Answer.TheVariants.{Allow, Deny, Refuse, Complain as Complained}
+use Rattle.aa_verdicts.specs.declared.verdict.Tag.{Tag}
+use Rattle.aa_verdicts.specs.declared.verdict.Tag.TheVariants.{Allowed, Audit, Denied}
+use Rattle.aa_verdicts.specs.declared.verdict.Verdict.{Verdict}
+
+-- who asks by a loaded profile: itself, or its child or hat at a place
+pub record Asker : Type 0 where
+  pub entry : Loaded
+  pub child : Option ℕ
+
+-- Under what the program runs: a profile in force, or its child or hat at a place; no profile; or it is let through in complain mode alone; or it
+-- isn't started.
+pub data Started : Type 0 where
+  Under : (entry : Loaded) (child : Option ℕ) → Started
+  Unconfined : Started
+  Null : Started
+  Nowhere : Started
+
+-- the answer: the verdict with its line's tag, under what the program runs, and whether its environment is scrubbed
+pub record ExecAnswer : Type 0 where
+  pub verdict : Verdict
+  pub to : Started
+  pub scrub : Bool
+
+-- a verdict on the start of a program; its mask is always `x`
+abbrev pub exec_verdict : Answer → Option Tag → Verdict
+exec_verdict answer tag = record { answer = answer; tag = tag; mask = record { 0 = EXEC } }
+
+-- an answer without a place to go
+abbrev pub stopped : Answer → Option Tag → ExecAnswer
+stopped answer tag = record { verdict = exec_verdict answer tag; to = Nowhere; scrub = false }
+
+-- a tag, where it is audited
+abbrev pub tag_if : Bool → Tag → Option Tag
+tag_if audited tag = if audited then Some tag else None
+
+-- a deny rule applies
+abbrev pub denied : Bool → ExecAnswer
+denied audited = stopped Deny (tag_if audited Denied)
+
+-- no rule says where to go
+abbrev pub missing : Mode → ExecAnswer
+missing Enforce = stopped Refuse (Some Denied)
+missing Complain = record { verdict = exec_verdict Complained (Some Allowed); to = Null; scrub = false }
+
+-- the rules that dominate lead to different places
+abbrev pub clashing : ExecAnswer
+clashing = stopped Refuse (Some Denied)
+
+-- the program runs
+abbrev pub started : Bool → Started → Bool → ExecAnswer
+started audited to scrub = record { verdict = exec_verdict Allow (tag_if audited Audit); to = to; scrub = scrub }
+
+-- a profile is in force and has this name
+abbrev pub is_named_in_force : List ℕ → Loaded → Bool
+is_named_in_force name entry = is_in_force entry.state && bytes_eq entry.profile.name name
+
+-- the profile in force of this name
+abbrev pub named_in_force : List ℕ → List Loaded → Option Loaded
+named_in_force name entries = find (is_named_in_force name) entries
+
+-- a profile, or the child or hat of it that is named
+abbrev pub in_profile : Option (List ℕ) → Loaded → Option Started
+in_profile None entry = Some (Under entry None)
+in_profile (Some name) entry = option_map (λ place. Under entry (Some place)) (child_place name entry.profile.children)
+
+-- what is in force by this full name
+abbrev pub by_full_name : List ℕ → List Loaded → Option Started
+by_full_name name entries = option_and_then (in_profile (full_name name).child) (named_in_force (full_name name).profile entries)
+
+-- a profile in force: the one that is named, or else the one that the path is attached to
+abbrev pub to_profile : List ℕ → Option (List ℕ) → List Loaded → Option Started
+to_profile path (Some name) entries = by_full_name name entries
+to_profile path None entries = option_map (λ entry. Under entry None) (attached path entries)
+
+-- the place of a child or hat: of the one that is named, or else of the child that the path is attached to
+abbrev pub place_of_child : List ℕ → Option (List ℕ) → Profile → Option ℕ
+place_of_child path (Some name) profile = child_place name profile.children
+place_of_child path None profile = attached_child path profile.children
+
+-- a child or hat of the profile that asks; a child has none
+abbrev pub to_child : List ℕ → Option (List ℕ) → Asker → Option Started
+to_child path target asker = elim asker.child [
+  | Some place ↦ None
+  | None ↦ option_map (λ place. Under asker.entry (Some place)) (place_of_child path target asker.entry.profile)
+]
+
+-- where a destination leads who asks, if that is there
+abbrev pub led : List ℕ → Option (List ℕ) → List Loaded → Asker → Destination → Option Started
+led path target entries asker to.Profile = to_profile path target entries
+led path target entries asker to.Child = to_child path target asker
+led path target entries asker to.Inherit = Some (Under asker.entry asker.child)
+led path target entries asker to.Unconfined = Some Unconfined
+
+-- where a transition leads: where its word does, or else where its fallback does
+abbrev pub led_by : List ℕ → List Loaded → Asker → Transition → Option Started
+led_by path entries asker transition = elim (led path transition.target entries asker (row transition.word).destination) [
+  | Some to ↦ Some to
+  | None ↦ option_and_then (led path transition.target entries asker) (row transition.word).fallback
+]
+
+-- a transition that is carried out; where it leads nowhere, that is answered as if no rule had said where to go
+abbrev pub carried_out : List ℕ → List Loaded → Asker → Mode → Transition → Bool → ExecAnswer
+carried_out path entries asker mode transition audited = elim (led_by path entries asker transition) [
+  | None ↦ missing mode
+  | Some to ↦ started audited to (row transition.word).scrubs
+]
+
+-- by what the rules say together: a deny rule first, and then whether some rule says where to go, and whether those that dominate agree
+abbrev pub by_choice : List ℕ → List Loaded → Asker → Mode → Choice → ExecAnswer
+by_choice path entries asker mode (DeniedByRule audited) = denied audited
+by_choice path entries asker mode Missing = missing mode
+by_choice path entries asker mode Clashing = clashing
+by_choice path entries asker mode (Leads transition audited) = carried_out path entries asker mode transition audited
+
+-- who asks is confined by nothing: the program runs under the profile that its path is attached to, or else under none
+abbrev pub unconfined_start : List ℕ → List Loaded → ExecAnswer
+unconfined_start path entries = elim (attached path entries) [
+  | None ↦ started false Unconfined false
+  | Some entry ↦ started false (Under entry None) false
+]
+
+-- by what confines who asks
+abbrev pub confined_start : Bool → List ℕ → List Loaded → Asker → Confinement → ExecAnswer
+confined_start owned path entries asker NotConfined = unconfined_start path entries
+confined_start owned path entries asker (By profile child mode) =
+    by_choice path entries asker mode (choice (audits profile child) owned path (rules_at profile child))
+
+-- Under what the program of a path runs that is started, by the entries and by who asks; no one in particular is confined by nothing.
+abbrev pub exec_answer : List Loaded → Option Asker → Bool → List ℕ → ExecAnswer
+exec_answer entries None owned path = unconfined_start path entries
+exec_answer entries (Some asker) owned path =
+    confined_start owned path entries asker (in_state asker.entry.profile asker.entry.state asker.child)

@@ -1,0 +1,37 @@
+-- Words that the laws of attachment and of the start of programs are said in.
+use Rattle.std.specs.Prelude.{◌≡◌, ◌<◌, ℕ, Bool, true, false, List, map, Option, Some}
+use Rattle.std.specs.List.{Contains}
+use Rattle.std.specs.Str.{bytes_eq}
+use Rattle.aa_exec.specs.ExecRules.{Denying, said_of}
+use Rattle.aa_policy.specs.Profile.{are_distinct}
+use Rattle.aa_policy.specs.declared.profile.Profile.{Profile}
+use Rattle.aa_policy.specs.declared.profile.Rule.{Rule}
+use Rattle.aa_decide.specs.Attachment.{entry_rank}
+use Rattle.aa_verdicts.specs.Entries.{Loaded}
+use Rattle.aa_verdicts.specs.Ready.{audits, rules_at}
+
+-- no two entries have one name
+abbrev pub HaveDistinctNames : List Loaded → Type 0
+HaveDistinctNames entries = are_distinct (map (λ entry. entry.profile) entries) ≡ true
+
+-- two lists have the same entries, in whatever order
+abbrev pub HaveSameEntries : List Loaded → List Loaded → Type 0
+HaveSameEntries entries others = ((entry : Loaded) → Contains entries entry → Contains others entry) × ((entry : Loaded) → Contains others entry → Contains entries entry)
+
+-- two lists differ in the order of their entries alone, and no two entries have one name
+abbrev pub DifferInOrder : List Loaded → List Loaded → Type 0
+DifferInOrder entries others = HaveDistinctNames entries × HaveDistinctNames others × HaveSameEntries entries others
+
+-- each entry of another name has a lower rank on a path
+abbrev pub RanksAboveOthers : List ℕ → List Loaded → Loaded → Type 0
+RanksAboveOthers path entries entry =
+    (other : Loaded) → Contains entries other → bytes_eq other.profile.name entry.profile.name ≡ false → entry_rank path other < entry_rank path entry
+
+-- an entry fits a path best: it is one of these, its rank is above 0, and all others have lower ones
+abbrev pub FitsBest : List ℕ → List Loaded → Loaded → Type 0
+FitsBest path entries entry = Contains entries entry × (0 < entry_rank path entry) × RanksAboveOthers path entries entry
+
+-- some rule of a profile, or of its child or hat at a place, denies the start of the program of a path
+abbrev pub SomeRuleDenies : Bool → List ℕ → Profile → Option ℕ → Type 0
+SomeRuleDenies owned path profile child =
+    (rule : Rule) × (audited : Bool) × Contains (rules_at profile child) rule × (said_of (audits profile child) owned path rule ≡ Some (Denying audited))

@@ -1,0 +1,369 @@
+//! Under what a program runs that is started.
+
+ghost use Rattle.std.specs.Prelude.{◌≡◌, IfOk, IfSome, None, Some};
+ghost use Rattle.std.specs.Option.{option_copied, option_map};
+ghost use Rattle.aa_decide.specs.Exec.{by_choice, by_full_name, carried_out, exec_answer, exec_verdict, in_profile, led, led_by, missing, place_of_child, stopped, tag_if, to_child, to_profile, unconfined_start};
+ghost use Rattle.aa_decide.specs.Slots.{filled};
+ghost use Rattle.aa_decide.specs.code.SeenExec.{IsAnswer, IsAnswerAnywhere, IsDestination, IsDestinationFrom, IsIn, asker_in, seen_asker};
+ghost use Rattle.aa_verdicts.specs.declared.verdict.Answer.TheVariants.{Allow};
+ghost use Rattle.aa_verdicts.specs.declared.verdict.Tag.TheVariants.{Audit};
+ghost use Rattle.aa_exec.specs.code.SeenChoices.{seen_choice};
+
+use crate::attachment::{attach, attached_child};
+use crate::slots::{Who, entry_at, find_in_force};
+use aa_access::{Destination, Perms};
+use aa_bytes::Sequence;
+use aa_exec::{ExecChoice, exec_choice};
+use aa_names::cut_full_name;
+use aa_policy::{Mode, Profile, Transition, child_place};
+use aa_verdicts::{Answer, Confinement, Entry, Tag, Verdict};
+use std::alloc::{AllocError, Global};
+
+/// Under what a program runs that is started.
+#[derive(Clone, Copy, Debug, PartialEq, Eq)]
+pub enum ExecTo {
+    /// Under a profile in force, or a child or hat of it.
+    Profile {
+        /// The profile's slot.
+        slot: usize,
+        /// The place of the child or hat among its children; none where it is the profile itself.
+        child: Option<usize>,
+    },
+    /// Under no profile.
+    Unconfined,
+    /// It is let through in complain mode alone, with the answer `Complain`.
+    Null,
+    /// It isn't started: the answer is `Deny` or `Refuse`.
+    Nowhere,
+}
+
+/// The answer to the start of a program.
+#[derive(Clone, Copy, Debug)]
+pub struct ExecVerdict {
+    /// The answer, and how it is logged; the mask is `x`.
+    pub verdict: Verdict,
+    /// Under what the program runs.
+    pub to: ExecTo,
+    /// Whether its environment is scrubbed.
+    pub scrub: bool,
+}
+
+// Who asks by a loaded profile.
+#[derive(Clone, Copy)]
+struct Asker<'a> {
+    loaded: &'a Entry,
+    slot: usize,
+    child: Option<usize>,
+}
+
+// Who asks by a loaded profile, if its slot is filled.
+fn asker_in(slots: &[Option<Entry>], who: Who) -> Option<Asker<'_>>
+    ensures asker { option_map seen_asker result ≡ asker_in slots.now who }
+    ensures filled { IfSome result (IsIn slots.now) }
+{
+    match who {
+        Who::Unconfined => None,
+        Who::Entry { slot, child } => {
+            let loaded = entry_at(slots, slot)?;
+            Some(Asker {
+                loaded,
+                slot,
+                child,
+            })
+        }
+    }
+}
+
+// A verdict on the start of a program.
+fn exec_verdict(answer: Answer, tag: Option<Tag>) -> Verdict
+    ensures { result ≡ exec_verdict answer tag }
+{
+    Verdict {
+        answer,
+        tag,
+        mask: Perms::EXEC,
+    }
+}
+
+// A tag, where it is audited.
+fn tag_if(audited: bool, tag: Tag) -> Option<Tag>
+    ensures { result ≡ tag_if audited tag }
+{
+    if audited { Some(tag) } else { None }
+}
+
+// A program isn't started.
+fn stopped(answer: Answer, tag: Option<Tag>) -> ExecVerdict
+    ensures { IsAnswerAnywhere result (stopped answer tag) }
+{
+    ExecVerdict {
+        verdict: exec_verdict(answer, tag),
+        to: ExecTo::Nowhere,
+        scrub: false,
+    }
+}
+
+// No rule says where to go.
+fn missing(mode: Mode) -> ExecVerdict
+    ensures { IsAnswerAnywhere result (missing mode) }
+{
+    match mode {
+        Mode::Enforce => stopped(Answer::Refuse, Some(Tag::Denied)),
+        Mode::Complain => ExecVerdict {
+            verdict: exec_verdict(Answer::Complain, Some(Tag::Allowed)),
+            to: ExecTo::Null,
+            scrub: false,
+        },
+    }
+}
+
+// The program runs.
+fn started(audited: bool, to: ExecTo, scrub: bool) -> ExecVerdict
+    ensures verdict { result.verdict ≡ exec_verdict Allow (tag_if audited Audit) }
+    ensures to { result.to ≡ to }
+    ensures scrub { result.scrub ≡ scrub }
+{
+    ExecVerdict {
+        verdict: exec_verdict(Answer::Allow, tag_if(audited, Tag::Audit)),
+        to,
+        scrub,
+    }
+}
+
+// A profile, or the child or hat of it that is named.
+fn in_profile(slot: usize, entry: &Entry, child: Option<&[u8]>) -> Option<ExecTo>
+    ensures { IsDestinationFrom slot entry.now result (in_profile (option_copied child.entry) entry.now) }
+{
+    let place = match child {
+        None => None,
+        Some(name) => Some(child_place(name, entry.profile().children.as_slice())?),
+    };
+    Some(ExecTo::Profile { slot, child: place })
+}
+
+// What is in force by this full name.
+fn by_full_name(slots: &[Option<Entry>], name: &[u8]) -> Option<ExecTo>
+    ensures { IsDestination slots.now result (by_full_name name.now (filled slots.now)) }
+{
+    let (profile, child) = cut_full_name(name);
+    let (slot, entry) = find_in_force(slots, profile)?;
+    in_profile(slot, entry, child)
+}
+
+// The profile that a path is attached to.
+fn to_attached(
+    alloc: Global,
+    slots: &[Option<Entry>],
+    path: &[u8],
+) -> Result<Option<ExecTo>, AllocError>
+    ensures { IfOk result (λ to. IsDestination slots.now to (to_profile path.now None (filled slots.now))) }
+{
+    match attach(alloc, slots, path)? {
+        None => Ok(None),
+        Some(slot) => Ok(Some(ExecTo::Profile { slot, child: None })),
+    }
+}
+
+// A profile in force: the one that is named, or else the one that the path is attached to.
+fn to_profile(
+    alloc: Global,
+    slots: &[Option<Entry>],
+    path: &[u8],
+    target: &Option<Sequence<u8>>,
+) -> Result<Option<ExecTo>, AllocError>
+    ensures { IfOk result (λ to. IsDestination slots.now to (to_profile path.now target.now (filled slots.now))) }
+{
+    match target {
+        None => to_attached(alloc, slots, path),
+        Some(name) => Ok(by_full_name(slots, name.as_slice())),
+    }
+}
+
+// The place of a child or hat: of the one that is named, or else of the child that the path is attached to.
+fn place_of_child(
+    alloc: Global,
+    profile: &Profile,
+    path: &[u8],
+    target: &Option<Sequence<u8>>,
+) -> Result<Option<usize>, AllocError>
+    ensures { IfOk result (λ place. place ≡ place_of_child path.now target.now profile.now) }
+{
+    let children = profile.children.as_slice();
+    match target {
+        None => attached_child(alloc, children, path),
+        Some(name) => Ok(child_place(name.as_slice(), children)),
+    }
+}
+
+// A child or hat of the profile that asks.
+fn to_child(
+    alloc: Global,
+    asker: Asker<'_>,
+    path: &[u8],
+    target: &Option<Sequence<u8>>,
+) -> Result<Option<ExecTo>, AllocError>
+    ensures { IfOk result (λ to. IsDestinationFrom asker.entry.slot asker.entry.loaded.now to (to_child path.now target.now (seen_asker asker.entry))) }
+{
+    if asker.child.is_some() {
+        return Ok(None);
+    }
+    match place_of_child(alloc, asker.loaded.profile(), path, target)? {
+        None => Ok(None),
+        Some(place) => Ok(Some(ExecTo::Profile {
+            slot: asker.slot,
+            child: Some(place),
+        })),
+    }
+}
+
+// Where a destination leads who asks, if that is there.
+fn led(
+    alloc: Global,
+    slots: &[Option<Entry>],
+    asker: Asker<'_>,
+    path: &[u8],
+    target: &Option<Sequence<u8>>,
+    destination: Destination,
+) -> Result<Option<ExecTo>, AllocError>
+    requires { IsIn slots.now asker }
+    ensures { IfOk result (λ to. IsDestination slots.now to (led path.now target.now (filled slots.now) (seen_asker asker.entry) destination)) }
+{
+    match destination {
+        Destination::Profile => to_profile(alloc, slots, path, target),
+        Destination::Child => to_child(alloc, asker, path, target),
+        Destination::Inherit => Ok(Some(ExecTo::Profile {
+            slot: asker.slot,
+            child: asker.child,
+        })),
+        Destination::Unconfined => Ok(Some(ExecTo::Unconfined)),
+    }
+}
+
+// Where a transition leads: where its word does, or else where its fallback does.
+fn led_by(
+    alloc: Global,
+    slots: &[Option<Entry>],
+    asker: Asker<'_>,
+    path: &[u8],
+    transition: &Transition,
+) -> Result<Option<ExecTo>, AllocError>
+    requires { IsIn slots.now asker }
+    ensures { IfOk result (λ to. IsDestination slots.now to (led_by path.now (filled slots.now) (seen_asker asker.entry) transition.now)) }
+{
+    let target = &transition.target;
+    let destination = transition.word.destination();
+    match led(alloc, slots, asker, path, target, destination)? {
+        Some(to) => Ok(Some(to)),
+        None => match transition.word.fallback() {
+            None => Ok(None),
+            Some(fallback) => led(alloc, slots, asker, path, target, fallback),
+        },
+    }
+}
+
+// A transition that is carried out.
+fn carried_out(
+    alloc: Global,
+    slots: &[Option<Entry>],
+    asker: Asker<'_>,
+    mode: Mode,
+    path: &[u8],
+    transition: &Transition,
+    audited: bool,
+) -> Result<ExecVerdict, AllocError>
+    requires { IsIn slots.now asker }
+    ensures { IfOk result (λ found. IsAnswer slots.now found (carried_out path.now (filled slots.now) (seen_asker asker.entry) mode transition.now audited)) }
+{
+    match led_by(alloc, slots, asker, path, transition)? {
+        None => Ok(missing(mode)),
+        Some(to) => Ok(started(audited, to, transition.word.scrubs())),
+    }
+}
+
+// The answer by what the rules say together.
+fn by_choice(
+    alloc: Global,
+    slots: &[Option<Entry>],
+    asker: Asker<'_>,
+    mode: Mode,
+    path: &[u8],
+    choice: ExecChoice<'_>,
+) -> Result<ExecVerdict, AllocError>
+    requires { IsIn slots.now asker }
+    ensures { IfOk result (λ found. IsAnswer slots.now found (by_choice path.now (filled slots.now) (seen_asker asker.entry) mode (seen_choice choice.entry))) }
+{
+    match choice {
+        ExecChoice::Denied { audited } => Ok(stopped(Answer::Deny, tag_if(audited, Tag::Denied))),
+        ExecChoice::Missing => Ok(missing(mode)),
+        ExecChoice::Clashing => Ok(stopped(Answer::Refuse, Some(Tag::Denied))),
+        ExecChoice::Leading {
+            transition,
+            audited,
+        } => carried_out(alloc, slots, asker, mode, path, transition, audited),
+    }
+}
+
+// The answer to who is confined by nothing.
+fn unconfined_start(
+    alloc: Global,
+    slots: &[Option<Entry>],
+    path: &[u8],
+) -> Result<ExecVerdict, AllocError>
+    ensures { IfOk result (λ found. IsAnswer slots.now found (unconfined_start path.now (filled slots.now))) }
+{
+    match to_attached(alloc, slots, path)? {
+        None => Ok(started(false, ExecTo::Unconfined, false)),
+        Some(to) => Ok(started(false, to, false)),
+    }
+}
+
+// The answer to who asks by a loaded profile.
+fn asked_by(
+    alloc: Global,
+    slots: &[Option<Entry>],
+    asker: Asker<'_>,
+    owned: bool,
+    path: &[u8],
+) -> Result<ExecVerdict, AllocError>
+    requires { IsIn slots.now asker }
+    ensures { IfOk result (λ found. IsAnswer slots.now found (exec_answer (filled slots.now) (Some (seen_asker asker.entry)) owned path.now)) }
+{
+    match asker.loaded.confinement(asker.child) {
+        Confinement::Unconfined => unconfined_start(alloc, slots, path),
+        Confinement::By { ready, child, mode } => {
+            let choice = exec_choice(
+                alloc,
+                ready.audits(child),
+                ready.rules_at(child),
+                owned,
+                path,
+            )?;
+            by_choice(alloc, slots, asker, mode, path, choice)
+        }
+    }
+}
+
+/// Under what the program of a path runs that is started, and how that is logged (docs/policy.md, "Exec and attachment"). Asked by a task that nothing
+/// confines, by a disabled profile, and by an empty slot: under the profile in force that the path is attached to, or else under none. Asked by a
+/// profile in force, by its own rules, or those of its child or hat: `Deny` where a deny rule with `x` applies; what its mode says, `Refuse` or
+/// `Complain`, where no allow rule with an exec word does; `Refuse` where those that dominate lead to different places; else where they lead. A
+/// disabled profile is never gone to. `owned` says whether the task's user owns the file. What it answers is said of the filled slots in their
+/// order, and a profile that it tells is in a filled one.
+///
+/// # Errors
+///
+/// Where memory runs out.
+pub fn exec(
+    alloc: Global,
+    slots: &[Option<Entry>],
+    who: Who,
+    owned: bool,
+    path: &[u8],
+) -> Result<ExecVerdict, AllocError>
+    ensures { IfOk result (λ found. IsAnswer slots.now found (exec_answer (filled slots.now) (asker_in slots.now who) owned path.now)) }
+{
+    match asker_in(slots, who) {
+        None => unconfined_start(alloc, slots, path),
+        Some(asker) => asked_by(alloc, slots, asker, owned, path),
+    }
+}

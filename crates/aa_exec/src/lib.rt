@@ -1,0 +1,7 @@
+//! What the rules of a profile say of a program that is started: that it is denied, or where it leads.
+#![tactic(auto)]
+
+mod choice;
+mod exec_rules;
+
+pub use choice::{ExecChoice, exec_choice};

@@ -1,0 +1,4 @@
+pub mod GrammarError
+pub mod Parts
+pub mod Tokens
+pub mod code

@@ -1,0 +1,2 @@
+pub mod FullNames
+pub mod Names

@@ -1,0 +1,101 @@
+//! File rules, one for each pattern of a written one.
+
+ghost use Rattle.std.specs.Prelude.{◌≡◌, ◌++◌, IfOk, OnOk, map};
+ghost use Rattle.std.specs.Option.{option_map};
+ghost use Rattle.aa_text.specs.code.SplicingProgress.{seen_spliced};
+ghost use Rattle.aa_profile.specs.Profiles.{file_rule, link_of, text_of_target, transition_of};
+
+use aa_bytes::Sequence;
+use aa_glob::Pattern;
+use aa_grammar::{Access, Qualifiers};
+use aa_policy::{FileRule, Rule, Transition};
+use aa_text::Spliced;
+use std::alloc::{AllocError, Global};
+
+// The text of a target, where there is one.
+fn text_of_target(
+    alloc: Global,
+    target: Option<Spliced<'_>>,
+) -> Result<Option<Sequence<u8>>, AllocError>
+    ensures { IfOk result (λ text. text ≡ text_of_target (option_map seen_spliced target.entry)) }
+{
+    match target {
+        None => Ok(None),
+        Some(token) => Ok(Some(Sequence::from_slice(alloc, token.token.text)?)),
+    }
+}
+
+// Under what the programs run that an access lets be started, where it has an exec word.
+fn transition_of(
+    alloc: Global,
+    access: Access,
+    target: Option<Spliced<'_>>,
+) -> Result<Option<Transition>, AllocError>
+    ensures { IfOk result (λ exec. exec ≡ transition_of access (option_map seen_spliced target.entry)) }
+{
+    match access.word {
+        None => Ok(None),
+        Some(word) => Ok(Some(Transition {
+            word,
+            target: text_of_target(alloc, target)?,
+        })),
+    }
+}
+
+// The target of hard links, where an access has no exec word.
+fn link_of(
+    alloc: Global,
+    access: Access,
+    target: Option<Spliced<'_>>,
+) -> Result<Option<Sequence<u8>>, AllocError>
+    ensures { IfOk result (λ link. link ≡ link_of access (option_map seen_spliced target.entry)) }
+{
+    match access.word {
+        None => text_of_target(alloc, target),
+        Some(_) => Ok(None),
+    }
+}
+
+// The file rule of a pattern.
+fn file_rule(
+    alloc: Global,
+    qualifiers: Qualifiers,
+    access: Access,
+    target: Option<Spliced<'_>>,
+    pattern: Pattern,
+) -> Result<Rule, AllocError>
+    ensures { IfOk result (λ rule. rule ≡ file_rule qualifiers access (option_map seen_spliced target.entry) pattern) }
+{
+    let exec = transition_of(alloc, access, target)?;
+    let link = link_of(alloc, access, target)?;
+    Ok(Rule::File(FileRule {
+        pattern,
+        access: access.letters,
+        exec,
+        link,
+        owner: qualifiers.owner,
+        deny: qualifiers.deny,
+        audit: qualifiers.audit,
+    }))
+}
+
+/// Puts a file rule for each pattern behind others.
+///
+/// # Errors
+///
+/// Where memory runs out.
+pub fn push_file_rules(
+    alloc: Global,
+    qualifiers: Qualifiers,
+    access: Access,
+    target: Option<Spliced<'_>>,
+    patterns: Vec<Pattern>,
+    rules: &mut Vec<Rule>,
+) -> Result<(), AllocError>
+    ensures { OnOk result (rules.new.items ≡ rules.old.items ++ map (file_rule qualifiers access (option_map seen_spliced target.entry)) patterns.items) }
+{
+    for pattern in patterns {
+        rules.push(file_rule(alloc, qualifiers, access, target, pattern)?)?;
+    }
+    Ok(())
+}
