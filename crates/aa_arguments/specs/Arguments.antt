@@ -1,5 +1,5 @@
 -- What the words of the arguments ask for.
-use Rattle.std.specs.Prelude.{ℕ, Bool, false, ◌==◌, ◌&&◌, ◌||◌, if◌then◌else◌, List, [], ◌∷◌, ◌++◌, drop, slice_get, is_some, codes}
+use Rattle.std.specs.Prelude.{ℕ, Bool, true, false, not, ◌==◌, ◌&&◌, if◌then◌else◌, List, [], ◌∷◌, ◌++◌, drop, slice_get, is_some, codes}
 use Rattle.std.specs.Option.{option_map_or}
 use Rattle.std.specs.Str.{bytes_eq, chars}
 
@@ -20,6 +20,10 @@ pub data Asked : Type 0 where
 abbrev pub hyphen : ℕ
 hyphen = 45
 
+-- the byte of the `=` that may stand between `-b` and its folder
+abbrev pub equals_sign : ℕ
+equals_sign = 61
+
 -- the letter of the option `-h`
 abbrev pub help_letter : ℕ
 help_letter = 104
@@ -28,43 +32,105 @@ help_letter = 104
 abbrev pub version_letter : ℕ
 version_letter = 86
 
+-- the letter of the option `-C`
+abbrev pub complain_letter : ℕ
+complain_letter = 67
+
+-- the letter of the option `-b`
+abbrev pub base_letter : ℕ
+base_letter = 98
+
 -- an option: a hyphen, and a character behind it
 abbrev pub is_option : List ℕ → Bool
 is_option [] = false
 is_option (b ∷ rest) = b == hyphen && is_some (slice_get (chars rest) 0)
 
--- what stands behind an option's hyphen begins with this letter
-abbrev pub begins_with : ℕ → List ℕ → Bool
-begins_with letter rest = option_map_or (λ c. c == letter) (slice_get (chars rest) 0) false
+-- a word that is no option
+abbrev pub is_name : List ℕ → Bool
+is_name word = not (is_option word)
 
--- What an option asks for, by what stands behind its first hyphen: `--help` and `-h` for help, `--version` and `-V` for
--- the version, where a letter may have others behind it.
-abbrev pub asked_by : List ℕ → Asked
-asked_by rest =
-    if bytes_eq rest (codes "-help") || begins_with help_letter rest then ForHelp
-    else if bytes_eq rest (codes "-version") || begins_with version_letter rest then ForVersion
-    else Nothing
-
--- the folder below which names lie
+-- the folder below which names lie, where none is given
 abbrev pub default_base : List ℕ
 default_base = codes "/etc/apparmor.d"
 
--- the run that names alone ask for
-abbrev pub plain_run : List (List ℕ) → Run
-plain_run names = record { force_complain = false; base = default_base; names = names }
+-- the run that no word has told anything of
+abbrev pub bare_run : Run
+bare_run = record { force_complain = false; base = default_base; names = [] }
 
--- at the end of the words there has to be a name
-abbrev pub asked_at_end : List (List ℕ) → Asked
-asked_at_end [] = Nothing
-asked_at_end (name ∷ names) = ForRun (plain_run (name ∷ names))
+-- the same run in complain mode
+abbrev pub forced : Run → Run
+forced run = record run { force_complain = true }
 
--- Behind these names: a word that is no option is one more, and behind `--` each word is. The first option decides.
-abbrev pub asked_behind : List (List ℕ) → List (List ℕ) → Asked
-asked_behind names [] = asked_at_end names
-asked_behind names (word ∷ words) =
-    if bytes_eq word (codes "--") then asked_at_end (names ++ words)
-    else if is_option word then asked_by (drop 1 word)
-    else asked_behind (names ++ word ∷ []) words
+-- the same run over another folder
+abbrev pub below : List ℕ → Run → Run
+below folder run = record run { base = folder }
 
+-- the same run with more names behind its own
+abbrev pub with_names : List (List ℕ) → Run → Run
+with_names names run = record run { names = run.names ++ names }
+
+-- what words come to: a run so far, one whose folder has to be the next word, or what is asked for whatever follows
+pub data Told : Type 0 where
+  Open : Run → Told
+  Folder : Run → Told
+  Settled : Asked → Told
+
+-- the folder that stands behind `-b` in its word, without one `=` at its beginning
+abbrev pub attached : List ℕ → List ℕ
+attached [] = []
+attached (b ∷ rest) = if b == equals_sign then rest else b ∷ rest
+
+-- what stands behind `-b` in its word is the folder, and where nothing does, the next word is
+abbrev pub told_by_folder : List ℕ → Run → Told
+told_by_folder [] run = Folder run
+told_by_folder (b ∷ rest) run = Open (below (attached (b ∷ rest)) run)
+
+-- A letter of an option: `C` is followed by more letters, `b` by its folder. `h` asks for help and `V` for the version, and any other letter
+-- for nothing.
+abbrev pub told_by_letter : ℕ → List ℕ → Run → (Run → Told) → Told
+told_by_letter letter rest run more =
+    if letter == complain_letter then more (forced run)
+    else if letter == base_letter then told_by_folder rest run
+    else if letter == help_letter then Settled ForHelp
+    else if letter == version_letter then Settled ForVersion
+    else Settled Nothing
+
+-- the letters of an option, one behind the other
+abbrev pub told_by_letters : List ℕ → Run → Told
+told_by_letters [] run = Open run
+told_by_letters (b ∷ rest) run =
+    option_map_or (λ letter. told_by_letter letter rest run (told_by_letters rest)) (slice_get (chars (b ∷ rest)) 0) (Open run)
+
+-- an option, by what stands behind its first hyphen: `--help`, `--version`, or letters
+abbrev pub told_by_option : List ℕ → Run → Told
+told_by_option rest run =
+    if bytes_eq rest (codes "-help") then Settled ForHelp
+    else if bytes_eq rest (codes "-version") then Settled ForVersion
+    else told_by_letters rest run
+
+-- a word that isn't `--`: what is no option is one more name
+abbrev pub told_by_word : List ℕ → Run → Told
+told_by_word word run = if is_option word then told_by_option (drop 1 word) run else Open (with_names (word ∷ []) run)
+
+-- a run has to have a name
+abbrev pub asked_with : List (List ℕ) → Run → Asked
+asked_with [] run = Nothing
+asked_with (name ∷ names) run = ForRun run
+
+-- what is asked for at the end of the words
+abbrev pub asked_at_end : Run → Asked
+asked_at_end run = asked_with run.names run
+
+-- What words ask for behind those that came to this. Behind `--` each word is a name. No option and no `--` is a folder.
+abbrev pub asked_behind : Told → List (List ℕ) → Asked
+asked_behind (Settled asked) words = asked
+asked_behind (Folder run) [] = Nothing
+asked_behind (Folder run) (word ∷ words) = if is_option word then Nothing else asked_behind (Open (below word run)) words
+asked_behind (Open run) [] = asked_at_end run
+asked_behind (Open run) (word ∷ words) =
+    if bytes_eq word (codes "--") then asked_at_end (with_names words run)
+    else asked_behind (told_by_word word run) words
+
+-- what the words of all arguments ask for
 abbrev pub asked : List (List ℕ) → Asked
-asked words = asked_behind [] words
+asked words = asked_behind (Open bare_run) words

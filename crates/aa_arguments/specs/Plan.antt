@@ -1,5 +1,5 @@
 -- What the program makes of the words of its arguments.
-use Rattle.std.specs.Prelude.{◌≡◌, Result, Ok, Err, string_bytes}
+use Rattle.std.specs.Prelude.{◌≡◌, ℕ, Bool, List, Result, Ok, Err, string_bytes}
 use Rattle.clap.specs.declared.error.kind.ErrorKind.{ErrorKind}
 use Rattle.clap.specs.declared.error.kind.ErrorKind.TheVariants as kind
 use Rattle.aa_arguments.specs.Arguments.{Run, Asked, ForRun, ForHelp, ForVersion, Nothing}
@@ -15,6 +15,10 @@ run_of plan = record {
   base = string_bytes plan.base;
   names = texts plan.names;
 }
+
+-- a run, by its three parts
+abbrev pub run_with : Bool → List ℕ → List (List ℕ) → Run
+run_with force_complain base names = record { force_complain = force_complain; base = base; names = names }
 
 -- The plan is for the run that is asked for, help and the version are given where they are asked for, and all else is
 -- refused. Memory may run out at any time.

@@ -3,8 +3,10 @@
 
 mod arguments;
 mod command_line;
+mod laws;
 mod reading;
 
 pub use arguments::{ArgFault, Plan};
 pub use command_line::VERSION;
+pub use laws::what_runs_have;
 pub use reading::plan;

@@ -2,8 +2,8 @@
 ghost use Rattle.std.specs.Prelude.{◌≡◌, ◌≤◌, IfOk, drop, length, map, string_bytes, vec_len};
 ghost use Rattle.clap.specs.Lexer.{usize_max};
 ghost use Rattle.clap.specs.Words.{kind_of};
-ghost use Rattle.aa_arguments.specs.Arguments.{asked, plain_run};
-ghost use Rattle.aa_arguments.specs.Plan.{IsPlanFor, IsFaultFor, run_of};
+ghost use Rattle.aa_arguments.specs.Arguments.{asked};
+ghost use Rattle.aa_arguments.specs.Plan.{IsPlanFor, IsFaultFor, run_of, run_with};
 ghost use Rattle.aa_arguments.specs.Texts.{words_of};
 
 use crate::arguments::{ArgFault, Plan};
@@ -12,7 +12,7 @@ use clap::Error;
 use clap::error::ErrorKind;
 use std::alloc::{AllocError, Global};
 
-// The folder below which NAMEs lie.
+// The folder below which NAMEs lie, where none is given.
 const DEFAULT_BASE: &str = "/etc/apparmor.d";
 
 // What a parse that gave no matches means for the program.
@@ -33,17 +33,22 @@ fn fault(alloc: Global, error: &Error) -> ArgFault
     }
 }
 
-// A plan with these names.
-fn planned(alloc: Global, given: &[&str]) -> Result<Plan, AllocError>
-    ensures { IfOk result (λ plan. run_of plan ≡ plain_run (words_of given.now)) }
+// A plan of this mode, over this folder, with these names.
+fn planned(
+    alloc: Global,
+    force_complain: bool,
+    base: &str,
+    given: &[&str],
+) -> Result<Plan, AllocError>
+    ensures { IfOk result (λ plan. run_of plan ≡ run_with force_complain base.now (words_of given.now)) }
 {
     let mut names = Vec::with_capacity(alloc, given.len())?;
     for name in given {
         names.push(String::from_str(alloc, name)?)?;
     }
     Ok(Plan {
-        force_complain: false,
-        base: String::from_str(alloc, DEFAULT_BASE)?,
+        force_complain,
+        base: String::from_str(alloc, base)?,
         names,
     })
 }
@@ -77,7 +82,10 @@ fn plan_of(alloc: Global, words: &[&str]) -> Result<Plan, ArgFault>
         Ok(matches) => matches,
         Err(error) => return Err(fault(alloc, &error)),
     };
-    match planned(alloc, matches.get_strs("NAME").unwrap_or(&[])) {
+    let force_complain = matches.get_flag("COMPLAIN");
+    let base = matches.get_str("DIR").unwrap_or(DEFAULT_BASE);
+    let names = matches.get_strs("NAME").unwrap_or(&[]);
+    match planned(alloc, force_complain, base, names) {
         Ok(plan) => Ok(plan),
         Err(_) => Err(ArgFault::Memory),
     }
@@ -86,13 +94,16 @@ fn plan_of(alloc: Global, words: &[&str]) -> Result<Plan, ArgFault>
 /// The run that is asked for by the words that the program was started with.
 ///
 /// The first word is the program's own name, whatever it is, and the others are its arguments; where there is no first word, there are no
-/// arguments. An argument is a NAME, unless it is an option: a hyphen and more behind it. Behind the argument `--` each one is a NAME.
+/// arguments. An argument is a NAME, unless it is an option: a hyphen and more behind it. Behind the argument `--` each one is a NAME. The
+/// option `-C` takes each profile in complain mode. The option `-b` gives the folder below which relative NAMEs lie: behind it in its word, without
+/// one `=` between, or else as the next word, which then is no option and no `--`. Options of one letter may stand in one word, as
+/// `-Cb /srv`, and before, between and behind the NAMEs. Of two folders the last counts. The document is `docs/commands.md`, "The program".
 ///
 /// # Errors
 ///
-/// - `Help` where the first option is `--help`, or `-h` with or without other letters behind it.
-/// - `Version` where the first option is `--version`, or `-V` with or without other letters behind it.
-/// - `Bad` where the first option is another one, or there is no option and no NAME.
+/// - `Help` where the first option that is neither `-C` nor `-b` is `--help` or `-h`, with or without other letters behind `-h`.
+/// - `Version` where it is `--version` or `-V`, with or without other letters behind `-V`.
+/// - `Bad` where it is any other, or where `-b` comes before it without a folder, or where there is none and no NAME.
 /// - `Memory` where memory ran out.
 pub fn plan(alloc: Global, all: &[String]) -> Result<Plan, ArgFault>
     ensures { IsPlanFor (asked (drop 1 (map string_bytes all.now))) result }

@@ -6,26 +6,52 @@ use Rattle.std.specs.Str.{bytes_eq}
 use Rattle.aa_bytes.specs.Bytes.{is_digit}
 use Rattle.aa_commands.specs.Question.{Asked, IsWellFormed, asked, question_of}
 use Rattle.aa_commands.specs.declared.command.Command.{Command}
-use Rattle.aa_commands.specs.declared.command.Command.TheVariants.{Add as AddFile, Undo as UndoChanges, Ask as AskQuestion}
+use Rattle.aa_commands.specs.declared.command.Command.TheVariants as command
+use Rattle.aa_commands.specs.declared.command.PolicyChange.{PolicyChange}
+use Rattle.aa_commands.specs.declared.command.PolicyChange.TheVariants as made
 use Rattle.aa_commands.specs.Refusal.{plain}
 use Rattle.aa_commands.specs.declared.refusal.Refusal.{Refusal}
 use Rattle.aa_commands.specs.declared.refusal.RefusalKind.TheVariants.{BadCommand}
 
--- what a command orders: a file to add, changes to undo, or a question to answer
+-- a change of the policy set: by the profiles of a file, or of the profile of a name
+pub data Change : Type 0 where
+  Add : (file : List ℕ) → Change
+  Replace : (file : List ℕ) → Change
+  Remove : (file : List ℕ) → Change
+  Enforce : (name : List ℕ) → Change
+  Complain : (name : List ℕ) → Change
+  Disable : (name : List ℕ) → Change
+
+-- what a command orders: a change, changes to undo or to redo, a question to answer, or to tell what is loaded, or what one of it consists of
 pub data Order : Type 0 where
-  Add : (file : List ℕ) → Order
+  Make : (change : Change) → Order
   Undo : (count : ℕ) → Order
+  Redo : (count : ℕ) → Order
   Ask : (question : Asked) → Order
+  Listed : Order
+  Show : (name : List ℕ) → Order
+
+-- what a change of the code means
+abbrev pub meant : PolicyChange → Change
+meant (made.Add file) = Add file.now
+meant (made.Replace file) = Replace file.now
+meant (made.Remove file) = Remove file.now
+meant (made.Enforce name) = Enforce name.now
+meant (made.Complain name) = Complain name.now
+meant (made.Disable name) = Disable name.now
 
 -- what a command of the code orders
 abbrev pub ordered : Command → Order
-ordered (AddFile file) = Add file.now
-ordered (UndoChanges count) = Undo count
-ordered (AskQuestion question) = Ask (asked question)
+ordered (command.Change change) = Make (meant change)
+ordered (command.Undo count) = Undo count
+ordered (command.Redo count) = Redo count
+ordered (command.Ask question) = Ask (asked question)
+ordered command.List = Listed
+ordered (command.Show name) = Show name.now
 
 -- what a command asks is well-formed
 abbrev pub AsksWell : Command → Type 0
-AsksWell (AskQuestion question) = IsWellFormed question
+AsksWell (command.Ask question) = IsWellFormed question
 AsksWell _ = Unit {0}
 
 -- a refusal stays as it is
@@ -55,13 +81,40 @@ count_of [] = Ok 1
 count_of (word ∷ []) = if is_count word then Ok (number_of_digits word) else Err (plain BadCommand)
 count_of _ = Err (plain BadCommand)
 
+-- the order of a command that takes no word
+abbrev pub no_word : List (List ℕ) → Result Order Refusal
+no_word [] = Ok Listed
+no_word (word ∷ rest) = Err (plain BadCommand)
+
+-- the change that a first word makes with the name behind it, if it is a word of a change
+abbrev pub change_of : List ℕ → List ℕ → Option Change
+change_of first name =
+    if bytes_eq first (codes "add") then Some (Add name) else
+    if bytes_eq first (codes "replace") then Some (Replace name) else
+    if bytes_eq first (codes "remove") then Some (Remove name) else
+    if bytes_eq first (codes "enforce") then Some (Enforce name) else
+    if bytes_eq first (codes "complain") then Some (Complain name) else
+    if bytes_eq first (codes "disable") then Some (Disable name) else None
+
+-- a change, if there is one, is an order; else the command is bad
+abbrev pub made_of : Option Change → Result Order Refusal
+made_of None = Err (plain BadCommand)
+made_of (Some change) = Ok (Make change)
+
+-- the change of a first word and those after it: each takes one name
+abbrev pub change_order : List ℕ → List (List ℕ) → Result Order Refusal
+change_order first (name ∷ []) = made_of (change_of first name)
+change_order first _ = Err (plain BadCommand)
+
 -- the command of a first word and those after it
 abbrev pub order_of : List ℕ → List (List ℕ) → Result Order Refusal
 order_of first rest =
-    if bytes_eq first (codes "add") then result_map_both Add same (the_word rest) else
     if bytes_eq first (codes "undo") then result_map_both Undo same (count_of rest) else
+    if bytes_eq first (codes "redo") then result_map_both Redo same (count_of rest) else
     if bytes_eq first (codes "ask") then result_map_both Ask same (question_of rest) else
-    Err (plain BadCommand)
+    if bytes_eq first (codes "list") then no_word rest else
+    if bytes_eq first (codes "show") then result_map_both Show same (the_word rest) else
+    change_order first rest
 
 -- the command of a line's words, if they are any: a line of blanks alone commands nothing
 abbrev pub line_order : Option (List (List ℕ)) → Result (Option Order) Refusal

@@ -5,7 +5,7 @@ use Rattle.aa_refusals.specs.declared.profile_error.ProfileRefusal.{ProfileRefus
 use Rattle.aa_refusals.specs.declared.profile_error.ProfileRefusal.TheVariants as profile
 use Rattle.aa_commands.specs.declared.refusal.Refusal.{Refusal}
 use Rattle.aa_commands.specs.declared.refusal.RefusalKind.{RefusalKind}
-use Rattle.aa_commands.specs.declared.refusal.RefusalKind.TheVariants.{NotAbsolute, UnclosedClass, EmptyClass, BadRange, UnclosedGroup, StrayClose, FewAlternatives, BadEscape, TooLong, TooDeep, ZeroByte, OpenQuote, OpenOther, NoFile, IncludeDepth, TextTooBig, Undefined, Redefined, AppendUndefined, Cycle, TooManyRules, BadToken, OpenBlock, BadFlag, BadAccess, WriteAppend, TwoExec, ExecQualifier, TargetWithoutExec, BadCapability, BadNetwork, TwiceNamed, NestedChild, LateAssignment, NoProfile, BadName, Exists, Absent, NothingToUndo, BadCommand, LineTooLong, BadRequest, Memory}
+use Rattle.aa_commands.specs.declared.refusal.RefusalKind.TheVariants.{NotAbsolute, UnclosedClass, EmptyClass, BadRange, UnclosedGroup, StrayClose, FewAlternatives, BadEscape, TooLong, TooDeep, ZeroByte, OpenQuote, OpenOther, NoFile, IncludeDepth, TextTooBig, Undefined, Redefined, AppendUndefined, Cycle, TooManyRules, BadToken, OpenBlock, BadFlag, BadAccess, WriteAppend, TwoExec, ExecQualifier, TargetWithoutExec, BadCapability, BadNetwork, TwiceNamed, NestedChild, LateAssignment, NoProfile, BadName, Exists, Absent, Disabled, NothingToUndo, NothingToRedo, BadCommand, LineTooLong, BadRequest, Memory}
 
 -- the one table of numbers and names
 abbrev pub described : RefusalKind → ℕ × List ℕ
@@ -47,7 +47,9 @@ described NoProfile = (53, codes "NoProfile")
 described BadName = (54, codes "BadName")
 described Exists = (60, codes "Exists")
 described Absent = (61, codes "Absent")
+described Disabled = (62, codes "Disabled")
 described NothingToUndo = (63, codes "NothingToUndo")
+described NothingToRedo = (64, codes "NothingToRedo")
 described BadCommand = (65, codes "BadCommand")
 described LineTooLong = (66, codes "LineTooLong")
 described BadRequest = (67, codes "BadRequest")

@@ -5,6 +5,6 @@ mod command;
 mod question;
 mod refusal;
 
-pub use command::{Command, read};
+pub use command::{Command, PolicyChange, read};
 pub use question::Question;
 pub use refusal::{Refusal, RefusalKind, plain};

@@ -89,8 +89,12 @@ pub enum RefusalKind {
     Exists,
     /// No profile, child or hat of the name is loaded.
     Absent,
-    /// Fewer changes were accepted than were to be undone.
+    /// A profile of the name is disabled.
+    Disabled,
+    /// Fewer changes can be undone than were to be.
     NothingToUndo,
+    /// Fewer changes can be made again than were to be.
+    NothingToRedo,
     /// The line is no command.
     BadCommand,
     /// The line is longer than 65,536 bytes.
@@ -165,7 +169,9 @@ impl Refusal {
             RefusalKind::BadName => 54,
             RefusalKind::Exists => 60,
             RefusalKind::Absent => 61,
+            RefusalKind::Disabled => 62,
             RefusalKind::NothingToUndo => 63,
+            RefusalKind::NothingToRedo => 64,
             RefusalKind::BadCommand => 65,
             RefusalKind::LineTooLong => 66,
             RefusalKind::BadRequest => 67,
@@ -216,7 +222,9 @@ impl Refusal {
             RefusalKind::BadName => "BadName",
             RefusalKind::Exists => "Exists",
             RefusalKind::Absent => "Absent",
+            RefusalKind::Disabled => "Disabled",
             RefusalKind::NothingToUndo => "NothingToUndo",
+            RefusalKind::NothingToRedo => "NothingToRedo",
             RefusalKind::BadCommand => "BadCommand",
             RefusalKind::LineTooLong => "LineTooLong",
             RefusalKind::BadRequest => "BadRequest",

@@ -12,11 +12,9 @@ use Rattle.aa_attach.specs.StandingOut.{standing_out}
 use Rattle.aa_policy.specs.Profile.{are_distinct, is_named}
 use Rattle.aa_policy.specs.declared.profile.Profile.{Profile}
 use Rattle.aa_decide.specs.Attachment.{attached, entry_rank}
+use Rattle.aa_decide.specs.Named.{profiles_of}
 use Rattle.aa_verdicts.specs.Entries.{Loaded}
 use Rattle.aa_decide.specs.ExecLaws.{DifferInOrder, FitsBest, HaveDistinctNames, HaveSameEntries}
-
-abbrev profiles_of : List Loaded → List Profile
-profiles_of entries = map (λ entry. entry.profile) entries
 
 -- what stands at a place is there, and what is there stands at a place
 pub there-at : {A : Type 0} (items : List A) (place : ℕ) (item : A) → slice_get items place ≡ Some item → Contains items item

@@ -1,18 +1,18 @@
 -- Words that the laws of attachment and of the start of programs are said in.
-use Rattle.std.specs.Prelude.{◌≡◌, ◌<◌, ℕ, Bool, true, false, List, map, Option, Some}
+use Rattle.std.specs.Prelude.{◌≡◌, ◌<◌, ℕ, Bool, true, false, List, Option, Some}
 use Rattle.std.specs.List.{Contains}
 use Rattle.std.specs.Str.{bytes_eq}
 use Rattle.aa_exec.specs.ExecRules.{Denying, said_of}
-use Rattle.aa_policy.specs.Profile.{are_distinct}
 use Rattle.aa_policy.specs.declared.profile.Profile.{Profile}
 use Rattle.aa_policy.specs.declared.profile.Rule.{Rule}
 use Rattle.aa_decide.specs.Attachment.{entry_rank}
+use Rattle.aa_decide.specs.Named.{have_distinct_names}
 use Rattle.aa_verdicts.specs.Entries.{Loaded}
 use Rattle.aa_verdicts.specs.Ready.{audits, rules_at}
 
 -- no two entries have one name
 abbrev pub HaveDistinctNames : List Loaded → Type 0
-HaveDistinctNames entries = are_distinct (map (λ entry. entry.profile) entries) ≡ true
+HaveDistinctNames entries = have_distinct_names entries ≡ true
 
 -- two lists have the same entries, in whatever order
 abbrev pub HaveSameEntries : List Loaded → List Loaded → Type 0

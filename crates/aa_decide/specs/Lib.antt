@@ -1,5 +1,6 @@
 pub mod Attachment
 pub mod Exec
 pub mod ExecLaws
+pub mod Named
 pub mod Slots
 pub mod code

@@ -14,4 +14,4 @@ pub use attachment::attach;
 pub use execution::{ExecTo, ExecVerdict, exec};
 pub use laws::where_programs_run;
 pub use log::exec_line;
-pub use slots::{Who, entry_at};
+pub use slots::{Who, entry_at, find_named};

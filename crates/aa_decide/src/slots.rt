@@ -3,6 +3,7 @@
 ghost use Rattle.std.specs.Prelude.{◌≡◌, IfSome, Some};
 ghost use Rattle.std.specs.Option.{option_copied, option_map};
 ghost use Rattle.aa_decide.specs.Exec.{is_named_in_force, named_in_force};
+ghost use Rattle.aa_decide.specs.Named.{entry_named};
 ghost use Rattle.aa_decide.specs.Slots.{entry_at, filled};
 
 use aa_verdicts::Entry;
@@ -29,6 +30,21 @@ pub fn entry_at(slots: &[Option<Entry>], slot: usize) -> Option<&Entry>
         Some(Some(entry)) => Some(entry),
         _ => None,
     }
+}
+
+/// The entry whose profile has this name, in whatever state it is, and its slot. It takes no memory.
+pub fn find_named<'a>(slots: &'a [Option<Entry>], name: &[u8]) -> Option<(usize, &'a Entry)>
+    ensures found { option_map (λ found. found.1.now) result ≡ entry_named name.now (filled slots.now) }
+    ensures at { IfSome result (λ found. entry_at slots.now found.0 ≡ Some found.1.now) }
+{
+    for (place, slot) in slots.iter().enumerate() {
+        if let Some(entry) = slot {
+            if entry.profile().name.as_slice() == name {
+                return Some((place, entry));
+            }
+        }
+    }
+    None
 }
 
 // Whether a profile is in force and has this name.

@@ -1,10 +1,10 @@
 //! Reading of a file's bytes, whole.
-ghost use Rattle.std.specs.Prelude.{◌≡◌, ◌<◌, ◌≤◌, [], IsFalse, IsTrue, IfOk, IfSome, OnOk, IsOkAnd, length, vec_len};
+ghost use Rattle.std.specs.Prelude.{◌≡◌, ◌<◌, ◌≤◌, [], IsFalse, IsTrue, IfOk, IfSome, OnOk, IsOkAnd, length, string_bytes, vec_len};
 ghost use Rattle.std.specs.Io.KnownBytes.{IsAtEnd};
 ghost use Rattle.std.specs.IoError.{error_kind};
 ghost use Rattle.aa_files.specs.Files.{is_folder_name};
 ghost use Rattle.aa_files.specs.Limit.{most_bytes};
-ghost use Rattle.aa_gather.specs.Reading.{ReadsBehind, read_fault_of};
+ghost use Rattle.aa_gather.specs.Reading.{ReadsBehind, is_whole_path, path_of, read_fault_of};
 ghost use Rattle.aa_gather.specs.declared.reading.ReadFault.TheVariants as read;
 
 use aa_files::{Files, MOST_BYTES};
@@ -87,6 +87,29 @@ fn read_whole<F: Read>(alloc: Global, file: &mut F) -> Result<Vec<u8>, ReadFault
     Err(ReadFault::Unreadable)
 }
 
+// Whether a name is a whole path: it begins with `/`.
+fn is_whole_path(name: &str) -> bool
+    ensures { result ≡ is_whole_path name.now }
+{
+    match name.as_bytes() {
+        [first, ..] => *first == b'/',
+        [] => false,
+    }
+}
+
+// The path of a name: itself where it begins with `/`, and else one below the base.
+fn path_of(alloc: Global, base: &str, name: &str) -> Result<String, AllocError>
+    ensures { IfOk result (λ path. string_bytes path ≡ path_of base.now name.now) }
+{
+    if is_whole_path(name) {
+        return String::from_str(alloc, name);
+    }
+    let mut path = String::from_str(alloc, base)?;
+    path.push_str("/")?;
+    path.push_str(name)?;
+    Ok(path)
+}
+
 /// The bytes of the file that a name stands for: a path where it begins with `/`, and else one below the base. Where the name declares a
 /// folder there are none, and nothing is read.
 ///
@@ -106,11 +129,7 @@ pub fn bytes_of<R: rt::Files>(
     if Files::is_folder(name.as_bytes()) {
         return Ok(Vec::new(alloc));
     }
-    let mut file = if name.starts_with('/') {
-        fs::open(rt, name)?
-    } else {
-        let path = format!(in alloc; "{base}/{name}")?;
-        fs::open(rt, path.as_str())?
-    };
+    let path = path_of(alloc, base, name)?;
+    let mut file = fs::open(rt, path.as_str())?;
     read_whole(alloc, &mut file)
 }

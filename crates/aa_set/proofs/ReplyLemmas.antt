@@ -1,21 +1,21 @@
 -- What a command that takes memory is answered.
-use Rattle.std.proofs.Common.{◌≡◌, ◌≢◌, ◌⊎◌, ℕ, zero, suc, [], ◌∷◌, Bool, true, false, List, Option, None, Some, Result, Ok, Err, refl, sym, ap, ◌∙◌, inl, inr}
+use Rattle.std.proofs.Common.{◌≡◌, ◌≢◌, ◌⊎◌, ℕ, zero, suc, [], ◌∷◌, Bool, true, false, not, ◌&&◌, List, Option, None, Some, Result, Ok, Err, refl, sym, ap, ◌∙◌, inl, inr}
 use Rattle.std.specs.Prelude.{slice_get}
 use Rattle.std.specs.Option.{option_map}
-use Rattle.std.specs.Result.{IfErr, OnOk, OnErr, MatchResult}
-use Rattle.aa_set.specs.Answers.{asks_absent, reply_lines}
-use Rattle.aa_commands.specs.Command.{Add, Ask}
-use Rattle.aa_set.specs.Manager.{Managed, added}
-use Rattle.aa_commands.specs.Question.{Asked}
+use Rattle.std.specs.Result.{IfOk, IfErr, OnOk, OnErr, MatchResult}
+use Rattle.aa_changes.specs.Changes.{change_takes_memory, is_disabled, is_loaded}
+use Rattle.aa_commands.specs.Command.{Change, Make, Order}
+use Rattle.aa_set.specs.Manager.{Managed, made}
+use Rattle.aa_verdicts.specs.Entries.{Loaded}
 use Rattle.aa_commands.specs.Refusal.{plain}
-use Rattle.aa_set.specs.Run.{obeyed_flagged}
+use Rattle.aa_set.specs.Run.{obeyed, obeyed_flagged, takes_memory, told}
 use Rattle.aa_files.specs.Files.{File, name_at}
 use Rattle.aa_files.specs.declared.text_error.Place.{Place}
 use Rattle.aa_commands.specs.declared.refusal.Refusal.{Refusal}
 use Rattle.aa_commands.specs.declared.refusal.RefusalKind.{RefusalKind}
 use Rattle.aa_commands.specs.declared.refusal.RefusalKind.TheVariants.{Memory}
 use Rattle.aa_set.specs.declared.reply.Reply.{Reply}
-use Rattle.aa_set.specs.declared.reply.Reply.TheVariants.{Done, Refused}
+use Rattle.aa_set.specs.declared.reply.Reply.TheVariants.{Done, Refused, Told}
 
 -- a refusal is that of want of memory, or another
 memory_or_not : (refusal : Refusal) → (refusal ≡ plain Memory) ⊎ (refusal ≢ plain Memory)
@@ -26,28 +26,52 @@ memory_or_not refusal = by refusal.refusal refusal.place refl refl
     by Memory (Some there) k p = inr (λ e. let wrong : Some there ≡ None = sym p ∙ ap (λ r. r.place) e in cc)
     by _ place k p = inr (λ e. let wrong = sym k ∙ ap (λ r. r.refusal) e in cc)
 
--- an `add` was accepted, refused, or found no memory
-pub obeyed-added : (files : List (List ℕ × List ℕ)) (managed after : Managed) (file : List ℕ) (outcome : Result (Unit {0}) Refusal) (reply : Reply)
-    → OnOk outcome (added files managed file ≡ Ok after)
-    → IfErr outcome (λ refusal. refusal ≢ plain Memory → added files managed file ≡ Err refusal)
+-- what holds of each refusal holds of the one that came
+pub of-each : {T : Type 0} {Q : Refusal → Type 0} (outcome : Result T Refusal) → ((refusal : Refusal) → Q refusal) → IfErr outcome Q
+of-each (Ok done) each = tt
+of-each (Err refusal) each = each refusal
+
+-- what follows from what holds of the refusal that came
+pub of-that : {T : Type 0} {P Q : Refusal → Type 0} (outcome : Result T Refusal) → IfErr outcome P → ((refusal : Refusal) → P refusal → Q refusal) → IfErr outcome Q
+of-that (Ok done) holds each = tt
+of-that (Err refusal) holds each = each refusal holds
+
+-- a profile that is loaded and not disabled is disabled with memory
+pub disable-takes : {T : Type 0} (name : List ℕ) (entries : List Loaded) (outcome : Result T Refusal)
+    → IfErr outcome (λ refusal. refusal ≡ plain Memory → is_loaded name entries ≡ true)
+    → IfErr outcome (λ refusal. refusal ≡ plain Memory → is_disabled name entries ≡ false)
+    → IfErr outcome (λ refusal. refusal ≡ plain Memory → (is_loaded name entries && not (is_disabled name entries)) ≡ true)
+disable-takes name entries (Ok done) loaded in_force = tt
+disable-takes name entries (Err refusal) loaded in_force = λ memory. rw (loaded memory, in_force memory) refl
+
+-- a change was accepted, refused, or found no memory
+pub obeyed-made : (files : List File) (managed after : Managed) (change : Change) (outcome : Result (Unit {0}) Refusal) (reply : Reply)
+    → OnOk outcome (made files managed change ≡ Ok after)
+    → IfErr outcome (λ refusal. refusal ≢ plain Memory → made files managed change ≡ Err refusal)
     → OnErr outcome (after ≡ managed)
+    → IfErr outcome (λ refusal. refusal ≡ plain Memory → change_takes_memory managed.machine.now change ≡ true)
     → MatchResult outcome (λ _. reply ≡ Done) (λ refusal. reply ≡ Refused refusal)
-    → (flag : Bool) × (record { reply = reply; managed = after } ≡ obeyed_flagged files managed flag (Add file))
-obeyed-added files managed after file (Ok done) reply accepted is_refused stays told =
-    (false, rw (told, accepted) refl)
-obeyed-added files managed after file (Err refusal) reply accepted is_refused stays told = elim (memory_or_not refusal) [
-  | inl memory ↦ (true, rw (told, memory, stays) refl)
-  | inr other ↦ (false, rw (told, is_refused other, stays) refl)
+    → (flag : Bool) × (record { reply = reply; managed = after } ≡ obeyed_flagged files managed flag (Make change))
+obeyed-made files managed after change (Ok done) reply accepted is_refused stays takes answer =
+    (false, rw (answer, accepted) refl)
+obeyed-made files managed after change (Err refusal) reply accepted is_refused stays takes answer = elim (memory_or_not refusal) [
+  | inl memory ↦ (true, rw (answer, memory, stays, takes memory) refl)
+  | inr other ↦ (false, rw (answer, is_refused other, stays) refl)
 ]
 
--- a question was answered, refused, or found no memory
-pub obeyed-asked : (files : List (List ℕ × List ℕ)) (managed : Managed) (question : Asked) (refusal : Refusal)
-    → (refusal ≢ plain Memory → reply_lines managed.machine.now question ≡ Err refusal)
-    → (refusal ≡ plain Memory → asks_absent managed.machine.now question ≡ false)
-    → (flag : Bool) × (record { reply = Refused refusal; managed = managed } ≡ obeyed_flagged files managed flag (Ask question))
-obeyed-asked files managed question refusal is_refused memory = elim (memory_or_not refusal) [
-  | inl none ↦ (true, rw (memory none, none) refl)
-  | inr other ↦ (false, rw (is_refused other) refl)
+-- what is asked was told, refused, or found no memory
+pub obeyed-told : {V : Type 0} (items : V → List ℕ) (files : List File) (managed : Managed) (order : Order) (answer : Result (List ℕ) Refusal) (outcome : Result V Refusal) (reply : Reply)
+    → obeyed files managed order ≡ told managed answer
+    → IfOk outcome (λ lines. answer ≡ Ok (items lines))
+    → IfErr outcome (λ refusal. refusal ≢ plain Memory → answer ≡ Err refusal)
+    → IfErr outcome (λ refusal. refusal ≡ plain Memory → takes_memory managed order ≡ true)
+    → MatchResult outcome (λ lines. reply ≡ Told (items lines)) (λ refusal. reply ≡ Refused refusal)
+    → (flag : Bool) × (record { reply = reply; managed = managed } ≡ obeyed_flagged files managed flag order)
+obeyed-told items files managed order answer (Ok lines) reply is done is_refused takes said =
+    (false, rw (said, is, done) refl)
+obeyed-told items files managed order answer (Err refusal) reply is done is_refused takes said = elim (memory_or_not refusal) [
+  | inl memory ↦ (true, rw (said, memory, takes memory) refl)
+  | inr other ↦ (false, rw (said, is, is_refused other) refl)
 ]
 
 -- no file has no name

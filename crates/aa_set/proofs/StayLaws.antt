@@ -1,14 +1,15 @@
 -- What a line leaves as it was, and what decides its reply.
 use Rattle.std.proofs.Common.{◌≡◌, ℕ, Bool, true, false, not, cond, leb, ◌&&◌, List, length, Option, None, Some, Result, Ok, Err, refl, ap}
-use Rattle.aa_commands.specs.Command.{Order, Add, Undo, Ask}
+use Rattle.aa_commands.specs.Command.{Ask, Listed, Make, Order, Redo, Show, Undo}
 use Rattle.aa_commands.specs.Refusal.{plain}
 use Rattle.aa_commands.specs.declared.refusal.Refusal.{Refusal}
 use Rattle.aa_commands.specs.declared.refusal.RefusalKind.TheVariants.{LineTooLong, Memory}
 use Rattle.aa_files.specs.Files.{File}
 use Rattle.aa_lines.specs.Limits.{longest_line}
-use Rattle.aa_set.specs.Answers.{asks_absent, reply_lines}
-use Rattle.aa_set.specs.Laws.{OtherLineLeavesAll, RefusedLineLeavesAll, SetDecidesAnswer, goes_back, is_change, is_question, order_in}
-use Rattle.aa_set.specs.Manager.{Managed, added, undone}
+use Rattle.aa_answers.specs.Answers.{asks_absent, reply_lines, shown, shows_absent}
+use Rattle.aa_listing.specs.List.{list_lines}
+use Rattle.aa_set.specs.Laws.{OtherLineLeavesAll, RefusedLineLeavesAll, SetDecidesAnswer, goes, is_change, is_question, order_in}
+use Rattle.aa_set.specs.Manager.{Managed, made, redone, undone}
 use Rattle.aa_set.specs.Reply.{is_refusal}
 use Rattle.aa_set.specs.Run.{Outcome, changed, obeyed, order_outcome, refused, takes_memory, told}
 
@@ -28,16 +29,19 @@ told-leaves : (m : Managed) (r : Result (List ℕ) Refusal) → (told m r).manag
 told-leaves m (Ok lines) = refl
 told-leaves m (Err refusal) = refl
 
+obeyed-leaves : (files : List File) (m : Managed) (order : Order) → LeavesIfRefused m (obeyed files m order)
+obeyed-leaves files m (Make change) = changed-leaves m (made files m change)
+obeyed-leaves files m (Undo n) = changed-leaves m (undone n m)
+obeyed-leaves files m (Redo n) = changed-leaves m (redone n m)
+obeyed-leaves files m (Ask question) = λ h. told-leaves m (reply_lines m.machine.now question)
+obeyed-leaves files m Listed = λ h. refl
+obeyed-leaves files m (Show name) = λ h. told-leaves m (shown m.machine.now name)
+
 order-leaves : (files : List File) (m : Managed) (flag : Bool) (order : Result (Option Order) Refusal) → LeavesIfRefused m (order_outcome files m flag order)
 order-leaves files m flag (Err refusal) h = refl
 order-leaves files m flag (Ok None) h = refl
-order-leaves files m flag (Ok (Some (Add file))) h =
-    either-leaves (flag && true) m (refused m (plain Memory)) (obeyed files m (Add file)) (λ h. refl) (changed-leaves m (added files m file)) h
-order-leaves files m flag (Ok (Some (Undo n))) h =
-    either-leaves (flag && false) m (refused m (plain Memory)) (obeyed files m (Undo n)) (λ h. refl) (changed-leaves m (undone n m)) h
-order-leaves files m flag (Ok (Some (Ask question))) h =
-    either-leaves (flag && takes_memory m (Ask question)) m (refused m (plain Memory)) (obeyed files m (Ask question)) (λ h. refl)
-    (λ h. told-leaves m (reply_lines m.machine.now question)) h
+order-leaves files m flag (Ok (Some order)) h =
+    either-leaves (flag && takes_memory m order) m (refused m (plain Memory)) (obeyed files m order) (λ h. refl) (obeyed-leaves files m order) h
 
 -- a refused line leaves all
 pub refused-leaves : RefusedLineLeavesAll
@@ -48,14 +52,20 @@ either-stays : (t : Bool) (m : Managed) (a b : Outcome) → a.managed ≡ m → 
 either-stays true m a b p q = p
 either-stays false m a b p q = q
 
-order-stays : (files : List File) (m : Managed) (flag : Bool) (order : Result (Option Order) Refusal) → is_change order ≡ false → goes_back order ≡ false
+flag-stays : (files : List File) (m : Managed) (flag : Bool) (order : Order) → (obeyed files m order).managed ≡ m
+    → (cond (flag && takes_memory m order) (refused m (plain Memory)) (obeyed files m order)).managed ≡ m
+flag-stays files m flag order h = either-stays (flag && takes_memory m order) m (refused m (plain Memory)) (obeyed files m order) refl h
+
+order-stays : (files : List File) (m : Managed) (flag : Bool) (order : Result (Option Order) Refusal) → is_change order ≡ false → goes order ≡ false
     → (order_outcome files m flag order).managed ≡ m
 order-stays files m flag (Err refusal) h g = refl
 order-stays files m flag (Ok None) h g = refl
-order-stays files m flag (Ok (Some (Add file))) h g = absurd (cc)
+order-stays files m flag (Ok (Some (Make change))) h g = absurd (cc)
 order-stays files m flag (Ok (Some (Undo n))) h g = absurd (cc)
-order-stays files m flag (Ok (Some (Ask question))) h g =
-    either-stays (flag && takes_memory m (Ask question)) m (refused m (plain Memory)) (obeyed files m (Ask question)) refl (told-leaves m (reply_lines m.machine.now question))
+order-stays files m flag (Ok (Some (Redo n))) h g = absurd (cc)
+order-stays files m flag (Ok (Some (Ask question))) h g = flag-stays files m flag (Ask question) (told-leaves m (reply_lines m.machine.now question))
+order-stays files m flag (Ok (Some Listed)) h g = flag-stays files m flag Listed refl
+order-stays files m flag (Ok (Some (Show name))) h g = flag-stays files m flag (Show name) (told-leaves m (shown m.machine.now name))
 
 -- so does a line whose command neither changes nor goes back
 pub other-leaves : OtherLineLeavesAll
@@ -72,19 +82,32 @@ told-same : (one other : Managed) (r s : Result (List ℕ) Refusal) → r ≡ s 
 told-same one other (Ok lines) s e = ap (λ r. (told other r).reply) e
 told-same one other (Err refusal) s e = ap (λ r. (told other r).reply) e
 
+flag-same : (files : List File) (one other : Managed) (flag : Bool) (order : Order) → takes_memory one order ≡ takes_memory other order
+    → (obeyed files one order).reply ≡ (obeyed files other order).reply
+    → (cond (flag && takes_memory one order) (refused one (plain Memory)) (obeyed files one order)).reply
+    ≡ (cond (flag && takes_memory other order) (refused other (plain Memory)) (obeyed files other order)).reply
+flag-same files one other flag order e same =
+    either-same (flag && takes_memory one order) (flag && takes_memory other order)
+    (refused one (plain Memory)) (obeyed files one order) (refused other (plain Memory)) (obeyed files other order)
+    (ap (λ t. flag && t) e) refl same
+
 order-asks : (files : List File) (one other : Managed) (flag : Bool) (order : Result (Option Order) Refusal) → is_question order ≡ true → one.machine.now ≡ other.machine.now
     → (order_outcome files one flag order).reply ≡ (order_outcome files other flag order).reply
 order-asks files one other flag (Err refusal) h e = absurd (cc)
 order-asks files one other flag (Ok None) h e = absurd (cc)
-order-asks files one other flag (Ok (Some (Add file))) h e = absurd (cc)
+order-asks files one other flag (Ok (Some (Make change))) h e = absurd (cc)
 order-asks files one other flag (Ok (Some (Undo n))) h e = absurd (cc)
+order-asks files one other flag (Ok (Some (Redo n))) h e = absurd (cc)
 order-asks files one other flag (Ok (Some (Ask question))) h e =
-    either-same (flag && takes_memory one (Ask question)) (flag && takes_memory other (Ask question))
-    (refused one (plain Memory)) (obeyed files one (Ask question)) (refused other (plain Memory)) (obeyed files other (Ask question))
-    (ap (λ set. flag && not (asks_absent set question)) e) refl
+    flag-same files one other flag (Ask question) (ap (λ set. not (asks_absent set question)) e)
     (told-same one other (reply_lines one.machine.now question) (reply_lines other.machine.now question) (ap (λ set. reply_lines set question) e))
+order-asks files one other flag (Ok (Some Listed)) h e =
+    flag-same files one other flag Listed refl (told-same one other (Ok (list_lines one.machine.now)) (Ok (list_lines other.machine.now)) (ap (λ set. Ok (list_lines set)) e))
+order-asks files one other flag (Ok (Some (Show name))) h e =
+    flag-same files one other flag (Show name) (ap (λ set. not (shows_absent set name)) e)
+    (told-same one other (shown one.machine.now name) (shown other.machine.now name) (ap (λ set. shown set name) e))
 
--- the reply to a question depends on the policy set alone
+-- the reply to a question, to `list` and to `show` depends on the policy set alone
 pub set-decides : SetDecidesAnswer
 set-decides files one other line flag h e =
     either-same (leb (length line) longest_line) (leb (length line) longest_line)

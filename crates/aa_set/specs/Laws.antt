@@ -1,14 +1,15 @@
--- The laws of the machine, and what they speak of: which lines change the policy set, and which ones go back.
-use Rattle.std.specs.Prelude.{◌≡◌, ℕ, ◌+◌, Bool, true, false, not, ◌&&◌, if◌then◌else◌, List, [], ◌∷◌, ◌++◌, Option, Some, Result, Ok, Err}
+-- The laws of the machine, and what they speak of: which lines change the policy set, and which ones go back or on.
+use Rattle.std.specs.Prelude.{◌≡◌, ℕ, ◌+◌, Bool, true, false, not, ◌&&◌, if◌then◌else◌, List, ◌∷◌, [], IfOk, Option, Some, Result, Ok, Err}
 use Rattle.aa_files.specs.Files.{File}
-use Rattle.aa_commands.specs.Command.{Add, Ask, Order, Undo, line_order}
-use Rattle.aa_set.specs.Manager.{Managed, new_manager, undone}
-use Rattle.aa_set.specs.PolicySet.{have_distinct_names}
+use Rattle.aa_history.specs.Machine.{all_sets}
+use Rattle.aa_commands.specs.Command.{Ask, Listed, Make, Order, Redo, Show, Undo, line_order}
+use Rattle.aa_commands.specs.declared.refusal.Refusal.{Refusal}
+use Rattle.aa_decide.specs.Named.{have_distinct_names}
+use Rattle.aa_lines.specs.Words.{words_of}
+use Rattle.aa_set.specs.Manager.{Managed, new_manager, next, redone, undone}
 use Rattle.aa_set.specs.Reply.{is_refusal}
 use Rattle.aa_set.specs.Run.{after_lines, line_outcome}
-use Rattle.aa_lines.specs.Words.{words_of}
 use Rattle.aa_verdicts.specs.Entries.{Loaded}
-use Rattle.aa_commands.specs.declared.refusal.Refusal.{Refusal}
 
 -- the command in a line
 abbrev pub order_in : List ℕ → Result (Option Order) Refusal
@@ -16,23 +17,26 @@ order_in line = line_order (words_of line)
 
 -- a command changes the policy set, unless it is refused
 abbrev pub is_change : Result (Option Order) Refusal → Bool
-is_change (Ok (Some (Add file))) = true
+is_change (Ok (Some (Make change))) = true
 is_change _ = false
 
--- a command goes back
-abbrev pub goes_back : Result (Option Order) Refusal → Bool
-goes_back (Ok (Some (Undo n))) = true
-goes_back _ = false
+-- a command goes back or on
+abbrev pub goes : Result (Option Order) Refusal → Bool
+goes (Ok (Some (Undo n))) = true
+goes (Ok (Some (Redo n))) = true
+goes _ = false
 
--- a command asks
+-- a command asks for what the policy set says, or of what it consists
 abbrev pub is_question : Result (Option Order) Refusal → Bool
 is_question (Ok (Some (Ask question))) = true
+is_question (Ok (Some Listed)) = true
+is_question (Ok (Some (Show name))) = true
 is_question _ = false
 
--- none of these lines goes back
-abbrev pub NoneGoesBack : List (List ℕ × Bool) → Type 0
-NoneGoesBack [] = Unit {0}
-NoneGoesBack (line ∷ lines) = (goes_back (order_in line.0) ≡ false) × NoneGoesBack lines
+-- none of these lines goes back or on
+abbrev pub NoneGoes : List (List ℕ × Bool) → Type 0
+NoneGoes [] = Unit {0}
+NoneGoes (line ∷ lines) = (goes (order_in line.0) ≡ false) × NoneGoes lines
 
 -- how many of these lines are accepted changes
 abbrev pub changes : List File → Managed → List (List ℕ × Bool) → ℕ
@@ -51,10 +55,6 @@ abbrev pub AreDistinct : List (List Loaded) → Type 0
 AreDistinct [] = Unit {0}
 AreDistinct (set ∷ sets) = (have_distinct_names set ≡ true) × AreDistinct sets
 
--- every policy set of a manager: the earlier ones, the one now and the later ones
-abbrev pub all_sets : Managed → List (List Loaded)
-all_sets managed = managed.machine.earlier ++ managed.machine.now ∷ managed.machine.later
-
 -- A refused line leaves the policy set and both lists of sets.
 abbrev pub RefusedLineLeavesAll : Type 0
 RefusedLineLeavesAll =
@@ -62,22 +62,22 @@ RefusedLineLeavesAll =
     → is_refusal (line_outcome files managed line flag).reply ≡ true
     → (line_outcome files managed line flag).managed ≡ managed
 
--- So does any line whose command neither changes nor goes back.
+-- So does any line whose command neither changes nor goes back or on.
 abbrev pub OtherLineLeavesAll : Type 0
 OtherLineLeavesAll =
     (files : List File) (managed : Managed) (line : List ℕ) (flag : Bool)
     → is_change (order_in line) ≡ false
-    → goes_back (order_in line) ≡ false
+    → goes (order_in line) ≡ false
     → (line_outcome files managed line flag).managed ≡ managed
 
--- After lines of which none goes back, undoing as many changes as were accepted gives back the policy set from before them.
+-- After lines of which none goes back or on, undoing as many changes as were accepted gives back the policy set from before them.
 abbrev pub UndoGivesBack : Type 0
 UndoGivesBack =
     (files : List File) (managed : Managed) (lines : List (List ℕ × Bool))
-    → NoneGoesBack lines
+    → NoneGoes lines
     → GivesBack managed (undone (changes files managed lines) (after_lines files managed lines))
 
--- The reply to a question depends on the policy set alone.
+-- The reply to a question, to `list` and to `show` depends on the policy set alone.
 abbrev pub SetDecidesAnswer : Type 0
 SetDecidesAnswer =
     (files : List File) (one other : Managed) (line : List ℕ) (flag : Bool)
@@ -89,4 +89,16 @@ SetDecidesAnswer =
 abbrev pub SetsHaveDistinctNames : Type 0
 SetsHaveDistinctNames =
     (files : List File) (force_complain : Bool) (lines : List (List ℕ × Bool))
-    → AreDistinct (all_sets (after_lines files (new_manager force_complain) lines))
+    → AreDistinct (all_sets (after_lines files (new_manager force_complain) lines).machine)
+
+-- Undoing some changes and then more is undoing them at once, and likewise with redoing.
+abbrev pub StepsAdd : Type 0
+StepsAdd =
+    (some more : ℕ) (managed : Managed)
+    → (undone (some + more) managed ≡ next (undone more) (undone some managed)) × (redone (some + more) managed ≡ next (redone more) (redone some managed))
+
+-- Redoing what was undone gives back the manager, policy set and history, and so does undoing what was redone.
+abbrev pub StepsReturn : Type 0
+StepsReturn =
+    (n : ℕ) (managed : Managed)
+    → IfOk (undone n managed) (λ after. redone n after ≡ Ok managed) × IfOk (redone n managed) (λ after. undone n after ≡ Ok managed)

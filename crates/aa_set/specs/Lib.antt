@@ -1,10 +1,6 @@
-pub mod Answers
-pub mod Askers
 pub mod Laws
 pub mod Limits
-pub mod Machine
 pub mod Manager
-pub mod PolicySet
 pub mod Reply
 pub mod Run
 pub mod code

@@ -1,7 +1,7 @@
 -- The texts of replies (docs/commands.md, "Replies").
 use Rattle.std.specs.Prelude.{ℕ, Bool, true, false, Option, None, Some, List, [], ◌++◌, codes}
 use Rattle.std.specs.Fmt.{decimal}
-use Rattle.aa_set.specs.Answers.{line_with}
+use Rattle.aa_answers.specs.Answers.{line_with}
 use Rattle.aa_texts.specs.Texts.{told_text}
 use Rattle.aa_files.specs.Files.{File, name_at}
 use Rattle.aa_files.specs.declared.text_error.Place.{Place}

@@ -3,10 +3,12 @@
 use Rattle.std.specs.Prelude.{ℕ, Bool, true, false, ◌&&◌, not, nat_le, if◌then◌else◌, List, [], ◌∷◌, length, Option, None, Some, IfSome, Result, Ok, Err, ◌≡◌, ◌≤◌, count_by}
 use Rattle.std.specs.List.{flat_map}
 use Rattle.std.specs.Io.KnownBytes.{Appends, Consumes}
-use Rattle.aa_set.specs.Answers.{asks_absent, reply_lines}
+use Rattle.aa_answers.specs.Answers.{asks_absent, reply_lines, shown, shows_absent}
+use Rattle.aa_changes.specs.Changes.{change_takes_memory}
+use Rattle.aa_listing.specs.List.{list_lines}
 use Rattle.aa_files.specs.Files.{File}
-use Rattle.aa_commands.specs.Command.{Order, Add, Undo, Ask, line_order}
-use Rattle.aa_set.specs.Manager.{Managed, new_manager, added, undone}
+use Rattle.aa_commands.specs.Command.{Order, Make, Undo, Redo, Ask, Listed, Show, line_order}
+use Rattle.aa_set.specs.Manager.{Managed, new_manager, made, redone, undone}
 use Rattle.aa_lines.specs.Lines.{lines}
 use Rattle.aa_set.specs.Reply.{reply_text, is_refusal, is_acceptance}
 use Rattle.aa_lines.specs.Words.{words_of}
@@ -36,15 +38,22 @@ told managed (Err refusal) = refused managed refusal
 
 -- what a command is answered where memory suffices
 abbrev pub obeyed : List File → Managed → Order → Outcome
-obeyed files managed (Add file) = changed managed (added files managed file)
+obeyed files managed (Make change) = changed managed (made files managed change)
 obeyed files managed (Undo n) = changed managed (undone n managed)
+obeyed files managed (Redo n) = changed managed (redone n managed)
 obeyed files managed (Ask question) = told managed (reply_lines managed.machine.now question)
+obeyed files managed Listed = told managed (Ok (list_lines managed.machine.now))
+obeyed files managed (Show name) = told managed (shown managed.machine.now name)
 
--- A command may find no memory: `add`, and a question but of a profile, a child or a hat that isn't there.
+-- A command may find no memory, but `undo` and `redo`, a switch that is refused, a question of a profile, a child or a hat that isn't there, and
+-- `show` of one.
 abbrev pub takes_memory : Managed → Order → Bool
-takes_memory managed (Add file) = true
+takes_memory managed (Make change) = change_takes_memory managed.machine.now change
 takes_memory managed (Undo n) = false
+takes_memory managed (Redo n) = false
 takes_memory managed (Ask question) = not (asks_absent managed.machine.now question)
+takes_memory managed Listed = true
+takes_memory managed (Show name) = not (shows_absent managed.machine.now name)
 
 -- what a command is answered, with the flag that it found no memory; of other commands the flag says nothing
 abbrev pub obeyed_flagged : List File → Managed → Bool → Order → Outcome

@@ -1,16 +1,14 @@
 //! A set of AppArmor profiles that answers requests, takes changes and undoes them.
 #![tactic(auto)]
 
-mod answers;
-mod asker;
 mod laws;
 mod manager;
-mod policy;
 mod reply;
 mod session;
 mod telling;
 
 pub use aa_access::Perms;
+pub use aa_changes::PolicySet;
 pub use aa_commands::{Question, Refusal, RefusalKind};
 pub use aa_lines::{Failed, FromRead, Sink, Source, ToWrite};
 pub use laws::the_way_back;

@@ -1,65 +1,69 @@
 //! The manager: a policy set with its history.
 
-ghost use Rattle.std.specs.Prelude.{◌≡◌, ◌≢◌, ◌<◌, Ok, Err, IfOk, IfErr, OnOk, OnErr, length, false};
+ghost use Rattle.std.specs.Prelude.{◌≡◌, ◌≢◌, Ok, Err, IfOk, IfErr, OnOk, OnErr, false, true};
+ghost use Rattle.aa_answers.specs.Answers.{asks_absent, reply_lines, shown, shows_absent};
+ghost use Rattle.aa_changes.specs.Changes.{is_disabled, is_loaded};
+ghost use Rattle.aa_commands.specs.Command.{Add, Remove, Replace};
 ghost use Rattle.aa_commands.specs.Question.{IsWellFormed, asked};
 ghost use Rattle.aa_commands.specs.Refusal.{plain};
 ghost use Rattle.aa_commands.specs.declared.refusal.RefusalKind.TheVariants.{Memory};
-ghost use Rattle.aa_set.specs.Answers.{asks_absent, reply_lines};
+ghost use Rattle.aa_listing.specs.List.{list_lines};
+ghost use Rattle.aa_policy.specs.declared.profile.Mode.TheVariants.{Complain, Enforce};
 
-use crate::answers::{access_lines, exec_lines};
-use crate::policy::PolicySet;
+use aa_answers::{access_lines, exec_lines, shown_lines};
+use aa_changes::{Exchange, PolicySet};
 use aa_commands::{Question, Refusal, RefusalKind, plain};
 use aa_decide::Request;
 use aa_files::Files;
+use aa_history::Journal;
+use aa_listing::list_lines;
+use aa_policy::Mode;
 use aa_profile::read_file;
 use std::alloc::{AllocError, Global};
 use std::marker::Model;
-use std::mem;
 
-/// A policy set, and the policy sets that changes have left behind.
+/// A policy set, and the policy sets that changes and undoing have left behind.
 ///
 /// Contracts see the machine that keeps whole policy sets: the set now, the earlier ones and the later ones.
 #[derive(Drop)]
 pub struct Manager {
     alloc: Global,
     force_complain: bool,
-    set: PolicySet,
-    // The earlier sets and then the later ones.
-    others: Vec<PolicySet>,
-    // How many of the others are earlier ones.
-    done: usize,
+    journal: Journal<PolicySet, Exchange>,
 }
 
 impl Model for Manager {
-    ghost use Rattle.std.specs.Prelude.{◌≤◌, length, take, drop};
     ghost use Rattle.aa_set.specs.Manager.{Managed};
 
     ghost Value = { Managed };
 
-    ghost view = { λ m. record { force_complain = m.force_complain; machine = record { earlier = take m.done m.others.items; now = m.set; later = drop m.done m.others.items } } };
-
-    ghost invariant = { λ m. m.done ≤ length m.others.items };
+    ghost view = { λ m. record { force_complain = m.force_complain; machine = m.journal } };
 }
 
 impl Manager {
-    ghost use Rattle.aa_set.specs.Manager.{new_manager, after_commit, gone_back_by, added, undone};
+    ghost use Rattle.aa_set.specs.Manager.{after_commit, disabled, in_mode, made, new_manager, redone, undone};
 
-    /// A manager of the empty policy set, which no change has made yet. With `force_complain` profiles are to be loaded
-    /// in complain mode; no command heeds it yet. It takes no memory.
+    /// A manager of the empty policy set, which no change has made yet. With `force_complain` (the option `-C`) each profile is loaded in complain
+    /// mode, and so are its children and hats, whatever their flags. It takes no memory.
     pub fn new(alloc: Global, force_complain: bool) -> Manager
         ensures { result ≡ new_manager force_complain }
     {
         Manager {
             alloc,
             force_complain,
-            set: PolicySet::new(alloc),
-            others: Vec::new(alloc),
-            done: 0,
+            journal: Journal::new(alloc, PolicySet::new(alloc)),
         }
     }
 
-    /// Adds the profiles of a file, each in the modes of its own flags, at the end of the policy set, in the file's order: all of them or
-    /// none. At `Ok` that is one change, and the sets that `undo` had left can't be gone forward to any more.
+    /// The policy set now. It takes no memory.
+    pub fn policy_set(&self) -> &PolicySet
+        ensures { result.now ≡ self.now.machine.now }
+    {
+        self.journal.state()
+    }
+
+    /// Adds the profiles of a file, each in force in the modes of its own flags, or with `force_complain` in complain mode, at the end of the policy
+    /// set, in the file's order: all of them or none. At `Ok` that is one change, and the sets that `undo` had left can't be gone forward to any more.
     ///
     /// # Errors
     ///
@@ -80,15 +84,113 @@ impl Manager {
     /// Then `Exists`, without a place, where a profile of one of their names is loaded. `Memory`, without a place, may come anywhere: memory ran
     /// out. After each of these the policy set and its history are as they were.
     pub fn add(&mut self, files: &Files, name: &[u8]) -> Result<(), Refusal>
-        ensures ok { OnOk result (added files.now self.old name.now ≡ Ok self.new) }
-        ensures refused { IfErr result (λ refusal. refusal ≢ plain Memory → added files.now self.old name.now ≡ Err refusal) }
+        ensures ok { OnOk result (made files.now self.old (Add name.now) ≡ Ok self.new) }
+        ensures refused { IfErr result (λ refusal. refusal ≢ plain Memory → made files.now self.old (Add name.now) ≡ Err refusal) }
         ensures unchanged { OnErr result (self.new ≡ self.old) }
     {
         let profiles = read_file(self.alloc, files, name)?;
-        if self.set.has_one_of(&profiles) {
-            return Err(plain(RefusalKind::Exists));
-        }
-        let set = self.set.try_with(self.alloc, profiles)?;
+        let set = self
+            .policy_set()
+            .after_add(self.alloc, self.force_complain, profiles)?;
+        self.commit(set)?;
+        Ok(())
+    }
+
+    /// Puts each profile of a file in the place of the one of its name, or where there is none at the end of the policy set, in the file's order:
+    /// all of them or none. Each comes in force in the modes of its own flags, or with `force_complain` in complain mode, whatever the mode of the one
+    /// before. At `Ok` that is one change, and the sets that `undo` had left can't be gone forward to any more.
+    ///
+    /// # Errors
+    ///
+    /// Those of reading the file come first, as `add` tells them. Then `Disabled`, without a place, where the profile of one of their names is
+    /// disabled. `Memory`, without a place, may come anywhere: memory ran out. After each of these the policy set and its history are as they were.
+    pub fn replace(&mut self, files: &Files, name: &[u8]) -> Result<(), Refusal>
+        ensures ok { OnOk result (made files.now self.old (Replace name.now) ≡ Ok self.new) }
+        ensures refused { IfErr result (λ refusal. refusal ≢ plain Memory → made files.now self.old (Replace name.now) ≡ Err refusal) }
+        ensures unchanged { OnErr result (self.new ≡ self.old) }
+    {
+        let profiles = read_file(self.alloc, files, name)?;
+        let set = self
+            .policy_set()
+            .after_replace(self.alloc, self.force_complain, profiles)?;
+        self.commit(set)?;
+        Ok(())
+    }
+
+    /// Reads a file, and takes out the profiles of the names that its profiles have, in force or disabled: all of them or none. At `Ok` that is one
+    /// change, and the sets that `undo` had left can't be gone forward to any more.
+    ///
+    /// # Errors
+    ///
+    /// Those of reading the file come first, as `add` tells them. Then `Absent`, without a place, where no profile of one of their names is
+    /// loaded. `Memory`, without a place, may come anywhere: memory ran out. After each of these the policy set and its history are as they were.
+    pub fn remove(&mut self, files: &Files, name: &[u8]) -> Result<(), Refusal>
+        ensures ok { OnOk result (made files.now self.old (Remove name.now) ≡ Ok self.new) }
+        ensures refused { IfErr result (λ refusal. refusal ≢ plain Memory → made files.now self.old (Remove name.now) ≡ Err refusal) }
+        ensures unchanged { OnErr result (self.new ≡ self.old) }
+    {
+        let profiles = read_file(self.alloc, files, name)?;
+        let set = self
+            .policy_set()
+            .after_remove(self.alloc, profiles.as_slice())?;
+        self.commit(set)?;
+        Ok(())
+    }
+
+    /// Sets the profile of a name to enforce mode, and all its children and hats; a disabled one comes into force. At `Ok` that is one change, also
+    /// where it leaves the policy set equal, and the sets that `undo` had left can't be gone forward to any more.
+    ///
+    /// # Errors
+    ///
+    /// `Absent` where no profile has the name, which is found without memory, and `Memory` where memory ran out. After each the policy set and its
+    /// history are as they were.
+    pub fn enforce(&mut self, name: &[u8]) -> Result<(), Refusal>
+        ensures ok { OnOk result (in_mode Enforce self.old name.now ≡ Ok self.new) }
+        ensures refused { IfErr result (λ refusal. refusal ≢ plain Memory → in_mode Enforce self.old name.now ≡ Err refusal) }
+        ensures unchanged { OnErr result (self.new ≡ self.old) }
+        ensures memory { IfErr result (λ refusal. refusal ≡ plain Memory → is_loaded name.now self.old.machine.now ≡ true) }
+    {
+        let set = self
+            .policy_set()
+            .after_mode(self.alloc, Mode::Enforce, name)?;
+        self.commit(set)?;
+        Ok(())
+    }
+
+    /// Sets the profile of a name to complain mode, and all its children and hats; a disabled one comes into force. At `Ok` that is one change, also
+    /// where it leaves the policy set equal, and the sets that `undo` had left can't be gone forward to any more.
+    ///
+    /// # Errors
+    ///
+    /// As `enforce`.
+    pub fn complain(&mut self, name: &[u8]) -> Result<(), Refusal>
+        ensures ok { OnOk result (in_mode Complain self.old name.now ≡ Ok self.new) }
+        ensures refused { IfErr result (λ refusal. refusal ≢ plain Memory → in_mode Complain self.old name.now ≡ Err refusal) }
+        ensures unchanged { OnErr result (self.new ≡ self.old) }
+        ensures memory { IfErr result (λ refusal. refusal ≡ plain Memory → is_loaded name.now self.old.machine.now ≡ true) }
+    {
+        let set = self
+            .policy_set()
+            .after_mode(self.alloc, Mode::Complain, name)?;
+        self.commit(set)?;
+        Ok(())
+    }
+
+    /// Takes the profile of a name out of force, and its children and hats: it confines nothing, no program is started under it, and it keeps its place.
+    /// At `Ok` that is one change, and the sets that `undo` had left can't be gone forward to any more.
+    ///
+    /// # Errors
+    ///
+    /// `Absent` where no profile has the name, and `Disabled` where it is out of force already, which are found without memory; and `Memory` where
+    /// memory ran out. After each the policy set and its history are as they were.
+    pub fn disable(&mut self, name: &[u8]) -> Result<(), Refusal>
+        ensures ok { OnOk result (disabled self.old name.now ≡ Ok self.new) }
+        ensures refused { IfErr result (λ refusal. refusal ≢ plain Memory → disabled self.old name.now ≡ Err refusal) }
+        ensures unchanged { OnErr result (self.new ≡ self.old) }
+        ensures loaded { IfErr result (λ refusal. refusal ≡ plain Memory → is_loaded name.now self.old.machine.now ≡ true) }
+        ensures in_force { IfErr result (λ refusal. refusal ≡ plain Memory → is_disabled name.now self.old.machine.now ≡ false) }
+    {
+        let set = self.policy_set().after_disable(self.alloc, name)?;
         self.commit(set)?;
         Ok(())
     }
@@ -98,17 +200,10 @@ impl Manager {
         ensures ok { OnOk result (self.new ≡ after_commit self.old set) }
         ensures err { OnErr result (self.new ≡ self.old) }
     {
-        if self.done == self.others.len() {
-            self.others.reserve(1)?;
+        match self.journal.commit(Exchange::to(set)) {
+            Ok(()) => Ok(()),
+            Err((_, error)) => Err(error),
         }
-        self.others.truncate(self.done);
-        let old = mem::replace(&mut self.set, set);
-        match self.others.push(old) {
-            Ok(()) => {}
-            Err(_) => unreachable!(),
-        }
-        self.done += 1;
-        Ok(())
     }
 
     /// Goes `n` changes back: the policy set is the one from before the last `n` changes, in each entry and its place. It
@@ -122,22 +217,53 @@ impl Manager {
         ensures refused { IfErr result (λ refusal. undone n self.old ≡ Err refusal) }
         ensures unchanged { OnErr result (self.new ≡ self.old) }
     {
-        if n > self.done {
-            return Err(plain(RefusalKind::NothingToUndo));
+        match self.journal.undo(n) {
+            Ok(()) => Ok(()),
+            Err(_) => Err(plain(RefusalKind::NothingToUndo)),
         }
-        for _step in 0..n {
-            self.step_back();
-        }
-        Ok(())
     }
 
-    // One change back.
-    fn step_back(&mut self)
-        requires { 0 < length self.old.machine.earlier }
-        ensures { self.new ≡ gone_back_by 1 self.old }
+    /// Goes `n` changes on again, of those that `undo` went back: the policy set is the one from after them, in each entry and its place. It takes no
+    /// memory.
+    ///
+    /// # Errors
+    ///
+    /// `NothingToRedo` where fewer than `n` changes can be made again. Nothing is redone then.
+    pub fn redo(&mut self, n: usize) -> Result<(), Refusal>
+        ensures ok { OnOk result (redone n self.old ≡ Ok self.new) }
+        ensures refused { IfErr result (λ refusal. redone n self.old ≡ Err refusal) }
+        ensures unchanged { OnErr result (self.new ≡ self.old) }
     {
-        self.done -= 1;
-        mem::swap(&mut self.set, &mut self.others[self.done]);
+        match self.journal.redo(n) {
+            Ok(()) => Ok(()),
+            Err(_) => Err(plain(RefusalKind::NothingToRedo)),
+        }
+    }
+
+    /// The lines of the reply to `list`: how many profiles, children and hats are loaded, and a line for each, with its full name and its state
+    /// (docs/commands.md, "What is loaded").
+    ///
+    /// # Errors
+    ///
+    /// `Memory` where memory ran out.
+    pub fn list(&self) -> Result<Vec<u8>, Refusal>
+        ensures told { IfOk result (λ lines. lines.items ≡ list_lines self.now.machine.now) }
+        ensures memory { IfErr result (λ refusal. refusal ≡ plain Memory) }
+    {
+        Ok(list_lines(self.alloc, self.policy_set().slots())?)
+    }
+
+    /// The lines of the reply to `show NAME`: what the profile, child or hat of this full name consists of (docs/commands.md, "What is loaded").
+    ///
+    /// # Errors
+    ///
+    /// `Absent` where no profile, child or hat of the full name is loaded, which is found without memory, and `Memory` where memory ran out.
+    pub fn show(&self, name: &[u8]) -> Result<Vec<u8>, Refusal>
+        ensures told { IfOk result (λ lines. shown self.now.machine.now name.now ≡ Ok lines.items) }
+        ensures refused { IfErr result (λ refusal. refusal ≢ plain Memory → shown self.now.machine.now name.now ≡ Err refusal) }
+        ensures memory { IfErr result (λ refusal. refusal ≡ plain Memory → shows_absent self.now.machine.now name.now ≡ false) }
+    {
+        shown_lines(self.alloc, self.policy_set().slots(), name)
     }
 
     /// The lines of the reply to a question, each with its line feed: the word of the answer, and behind it the line that logs it, where it is
@@ -154,7 +280,7 @@ impl Manager {
         // That it is absent is found without memory.
         ensures memory { IfErr result (λ refusal. refusal ≡ plain Memory → asks_absent self.now.machine.now (asked question.entry.now) ≡ false) }
     {
-        let set = &self.set;
+        let slots = self.policy_set().slots();
         match question {
             Question::File {
                 who,
@@ -167,18 +293,18 @@ impl Manager {
                     owned: *owned,
                     path,
                 };
-                access_lines(self.alloc, set, who, &request)
+                access_lines(self.alloc, slots, who, &request)
             }
-            Question::Exec { who, owned, path } => exec_lines(self.alloc, set, who, *owned, path),
+            Question::Exec { who, owned, path } => exec_lines(self.alloc, slots, who, *owned, path),
             Question::Cap { who, number } => {
-                access_lines(self.alloc, set, who, &Request::Cap(*number))
+                access_lines(self.alloc, slots, who, &Request::Cap(*number))
             }
             Question::Net { who, domain, kind } => {
                 let request = Request::Net {
                     domain: *domain,
                     kind: *kind,
                 };
-                access_lines(self.alloc, set, who, &request)
+                access_lines(self.alloc, slots, who, &request)
             }
         }
     }

@@ -1,13 +1,13 @@
 //! Replies: what a line is answered.
 
 ghost use Rattle.std.specs.Prelude.{◌≡◌, Bool, MatchResult};
-ghost use Rattle.aa_commands.specs.Command.{AsksWell, ordered};
+ghost use Rattle.aa_commands.specs.Command.{AsksWell, Make, meant, ordered};
 ghost use Rattle.aa_set.specs.Run.{line_outcome, obeyed_flagged};
-ghost use Rattle.aa_set.specs.declared.reply.Reply.TheVariants.{Done, Refused};
+ghost use Rattle.aa_set.specs.declared.reply.Reply.TheVariants.{Done, Refused, Told};
 
 use crate::manager::Manager;
 use aa_bytes::Sequence;
-use aa_commands::{Command, Refusal, RefusalKind, plain, read};
+use aa_commands::{Command, PolicyChange, Refusal, RefusalKind, plain, read};
 use aa_files::Files;
 use aa_lines::LONGEST_LINE;
 
@@ -44,12 +44,26 @@ fn obey(files: &Files, manager: &mut Manager, command: Command<'_>) -> Reply
     ensures { (flag : Bool) × (record { reply = result; managed = manager.new } ≡ obeyed_flagged files.now manager.old flag (ordered command.entry)) }
 {
     match command {
-        Command::Add(file) => done(manager.add(files, file)),
+        Command::Change(change) => make(files, manager, change),
         Command::Undo(count) => done(manager.undo(count)),
-        Command::Ask(question) => match manager.ask(&question) {
-            Ok(lines) => Reply::Told(Sequence::from_vec(lines)),
-            Err(refusal) => Reply::Refused(refusal),
-        },
+        Command::Redo(count) => done(manager.redo(count)),
+        Command::Ask(question) => told(manager.ask(&question)),
+        Command::List => told(manager.list()),
+        Command::Show(name) => told(manager.show(name)),
+    }
+}
+
+// The reply to a change.
+fn make(files: &Files, manager: &mut Manager, change: PolicyChange<'_>) -> Reply
+    ensures { (flag : Bool) × (record { reply = result; managed = manager.new } ≡ obeyed_flagged files.now manager.old flag (Make (meant change.entry))) }
+{
+    match change {
+        PolicyChange::Add(file) => done(manager.add(files, file)),
+        PolicyChange::Replace(file) => done(manager.replace(files, file)),
+        PolicyChange::Remove(file) => done(manager.remove(files, file)),
+        PolicyChange::Enforce(name) => done(manager.enforce(name)),
+        PolicyChange::Complain(name) => done(manager.complain(name)),
+        PolicyChange::Disable(name) => done(manager.disable(name)),
     }
 }
 
@@ -58,6 +72,15 @@ fn done(outcome: Result<(), Refusal>) -> Reply
 {
     match outcome {
         Ok(()) => Reply::Done,
+        Err(refusal) => Reply::Refused(refusal),
+    }
+}
+
+fn told(outcome: Result<Vec<u8>, Refusal>) -> Reply
+    ensures { MatchResult outcome (λ lines. result ≡ Told lines.items) (λ refusal. result ≡ Refused refusal) }
+{
+    match outcome {
+        Ok(lines) => Reply::Told(Sequence::from_vec(lines)),
         Err(refusal) => Reply::Refused(refusal),
     }
 }

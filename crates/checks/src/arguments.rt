@@ -16,16 +16,19 @@ fn started(alloc: Global, arguments: &[&str]) -> Result<Vec<String>, AllocError>
 // What arguments are to be answered with.
 #[derive(Clone, Copy)]
 enum Want {
+    // a run over the default folder, in the modes of the flags
     Names(&'static [&'static str]),
+    // a run in complain mode or not, over this folder
+    Run(bool, &'static str, &'static [&'static str]),
     // each of these stands in the help
     Help(&'static [&'static str]),
     Version(&'static str),
     Bad,
 }
 
-fn is_for(plan: &Plan, names: &[&str]) -> bool {
-    !plan.force_complain
-        && plan.base.as_str() == "/etc/apparmor.d"
+fn is_for(plan: &Plan, force_complain: bool, base: &str, names: &[&str]) -> bool {
+    plan.force_complain == force_complain
+        && plan.base.as_str() == base
         && plan.names.len() == names.len()
         && plan
             .names
@@ -36,7 +39,10 @@ fn is_for(plan: &Plan, names: &[&str]) -> bool {
 
 fn is_wanted(told: &Result<Plan, ArgFault>, want: Want) -> bool {
     match (told, want) {
-        (Ok(plan), Want::Names(names)) => is_for(plan, names),
+        (Ok(plan), Want::Names(names)) => is_for(plan, false, "/etc/apparmor.d", names),
+        (Ok(plan), Want::Run(force_complain, base, names)) => {
+            is_for(plan, force_complain, base, names)
+        }
         (Err(ArgFault::Help(text)), Want::Help(parts)) => {
             parts.iter().all(|part| { text.as_str().contains(*part) })
         }
@@ -57,17 +63,28 @@ fn is_answered(alloc: Global, arguments: &[&str], want: Want) -> bool {
 fn arguments_are_answered(rt: HostRuntime) {
     let version = Want::Version("aaset 0.1.0\n");
     let help = Want::Help(&[
-        "Usage: aaset <NAME>...",
+        "Usage: aaset [OPTIONS] <NAME>...",
+        "-C ",
+        "-b <DIR>",
         "add FILE ",
-        "undo [N] ",
+        "replace FILE ",
+        "remove FILE ",
+        "enforce NAME, complain NAME ",
+        "disable NAME ",
+        "undo [N], redo [N] ",
         "ask file NAME ACCESS OWNED PATH ",
-        "below /etc/apparmor.d",
+        "ask exec NAME OWNED PATH ",
+        "ask cap NAME CAPABILITY ",
+        "ask net NAME DOMAIN TYPE ",
+        "list ",
+        "show NAME ",
+        "/etc/apparmor.d unless",
         "  0  ",
         "  1  ",
         "  2  ",
         "  3  ",
     ]);
-    let rows: [(&[&str], Want); 21] = [
+    let rows: [(&[&str], Want); 43] = [
         (&["none/"], Want::Names(&["none/"])),
         (
             &["usr.bin.man", "local/", "/tmp/x"],
@@ -90,7 +107,38 @@ fn arguments_are_answered(rt: HostRuntime) {
         (&["-v"], Want::Bad),
         (&["--version=1"], Want::Bad),
         (&["--versio"], Want::Bad),
-        (&["-Ch", "a"], Want::Bad),
+        (&["-C", "-b", "/srv", "x"], Want::Run(true, "/srv", &["x"])),
+        (&["-C", "x"], Want::Run(true, "/etc/apparmor.d", &["x"])),
+        (&["x", "-C"], Want::Run(true, "/etc/apparmor.d", &["x"])),
+        (&["-b", "/srv", "/x"], Want::Run(false, "/srv", &["/x"])),
+        (&["-b/srv", "x"], Want::Run(false, "/srv", &["x"])),
+        (&["-b=/srv", "x"], Want::Run(false, "/srv", &["x"])),
+        (&["-b==", "x"], Want::Run(false, "=", &["x"])),
+        (&["-b=", "x"], Want::Run(false, "", &["x"])),
+        (&["-bC", "x"], Want::Run(false, "C", &["x"])),
+        (&["-Cb", "/srv", "x"], Want::Run(true, "/srv", &["x"])),
+        (&["-CCb/srv", "x"], Want::Run(true, "/srv", &["x"])),
+        (
+            &["x", "-b", "/srv", "y"],
+            Want::Run(false, "/srv", &["x", "y"]),
+        ),
+        (
+            &["-b", "/srv", "x", "-b", "/etc", "-C"],
+            Want::Run(true, "/etc", &["x"]),
+        ),
+        (&["-b", "-", "x"], Want::Run(false, "-", &["x"])),
+        (
+            &["-b", "/srv", "--", "-C"],
+            Want::Run(false, "/srv", &["-C"]),
+        ),
+        (&["-Ch", "a"], help),
+        (&["-CV"], version),
+        (&["-C"], Want::Bad),
+        (&["x", "-b"], Want::Bad),
+        (&["-b", "--", "x"], Want::Bad),
+        (&["-b", "-C", "x"], Want::Bad),
+        (&["-b", "--help", "x"], Want::Bad),
+        (&["-Cx", "a"], Want::Bad),
         (&["-x", "--version"], Want::Bad),
     ];
     for (arguments, want) in rows {

@@ -5,12 +5,18 @@ use aa_text::Files;
 use std::alloc::Global;
 use std::test::Fail;
 
-// The profile `first`, of a rule, in a file of its name.
-fn one_file(alloc: Global) -> Result<Files, Fail> {
-    let mut files = Files::new(alloc);
-    let name = Vec::from_slice(alloc, b"first")?;
-    let bytes = Vec::from_slice(alloc, b"profile first { /a r, }")?;
+/// Hands in a file.
+pub fn put(files: &mut Files, alloc: Global, name: &[u8], bytes: &[u8]) -> Result<(), Fail> {
+    let name = Vec::from_slice(alloc, name)?;
+    let bytes = Vec::from_slice(alloc, bytes)?;
     files.insert(name, bytes)?;
+    Ok(())
+}
+
+/// The profile `first`, of a rule, in a file of its name.
+pub fn one_file(alloc: Global) -> Result<Files, Fail> {
+    let mut files = Files::new(alloc);
+    put(&mut files, alloc, b"first", b"profile first { /a r, }")?;
     Ok(files)
 }
 

@@ -7,6 +7,8 @@ mod arguments;
 #[cfg(test)]
 mod calls;
 #[cfg(test)]
+mod changing;
+#[cfg(test)]
 mod disk;
 #[cfg(test)]
 mod fakes;

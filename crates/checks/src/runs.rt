@@ -1,9 +1,11 @@
 //! Runs over readers and writers of few bytes a call, and over some that fail.
 
+use crate::calls::one_file;
 use crate::fakes::{Slow, Small, Undoing};
 use aa_set::{FromRead, RunFault, Sink, Source, Summary, ToWrite, run};
 use aa_text::Files;
 use std::alloc::Global;
+use std::test::Fail;
 
 // The reply to each line: nothing was changed.
 const REPLY: &[u8] = b"refused 63 NothingToUndo\n";
@@ -106,4 +108,26 @@ fn a_writer_that_fails_is_filled(rt: HostRuntime) {
 #[test]
 fn a_writer_that_takes_nothing_is_filled(rt: HostRuntime) {
     assert!(rt; fills_a_small_writer(rt.alloc(), false));
+}
+
+// With the option `-C` a run loads profiles in complain mode.
+fn loads_in_complain_mode(alloc: Global) -> Result<bool, Fail> {
+    let files = one_file(alloc)?;
+    let mut reader = FromRead::new(b"add first\nlist\n".as_slice());
+    let mut writer = ToWrite::new(Vec::new(alloc));
+    let outcome = run(alloc, &files, true, &mut reader, &mut writer);
+    let want = Summary {
+        accepted: 2,
+        refused: 0,
+    };
+    Ok(
+        outcome == Ok(want)
+            && writer.into_inner().as_slice() == b"ok\nprofiles 1\n\"first\" complain\n".as_slice(),
+    )
+}
+
+#[test]
+fn a_run_loads_in_complain_mode(rt: HostRuntime) -> Result<(), Fail> {
+    assert!(rt; loads_in_complain_mode(rt.alloc())?);
+    Ok(())
 }

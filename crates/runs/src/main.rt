@@ -23,10 +23,12 @@ impl Asks for PolicySets {
     ) -> Result<(), RowError> {
         match kind {
             "refusals" => refusals::ask(tally, parts),
-            "commands"
+            "changes"
+            | "commands"
             | "profiles"
             | "grammar"
             | "decisions"
+            | "documents"
             | "exec"
             | "includes"
             | "places"

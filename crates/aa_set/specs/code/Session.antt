@@ -6,7 +6,7 @@ use Rattle.aa_files.specs.Files.{File}
 use Rattle.aa_set.specs.Manager.{new_manager}
 use Rattle.aa_lines.specs.Lines.{is_line_feed}
 use Rattle.aa_set.specs.Reply.{reply_text}
-use Rattle.aa_set.specs.Answers.{line_with}
+use Rattle.aa_answers.specs.Answers.{line_with}
 use Rattle.aa_set.specs.Run.{IsAnswered, IsLeftAnswered, replies_to, after_lines, SumsUp}
 use Rattle.aa_lines.specs.Streams.{Tells}
 use Rattle.aa_lines.specs.Limits.{longest_line}

@@ -1,15 +1,18 @@
-use Rattle.aa_set.proofs.LawLemmas.{distinct, restored, undone_sum}
+use Rattle.aa_set.proofs.LawLemmas.{distinct, restored, steps-add, steps-return}
 use Rattle.aa_set.proofs.StayLaws.{other-leaves, refused-leaves, set-decides}
 use Rattle.aa_set.proofs.laws.the_way_back.Goals as goal
 
 pub returns-clause-restored : goal.returns-clause-restored
-returns-clause-restored c = restored
+returns-clause-restored c = restored c.where_machines_go_back_to.ensures.new_sets
 
-pub returns-clause-sum : goal.returns-clause-sum
-returns-clause-sum c = undone_sum
+pub returns-clause-steps : goal.returns-clause-steps
+returns-clause-steps c =
+    let on = c.how_machines_go_back_and_on.ensures in
+    let left = c.where_machines_go_back_to.ensures in
+    (steps-add on.can_back on.back on.can_on on.on, steps-return left.lengths_back on.on_after_back left.lengths_on on.back_after_on)
 
 pub returns-clause-distinct : goal.returns-clause-distinct
-returns-clause-distinct c = distinct c.how_profiles_are_named.ensures.distinct
+returns-clause-distinct c = distinct (c.what_machines_keep.ensures.back, c.what_machines_keep.ensures.on, c.what_changes_keep.ensures)
 
 pub returns-clause-refused : goal.returns-clause-refused
 returns-clause-refused c = refused-leaves

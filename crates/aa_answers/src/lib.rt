@@ -1,0 +1,7 @@
+//! What a policy set answers: the lines of the replies to questions, and to those who ask what a profile consists of.
+#![tactic(auto)]
+
+mod answers;
+mod asker;
+
+pub use answers::{access_lines, exec_lines, shown_lines};

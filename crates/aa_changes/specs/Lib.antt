@@ -1,0 +1,3 @@
+pub mod ChangeLaws
+pub mod Changes
+pub mod code

@@ -1,0 +1,2 @@
+-- What is about the code: what slots hold.
+pub mod SeenSlots

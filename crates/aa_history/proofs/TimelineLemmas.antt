@@ -1,0 +1,96 @@
+-- One change back, one on and one more in a list of changes with a cursor.
+use Rattle.std.proofs.Common.{◌≡◌, ℕ, ◌+◌, ◌-◌, ◌<◌, ◌≤◌, suc, List, [], ◌∷◌, ◌++◌, length, take, drop, slice_index_or, slice_set, refl, sym, ap, ◌∙◌, arith}
+use Rattle.std.proofs.lemmas.List.{length-take-le, length-drop, take_at, drop_at, take_more, drop_more, take-set, drop-set, take_more_set, drop-set-lt}
+use Rattle.aa_history.specs.Machine.{accepted, gone_back, gone_on}
+use Rattle.aa_history.proofs.MachineLemmas.{one_back, one_on, same_machine}
+use Rattle.aa_history.specs.code.Timeline.{state_behind, states_ahead, states_behind, timeline}
+
+-- the state behind changes of which the last was turned
+state_behind-push : {S C : Type 0} (after : S → C → S) (cs : List C) (c : C) (s : S) → state_behind after (cs ++ c ∷ []) s ≡ state_behind after cs (after s c)
+state_behind-push after [] c s = refl
+state_behind-push after (x ∷ xs) c s = ap (λ state. after state x) (state_behind-push after xs c s)
+
+-- the states behind changes of which the last was turned
+pub states_behind-push : {S C : Type 0} (after : S → C → S) (cs : List C) (c : C) (s : S)
+    → states_behind after (cs ++ c ∷ []) s ≡ states_behind after cs (after s c) ++ after s c ∷ []
+states_behind-push after [] c s = refl
+states_behind-push after (x ∷ xs) c s =
+    ap (λ state. after state x ∷ states_behind after (xs ++ c ∷ []) s) (state_behind-push after xs c s)
+    ∙ ap (λ rest. state_behind after (x ∷ xs) (after s c) ∷ rest) (states_behind-push after xs c s)
+
+pub length-states_behind : {S C : Type 0} (after : S → C → S) (cs : List C) (s : S) → length (states_behind after cs s) ≡ length cs
+length-states_behind after [] s = refl
+length-states_behind after (c ∷ cs) s = ap (λ n. suc n) (length-states_behind after cs s)
+
+pub length-states_ahead : {S C : Type 0} (after : S → C → S) (cs : List C) (s : S) → length (states_ahead after cs s) ≡ length cs
+length-states_ahead after [] s = refl
+length-states_ahead after (c ∷ cs) s = ap (λ n. suc n) (length-states_ahead after cs (after s c))
+
+-- the changes before the cursor, where one is
+take_last : {C : Type 0} (cs : List C) (done : ℕ) (c : C) → 0 < done → done ≤ length cs → c ≡ slice_index_or cs (done - 1) c → take done cs ≡ take (done - 1) cs ++ c ∷ []
+take_last cs done c h k e =
+    let up : done ≡ done - 1 + 1 = omega arith in
+    ap (λ n. take n cs) up ∙ take_more cs (done - 1) c (omega arith) ∙ ap (λ x. take (done - 1) cs ++ x ∷ []) (sym e)
+
+-- one change back
+pub timeline_back : {S C : Type 0} (after : S → C → S) (back : S → C → C) → ((s : S) (c : C) → after (after s c) (back s c) ≡ s)
+    → (cs : List C) (done : ℕ) (s there : S) (c turned : C) → 0 < done → done ≤ length cs → c ≡ slice_index_or cs (done - 1) c
+    → there ≡ after s c → turned ≡ back s c
+    → timeline after (slice_set cs (done - 1) turned) (done - 1) there ≡ gone_back 1 (timeline after cs done s)
+timeline_back {S} {C} after back returns cs done s there c turned h k e p q =
+    let place : ℕ = done - 1 in
+    let up : place + 1 ≡ done = omega arith in
+    let home : after there turned ≡ s = ap (λ t. after t turned) p ∙ ap (after (after s c)) q ∙ returns s c in
+    let behind : List S = states_behind after (take place cs) there in
+    let ahead : List S = states_ahead after (drop done cs) s in
+    let old : states_behind after (take done cs) s ≡ behind ++ there ∷ [] =
+    ap (λ front. states_behind after front s) (take_last cs done c h k e) ∙ states_behind-push after (take place cs) c s
+    ∙ ap (λ t. states_behind after (take place cs) t ++ t ∷ []) (sym p) in
+    same_machine
+    (ap (λ front. states_behind after front there) (take-set cs place turned))
+    refl
+    (ap (λ rest. states_ahead after rest there) (drop-set cs place turned (omega arith))
+    ∙ ap (λ t. t ∷ states_ahead after (drop (place + 1) cs) t) home
+    ∙ ap (λ n. s ∷ states_ahead after (drop n cs) s) up)
+    ∙ sym (one_back behind there s ahead)
+    ∙ ap (gone_back 1) (same_machine (sym old) refl refl)
+
+-- one change on
+pub timeline_on : {S C : Type 0} (after : S → C → S) (back : S → C → C) → ((s : S) (c : C) → after (after s c) (back s c) ≡ s)
+    → (cs : List C) (done : ℕ) (s there : S) (c turned : C) → done < length cs → c ≡ slice_index_or cs done c
+    → there ≡ after s c → turned ≡ back s c
+    → timeline after (slice_set cs done turned) (done + 1) there ≡ gone_on 1 (timeline after cs done s)
+timeline_on {S} {C} after back returns cs done s there c turned h e p q =
+    let home : after there turned ≡ s = ap (λ t. after t turned) p ∙ ap (after (after s c)) q ∙ returns s c in
+    let behind : List S = states_behind after (take done cs) s in
+    let ahead : List S = states_ahead after (drop (done + 1) cs) there in
+    let old : states_ahead after (drop done cs) s ≡ there ∷ ahead =
+    ap (λ rest. states_ahead after rest s) (drop_more cs done c h ∙ ap (λ x. x ∷ drop (done + 1) cs) (sym e))
+    ∙ ap (λ t. t ∷ states_ahead after (drop (done + 1) cs) t) (sym p) in
+    same_machine
+    (ap (λ front. states_behind after front there) (take_more_set cs done turned h)
+    ∙ states_behind-push after (take done cs) turned there
+    ∙ ap (λ t. states_behind after (take done cs) t ++ t ∷ []) home)
+    refl
+    (ap (λ rest. states_ahead after rest there) (drop-set-lt (done + 1) cs done turned (omega arith)))
+    ∙ sym (one_on behind s there ahead)
+    ∙ ap (gone_on 1) (same_machine refl refl (sym old))
+
+-- what leads back, and what leads on
+pub length-back : {S C : Type 0} (after : S → C → S) (cs : List C) (done : ℕ) (s : S) → done ≤ length cs → length (timeline after cs done s).earlier ≡ done
+length-back after cs done s h = length-states_behind after (take done cs) s ∙ length-take-le done cs h
+
+pub length-on : {S C : Type 0} (after : S → C → S) (cs : List C) (done : ℕ) (s : S) → length (timeline after cs done s).later ≡ length cs - done
+length-on after cs done s = length-states_ahead after (drop done cs) s ∙ length-drop done cs
+
+-- a change kept behind the cursor, and then made
+pub timeline_kept : {S C : Type 0} (after : S → C → S) (cs kept : List C) (done : ℕ) (s : S) (c : C) → done ≤ length cs → kept ≡ take done cs ++ c ∷ []
+    → gone_on 1 (timeline after kept done s) ≡ accepted (timeline after cs done s) (after s c)
+timeline_kept {S} {C} after cs kept done s c h e =
+    let size : length (take done cs) ≡ done = length-take-le done cs h in
+    ap (λ items. gone_on 1 (timeline after items done s)) e
+    ∙ ap (gone_on 1) (same_machine
+    (ap (λ front. states_behind after front s) (take_at (take done cs) (c ∷ []) done size))
+    refl
+    (ap (λ rest. states_ahead after rest s) (drop_at (take done cs) (c ∷ []) done size)))
+    ∙ one_on (states_behind after (take done cs) s) s (after s c) []

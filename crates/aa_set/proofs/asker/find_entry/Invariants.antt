@@ -1,8 +1,0 @@
-use Rattle.std.proofs.Common.{◌≡◌, drop}
-use Rattle.aa_decide.specs.Slots.{filled}
-use Rattle.aa_set.specs.PolicySet.{entry_named}
-use Rattle.aa_set.proofs.asker.find_entry.Given as goal
-
--- the profile is in none of the slots so far
-abbrev pub invariant-loop-place : goal.invariant-loop-place
-invariant-loop-place l = entry_named l.name (filled (drop l.place l.slots)) ≡ entry_named l.name (filled l.slots)
