@@ -1,0 +1,94 @@
+-- What one more place changes.
+use Rattle.std.proofs.Common.{◌≡◌, ℕ, ◌+◌, ◌<◌, ◌==◌, ◌&&◌, true, false, cond, get_or, List, [], ◌∷◌, ◌++◌, length, nat_eq, refl, sym, ap, ◌∙◌, arith, inl, inr, ◌⊎◌, zero, suc}
+use Rattle.std.specs.Prelude.{Option, None, Some, if◌then◌else◌, slice_get, slice_set}
+use Rattle.std.specs.Map.{lookup}
+use Rattle.std.proofs.lemmas.Bool.{cases_Bool, cond-true, eqb-true, eqb-false, eq-eqb}
+use Rattle.std.proofs.lemmas.List.{length-append}
+use Rattle.aa_tree.specs.Ways.{HasOneMore, Ways, is_number, key, next, nowhere, places}
+
+same-false : (a b : ℕ) → (a ≡ b → ⊥) → (a == b) ≡ false
+same-false a b apart = elim (cases_Bool (a == b)) [
+  | inl same ↦ absurd (apart (eqb-true a b same))
+  | inr other ↦ other
+]
+
+-- a place and a number are told apart from others as one
+keys_apart : (place number p n : ℕ) → number < nowhere → n < nowhere → nat_eq (key place number) (key p n) ≡ (p == place && n == number)
+keys_apart place number p n small within = by (cases_Bool (p == place)) (cases_Bool (n == number))
+  where
+    by : ((p == place) ≡ true) ⊎ ((p == place) ≡ false) → ((n == number) ≡ true) ⊎ ((n == number) ≡ false) → nat_eq (key place number) (key p n) ≡ (p == place && n == number)
+    by (inl here) (inl same) = rw here (rw same (eq-eqb (key place number) (key p n) (omega (arith, eqb-true p place here, eqb-true n number same))))
+    by (inl here) (inr other) = rw here (rw other (same-false (key place number) (key p n) (λ e. eqb-false n number other (omega (arith, e, small, within)))))
+    by (inr other) any = rw other (same-false (key place number) (key p n) (λ e. eqb-false p place other (omega (arith, e, small, within))))
+
+-- a place that nothing is told of yet tells no number
+told-push : (on : List ℕ) (p n : ℕ) → n < nowhere → is_number n (slice_get (on ++ nowhere ∷ []) p) ≡ is_number n (slice_get on p)
+told-push [] zero n within = same-false nowhere n (λ e. omega (arith, e, within))
+told-push [] (suc p) n within = refl
+told-push (a ∷ on) zero n within = refl
+told-push (a ∷ on) (suc p) n within = told-push on p n within
+
+-- where nothing is found behind a place, the one right behind it isn't either
+none-told : (told others : Option ℕ) (number place : ℕ) → (if is_number number told then Some (place + 1) else others) ≡ None → is_number number told ≡ false
+none-told told others number place none = elim (cases_Bool (is_number number told)) [
+  | inl there ↦ let found = sym (cond-true (is_number number told) (Some (place + 1)) others there) ∙ none in absurd cc
+  | inr free ↦ free
+]
+
+-- one more place that stands elsewhere
+pub more-elsewhere : (old : Ways) (on : List ℕ) (others : List (ℕ × ℕ)) (place number at added : ℕ)
+    → at ≡ key place number → added ≡ places old → on ≡ old.0 ++ nowhere ∷ [] → number < nowhere → next old place number ≡ None
+    → ((q : ℕ) → lookup (nat_eq q) others ≡ cond (nat_eq at q) (Some added) (lookup (nat_eq q) old.1))
+    → HasOneMore old place number (on, others)
+more-elsewhere old on others place number at added is count pushed small free told p n within =
+    rw pushed (rw (told-push old.0 p n within) (rw (told (key p n)) (rw is (rw count (rw (keys_apart place number p n small within) (by (cases_Bool (p == place)) (cases_Bool (n == number))))))))
+  where
+    by : ((p == place) ≡ true) ⊎ ((p == place) ≡ false) → ((n == number) ≡ true) ⊎ ((n == number) ≡ false)
+        → (if is_number n (slice_get old.0 p) then Some (p + 1) else cond (p == place && n == number) (Some (places old)) (lookup (nat_eq (key p n)) old.1))
+        ≡ (if p == place && n == number then Some (places old) else next old p n)
+    by (inl here) (inl same) =
+        let untold : is_number n (slice_get old.0 p) ≡ false =
+        rw (eqb-true p place here) (rw (eqb-true n number same) (none-told (slice_get old.0 place) (lookup (nat_eq (key place number)) old.1) number place free)) in
+        rw here (rw same (rw untold refl))
+    by (inl here) (inr other) = rw here (rw other refl)
+    by (inr other) any = rw other refl
+
+-- a place of which a number is told now
+told-here : (on : List ℕ) (place number n : ℕ) → place < length on → is_number n (slice_get (slice_set on place number) place) ≡ (number == n)
+told-here [] place number n within = absurd (omega (arith, within))
+told-here (a ∷ on) zero number n within = refl
+told-here (a ∷ on) (suc place) number n within = told-here on place number n (omega (arith, within))
+
+-- and the others
+told-there : (on : List ℕ) (place p number n : ℕ) → (p ≡ place → ⊥) → is_number n (slice_get (slice_set on place number) p) ≡ is_number n (slice_get on p)
+told-there [] place p number n apart = refl
+told-there (a ∷ on) zero zero number n apart = absurd (apart refl)
+told-there (a ∷ on) zero (suc p) number n apart = refl
+told-there (a ∷ on) (suc place) zero number n apart = refl
+told-there (a ∷ on) (suc place) (suc p) number n apart = told-there on place p number n (λ e. apart (ap suc e))
+
+-- where no number is told of a place, none is
+untold-none : (on : List ℕ) (place n d : ℕ) → n < nowhere → get_or (on ++ nowhere ∷ []) place d ≡ nowhere → is_number n (slice_get on place) ≡ false
+untold-none [] place n d within h = refl
+untold-none (a ∷ on) zero n d within h = same-false a n (λ e. omega (arith, e, within, h))
+untold-none (a ∷ on) (suc place) n d within h = untold-none on place n d within h
+
+-- one more place that stands right behind the last one
+pub more-behind : (old : Ways) (on : List ℕ) (place number d : ℕ)
+    → on ≡ old.0 ++ nowhere ∷ [] → number < nowhere → place + 1 ≡ places old → get_or on place d ≡ nowhere
+    → HasOneMore old place number (slice_set on place number, old.1)
+more-behind old on place number d pushed small last untold p n within = rw pushed (elim (cases_Bool (p == place)) [
+  | inl here ↦ rw here (rw (eqb-true p place here) (rw (told-here (old.0 ++ nowhere ∷ []) place number n room) (by (cases_Bool (number == n)))))
+  | inr other ↦ rw other (rw (told-there (old.0 ++ nowhere ∷ []) place p number n (eqb-false p place other)) (rw (told-push old.0 p n within) refl))
+])
+  where
+    room : place < length (old.0 ++ nowhere ∷ [])
+    room = omega (arith, last, length-append old.0 (nowhere ∷ []))
+
+    free : is_number n (slice_get old.0 place) ≡ false
+    free = untold-none old.0 place n d within (sym (ap (λ told. get_or told place d) pushed) ∙ untold)
+
+    by : ((number == n) ≡ true) ⊎ ((number == n) ≡ false)
+        → (if number == n then Some (place + 1) else lookup (nat_eq (key place n)) old.1) ≡ (if n == number then Some (places old) else next old place n)
+    by (inl same) = rw same (rw (eq-eqb n number (sym (eqb-true number n same))) (ap Some last))
+    by (inr apart) = rw apart (rw (same-false n number (λ e. eqb-false number n apart (sym e))) (rw free refl))
