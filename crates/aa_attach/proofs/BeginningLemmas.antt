@@ -2,18 +2,18 @@
 use Rattle.std.proofs.Common.{◌≡◌, ℕ, ◌+◌, ◌<◌, ◌≤◌, Bool, true, false, List, [], ◌∷◌, ◌++◌, length, Ok, Err, arith, refl}
 use Rattle.std.specs.Prelude.{if◌then◌else◌, nat_le, not}
 use Rattle.std.proofs.lemmas.Bool.{leb-true}
-use Rattle.aa_glob.specs.Classes.{class}
-use Rattle.aa_glob.specs.Elements.{Close, Comma, Element, Fault, Open, Single, behind_class, class_element, context_after, elements, run, stars}
-use Rattle.aa_glob.specs.Exactness.{is_exact, literal_prefix}
-use Rattle.aa_glob.specs.Items.{Byte, DoubleStar, Group, More, NoMore, Pattern, Patterns, Set, Star}
-use Rattle.aa_glob.specs.Matching.{matches}
-use Rattle.aa_glob.specs.Reading.{Closed, Ended, Ending, Pieces, Refused, begins_with_slash, ending_of, first_of, group_of, has_zero, items_of, items_read, longest, others_of, pieces, whole, whole_of}
-use Rattle.aa_glob.specs.Symbols.{symbols}
-use Rattle.aa_glob.specs.declared.context.Context.{Context}
-use Rattle.aa_glob.specs.declared.context.Context.TheVariants.{AfterSlash, AfterStar, Elsewhere}
-use Rattle.aa_glob.specs.declared.pattern_error.PatternError.TheVariants.{NotAbsolute, TooLong, ZeroByte}
-use Rattle.aa_glob.specs.declared.symbol.Symbol.{Symbol}
-use Rattle.aa_glob.specs.declared.symbol.Symbol.TheVariants.{Broken, Escaped, Plain}
+use Rattle.aa_elements.specs.Classes.{class}
+use Rattle.aa_elements.specs.Elements.{Close, Comma, Element, Fault, Open, Single, behind_class, class_element, context_after, elements, run, stars}
+use Rattle.aa_elements.specs.Exactness.{is_exact, literal_prefix}
+use Rattle.aa_elements.specs.Items.{Byte, DoubleStar, Group, More, NoMore, Pattern, Patterns, Set, Star}
+use Rattle.aa_elements.specs.Matching.{matches}
+use Rattle.aa_elements.specs.Reading.{Closed, Ended, Ending, Pieces, Refused, begins_with_slash, ending_of, first_of, group_of, has_zero, items_of, items_read, longest, others_of, pieces, whole, whole_of}
+use Rattle.aa_elements.specs.Symbols.{symbols}
+use Rattle.aa_elements.specs.declared.context.Context.{Context}
+use Rattle.aa_elements.specs.declared.context.Context.TheVariants.{AfterSlash, AfterStar, Elsewhere}
+use Rattle.aa_elements.specs.declared.pattern_error.PatternError.TheVariants.{NotAbsolute, TooLong, ZeroByte}
+use Rattle.aa_elements.specs.declared.symbol.Symbol.{Symbol}
+use Rattle.aa_elements.specs.declared.symbol.Symbol.TheVariants.{Broken, Escaped, Plain}
 use Rattle.aa_attach.specs.Ranks.{exact_rank, rank}
 
 -- how many elements stand before the first that can't be a byte

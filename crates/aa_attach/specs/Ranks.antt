@@ -1,8 +1,8 @@
 -- How well patterns of attachments fit a path (apparmor.d(5), "Profile Head"; docs/policy.md, "Exec and attachment").
 use Rattle.std.specs.Prelude.{ℕ, ◌+◌, if◌then◌else◌, List, fold, nat_le}
-use Rattle.aa_glob.specs.Exactness.{is_exact, literal_prefix}
-use Rattle.aa_glob.specs.Matching.{matches}
-use Rattle.aa_glob.specs.Reading.{items_of, longest}
+use Rattle.aa_elements.specs.Exactness.{is_exact, literal_prefix}
+use Rattle.aa_elements.specs.Matching.{matches}
+use Rattle.aa_elements.specs.Reading.{items_of, longest}
 
 abbrev pub greater : ℕ → ℕ → ℕ
 greater one other = if nat_le one other then other else one

@@ -1,8 +1,8 @@
 //! What holds of ranks, as laws over the definitions that `best_rank` and `standing_out` are proved to follow.
 
 ghost use Rattle.std.specs.Prelude.{◌≡◌, ◌<◌, ◌↔◌, ℕ, List, Some, false};
-ghost use Rattle.aa_glob.specs.Exactness.{is_exact};
-ghost use Rattle.aa_glob.specs.Reading.{items_of};
+ghost use Rattle.aa_elements.specs.Exactness.{is_exact};
+ghost use Rattle.aa_elements.specs.Reading.{items_of};
 ghost use Rattle.aa_attach.specs.RankLaws.{StandsOut};
 ghost use Rattle.aa_attach.specs.Ranks.{exact_rank, rank};
 ghost use Rattle.aa_attach.specs.StandingOut.{standing_out};

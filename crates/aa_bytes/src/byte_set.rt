@@ -30,8 +30,8 @@ pub enum ByteSet {
 }
 
 impl ByteRange {
-    // Whether the byte is among them.
-    fn lists(self, byte: u8) -> bool
+    /// Whether the byte is among them.
+    pub fn lists(self, byte: u8) -> bool
         ensures { result ≡ lists byte self }
     {
         self.first <= byte && byte <= self.last

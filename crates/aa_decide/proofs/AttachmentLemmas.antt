@@ -10,7 +10,6 @@ use Rattle.std.proofs.lemmas.Slice.Eq.{bytes_eq-Decides}
 use Rattle.aa_attach.specs.RankLaws.{StandsOut}
 use Rattle.aa_attach.specs.StandingOut.{standing_out}
 use Rattle.aa_policy.specs.Profile.{are_distinct, is_named}
-use Rattle.aa_policy.specs.declared.profile.Profile.{Profile}
 use Rattle.aa_decide.specs.Attachment.{attached, entry_rank}
 use Rattle.aa_decide.specs.Named.{profiles_of}
 use Rattle.aa_verdicts.specs.Entries.{Loaded}

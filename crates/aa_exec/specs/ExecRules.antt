@@ -1,9 +1,9 @@
 -- What rules say of a program that is started (apparmor.d(5), "Execute Rules"; docs/policy.md, "Exec and attachment").
 use Rattle.std.specs.Prelude.{ℕ, Bool, not, ◌&&◌, ◌||◌, if◌then◌else◌, List, [], ◌∷◌, Option, None, Some, is_some}
 use Rattle.aa_access.specs.Access.{EXEC, has}
-use Rattle.aa_glob.specs.Exactness.{is_exact}
-use Rattle.aa_glob.specs.Matching.{matches}
-use Rattle.aa_glob.specs.Reading.{items_of}
+use Rattle.aa_elements.specs.Exactness.{is_exact}
+use Rattle.aa_elements.specs.Matching.{matches}
+use Rattle.aa_elements.specs.Reading.{items_of}
 use Rattle.aa_policy.specs.declared.profile.FileRule.{FileRule}
 use Rattle.aa_policy.specs.declared.profile.Rule.{Rule}
 use Rattle.aa_policy.specs.declared.profile.Rule.TheVariants.{File}

@@ -4,11 +4,11 @@ use Rattle.std.proofs.lemmas.Bool.{false≢true}
 use Rattle.std.proofs.Math.Seq.{drop-append-add, set-append_seam, take-append-add}
 use Rattle.std.proofs.lemmas.List.{append_assoc, append-nil, length-append, length-drop, length-set, set_split, take_at}
 use Rattle.aa_glob.proofs.ReadLemmas.{ReadsOn-item}
-use Rattle.aa_glob.specs.Items.{End, Group, NoMore, More}
+use Rattle.aa_elements.specs.Items.{End, Group, NoMore, More}
 use Rattle.aa_glob.specs.code.Layout.{alternative, steps_of, steps_of_each}
 use Rattle.aa_glob.specs.code.Alternatives.{IsInGroup, begun, ended, has_more, laid_out}
 use Rattle.aa_glob.specs.code.Progress.{ReadsOn, stopped}
-use Rattle.aa_glob.specs.Reading.{Pieces, Cut, Closed, behind_comma, ending_of, first_of, group, others_of}
+use Rattle.aa_elements.specs.Reading.{Pieces, Cut, Closed, behind_comma, ending_of, first_of, group, others_of}
 use Rattle.aa_glob.specs.declared.item.Stop.{Stop}
 use Rattle.aa_glob.specs.declared.item.Stop.TheVariants.{End as AtEnd, Comma, Close}
 use Rattle.aa_glob.specs.declared.step.Step.{Step}

@@ -1,8 +1,8 @@
 -- A pattern's steps that take a byte for itself are its first items that are bytes.
 use Rattle.std.proofs.Common.{◌≡◌, ◌+◌, refl, ap}
 use Rattle.std.specs.List.{list_all, prefix_len}
-use Rattle.aa_glob.specs.Exactness.{is_exact, literal_prefix}
-use Rattle.aa_glob.specs.Items.{Pattern, End, Next, Byte, Set, Star, DoubleStar, Group}
+use Rattle.aa_elements.specs.Exactness.{is_exact, literal_prefix}
+use Rattle.aa_elements.specs.Items.{Pattern, End, Next, Byte, Set, Star, DoubleStar, Group}
 use Rattle.aa_glob.specs.code.Layout.{steps_of}
 use Rattle.aa_glob.specs.code.Steps.{is_byte}
 

@@ -8,9 +8,9 @@ use Rattle.aa_bytes.specs.ByteSets.{has, is_inside}
 use Rattle.aa_bytes.specs.declared.byte_set.ByteSet.{ByteSet}
 use Rattle.aa_glob.specs.declared.step.Step.{Step}
 use Rattle.aa_glob.specs.declared.step.Step.TheVariants.{Byte as ByteStep, One, Star as StarStep, DoubleStar as DoubleStarStep, Fork, Jump}
-use Rattle.aa_glob.specs.Items.{Item, Byte, Set, Star, DoubleStar, Group, Pattern, End, Next, Patterns, NoMore, More}
+use Rattle.aa_elements.specs.Items.{Item, Byte, Set, Star, DoubleStar, Group, Pattern, End, Next, Patterns, NoMore, More}
 use Rattle.aa_glob.specs.code.Layout.{alternative, steps_of_item, steps_of, steps_of_each}
-use Rattle.aa_glob.specs.Matching.{is_of, matches, some_matches}
+use Rattle.aa_elements.specs.Matching.{is_of, matches, some_matches}
 use Rattle.aa_glob.specs.code.Steps.{leads, takes, accepting, accepting_byte}
 
 -- the step at a context accepts a text; behind the last step is the end

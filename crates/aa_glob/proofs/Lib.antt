@@ -1,5 +1,4 @@
 pub mod AlternativeLemmas
-pub mod ClassLemmas
 pub mod ExactnessLemmas
 pub mod LayoutLemmas
 pub mod MatchLemmas

@@ -8,8 +8,8 @@ use Rattle.std.specs.List.{list_all}
 use Rattle.std.specs.Str.{bytes_eq}
 use Rattle.aa_bytes.specs.ByteSets.{has, is_inside}
 use Rattle.aa_bytes.specs.declared.byte_set.ByteSet.{ByteSet}
-use Rattle.aa_glob.specs.Items.{Item, Byte, Set, Star, DoubleStar, Group, Pattern, End, Next, Patterns, NoMore, More}
-use Rattle.aa_glob.specs.Matching.{some_split, is_one_of, is_of, matches, some_matches, IsInside, IsOf, Matches, SomeMatches}
+use Rattle.aa_elements.specs.Items.{Item, Byte, Set, Star, DoubleStar, Group, Pattern, End, Next, Patterns, NoMore, More}
+use Rattle.aa_elements.specs.Matching.{some_split, is_one_of, is_of, matches, some_matches, IsInside, IsOf, Matches, SomeMatches}
 
 -- some split passes a test exactly where the text can be cut in two so that what the test decides holds
 Decides-some_split : (test : List ℕ → List ℕ → Bool) (P : List ℕ → List ℕ → Type 0) → ((u v : List ℕ) → Decides (test u v) (P u v)) → (s : List ℕ) → Decides (some_split test s) ((u v : List ℕ) × (s ≡ u ++ v) × P u v)

@@ -7,21 +7,21 @@ use Rattle.aa_bytes.specs.Bytes.{is_letter_or_digit}
 use Rattle.aa_glob.proofs.MatchLemmas.{Decides-matches}
 use Rattle.aa_glob.proofs.ReadingLaws.{reading-quoted}
 use Rattle.aa_bytes.specs.ByteSets.{has}
-use Rattle.aa_glob.specs.Items.{Item, Byte, Set, Star, DoubleStar, Group, Pattern, End, Next, Patterns, NoMore, More}
-use Rattle.aa_glob.specs.Exactness.{is_exact}
-use Rattle.aa_glob.specs.Symbols.{symbols}
-use Rattle.aa_glob.specs.Elements.{Element, Single, Open, Comma, Close, Fault, context_after, begins_plain, behind_class, class_element, is_whole_segment, stars, run, elements}
-use Rattle.aa_glob.specs.Classes.{class}
-use Rattle.aa_glob.specs.Reading.{Pieces, Cut, Ending, Ended, Closed, Refused, onto, behind_comma, group, deepest, pieces, whole, longest, begins_with_slash, has_zero, reading, items_read, items_of, HasNoFirstFault}
-use Rattle.aa_glob.specs.Matching.{matches, IsOf, Matches, SomeMatches}
+use Rattle.aa_elements.specs.Items.{Item, Byte, Set, Star, DoubleStar, Group, Pattern, End, Next, Patterns, NoMore, More}
+use Rattle.aa_elements.specs.Exactness.{is_exact}
+use Rattle.aa_elements.specs.Symbols.{symbols}
+use Rattle.aa_elements.specs.Elements.{Element, Single, Open, Comma, Close, Fault, context_after, begins_plain, behind_class, class_element, is_whole_segment, stars, run, elements}
+use Rattle.aa_elements.specs.Classes.{class}
+use Rattle.aa_elements.specs.Reading.{Pieces, Cut, Ending, Ended, Closed, Refused, onto, behind_comma, group, deepest, pieces, whole, longest, begins_with_slash, has_zero, reading, items_read, items_of, HasNoFirstFault}
+use Rattle.aa_elements.specs.Matching.{matches, IsOf, Matches, SomeMatches}
 use Rattle.aa_glob.specs.Laws.{quoted, bytes_pattern, bytes_of}
 use Rattle.aa_bytes.specs.declared.byte_set.ByteSet.{ByteSet}
 use Rattle.aa_bytes.specs.declared.byte_set.ByteSet.TheVariants.{Inside, Class}
-use Rattle.aa_glob.specs.declared.symbol.Symbol.{Symbol}
-use Rattle.aa_glob.specs.declared.symbol.Symbol.TheVariants.{Plain, Escaped, Broken}
-use Rattle.aa_glob.specs.declared.pattern_error.PatternError.{PatternError}
-use Rattle.aa_glob.specs.declared.context.Context.{Context}
-use Rattle.aa_glob.specs.declared.context.Context.TheVariants.{AfterSlash, AfterStar, Elsewhere}
+use Rattle.aa_elements.specs.declared.symbol.Symbol.{Symbol}
+use Rattle.aa_elements.specs.declared.symbol.Symbol.TheVariants.{Plain, Escaped, Broken}
+use Rattle.aa_elements.specs.declared.pattern_error.PatternError.{PatternError}
+use Rattle.aa_elements.specs.declared.context.Context.{Context}
+use Rattle.aa_elements.specs.declared.context.Context.TheVariants.{AfterSlash, AfterStar, Elsewhere}
 
 -- The test says that the text can be cut into one text for each item.
 pub matching-by_splits : (items : Pattern) (text : List ℕ) → (IsTrue (matches items text) ↔ Matches items text)

@@ -5,30 +5,27 @@ use Rattle.std.proofs.lemmas.Bool.Decides.{nat_tests}
 use Rattle.std.proofs.lemmas.List.Elements.{All-head, All-tail}
 use Rattle.std.specs.List.{All, list_any}
 use Rattle.aa_bytes.specs.Bytes.{is_letter_or_digit}
-use Rattle.aa_glob.specs.Items.{Item, Byte, Set, Pattern, Patterns, NoMore, More}
-use Rattle.aa_glob.specs.Symbols.{byte_of, is_broken, is_plain, symbols}
-use Rattle.aa_glob.specs.Elements.{Element, Single, Open, Comma, Close, Fault, behind_class, class_element, context_after, is_whole_segment, run, elements}
-use Rattle.aa_glob.specs.Classes.{class, is_range, members, set_of}
-use Rattle.aa_glob.proofs.ClassLemmas.{behind_first, behind_first-alone, is_dash, members-first}
-use Rattle.aa_glob.specs.Reading.{Pieces, Cut, Ended, Closed, Refused, onto, behind_comma, group, deepest, pieces, whole, longest, begins_with_slash, HasNoFirstFault, reading}
+use Rattle.aa_elements.specs.Items.{Item, Byte, Set, Pattern, Patterns, NoMore, More}
+use Rattle.aa_elements.specs.Symbols.{byte_of, is_broken, is_plain, symbols}
+use Rattle.aa_elements.specs.Elements.{Element, Single, Open, Comma, Close, Fault, behind_class, class_element, context_after, is_whole_segment, run, elements}
+use Rattle.aa_elements.specs.Classes.{class, is_range, members, set_of}
+use Rattle.aa_elements.proofs.ClassLemmas.{behind_first, behind_first-alone, is_dash, members-first}
+use Rattle.aa_elements.proofs.FaultLemmas.{reading-whole}
+use Rattle.aa_elements.proofs.SymbolLemmas.{symbols-plain}
+use Rattle.aa_elements.specs.Reading.{Pieces, Cut, Ended, Closed, Refused, onto, behind_comma, group, deepest, pieces, whole, longest, begins_with_slash, HasNoFirstFault, reading}
 use Rattle.aa_glob.specs.Laws.{needs_backslash, quoted, bytes_pattern, ends_with_backslash, is_told_before_end, IsRefusedBeforeEnd, IsRefusedHoweverItEnds}
 use Rattle.aa_bytes.specs.declared.byte_set.ByteRange.{ByteRange}
 use Rattle.aa_bytes.specs.declared.byte_set.ByteSet.TheVariants.{Inside}
-use Rattle.aa_glob.specs.declared.symbol.Symbol.{Symbol}
-use Rattle.aa_glob.specs.declared.symbol.Symbol.TheVariants.{Plain, Escaped, Broken}
-use Rattle.aa_glob.specs.declared.pattern_error.PatternError.{PatternError}
-use Rattle.aa_glob.specs.declared.pattern_error.PatternError.TheVariants.{NotAbsolute, UnclosedClass, EmptyClass, UnclosedGroup, FewAlternatives, BadEscape, TooLong, TooDeep, ZeroByte}
-use Rattle.aa_glob.specs.declared.context.Context.{Context}
-use Rattle.aa_glob.specs.declared.context.Context.TheVariants.{AfterSlash, AfterStar, Elsewhere}
+use Rattle.aa_elements.specs.declared.symbol.Symbol.{Symbol}
+use Rattle.aa_elements.specs.declared.symbol.Symbol.TheVariants.{Plain, Escaped, Broken}
+use Rattle.aa_elements.specs.declared.pattern_error.PatternError.{PatternError}
+use Rattle.aa_elements.specs.declared.pattern_error.PatternError.TheVariants.{NotAbsolute, UnclosedClass, EmptyClass, UnclosedGroup, FewAlternatives, BadEscape, TooLong, TooDeep, ZeroByte}
+use Rattle.aa_elements.specs.declared.context.Context.{Context}
+use Rattle.aa_elements.specs.declared.context.Context.TheVariants.{AfterSlash, AfterStar, Elsewhere}
 
 -- a byte that needs a backslash is no letter and no digit
 marked-no_letter : (b : ℕ) → needs_backslash b ≡ true → is_letter_or_digit b ≡ false
 marked-no_letter b marked = grind (arith, nat_tests)
-
--- the symbol of a byte that is no backslash
-symbols-plain : (b : ℕ) (bs : List ℕ) → (b == 92) ≡ false → symbols (b ∷ bs) ≡ Plain b ∷ symbols bs
-symbols-plain b [] plain = rw plain refl
-symbols-plain b (c ∷ bs) plain = rw plain refl
 
 -- a byte that needs none passes none of the tests that a reader makes, but that for a comma
 unmarked : (b : ℕ) → needs_backslash b ≡ false → ((b == 92) ≡ false) × ((b == 42) ≡ false) × ((b == 91) ≡ false) × ((b == 63) ≡ false) × ((b == 123) ≡ false) × ((b == 125) ≡ false)
@@ -53,13 +50,6 @@ pieces-quoted context (b ∷ bs) = elim (cases_Bool (needs_backslash b)) [
   | inl marked ↦ rw (marked, marked-no_letter b marked) (ap (onto (Byte b)) (pieces-quoted (context_after b) bs))
   | inr plain ↦ rw (plain, symbols-plain b (quoted bs) (unmarked b plain).0) (pieces-plain context b (symbols (quoted bs)) plain ∙ ap (onto (Byte b)) (pieces-quoted (context_after b) bs))
 ]
-
--- what a text reads as that has none of the faults that are told first
-pub reading-whole : (text : List ℕ) → HasNoFirstFault text → reading text ≡ whole (pieces 0 (elements Elsewhere (symbols text)))
-reading-whole text fine =
-    let short : length text ≤ 4096 = fine.0 in
-    let fits : nat_le (length text) 4096 ≡ true = grind (arith, nat_tests) in
-    rw (fits, fine.1, fine.2) refl
 
 -- A text with a backslash before each byte that needs one reads as its bytes.
 pub reading-quoted : (text : List ℕ) → HasNoFirstFault (quoted text) → reading (quoted text) ≡ Ok (bytes_pattern text)

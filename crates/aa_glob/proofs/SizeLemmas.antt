@@ -3,23 +3,23 @@ use Rattle.std.proofs.Common.{◌≡◌, ℕ, ◌+◌, ◌-◌, ◌*◌, ◌≤�
 use Rattle.std.proofs.lemmas.Bool.{cases_Bool}
 use Rattle.std.proofs.lemmas.List.{append-nil, length-append}
 use Rattle.aa_bytes.specs.Bytes.{backslash, closing_brace, closing_bracket, comma, opening_brace, opening_bracket, question_mark, star, is_letter_or_digit}
-use Rattle.aa_glob.specs.Classes.{class}
+use Rattle.aa_elements.specs.Classes.{class}
 use Rattle.aa_glob.specs.code.Compiled.{IsCompiled}
 use Rattle.aa_glob.specs.code.Progress.{ReadsOn, pieces_of}
-use Rattle.aa_glob.proofs.ReadingLaws.{reading-whole}
+use Rattle.aa_elements.proofs.FaultLemmas.{reading-whole}
 use Rattle.aa_glob.specs.code.Layout.{alternative, steps_of, steps_of_each, steps_of_item}
-use Rattle.aa_glob.specs.Elements.{Element, Single, Open, Comma, Close, Fault, begins_plain, behind_class, class_element, context_after, elements, is_whole_segment, run, stars}
-use Rattle.aa_glob.specs.Items.{Item, Byte, Star, DoubleStar, Group, Pattern, End, Patterns, NoMore, More}
-use Rattle.aa_glob.specs.Reading.{Pieces, Cut, Ending, Ended, Closed, Refused, begins_with_slash, behind_comma, deepest, first_of, group, has_zero, items_of, items_read, longest, onto, pieces, reading, whole, HasNoFirstFault}
-use Rattle.aa_glob.specs.Symbols.{is_plain, symbols}
+use Rattle.aa_elements.specs.Elements.{Element, Single, Open, Comma, Close, Fault, begins_plain, behind_class, class_element, context_after, elements, is_whole_segment, run, stars}
+use Rattle.aa_elements.specs.Items.{Item, Byte, Star, DoubleStar, Group, Pattern, End, Patterns, NoMore, More}
+use Rattle.aa_elements.specs.Reading.{Pieces, Cut, Ending, Ended, Closed, Refused, begins_with_slash, behind_comma, deepest, first_of, group, has_zero, items_of, items_read, longest, onto, pieces, reading, whole, HasNoFirstFault}
+use Rattle.aa_elements.specs.Symbols.{is_plain, symbols}
 use Rattle.aa_bytes.specs.declared.byte_set.ByteSet.{ByteSet}
-use Rattle.aa_glob.specs.declared.context.Context.{Context}
-use Rattle.aa_glob.specs.declared.context.Context.TheVariants.{AfterSlash, AfterStar, Elsewhere}
-use Rattle.aa_glob.specs.declared.pattern_error.PatternError.{PatternError}
+use Rattle.aa_elements.specs.declared.context.Context.{Context}
+use Rattle.aa_elements.specs.declared.context.Context.TheVariants.{AfterSlash, AfterStar, Elsewhere}
+use Rattle.aa_elements.specs.declared.pattern_error.PatternError.{PatternError}
 use Rattle.aa_glob.specs.declared.step.Step.{Step}
 use Rattle.aa_glob.specs.declared.step.Step.TheVariants.{Jump}
-use Rattle.aa_glob.specs.declared.symbol.Symbol.{Symbol}
-use Rattle.aa_glob.specs.declared.symbol.Symbol.TheVariants.{Plain, Escaped, Broken}
+use Rattle.aa_elements.specs.declared.symbol.Symbol.{Symbol}
+use Rattle.aa_elements.specs.declared.symbol.Symbol.TheVariants.{Plain, Escaped, Broken}
 
 -- how many steps an element adds: a brace that begins a group its first fork, a comma a jump and a fork
 abbrev added : List Element → ℕ

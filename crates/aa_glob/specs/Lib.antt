@@ -1,10 +1,2 @@
-pub mod Classes
 pub mod code
-pub mod Elements
-pub mod Exactness
-pub mod Items
 pub mod Laws
-pub mod Matching
-pub mod PatternError
-pub mod Reading
-pub mod Symbols

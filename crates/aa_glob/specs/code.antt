@@ -2,6 +2,5 @@
 pub mod Alternatives
 pub mod Compiled
 pub mod Layout
-pub mod Parts
 pub mod Progress
 pub mod Steps

@@ -2,10 +2,10 @@
 
 ghost use Rattle.std.specs.Prelude.{◌≡◌, ◌<◌, ◌+◌, length, IfOk, IfErr};
 ghost use Rattle.aa_glob.specs.code.Alternatives.{begun, ended};
-ghost use Rattle.aa_glob.specs.declared.pattern_error.PatternError.TheVariants.{Memory};
+ghost use Rattle.aa_elements.specs.declared.pattern_error.PatternError.TheVariants.{Memory};
 
-use crate::pattern_error::PatternError;
 use crate::step::Step;
+use aa_elements::PatternError;
 
 /// Begins an alternative behind another one, which has its fork at this place: the place of the jump between them. That is set
 /// right by `end_alternative`, the new fork at the next alternative.

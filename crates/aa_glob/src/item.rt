@@ -1,18 +1,15 @@
 //! Reading of what comes next in a piece: an item, a group's beginning or the piece's end.
 
-ghost use Rattle.std.specs.Prelude.{◌≡◌, ◌≢◌, ◌≤◌, ◌==◌, ◌+◌, ℕ, false, length, IfOk, IfErr};
-ghost use Rattle.aa_glob.specs.code.Progress.{IsNested, ReadsItem, ReadsOn, found, is_of_groups, least_length, pieces_behind, pieces_in};
-ghost use Rattle.aa_glob.specs.Reading.{Refused, deepest, ending_of};
-ghost use Rattle.aa_glob.specs.declared.pattern_error.PatternError.TheVariants.{Memory};
+ghost use Rattle.std.specs.Prelude.{◌≡◌, ◌≢◌, ◌≤◌, ◌==◌, ◌+◌, None, Some, IfOk, IfErr};
+ghost use Rattle.aa_elements.specs.Cursor.{context_behind, elements_from, left, meaning};
+ghost use Rattle.aa_elements.specs.Reading.{Refused, deepest, ending_of, pieces};
+ghost use Rattle.aa_elements.specs.declared.pattern_error.PatternError.TheVariants.{Memory};
+ghost use Rattle.aa_glob.specs.code.Progress.{IsNested, ReadsOn, found, least_left, pieces_in, step_of};
 
-use crate::class::read_class;
-use crate::context::{Context, context_after};
-use crate::pattern_error::PatternError;
-use crate::star::read_star;
 use crate::step::Step;
-use crate::symbol::{Symbol, first_symbol};
 use aa_bytes::ByteSet;
-use std::alloc::Global;
+use aa_elements::{Context, Element, Next, PatternError, next_element};
+use std::alloc::{AllocError, Global};
 
 // How deep groups may stand in one another.
 const DEEPEST: usize = 16;
@@ -48,17 +45,85 @@ pub fn read_next<'a>(
     requires { depth ≤ deepest }
     ensures ok { IfOk result (λ next. ReadsOn steps.old.items (pieces_in depth context text.now) steps.new.items (found depth next)) }
     ensures nested { IfOk result (λ next. IsNested depth next) }
-    ensures shorter { IfOk result (λ next. least_length next ≤ length text.now) }
+    ensures shorter { IfOk result (λ next. least_left next ≤ left context text.now) }
     ensures refused { IfErr result (λ error. error ≢ Memory → ending_of (pieces_in depth context text.now) ≡ Refused error) }
 {
-    match first_symbol(text) {
-        None => Ok(Found::PieceEnd(Stop::End)),
-        Some((Symbol::Broken, _)) => Err(PatternError::BadEscape),
-        Some((Symbol::Escaped(byte), rest)) => {
-            steps.push(Step::Byte(byte))?;
-            Ok(Found::Item(context_after(byte), rest))
+    match next_element(context, text) {
+        Ok(Some(next)) => read_element(alloc, steps, depth, next),
+        Ok(None) => Ok(Found::PieceEnd(Stop::End)),
+        Err(error) => Err(error),
+    }
+}
+
+// The same behind the element that comes next.
+fn read_element<'a>(
+    alloc: Global,
+    steps: &mut Vec<Step>,
+    depth: usize,
+    next: Next<'a>,
+) -> Result<Found<'a>, PatternError>
+    requires depth { depth ≤ deepest }
+    requires context { next.context ≡ context_behind next.element }
+    ensures ok { IfOk result (λ read. ReadsOn steps.old.items (pieces depth (elements_from (Some next.entry))) steps.new.items (found depth read)) }
+    ensures nested { IfOk result (λ read. IsNested depth read) }
+    ensures within { IfOk result (λ read. least_left read ≤ left next.entry.context next.entry.rest.now + 1) }
+    ensures refused { IfErr result (λ error. error ≢ Memory → ending_of (pieces depth (elements_from (Some next.entry))) ≡ Refused error) }
+{
+    match item_step(alloc, next.element)? {
+        Some(step) => {
+            steps.push(step)?;
+            Ok(Found::Item(next.context, next.rest))
         }
-        Some((Symbol::Plain(byte), rest)) => read_plain(alloc, steps, depth, context, byte, rest),
+        None => read_mark(steps, depth, next),
+    }
+}
+
+// The step of an element that is an item; none, where it is a brace or a comma.
+fn item_step(alloc: Global, element: Element) -> Result<Option<Step>, AllocError>
+    ensures { IfOk result (λ step. step ≡ step_of (meaning element.entry)) }
+{
+    match element {
+        Element::Byte(byte) => Ok(Some(Step::Byte(byte))),
+        Element::Inside => Ok(Some(Step::One(ByteSet::Inside))),
+        Element::Class(class) => Ok(Some(Step::One(class.set(alloc)?))),
+        Element::Star => Ok(Some(Step::Star)),
+        Element::DoubleStar => Ok(Some(Step::DoubleStar)),
+        Element::Open | Element::Comma | Element::Close => Ok(None),
+    }
+}
+
+// Reads on behind a brace or a comma.
+fn read_mark<'a>(
+    steps: &mut Vec<Step>,
+    depth: usize,
+    next: Next<'a>,
+) -> Result<Found<'a>, PatternError>
+    requires depth { depth ≤ deepest }
+    requires context { next.context ≡ context_behind next.element }
+    requires mark { step_of (meaning next.element) ≡ None }
+    ensures ok { IfOk result (λ read. ReadsOn steps.old.items (pieces depth (elements_from (Some next.entry))) steps.new.items (found depth read)) }
+    ensures nested { IfOk result (λ read. IsNested depth read) }
+    ensures within { IfOk result (λ read. least_left read ≤ left next.entry.context next.entry.rest.now + 1) }
+    ensures refused { IfErr result (λ error. error ≢ Memory → ending_of (pieces depth (elements_from (Some next.entry))) ≡ Refused error) }
+{
+    match next.element {
+        Element::Open => {
+            if is_deepest(depth) {
+                Err(PatternError::TooDeep)
+            } else {
+                Ok(Found::Group(next.rest))
+            }
+        }
+        Element::Comma => {
+            if depth == 0 {
+                steps.push(Step::Byte(b','))?;
+                Ok(Found::Item(next.context, next.rest))
+            } else {
+                Ok(Found::PieceEnd(Stop::Comma(next.rest)))
+            }
+        }
+        Element::Close => Ok(Found::PieceEnd(Stop::Close(next.rest))),
+        _ => unreachable!(),
     }
 }
 
@@ -67,77 +132,4 @@ fn is_deepest(depth: usize) -> bool
     ensures { result ≡ (depth == deepest) }
 {
     depth == DEEPEST
-}
-
-// The same behind a byte without a backslash.
-fn read_plain<'a>(
-    alloc: Global,
-    steps: &mut Vec<Step>,
-    depth: usize,
-    context: Context,
-    byte: u8,
-    text: &'a [u8],
-) -> Result<Found<'a>, PatternError>
-    requires { depth ≤ deepest }
-    ensures ok { IfOk result (λ next. ReadsOn steps.old.items (pieces_behind depth context byte text.now) steps.new.items (found depth next)) }
-    ensures nested { IfOk result (λ next. IsNested depth next) }
-    ensures within { IfOk result (λ next. least_length next ≤ length text.now + 1) }
-    ensures refused { IfErr result (λ error. error ≢ Memory → ending_of (pieces_behind depth context byte text.now) ≡ Refused error) }
-{
-    match byte {
-        b'{' => {
-            if is_deepest(depth) {
-                Err(PatternError::TooDeep)
-            } else {
-                Ok(Found::Group(text))
-            }
-        }
-        b',' => {
-            if depth == 0 {
-                steps.push(Step::Byte(b','))?;
-                Ok(Found::Item(Context::Elsewhere, text))
-            } else {
-                Ok(Found::PieceEnd(Stop::Comma(text)))
-            }
-        }
-        b'}' => Ok(Found::PieceEnd(Stop::Close(text))),
-        _ => {
-            let (behind, rest) = read_item(alloc, steps, context, byte, text)?;
-            Ok(Found::Item(behind, rest))
-        }
-    }
-}
-
-// Reads the item that begins with a byte that has no backslash and is none of a group's: the context behind it, and what is left.
-fn read_item<'a>(
-    alloc: Global,
-    steps: &mut Vec<Step>,
-    context: Context,
-    byte: u8,
-    text: &'a [u8],
-) -> Result<(Context, &'a [u8]), PatternError>
-    requires { is_of_groups byte ≡ false }
-    ensures ok { IfOk result (λ read. ReadsItem steps.old.items context byte text.now steps.new.items read.0 read.1.now) }
-    ensures within { IfOk result (λ read. length read.1.now ≤ length text.now) }
-    ensures refused { IfErr result (λ error. error ≢ Memory → (depth : ℕ) → ending_of (pieces_behind depth context byte text.now) ≡ Refused error) }
-{
-    match byte {
-        b'*' => {
-            read_star(steps, context, text)?;
-            Ok((Context::AfterStar, text))
-        }
-        b'?' => {
-            steps.push(Step::One(ByteSet::Inside))?;
-            Ok((Context::Elsewhere, text))
-        }
-        b'[' => {
-            let (set, rest) = read_class(alloc, text)?;
-            steps.push(Step::One(set))?;
-            Ok((Context::Elsewhere, rest))
-        }
-        _ => {
-            steps.push(Step::Byte(byte))?;
-            Ok((context_after(byte), text))
-        }
-    }
 }

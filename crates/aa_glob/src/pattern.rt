@@ -1,24 +1,20 @@
 //! Patterns: texts that were read, with the steps by which they are matched.
 
-ghost use Rattle.std.specs.Prelude.{◌≡◌, ◌≢◌, ◌↔◌, Ok, Err, IfOk, IfErr, IsTrue, OnOk};
-ghost use Rattle.aa_glob.specs.Exactness.{is_exact, literal_prefix};
-ghost use Rattle.aa_glob.specs.Matching.{Matches, matches};
-ghost use Rattle.aa_glob.specs.Reading.{HasNoFirstFault, items_of, reading};
+ghost use Rattle.std.specs.Prelude.{◌≡◌, ◌≢◌, ◌↔◌, Ok, Err, IfOk, IfErr, IsTrue};
+ghost use Rattle.aa_elements.specs.Exactness.{is_exact, literal_prefix};
+ghost use Rattle.aa_elements.specs.Matching.{Matches, matches};
+ghost use Rattle.aa_elements.specs.Reading.{HasNoFirstFault, items_of, reading};
 ghost use Rattle.aa_glob.specs.code.Steps.{is_byte};
 ghost use Rattle.std.specs.List.{list_all, prefix_len};
-ghost use Rattle.aa_glob.specs.declared.pattern_error.PatternError.TheVariants.{Memory};
+ghost use Rattle.aa_elements.specs.declared.pattern_error.PatternError.TheVariants.{Memory};
 
 use crate::item::Stop;
 use crate::matching::accepts;
-use crate::pattern_error::PatternError;
 use crate::reading::read_items;
 use crate::step::{Step, copied_steps};
-use aa_bytes::{begins_with_byte, has_byte};
+use aa_elements::{PatternError, check_text};
 use std::alloc::{AllocError, Global};
 use std::marker::Model;
-
-/// How many bytes the text of a pattern may have.
-pub const LONGEST_PATTERN: usize = 4_096;
 
 /// A pattern of paths. Contracts see its text, which reads as a pattern (`docs/policy.md`, "Patterns").
 #[derive(Debug, Drop)]
@@ -106,24 +102,6 @@ impl Pattern {
             steps: copied_steps(alloc, &self.steps)?,
         })
     }
-}
-
-// Refuses a text with one of the faults that are told before anything is read.
-fn check_text(text: &[u8]) -> Result<(), PatternError>
-    ensures fine { OnOk result (HasNoFirstFault text.now) }
-    ensures refused { IfErr result (λ error. reading text.now ≡ Err error) }
-    ensures memory { IfErr result (λ error. error ≢ Memory) }
-{
-    if text.len() > LONGEST_PATTERN {
-        return Err(PatternError::TooLong);
-    }
-    if has_byte(0, text) {
-        return Err(PatternError::ZeroByte);
-    }
-    if !begins_with_byte(b'/', text) {
-        return Err(PatternError::NotAbsolute);
-    }
-    Ok(())
 }
 
 fn is_byte(step: &Step) -> bool

@@ -2,14 +2,13 @@
 
 ghost use Rattle.std.specs.Prelude.{◌≡◌, ◌≢◌, ◌≤◌, ◌-◌, false, length, IfOk, IfErr};
 ghost use Rattle.aa_glob.specs.code.Progress.{ReadsOn, bytes_left, is_comma, pieces_of, stopped};
-ghost use Rattle.aa_glob.specs.Reading.{Refused, deepest, ending_of, group};
-ghost use Rattle.aa_glob.specs.declared.pattern_error.PatternError.TheVariants.{Memory};
+ghost use Rattle.aa_elements.specs.Reading.{Refused, deepest, ending_of, group};
+ghost use Rattle.aa_elements.specs.declared.pattern_error.PatternError.TheVariants.{Memory};
 
 use crate::alternative::{begin_alternative, end_alternative};
-use crate::context::Context;
 use crate::item::{Found, Stop, read_next};
-use crate::pattern_error::PatternError;
 use crate::step::Step;
+use aa_elements::{Context, PatternError};
 use std::alloc::Global;
 
 /// Reads the items of a piece that stands in so many groups, up to the text's end or to the comma or brace that ends it.

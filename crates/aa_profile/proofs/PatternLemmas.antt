@@ -4,7 +4,7 @@ use Rattle.std.specs.Prelude.{nat_le, Result, Ok, Err, IfOk}
 use Rattle.std.proofs.lemmas.Bool.{cases_lt}
 use Rattle.std.proofs.lemmas.Bool.Decides.{nat_tests}
 use Rattle.std.proofs.lemmas.List.{length-take-le, take_all}
-use Rattle.aa_glob.specs.Reading.{longest}
+use Rattle.aa_elements.specs.Reading.{longest}
 use Rattle.aa_parts.specs.Joining.{most_kept}
 use Rattle.aa_profile.specs.Patterns.{collapsed, refusal_of_expansion, refusal_of_expansions}
 use Rattle.aa_refusals.specs.declared.profile_error.ProfileRefusal.{ProfileRefusal}

@@ -3,7 +3,7 @@ use Rattle.std.specs.Option.{option_map}
 use Rattle.std.specs.Prelude.{ℕ, ◌+◌, ◌&&◌, ◌==◌, nat_le, if◌then◌else◌, List, [], ◌∷◌, length, map, Option, None, Some, Ok, Err}
 use Rattle.aa_bytes.specs.Bytes.{slash}
 use Rattle.aa_bytes.specs.Texts.{begins_with_byte}
-use Rattle.aa_glob.specs.Reading.{longest, reading}
+use Rattle.aa_elements.specs.Reading.{longest, reading}
 use Rattle.aa_faults.specs.Tokens.{place_of, text_of}
 use Rattle.aa_text.specs.Splicing.{Placed}
 use Rattle.aa_variables.specs.Expansions.{expansions}

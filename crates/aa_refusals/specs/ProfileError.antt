@@ -3,8 +3,8 @@ use Rattle.std.specs.Prelude.{ℕ, List, codes, None, Some}
 use Rattle.aa_files.specs.declared.text_error.Place.{Place}
 use Rattle.aa_files.specs.declared.text_error.TextRefusal.{TextRefusal}
 use Rattle.aa_files.specs.declared.text_error.TextRefusal.TheVariants as text
-use Rattle.aa_glob.specs.declared.pattern_error.PatternError.{PatternError}
-use Rattle.aa_glob.specs.declared.pattern_error.PatternError.TheVariants as pattern
+use Rattle.aa_elements.specs.declared.pattern_error.PatternError.{PatternError}
+use Rattle.aa_elements.specs.declared.pattern_error.PatternError.TheVariants as pattern
 use Rattle.aa_faults.specs.declared.grammar_error.GrammarError.{GrammarError}
 use Rattle.aa_faults.specs.declared.fault.GrammarRefusal.{GrammarRefusal}
 use Rattle.aa_faults.specs.declared.fault.GrammarRefusal.TheVariants as grammar

@@ -2,8 +2,8 @@
 -- Accumulation", "Capability Rules" and "Network Rules"; see docs/policy.md). Requests of all kinds are decided alike, by sets of needs.
 use Rattle.std.specs.Prelude.{ℕ, Bool, false, not, ◌-◌, ◌&&◌, ◌||◌, ◌==◌, if◌then◌else◌, List, fold, None, Some, is_some}
 use Rattle.aa_access.specs.Request.{Request, ForCapability, ForFile, ForSockets}
-use Rattle.aa_glob.specs.Matching.{matches}
-use Rattle.aa_glob.specs.Reading.{items_of}
+use Rattle.aa_elements.specs.Matching.{matches}
+use Rattle.aa_elements.specs.Reading.{items_of}
 use Rattle.aa_access.specs.Access.{EXEC, all_letters, common, union, without, covered}
 use Rattle.aa_policy.specs.Cover.{covers_capability, covers_socket}
 use Rattle.aa_policy.specs.declared.profile.FileRule.{FileRule}

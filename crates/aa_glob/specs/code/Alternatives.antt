@@ -1,8 +1,8 @@
 -- How the alternatives of a group are laid out, one behind the other.
 use Rattle.std.specs.Prelude.{◌≡◌, ℕ, Bool, true, false, ◌+◌, ◌-◌, ◌<◌, List, [], ◌∷◌, ◌++◌, length, take, drop, slice_set}
 use Rattle.aa_glob.specs.code.Layout.{alternative, steps_of, steps_of_each}
-use Rattle.aa_glob.specs.Items.{Patterns, NoMore, More}
-use Rattle.aa_glob.specs.Reading.{Pieces, ending_of, first_of, others_of}
+use Rattle.aa_elements.specs.Items.{Patterns, NoMore, More}
+use Rattle.aa_elements.specs.Reading.{Pieces, ending_of, first_of, others_of}
 use Rattle.aa_glob.specs.declared.step.Step.{Step}
 use Rattle.aa_glob.specs.declared.step.Step.TheVariants.{Fork, Jump}
 

@@ -1,7 +1,7 @@
 -- What a pattern holds: a text that reads as a pattern, and the steps of its items.
 use Rattle.std.specs.Prelude.{◌≡◌, ℕ, ◌+◌, ◌*◌, ◌≤◌, List, length, Ok}
 use Rattle.aa_glob.specs.code.Layout.{steps_of}
-use Rattle.aa_glob.specs.Reading.{items_of, longest, reading}
+use Rattle.aa_elements.specs.Reading.{items_of, longest, reading}
 use Rattle.aa_glob.specs.declared.step.Step.{Step}
 
 -- how many steps a pattern may have

@@ -1,20 +1,19 @@
 -- How far the reading of a pattern's text has come, told by the steps that it has made.
-use Rattle.std.specs.Prelude.{◌≡◌, ℕ, Bool, true, false, ◌==◌, ◌||◌, ◌+◌, ◌-◌, ◌<◌, List, ◌∷◌, ◌++◌, length}
-use Rattle.aa_bytes.specs.Bytes.{closing_brace, comma, opening_brace}
-use Rattle.aa_glob.specs.Elements.{Element, elements, run}
-use Rattle.aa_glob.specs.Items.{End as NoItem, NoMore}
+use Rattle.std.specs.Prelude.{◌≡◌, ℕ, Bool, true, false, ◌+◌, ◌-◌, ◌<◌, List, ◌++◌, length, Option, None, Some}
+use Rattle.aa_elements.specs.Elements.{Element, Single, elements}
+use Rattle.aa_elements.specs.Cursor.{left}
+use Rattle.aa_elements.specs.Items.{Byte, Set, Star, DoubleStar, End as NoItem, NoMore}
 use Rattle.aa_glob.specs.code.Layout.{steps_of}
-use Rattle.aa_glob.specs.Symbols.{symbols}
-use Rattle.aa_glob.specs.Reading.{Pieces, Cut, Ended, Closed, behind_comma, deepest, ending_of, first_of, group, others_of, pieces}
-use Rattle.aa_glob.specs.declared.context.Context.{Context}
-use Rattle.aa_glob.specs.declared.context.Context.TheVariants.{Elsewhere}
+use Rattle.aa_elements.specs.Symbols.{symbols}
+use Rattle.aa_elements.specs.Reading.{Pieces, Cut, Ended, Closed, behind_comma, deepest, ending_of, first_of, group, others_of, pieces}
+use Rattle.aa_elements.specs.declared.context.Context.{Context}
+use Rattle.aa_elements.specs.declared.context.Context.TheVariants.{Elsewhere}
 use Rattle.aa_glob.specs.declared.item.Found.{Found}
 use Rattle.aa_glob.specs.declared.item.Found.TheVariants.{Item, Group, PieceEnd}
 use Rattle.aa_glob.specs.declared.item.Stop.{Stop}
 use Rattle.aa_glob.specs.declared.item.Stop.TheVariants.{End, Comma, Close}
 use Rattle.aa_glob.specs.declared.step.Step.{Step}
-use Rattle.aa_glob.specs.declared.symbol.Symbol.{Symbol}
-use Rattle.aa_glob.specs.declared.symbol.Symbol.TheVariants.{Plain}
+use Rattle.aa_glob.specs.declared.step.Step.TheVariants.{Byte as ByteStep, One, Star as StarStep, DoubleStar as DoubleStarStep}
 
 -- What was put behind the steps are those of the items that were read since: with the steps of the items that are left they are
 -- what they were with those of all items of the first piece. The other pieces are the same.
@@ -27,10 +26,6 @@ ReadsOn old before new after =
 -- the pieces of a text that stands in so many groups and in a context
 abbrev pub pieces_in : ℕ → Context → List ℕ → Pieces
 pieces_in depth context text = pieces depth (elements context (symbols text))
-
--- the same behind a byte without a backslash, which stands in the context
-abbrev pub pieces_behind : ℕ → Context → ℕ → List ℕ → Pieces
-pieces_behind depth context byte text = pieces depth (elements context (Plain byte ∷ symbols text))
 
 -- the pieces of a text at its beginning or behind a brace or comma
 abbrev pub pieces_of : ℕ → List ℕ → Pieces
@@ -65,20 +60,18 @@ IsNested depth (Item context rest) = Unit
 IsNested depth (Group rest) = depth < deepest
 IsNested depth (PieceEnd stop) = depth ≡ 0 → is_comma stop ≡ false
 
--- how many bytes a text has at least in which this comes next
-abbrev pub least_length : Found → ℕ
-least_length (Item context rest) = length rest.now + 1
-least_length (Group rest) = length rest.now + 1
-least_length (PieceEnd stop) = bytes_left stop
+-- how much was left to read at least where this comes next
+abbrev pub least_left : Found → ℕ
+least_left (Item context rest) = left context rest.now + 1
+least_left (Group rest) = left Elsewhere rest.now + 1
+least_left (PieceEnd End) = 0
+least_left (PieceEnd (Comma rest)) = left Elsewhere rest.now + 1
+least_left (PieceEnd (Close rest)) = left Elsewhere rest.now + 1
 
--- a byte is a brace or a comma
-abbrev pub is_of_groups : ℕ → Bool
-is_of_groups b = b == opening_brace || b == comma || b == closing_brace
-
--- in however many groups, an item was read that begins with this byte: the context behind it, and what is left
-abbrev pub ReadsItem : List Step → Context → ℕ → List ℕ → List Step → Context → List ℕ → Type 0
-ReadsItem old context byte text new behind rest = (depth : ℕ) → ReadsOn old (pieces_behind depth context byte text) new (pieces_in depth behind rest)
-
--- the same of a star, whatever elements are behind its run
-abbrev pub ReadsStar : List Step → Context → List Symbol → List Step → Type 0
-ReadsStar old context ls new = (depth : ℕ) (es : List Element) → ReadsOn old (pieces depth (run context ls ++ es)) new (pieces depth es)
+-- the step of an element that is an item; none, where it is a brace or a comma
+abbrev pub step_of : Element → Option Step
+step_of (Single (Byte b)) = Some (ByteStep b)
+step_of (Single (Set set)) = Some (One set)
+step_of (Single Star) = Some StarStep
+step_of (Single DoubleStar) = Some DoubleStarStep
+step_of element = None

@@ -1,8 +1,9 @@
 -- Each call is nearer to the greatest depth than the one that made it, or it is made for a part of the same group.
 use Rattle.std.proofs.Common.{◌≤◌, ◌<◌, ◌+◌, ◌*◌, ◌-◌, length}
+use Rattle.aa_elements.specs.Cursor.{left}
 use Rattle.aa_glob.specs.code.Alternatives.{IsInGroup}
 use Rattle.aa_glob.specs.code.Progress.{ReadsOn, pieces_in, pieces_of}
-use Rattle.aa_glob.specs.Reading.{deepest}
+use Rattle.aa_elements.specs.Reading.{deepest}
 use Rattle.aa_glob.proofs.reading.+reading.Given as goal
 
 abbrev pub decreases-read_group : goal.decreases-read_group
@@ -23,7 +24,7 @@ decreases-read_group-loop-jump l = length l.rest
 abbrev pub invariant-read_items-loop-behind : goal.invariant-read_items-loop-behind
 invariant-read_items-loop-behind l =
     ReadsOn l.fn.steps.items (pieces_of l.depth l.text) l.steps.items (pieces_in l.depth l.context l.rest)
-    × (length l.rest ≤ length l.text)
+    × (left l.context l.rest ≤ 2 * length l.text)
 
 abbrev pub decreases-read_items-loop-behind : goal.decreases-read_items-loop-behind
-decreases-read_items-loop-behind l = length l.rest
+decreases-read_items-loop-behind l = left l.context l.rest

@@ -1,7 +1,7 @@
 use Rattle.std.proofs.Common.{◌∙◌, ap}
 use Rattle.std.specs.List.{list_all}
-use Rattle.aa_glob.specs.Exactness.{is_exact}
-use Rattle.aa_glob.specs.Reading.{items_of}
+use Rattle.aa_elements.specs.Exactness.{is_exact}
+use Rattle.aa_elements.specs.Reading.{items_of}
 use Rattle.aa_glob.specs.code.Steps.{is_byte}
 use Rattle.aa_glob.proofs.ExactnessLemmas.{is_exact-steps}
 use Rattle.aa_glob.proofs.pattern.Pattern.is_exact.Goals as goal

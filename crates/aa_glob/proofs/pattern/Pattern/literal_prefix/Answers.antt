@@ -1,7 +1,7 @@
 use Rattle.std.proofs.Common.{◌∙◌, ap}
 use Rattle.std.specs.List.{prefix_len}
-use Rattle.aa_glob.specs.Exactness.{literal_prefix}
-use Rattle.aa_glob.specs.Reading.{items_of}
+use Rattle.aa_elements.specs.Exactness.{literal_prefix}
+use Rattle.aa_elements.specs.Reading.{items_of}
 use Rattle.aa_glob.specs.code.Steps.{is_byte}
 use Rattle.aa_glob.proofs.ExactnessLemmas.{literal_prefix-steps}
 use Rattle.aa_glob.proofs.pattern.Pattern.literal_prefix.Goals as goal

@@ -1,6 +1,6 @@
 use Rattle.std.proofs.Common.{◌∙◌, ap, get_or, false}
-use Rattle.aa_glob.specs.Matching.{matches}
-use Rattle.aa_glob.specs.Reading.{items_of}
+use Rattle.aa_elements.specs.Matching.{matches}
+use Rattle.aa_elements.specs.Reading.{items_of}
 use Rattle.aa_glob.specs.code.Steps.{accepting}
 use Rattle.aa_glob.proofs.LayoutLemmas.{accepting-matches}
 use Rattle.aa_glob.proofs.MatchLemmas.{Decides-matches}

@@ -1,0 +1,4 @@
+pub mod MapLemmas
+pub mod NumberLemmas
+pub mod StandLemmas
+pub mod WayLemmas

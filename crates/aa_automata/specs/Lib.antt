@@ -1,0 +1,5 @@
+pub mod code
+pub mod Grown
+pub mod Numbers
+pub mod Walks
+pub mod Ways

@@ -1,0 +1,89 @@
+//! What the elements of patterns are to an automaton.
+
+ghost use Rattle.std.specs.Prelude.{◌≡◌, ℕ, ◌<◌, ◌^◌, ◌==◌, ◌&&◌, ◌||◌, Some, IfOk, OnOk};
+ghost use Rattle.aa_bytes.specs.ByteSets.{has};
+ghost use Rattle.aa_automata.specs.Grown.{kind_of};
+ghost use Rattle.aa_automata.specs.Numbers.{AreKept, most_number, number_of};
+ghost use Rattle.aa_drawn.specs.Drawn.{Suits};
+ghost use Rattle.aa_elements.specs.Cursor.{class_set, meaning};
+ghost use Rattle.aa_states.specs.ByteMaps.{in_map};
+
+use crate::numbers::Numbers;
+use crate::walk::Kind;
+use aa_bytes::ByteSet;
+use aa_elements::{Class, Element};
+use aa_states::{ByteMap, Entry};
+use std::alloc::{AllocError, Global};
+
+/// What an element does to the groups that are open.
+pub fn kind_of(element: Element<'_>) -> Kind
+    ensures { result ≡ kind_of (meaning element.entry) }
+{
+    match element {
+        Element::Byte(_)
+        | Element::Inside
+        | Element::Class(_)
+        | Element::Star
+        | Element::DoubleStar => Kind::Single,
+        Element::Open => Kind::Open,
+        Element::Comma => Kind::Comma,
+        Element::Close => Kind::Close,
+    }
+}
+
+// Puts a byte into a map, if the class has it.
+fn put_if_had(map: &mut ByteMap, class: Class<'_>, byte: u8)
+    ensures { (other : ℕ) → in_map map.new other ≡ (other == byte && has (class_set class.entry) byte || in_map map.old other) }
+{
+    if class.has(byte) {
+        map.insert(byte);
+    }
+}
+
+// The bytes of a class.
+fn map_of(class: Class<'_>) -> ByteMap
+    ensures { (byte : ℕ) → byte < 2 ^ 8 → in_map result byte ≡ has (class_set class.entry) byte }
+{
+    let mut map = ByteMap::new();
+    for byte in 0..255 {
+        put_if_had(&mut map, class, byte);
+    }
+    put_if_had(&mut map, class, 255);
+    map
+}
+
+/// What it takes to come into a state by an element.
+pub fn entry_of(element: Element<'_>) -> Entry
+    ensures { Suits (meaning element.entry) result }
+{
+    match element {
+        Element::Byte(byte) => Entry::Byte(byte),
+        Element::Inside => Entry::Inside,
+        Element::Class(class) => Entry::Class(map_of(class)),
+        Element::Star => Entry::Star,
+        Element::DoubleStar => Entry::DoubleStar,
+        Element::Open | Element::Comma | Element::Close => Entry::Free,
+    }
+}
+
+/// The number of an element: below 4,294,967,295. `AllocError` is answered where memory ran out, or where no number is left.
+pub fn number_of(
+    numbers: &mut Numbers,
+    alloc: Global,
+    element: Element<'_>,
+) -> Result<u32, AllocError>
+    ensures number { IfOk result (λ number. number_of numbers.new (meaning element.entry) ≡ Some number) }
+    ensures within { IfOk result (λ number. number < most_number) }
+    ensures kept { OnOk result (AreKept numbers.old numbers.new) }
+{
+    Ok(match element {
+        Element::Byte(byte) => byte as u32,
+        Element::Inside => numbers.of_set(alloc, &ByteSet::Inside)?,
+        Element::Class(class) => numbers.of_set(alloc, &class.set(alloc)?)?,
+        Element::Star => 256,
+        Element::DoubleStar => 257,
+        Element::Open => 258,
+        Element::Comma => 259,
+        Element::Close => 260,
+    })
+}

@@ -1,0 +1,11 @@
+pub mod Classes
+pub mod code
+pub mod Cursor
+pub mod Elements
+pub mod Exactness
+pub mod Faults
+pub mod Items
+pub mod Matching
+pub mod PatternError
+pub mod Reading
+pub mod Symbols

@@ -1,0 +1,11 @@
+pub mod BitLemmas
+pub mod FrontLemmas
+pub mod GrownLemmas
+pub mod LeadLemmas
+pub mod ListLemmas
+pub mod PatternLemmas
+pub mod ReachLemmas
+pub mod RunLemmas
+pub mod SoundLemmas
+pub mod StepLemmas
+pub mod TableLemmas

@@ -1,0 +1,20 @@
+use Rattle.std.proofs.Common.{◌∙◌, ap, arith}
+use Rattle.aa_states.specs.Steps.{counted}
+use Rattle.aa_states.specs.code.Graphs.{graph_of}
+use Rattle.aa_states.proofs.RunLemmas.{passing_more, passed}
+use Rattle.aa_states.proofs.StepLemmas.{counted-counted}
+use Rattle.aa_states.proofs.run.pass.Goals as goal
+
+pub loop-at-preserved : goal.loop-at-preserved
+loop-at-preserved c =
+    let t = c.args.tables.now in
+    record {
+      passing = passing_more (graph_of t) c.args.byte c.loop-at.at c.state.result c.args.here.now c.loop-at.here c.visit.new.here c.loop-at.next c.visit.new.next
+          c.loop-at.invariant.passing (omega (arith, c.len.ensures.len, c.loop-at-test.true)) c.state.ensures.state c.visit.ensures.here c.visit.ensures.next;
+      steps = c.visit-in-loop-at.ensures ∙ ap (λ s. counted s 1) c.loop-at.invariant.steps ∙ counted-counted c.args.steps.now c.loop-at.at 1;
+    }
+
+pub returns-clause-passed : goal.returns-clause-passed
+returns-clause-passed c =
+    passed (graph_of c.args.tables.now) c.args.byte c.loop-at.at c.args.here.now c.loop-at.here c.loop-at.next c.loop-at.invariant.passing
+    (omega (arith, c.len.ensures.len, c.loop-at-test.false)) (omega (arith, c.len.ensures.len, c.len.ensures.within))

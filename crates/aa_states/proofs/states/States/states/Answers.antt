@@ -1,0 +1,8 @@
+use Rattle.std.proofs.Common.{ap, arith, length}
+use Rattle.aa_states.proofs.TableLemmas.{length-entries_in}
+use Rattle.aa_states.proofs.states.States.states.Goals as goal
+
+pub returns : goal.returns
+returns c =
+    let t = c.self.inside.tables in
+    omega (arith, c.len.ensures, t.states.ok.0, length-entries_in t.classes.items 0 t.states.items, ap (λ g. length g.entries) c.self.view_is)

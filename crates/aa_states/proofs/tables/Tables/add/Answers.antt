@@ -1,0 +1,20 @@
+use Rattle.std.proofs.Common.{◌≡◌, ◌++◌, [], ◌∷◌, length, ◌∙◌, ap, ap₂, arith}
+use Rattle.aa_states.specs.code.Tables.{bare, gate_of, graph_in, sets_in}
+use Rattle.aa_states.proofs.GrownLemmas.{graph_in-added}
+use Rattle.aa_states.proofs.TableLemmas.{length-entries_in}
+use Rattle.aa_states.proofs.tables.Tables.add.Goals as goal
+
+pub returns-clause-number : goal.returns-clause-number
+returns-clause-number c =
+    let t = c.args.self.now in
+    omega (arith, c.len-number.ensures, t.states.ok.0, length-entries_in t.classes.items 0 t.states.items)
+
+pub returns-clause-added : goal.returns-clause-added
+returns-clause-added c =
+    let t = c.args.self.now in
+    let number : c.len-number.result ≡ length t.states.items = omega (arith, c.len-number.ensures, t.states.ok.0) in
+    let state : c.bare.result ≡ bare (gate_of c.args.entry.now) = c.bare.ensures ∙ ap bare c.of.ensures in
+    let states = c.in_ok-push.ensures.items ∙ ap (λ s. t.states.items ++ s ∷ []) state in
+    let sets = c.in_ok-keep_set.ensures.ok ∙ ap (λ n. t.classes.items ++ sets_in n c.args.entry.now) number in
+    ap₂ (λ states classes. graph_in states t.ways.items classes t.ends.items) states sets
+    ∙ graph_in-added t.states.items t.ways.items t.classes.items t.ends.items c.args.entry.now c.requires.each_class

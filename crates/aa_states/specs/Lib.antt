@@ -1,0 +1,6 @@
+pub mod Bits
+pub mod ByteMaps
+pub mod Entries
+pub mod States
+pub mod Steps
+pub mod code

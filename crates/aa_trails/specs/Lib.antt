@@ -1,0 +1,4 @@
+pub mod Beginnings
+pub mod Laws
+pub mod Reads
+pub mod Trails

@@ -1,0 +1,9 @@
+//! Beginnings of patterns: which texts read them, and that what reads a whole pattern's text is what matches it.
+#![tactic(auto)]
+
+mod laws;
+
+pub use laws::{
+    how_beginnings_are_gathered, how_many_states_there_are, how_trails_are_read, how_trails_grow,
+    what_reads_to_the_end_matches,
+};
