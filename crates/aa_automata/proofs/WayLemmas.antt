@@ -10,7 +10,7 @@ none_there : (q : ℕ) → Contains [] q → ⊥
 none_there q h = All-contains (λ _. ⊥) [] q (All-nil (λ _. ⊥)) h
 
 -- what a list has it has in reverse too
-reversed_has : (xs : List ℕ) (q : ℕ) → Contains xs q → Contains (reverse xs) q
+pub reversed_has : (xs : List ℕ) (q : ℕ) → Contains xs q → Contains (reverse xs) q
 reversed_has [] q h = h
 reversed_has (x ∷ xs) q h = subst (λ (l : List ℕ). Contains l q) (sym (reverse-append (x ∷ []) xs)) (elim (Contains-append_cases (x ∷ []) xs q h) [
   | inl first ↦ Contains-append_right (reverse xs) (x ∷ []) q first

@@ -1,8 +1,12 @@
 //! The walk of a pattern through the states of its beginnings.
 
-ghost use Rattle.std.specs.Prelude.{◌≡◌, ◌==◌, [], length, OnOk};
-ghost use Rattle.aa_automata.specs.Walks.{entered, standing_at, with_end_state};
+ghost use Rattle.std.specs.Prelude.{◌≡◌, ◌==◌, ◌<◌, [], length, OnOk};
+ghost use Rattle.std.specs.List.{All};
+ghost use Rattle.aa_automata.specs.Walks.{close_sources, comma_sources, entered, source_states, standing_at, with_end_state};
+ghost use Rattle.aa_automata.specs.Ways.{AddsWays};
 
+use crate::ways::{draw_way, draw_ways};
+use aa_states::Drawing;
 use std::alloc::{AllocError, Global};
 use std::marker::Model;
 
@@ -101,5 +105,50 @@ impl Walk {
             self.groups.push(group)?;
         }
         Ok(())
+    }
+
+    /// Draws the ways to a state from those from which an element of this kind is reached.
+    ///
+    /// # Errors
+    ///
+    /// Where memory runs out. Some of them may be drawn then.
+    pub fn draw_to(&self, kind: Kind, drawing: &mut Drawing, state: u32) -> Result<(), AllocError>
+        requires from { All (λ q. q < length drawing.old.entries) (source_states kind self.now) }
+        requires to { state < length drawing.old.entries }
+        ensures { OnOk result (AddsWays drawing.old drawing.new (source_states kind self.now) state) }
+    {
+        match kind {
+            Kind::Single | Kind::Open => draw_way(drawing, self.state, state),
+            Kind::Comma => self.draw_from_beginning(drawing, state),
+            Kind::Close => self.draw_from_ends(drawing, state),
+        }
+    }
+
+    // Draws the way from the beginning of the innermost group's alternatives.
+    fn draw_from_beginning(&self, drawing: &mut Drawing, state: u32) -> Result<(), AllocError>
+        requires from { All (λ q. q < length drawing.old.entries) (comma_sources self.now.state self.now.groups) }
+        requires to { state < length drawing.old.entries }
+        ensures { OnOk result (AddsWays drawing.old drawing.new (comma_sources self.now.state self.now.groups) state) }
+    {
+        match self.groups.last() {
+            None => draw_way(drawing, self.state, state),
+            Some(group) => draw_way(drawing, group.beginning, state),
+        }
+    }
+
+    // Draws the ways from the ends of the innermost group's alternatives, of which the last ends where the walk is.
+    fn draw_from_ends(&self, drawing: &mut Drawing, state: u32) -> Result<(), AllocError>
+        requires from { All (λ q. q < length drawing.old.entries) (close_sources self.now.state self.now.groups) }
+        requires to { state < length drawing.old.entries }
+        ensures { OnOk result (AddsWays drawing.old drawing.new (close_sources self.now.state self.now.groups) state) }
+    {
+        draw_way(drawing, self.state, state)?;
+        match self.groups.last() {
+            None => Ok(()),
+            Some(group) => {
+                draw_ways(drawing, &group.ends, state)?;
+                Ok(())
+            }
+        }
     }
 }

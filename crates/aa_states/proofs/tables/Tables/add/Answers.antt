@@ -1,8 +1,26 @@
-use Rattle.std.proofs.Common.{◌≡◌, ◌++◌, [], ◌∷◌, length, ◌∙◌, ap, ap₂, arith}
+use Rattle.std.proofs.Common.{◌≡◌, ◌+◌, ◌^◌, ◌<◌, ◌++◌, [], ◌∷◌, length, ◌∙◌, ap, ap₂, arith}
 use Rattle.aa_states.specs.code.Tables.{bare, gate_of, graph_in, sets_in}
-use Rattle.aa_states.proofs.GrownLemmas.{graph_in-added}
+use Rattle.aa_states.proofs.GrownLemmas.{IsSound-added, IsSound-grown, graph_in-added}
 use Rattle.aa_states.proofs.TableLemmas.{length-entries_in}
 use Rattle.aa_states.proofs.tables.Tables.add.Goals as goal
+
+pub returns-in_err-keep_set-clause-sound : goal.returns-in_err-keep_set-clause-sound
+returns-in_err-keep_set-clause-sound c =
+    let t = c.args.self.now in
+    let state : c.bare.result ≡ bare (gate_of c.args.entry.now) = c.bare.ensures ∙ ap bare c.of.ensures in
+    let states = c.in_ok-push.ensures.items ∙ ap (λ s. t.states.items ++ s ∷ []) state in
+    let few : length t.states.items + 1 < 2 ^ 32 = omega (arith, c.len-number.ensures, c.if-number.false, t.states.ok.0) in
+    rw (states, c.in_err-keep_set.ensures.err) (IsSound-grown t.states.items t.ways.items t.classes.items t.ends.items (gate_of c.args.entry.now) c.requires few)
+
+pub returns-clause-sound : goal.returns-clause-sound
+returns-clause-sound c =
+    let t = c.args.self.now in
+    let number : c.len-number.result ≡ length t.states.items = omega (arith, c.len-number.ensures, t.states.ok.0) in
+    let state : c.bare.result ≡ bare (gate_of c.args.entry.now) = c.bare.ensures ∙ ap bare c.of.ensures in
+    let states = c.in_ok-push.ensures.items ∙ ap (λ s. t.states.items ++ s ∷ []) state in
+    let sets = c.in_ok-keep_set.ensures.ok ∙ ap (λ n. t.classes.items ++ sets_in n c.args.entry.now) number in
+    let few : length t.states.items + 1 < 2 ^ 32 = omega (arith, c.len-number.ensures, c.if-number.false, t.states.ok.0) in
+    rw (states, sets) (IsSound-added t.states.items t.ways.items t.classes.items t.ends.items c.args.entry.now c.requires few)
 
 pub returns-clause-number : goal.returns-clause-number
 returns-clause-number c =

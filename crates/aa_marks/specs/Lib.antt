@@ -1,0 +1,3 @@
+pub mod code
+pub mod Elements
+pub mod Marks
