@@ -18,6 +18,7 @@ use aa_decide::{
 };
 use aa_listing::{full_name, show_lines};
 use aa_policy::Profile;
+use aa_states::Steps;
 use aa_texts::push_text;
 use std::alloc::{AllocError, Global};
 
@@ -45,7 +46,7 @@ fn confined_lines(
     match confinement {
         Confinement::Unconfined => lines_of(alloc, b"unconfined", b""),
         Confinement::By { ready, child, mode } => {
-            let verdict = ready.decide(alloc, child, mode, request)?;
+            let verdict = ready.decide(alloc, child, mode, request, &mut Steps::new())?;
             let logged = log_line(alloc, who, request, &verdict)?;
             lines_of(alloc, verdict.answer.word().as_bytes(), logged.as_slice())
         }

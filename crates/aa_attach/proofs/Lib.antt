@@ -1,2 +1,3 @@
 pub mod BeginningLemmas
+pub mod MatchingLemmas
 pub mod RankLemmas

@@ -17,14 +17,14 @@ apart-eqb one other apart = by (one == other) refl
     by false e = refl
 
 -- the greater of two is below neither, and not above what is above both
-greater-most : (one other : ℕ) → (one ≤ greater one other) × (other ≤ greater one other)
+pub greater-most : (one other : ℕ) → (one ≤ greater one other) × (other ≤ greater one other)
 greater-most one other = by (nat_le one other) refl
   where
     by : (b : Bool) → nat_le one other ≡ b → (one ≤ (if b then other else one)) × (other ≤ (if b then other else one))
     by true e = let less = leb-true one other e in (omega arith, omega arith)
     by false e = let less = leb-false one other e in (omega arith, omega arith)
 
-greater-least : (one other top : ℕ) → one ≤ top → other ≤ top → greater one other ≤ top
+pub greater-least : (one other top : ℕ) → one ≤ top → other ≤ top → greater one other ≤ top
 greater-least one other top l r = by (nat_le one other)
   where
     by : (b : Bool) → (if b then other else one) ≤ top

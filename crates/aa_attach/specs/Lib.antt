@@ -1,3 +1,4 @@
 pub mod RankLaws
 pub mod Ranks
 pub mod StandingOut
+pub mod code

@@ -1,4 +1,7 @@
+pub mod BuiltLemmas
 pub mod FindLemmas
+pub mod FollowLemmas
+pub mod GrowthLemmas
 pub mod MapLemmas
 pub mod NumberLemmas
 pub mod SeenLemmas

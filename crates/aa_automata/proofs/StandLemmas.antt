@@ -77,7 +77,7 @@ there_kept trails more on gs there k d within =
     (on.longer _ here.0, λ j e inside. on.longer _ (here.1 j e inside))
 
 -- what stands stays
-stands_kept : (trails more : List Trail) (walk : Standing) (trail : Trail) → GoesOn trails more → StandsAt trails walk trail → StandsAt more walk trail
+pub stands_kept : (trails more : List Trail) (walk : Standing) (trail : Trail) → GoesOn trails more → StandsAt trails walk trail → StandsAt more walk trail
 stands_kept trails more walk trail on stands = record {
   there = on.longer walk.state stands.there;
   here = on.same walk.state stands.there ∙ stands.here;

@@ -1,3 +1,4 @@
+pub mod Automata
 pub mod code
 pub mod Grown
 pub mod Numbers

@@ -1,10 +1,17 @@
 //! Automata of patterns: one for many patterns, whose states are the different beginnings of these.
 #![tactic(auto)]
 
+mod automaton;
+mod builder;
 mod element;
+mod following;
+mod growing;
 mod numbers;
 mod walk;
 mod ways;
 
+pub use aa_states::Steps;
+pub use automaton::Automaton;
+pub use builder::AutomatonBuilder;
 pub use numbers::Numbers;
 pub use walk::{Kind, Walk};

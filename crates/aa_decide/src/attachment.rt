@@ -4,31 +4,45 @@ ghost use Rattle.std.specs.Prelude.{◌≡◌, IfOk, map};
 ghost use Rattle.aa_attach.specs.Ranks.{best_rank};
 ghost use Rattle.aa_decide.specs.Attachment.{attached, attached_child, entry_rank};
 ghost use Rattle.aa_decide.specs.Slots.{Holds, filled};
+ghost use Rattle.aa_verdicts.specs.Matching.{attachments_at};
 ghost use Rattle.aa_decide.specs.code.SlotRanks.{slot_rank};
 
 use aa_attach::{best_rank, standing_out};
-use aa_policy::Child;
-use aa_verdicts::Entry;
+use aa_states::Steps;
+use aa_verdicts::{Entry, Ready};
 use std::alloc::{AllocError, Global};
 
+// The rank of a profile on a path, or of its child or hat at a place.
+fn ready_rank(
+    alloc: Global,
+    ready: &Ready,
+    child: Option<usize>,
+    path: &[u8],
+) -> Result<u128, AllocError>
+    ensures { IfOk result (λ rank. rank ≡ best_rank path.now (attachments_at ready.now child)) }
+{
+    let places = ready.matching_attachments(alloc, child, path, &mut Steps::new())?;
+    Ok(best_rank(ready.attachments_at(child), places.as_slice()))
+}
+
 // The rank of a loaded profile on a path.
-fn entry_rank(entry: &Entry, path: &[u8]) -> u128
-    ensures { result ≡ entry_rank path.now entry.now }
+fn entry_rank(alloc: Global, entry: &Entry, path: &[u8]) -> Result<u128, AllocError>
+    ensures { IfOk result (λ rank. rank ≡ entry_rank path.now entry.now) }
 {
     if entry.state().is_in_force() {
-        best_rank(entry.profile().attachments.as_slice(), path)
+        ready_rank(alloc, entry.ready(), None, path)
     } else {
-        0
+        Ok(0)
     }
 }
 
 // The rank of what a slot holds.
-fn slot_rank(slot: &Option<Entry>, path: &[u8]) -> u128
-    ensures { result ≡ slot_rank path.now slot.now }
+fn slot_rank(alloc: Global, slot: &Option<Entry>, path: &[u8]) -> Result<u128, AllocError>
+    ensures { IfOk result (λ rank. rank ≡ slot_rank path.now slot.now) }
 {
     match slot {
-        None => 0,
-        Some(entry) => entry_rank(entry, path),
+        None => Ok(0),
+        Some(entry) => entry_rank(alloc, entry, path),
     }
 }
 
@@ -38,7 +52,7 @@ fn slot_ranks(alloc: Global, slots: &[Option<Entry>], path: &[u8]) -> Result<Vec
 {
     let mut ranks = Vec::with_capacity(alloc, slots.len())?;
     for slot in slots {
-        ranks.push(slot_rank(slot, path))?;
+        ranks.push(slot_rank(alloc, slot, path)?)?;
     }
     Ok(ranks)
 }
@@ -60,13 +74,14 @@ pub fn attach(
     Ok(standing_out(&slot_ranks(alloc, slots, path)?))
 }
 
-// The ranks of children on a path.
-fn child_ranks(alloc: Global, children: &[Child], path: &[u8]) -> Result<Vec<u128>, AllocError>
-    ensures { IfOk result (λ ranks. ranks.items ≡ map (λ child. best_rank path.now child.attachments) children.now) }
+// The ranks of a profile's children on a path.
+fn child_ranks(alloc: Global, ready: &Ready, path: &[u8]) -> Result<Vec<u128>, AllocError>
+    ensures { IfOk result (λ ranks. ranks.items ≡ map (λ child. best_rank path.now child.attachments) ready.now.children) }
 {
+    let children = ready.profile.children.as_slice();
     let mut ranks = Vec::with_capacity(alloc, children.len())?;
-    for child in children {
-        ranks.push(best_rank(child.attachments.as_slice(), path))?;
+    for (place, _) in children.iter().enumerate() {
+        ranks.push(ready_rank(alloc, ready, Some(place), path)?)?;
     }
     Ok(ranks)
 }
@@ -74,10 +89,10 @@ fn child_ranks(alloc: Global, children: &[Child], path: &[u8]) -> Result<Vec<u12
 // The place of the child that the program of a path is attached to.
 pub fn attached_child(
     alloc: Global,
-    children: &[Child],
+    ready: &Ready,
     path: &[u8],
 ) -> Result<Option<usize>, AllocError>
-    ensures { IfOk result (λ place. place ≡ attached_child path.now children.now) }
+    ensures { IfOk result (λ place. place ≡ attached_child path.now ready.now.children) }
 {
-    Ok(standing_out(&child_ranks(alloc, children, path)?))
+    Ok(standing_out(&child_ranks(alloc, ready, path)?))
 }

@@ -7,6 +7,8 @@ ghost use Rattle.aa_decide.specs.Slots.{filled};
 ghost use Rattle.aa_decide.specs.code.SeenExec.{IsAnswer, IsAnswerAnywhere, IsDestination, IsDestinationFrom, IsIn, asker_in, seen_asker};
 ghost use Rattle.aa_verdicts.specs.declared.verdict.Answer.TheVariants.{Allow};
 ghost use Rattle.aa_verdicts.specs.declared.verdict.Tag.TheVariants.{Audit};
+ghost use Rattle.aa_verdicts.specs.Ready.{audits, rules_at};
+ghost use Rattle.aa_exec.specs.Choices.{choice};
 ghost use Rattle.aa_exec.specs.code.SeenChoices.{seen_choice};
 
 use crate::attachment::{attach, attached_child};
@@ -15,8 +17,9 @@ use aa_access::{Destination, Perms};
 use aa_bytes::Sequence;
 use aa_exec::{ExecChoice, exec_choice};
 use aa_names::cut_full_name;
-use aa_policy::{Mode, Profile, Transition, child_place};
-use aa_verdicts::{Answer, Confinement, Entry, Tag, Verdict};
+use aa_policy::{Mode, Transition, child_place};
+use aa_states::Steps;
+use aa_verdicts::{Answer, Confinement, Entry, Ready, Tag, Verdict};
 use std::alloc::{AllocError, Global};
 
 /// Under what a program runs that is started.
@@ -182,16 +185,15 @@ fn to_profile(
 // The place of a child or hat: of the one that is named, or else of the child that the path is attached to.
 fn place_of_child(
     alloc: Global,
-    profile: &Profile,
+    ready: &Ready,
     path: &[u8],
     target: &Option<Sequence<u8>>,
 ) -> Result<Option<usize>, AllocError>
-    ensures { IfOk result (λ place. place ≡ place_of_child path.now target.now profile.now) }
+    ensures { IfOk result (λ place. place ≡ place_of_child path.now target.now ready.now) }
 {
-    let children = profile.children.as_slice();
     match target {
-        None => attached_child(alloc, children, path),
-        Some(name) => Ok(child_place(name.as_slice(), children)),
+        None => attached_child(alloc, ready, path),
+        Some(name) => Ok(child_place(name.as_slice(), ready.profile.children.as_slice())),
     }
 }
 
@@ -207,7 +209,7 @@ fn to_child(
     if asker.child.is_some() {
         return Ok(None);
     }
-    match place_of_child(alloc, asker.loaded.profile(), path, target)? {
+    match place_of_child(alloc, asker.loaded.ready(), path, target)? {
         None => Ok(None),
         Some(place) => Ok(Some(ExecTo::Profile {
             slot: asker.slot,
@@ -317,6 +319,21 @@ fn unconfined_start(
     }
 }
 
+// What the rules of a profile say together, or those of its child or hat at a place.
+fn choice_at<'a>(
+    alloc: Global,
+    ready: &'a Ready,
+    child: Option<usize>,
+    owned: bool,
+    path: &[u8],
+) -> Result<ExecChoice<'a>, AllocError>
+    ensures { IfOk result (λ found. seen_choice found ≡ choice (audits ready.now child) owned path.now (rules_at ready.now child)) }
+{
+    let places = ready.matching_rules(alloc, child, path, &mut Steps::new())?;
+    let (audit, rules) = (ready.audits(child), ready.rules_at(child));
+    exec_choice(alloc, audit, rules, places.as_slice(), owned)
+}
+
 // The answer to who asks by a loaded profile.
 fn asked_by(
     alloc: Global,
@@ -331,13 +348,7 @@ fn asked_by(
     match asker.loaded.confinement(asker.child) {
         Confinement::Unconfined => unconfined_start(alloc, slots, path),
         Confinement::By { ready, child, mode } => {
-            let choice = exec_choice(
-                alloc,
-                ready.audits(child),
-                ready.rules_at(child),
-                owned,
-                path,
-            )?;
+            let choice = choice_at(alloc, ready, child, owned, path)?;
             by_choice(alloc, slots, asker, mode, path, choice)
         }
     }

@@ -1,10 +1,12 @@
 -- What rules say together of a program that is started (docs/policy.md, "Exec and attachment").
-use Rattle.std.specs.Prelude.{ℕ, Bool, true, false, not, ◌&&◌, ◌||◌, if◌then◌else◌, List, [], ◌∷◌, Option, None, Some}
+use Rattle.std.specs.Prelude.{◌≡◌, ℕ, Bool, true, false, not, ◌&&◌, ◌||◌, if◌then◌else◌, List, [], ◌∷◌, Option, None, Some}
 use Rattle.std.specs.List.{list_any}
+use Rattle.std.specs.List.Sorted.{IsStrictlyIncreasing}
 use Rattle.std.specs.Str.{bytes_eq}
 use Rattle.aa_access.specs.ExecWords.{same_word}
 use Rattle.aa_policy.specs.declared.profile.Rule.{Rule}
 use Rattle.aa_policy.specs.declared.profile.Transition.{Transition}
+use Rattle.aa_verdicts.specs.Matching.{AreMatchingRules}
 use Rattle.aa_exec.specs.ExecRules.{Denying, ExecRule, Leading, exec_rules}
 
 -- What rules say together: that it is denied; nothing; different things; or where it leads.
@@ -72,3 +74,8 @@ choice_of rules = if list_any denies rules then Denied (list_any denies_aloud ru
 -- what the rules of a profile say together of the start of the program of a path
 abbrev pub choice : Bool → Bool → List ℕ → List Rule → Choice
 choice flag owned path rules = choice_of (exec_rules flag owned path rules)
+
+-- This is what the rules of a profile say together, wherever these are the places of those that match the path.
+abbrev pub IsChoiceFor : Bool → Bool → List Rule → List ℕ → Choice → Type 0
+IsChoiceFor flag owned rules places found =
+    (path : List ℕ) → AreMatchingRules rules path places → IsStrictlyIncreasing places → found ≡ choice flag owned path rules

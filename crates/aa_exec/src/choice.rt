@@ -3,7 +3,7 @@
 ghost use Rattle.std.specs.Prelude.{◌≡◌, IfOk};
 ghost use Rattle.std.specs.List.{list_any};
 ghost use Rattle.std.specs.Option.{option_map};
-ghost use Rattle.aa_exec.specs.Choices.{chosen, choice, choice_of, denies, denies_aloud, dominates, first_lead, is_exact_lead, leads_aloud, leads_elsewhere, same_target, same_transition};
+ghost use Rattle.aa_exec.specs.Choices.{IsChoiceFor, chosen, choice_of, denies, denies_aloud, dominates, first_lead, is_exact_lead, leads_aloud, leads_elsewhere, same_target, same_transition};
 ghost use Rattle.aa_exec.specs.code.SeenChoices.{seen_choice};
 ghost use Rattle.aa_exec.specs.code.SeenRules.{seen_rule, seen_rules};
 
@@ -225,7 +225,8 @@ fn choice_of<'a>(rules: &[ExecRule<'a>]) -> ExecChoice<'a>
 /// What rules say together of the start of the program of a path (docs/policy.md, "Exec and attachment"): that it is denied, as soon as one deny rule
 /// with `x` applies; that no rule speaks of it; or where it leads. Of the rules that lead somewhere those with an exact pattern dominate the
 /// others, and they have to agree in exec word and target. `flag` says whether each of the rules is audited, whatever its own words are: that
-/// is the flag of their profile. `owned` says whether the task's user owns the file. Each rule's pattern is tried once.
+/// is the flag of their profile. `owned` says whether the task's user owns the file. `places` are the places of the rules on files whose pattern
+/// matches the path, in rising order; it goes over these alone.
 ///
 /// # Errors
 ///
@@ -234,12 +235,12 @@ pub fn exec_choice<'a>(
     alloc: Global,
     flag: bool,
     rules: &'a [Rule],
+    places: &[usize],
     owned: bool,
-    path: &[u8],
 ) -> Result<ExecChoice<'a>, AllocError>
-    ensures { IfOk result (λ found. seen_choice found ≡ choice flag owned path.now rules.now) }
+    ensures { IfOk result (λ found. IsChoiceFor flag owned rules.now places.now (seen_choice found)) }
 {
-    let said = match exec_rules(alloc, flag, rules, owned, path) {
+    let said = match exec_rules(alloc, flag, rules, places, owned) {
         Ok(said) => said,
         Err(_) => return Err(AllocError),
     };

@@ -2,7 +2,8 @@
 
 ghost use Rattle.std.specs.Prelude.{◌≡◌, IfOk};
 ghost use Rattle.std.specs.Option.{option_map};
-ghost use Rattle.aa_exec.specs.ExecRules.{applies_to, covers_exec, exec_rules, said_by, said_of};
+ghost use Rattle.aa_exec.specs.ExecRules.{covers_exec, said_by};
+ghost use Rattle.aa_exec.specs.code.OwnedRules.{said_at, said_by_picked, said_if_owned};
 ghost use Rattle.aa_exec.specs.code.SeenRules.{seen_rule, seen_rules};
 
 use aa_access::Perms;
@@ -27,13 +28,6 @@ pub enum ExecRule<'a> {
         /// Whether it is logged.
         audited: bool,
     },
-}
-
-// Whether a rule applies to a path.
-fn applies_to(rule: &FileRule, owned: bool, path: &[u8]) -> bool
-    ensures { result ≡ applies_to owned path.now rule.now }
-{
-    rule.pattern.matches(path) && (!rule.owner || owned)
 }
 
 // Whether a rule covers the start of programs: it has an exec word, or a bare `x`.
@@ -65,15 +59,14 @@ fn said_by(rule: &FileRule, flag: bool) -> Option<ExecRule<'_>>
     }
 }
 
-// What a rule says of the start of the program of a path.
-fn said_of<'a>(rule: &'a Rule, flag: bool, owned: bool, path: &[u8]) -> Option<ExecRule<'a>>
-    ensures { option_map seen_rule result ≡ said_of flag owned path.now rule.now }
+// What a rule says whose pattern matches the path.
+fn said_if_owned(rule: &Rule, flag: bool, owned: bool) -> Option<ExecRule<'_>>
+    ensures { option_map seen_rule result ≡ said_if_owned flag owned rule.now }
 {
     match rule {
         Rule::File(rule) => {
-            let said = said_by(rule, flag)?;
-            if applies_to(rule, owned, path) {
-                Some(said)
+            if !rule.owner || owned {
+                said_by(rule, flag)
             } else {
                 None
             }
@@ -82,20 +75,30 @@ fn said_of<'a>(rule: &'a Rule, flag: bool, owned: bool, path: &[u8]) -> Option<E
     }
 }
 
-// What rules say of the start of the program of a path, in their order.
+// What the rule at a place says.
+fn said_at<'a>(rules: &'a [Rule], place: usize, flag: bool, owned: bool) -> Option<ExecRule<'a>>
+    ensures { option_map seen_rule result ≡ said_at flag owned rules.now place }
+{
+    match rules.get(place) {
+        None => None,
+        Some(rule) => said_if_owned(rule, flag, owned),
+    }
+}
+
+// What the rules at some places say, whose patterns match the path, in the order of the places.
 pub fn exec_rules<'a>(
     alloc: Global,
     flag: bool,
     rules: &'a [Rule],
+    places: &[usize],
     owned: bool,
-    path: &[u8],
 ) -> Result<Vec<ExecRule<'a>>, AllocFailed<ExecRule<'a>>>
-    ensures { IfOk result (λ said. seen_rules said.items ≡ exec_rules flag owned path.now rules.now) }
+    ensures { IfOk result (λ said. seen_rules said.items ≡ said_by_picked flag owned rules.now places.now) }
 {
     let mut said = Vec::new(alloc);
-    let mut rest = rules;
-    while let [rule, behind @ ..] = rest {
-        if let Some(one) = said_of(rule, flag, owned, path) {
+    let mut rest = places;
+    while let [place, behind @ ..] = rest {
+        if let Some(one) = said_at(rules, *place, flag, owned) {
             said.push(one)?;
         }
         rest = behind;

@@ -1,9 +1,2 @@
-pub mod AlternativeLemmas
-pub mod ExactnessLemmas
-pub mod LayoutLemmas
-pub mod MatchLemmas
 pub mod MatchingLaws
-pub mod ReadLemmas
 pub mod ReadingLaws
-pub mod SizeLemmas
-pub mod StepLemmas

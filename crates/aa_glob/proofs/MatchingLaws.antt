@@ -1,10 +1,9 @@
--- The laws of matching: the test is by splits, an exact pattern matches one text, and no pattern matches a zero byte.
+-- The laws of matching: an exact pattern matches one text, and no pattern matches a zero byte.
 use Rattle.std.proofs.Common.{◌≡◌, ◌≢◌, ℕ, ◌+◌, ◌-◌, Bool, true, false, ◌==◌, not, List, [], ◌∷◌, ◌++◌, length, refl, sym, ap, ap₂, ◌∙◌, inl, inr, if◌then◌else◌, nat_le, Result, Ok, Err, ◌↔◌, IsTrue}
 use Rattle.std.proofs.lemmas.Bool.{cases_Bool, false≢true, false_from_ne_true, not-true, ne_eqb, and_parts, or_from, or_parts}
 use Rattle.std.proofs.lemmas.List.Folds.{list_any-append, list_any_none}
 use Rattle.std.specs.List.{All}
 use Rattle.aa_bytes.specs.Bytes.{is_letter_or_digit}
-use Rattle.aa_glob.proofs.MatchLemmas.{Decides-matches}
 use Rattle.aa_glob.proofs.ReadingLaws.{reading-quoted}
 use Rattle.aa_bytes.specs.ByteSets.{has}
 use Rattle.aa_elements.specs.Items.{Item, Byte, Set, Star, DoubleStar, Group, Pattern, End, Next, Patterns, NoMore, More}
@@ -15,6 +14,7 @@ use Rattle.aa_elements.specs.Classes.{class}
 use Rattle.aa_elements.specs.Reading.{Pieces, Cut, Ending, Ended, Closed, Refused, onto, behind_comma, group, deepest, pieces, whole, longest, begins_with_slash, has_zero, reading, items_read, items_of, HasNoFirstFault}
 use Rattle.aa_elements.specs.Matching.{matches, IsOf, Matches, SomeMatches}
 use Rattle.aa_glob.specs.Laws.{quoted, bytes_pattern, bytes_of}
+use Rattle.aa_trails.specs.Laws.{MatchingIsBySplits}
 use Rattle.aa_bytes.specs.declared.byte_set.ByteSet.{ByteSet}
 use Rattle.aa_bytes.specs.declared.byte_set.ByteSet.TheVariants.{Inside, Class}
 use Rattle.aa_elements.specs.declared.symbol.Symbol.{Symbol}
@@ -22,10 +22,6 @@ use Rattle.aa_elements.specs.declared.symbol.Symbol.TheVariants.{Plain, Escaped,
 use Rattle.aa_elements.specs.declared.pattern_error.PatternError.{PatternError}
 use Rattle.aa_elements.specs.declared.context.Context.{Context}
 use Rattle.aa_elements.specs.declared.context.Context.TheVariants.{AfterSlash, AfterStar, Elsewhere}
-
--- The test says that the text can be cut into one text for each item.
-pub matching-by_splits : (items : Pattern) (text : List ℕ) → (IsTrue (matches items text) ↔ Matches items text)
-matching-by_splits items text = Decides-matches items text
 
 Matches-exact : (items : Pattern) (text : List ℕ) → is_exact items ≡ true → (Matches items text ↔ (text ≡ bytes_of items))
 Matches-exact End text exact = (λ m. m, λ same. same)
@@ -39,9 +35,9 @@ Matches-exact (Next DoubleStar items) text exact = absurd (false≢true exact)
 Matches-exact (Next (Group first second others) items) text exact = absurd (false≢true exact)
 
 -- A pattern whose items are all bytes matches the text of these bytes alone.
-pub matches-exact : (items : Pattern) (text : List ℕ) → is_exact items ≡ true → (IsTrue (matches items text) ↔ (text ≡ bytes_of items))
-matches-exact items text exact =
-    let test = Decides-matches items text in
+pub matches-exact : MatchingIsBySplits → (items : Pattern) (text : List ℕ) → is_exact items ≡ true → (IsTrue (matches items text) ↔ (text ≡ bytes_of items))
+matches-exact splits items text exact =
+    let test = splits items text in
     let one = Matches-exact items text exact in
     (λ h. one.0 (test.0 h), λ same. test.1 (one.1 same))
 
@@ -54,10 +50,10 @@ bytes_of-bytes_pattern [] = refl
 bytes_of-bytes_pattern (b ∷ bs) = ap (λ l. b ∷ l) (bytes_of-bytes_pattern bs)
 
 -- A text with a backslash before each byte that needs one matches itself alone.
-pub matches-quoted : (text path : List ℕ) → HasNoFirstFault (quoted text) → (IsTrue (matches (items_of (quoted text)) path) ↔ (path ≡ text))
-matches-quoted text path fine =
+pub matches-quoted : MatchingIsBySplits → (text path : List ℕ) → HasNoFirstFault (quoted text) → (IsTrue (matches (items_of (quoted text)) path) ↔ (path ≡ text))
+matches-quoted splits text path fine =
     let reads : items_of (quoted text) ≡ bytes_pattern text = ap items_read (reading-quoted text fine) in
-    let one = matches-exact (bytes_pattern text) path (bytes_pattern-exact text) in
+    let one = matches-exact splits (bytes_pattern text) path (bytes_pattern-exact text) in
     let spelled = bytes_of-bytes_pattern text in
     (λ h. one.0 (ap (λ items. matches items path) (sym reads) ∙ h) ∙ spelled, λ same. ap (λ items. matches items path) reads ∙ one.1 (same ∙ sym spelled))
 
@@ -223,7 +219,7 @@ no_zero-reading text = either_way ResultHasNoZero (not (nat_le (length text) lon
 ])
 
 -- No pattern that was read matches a text with a zero byte.
-pub no_zero-matches : (pattern text : List ℕ) → has_zero text ≡ true → matches (items_of pattern) text ≡ false
-no_zero-matches pattern text zero_byte =
-    let test = Decides-matches (items_of pattern) text in
+pub no_zero-matches : MatchingIsBySplits → (pattern text : List ℕ) → has_zero text ≡ true → matches (items_of pattern) text ≡ false
+no_zero-matches splits pattern text zero_byte =
+    let test = splits (items_of pattern) text in
     false_from_ne_true (matches (items_of pattern) text) (λ h. false≢true (sym (no_zero-Matches (items_of pattern) (no_zero-reading pattern) text (test.0 h)) ∙ zero_byte))

@@ -6,9 +6,11 @@ ghost use Rattle.std.specs.List.{All};
 ghost use Rattle.aa_elements.specs.Exactness.{is_exact};
 ghost use Rattle.aa_elements.specs.Items.{Pattern};
 ghost use Rattle.aa_glob.specs.Laws.{bytes_of, bytes_pattern, IsRefusedBeforeEnd, IsRefusedHoweverItEnds, needs_backslash, quoted};
-ghost use Rattle.aa_elements.specs.Matching.{matches, Matches};
+ghost use Rattle.aa_elements.specs.Matching.{matches};
 ghost use Rattle.aa_elements.specs.Reading.{HasNoFirstFault, has_zero, items_of, reading};
 ghost use Rattle.aa_elements.specs.declared.pattern_error.PatternError.{PatternError};
+
+use aa_trails::matching_is_by_splits;
 
 /// A text of bytes that need no backslash reads as these bytes, if it has none of the faults that are told first.
 pub fn plain_text_reads_as_itself()
@@ -26,24 +28,25 @@ pub fn first_fault_is_told()
     ensures { (text : List ℕ) (error : PatternError) → IsRefusedBeforeEnd text error → IsRefusedHoweverItEnds text error }
 {}
 
-/// The test that contracts name says that the text can be cut into one text for each item.
-pub fn matching_is_by_splits()
-    ensures { (items : Pattern) (text : List ℕ) → (IsTrue (matches items text) ↔ Matches items text) }
-{}
-
 /// A pattern whose items are all bytes matches the text of these bytes alone.
 pub fn exact_pattern_matches_one_text()
     ensures { (items : Pattern) (text : List ℕ)
         → is_exact items ≡ true → (IsTrue (matches items text) ↔ (text ≡ bytes_of items)) }
-{}
+{
+    matching_is_by_splits();
+}
 
 /// No pattern that was read matches a text with a zero byte.
 pub fn no_text_with_a_zero_byte_matches()
     ensures { (pattern text : List ℕ) → has_zero text ≡ true → matches (items_of pattern) text ≡ false }
-{}
+{
+    matching_is_by_splits();
+}
 
 /// A text with a backslash before each byte that needs one matches itself alone.
 pub fn quoted_text_matches_itself()
     ensures { (text path : List ℕ)
         → HasNoFirstFault (quoted text) → (IsTrue (matches (items_of (quoted text)) path) ↔ (path ≡ text)) }
-{}
+{
+    matching_is_by_splits();
+}

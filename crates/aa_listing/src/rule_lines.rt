@@ -7,7 +7,7 @@ ghost use Rattle.aa_texts.specs.Texts.{told_text};
 ghost use Rattle.aa_verdicts.specs.LogLines.{name_or_none};
 
 use aa_bytes::Sequence;
-use aa_glob::Pattern;
+use aa_patterns::Pattern;
 use aa_policy::{CapRule, FileRule, NetRule, OtherRule, Rule, Transition};
 use aa_tables::{CAPABILITIES, domain_name, kind_name};
 use aa_texts::push_text;

@@ -8,7 +8,7 @@ ghost use Rattle.aa_listing.specs.Show.{attachment_line, body_lines, child_line,
 
 use crate::rule_lines::{push_if, push_rule_line};
 use crate::states::push_state;
-use aa_glob::Pattern;
+use aa_patterns::Pattern;
 use aa_policy::{Child, Rule};
 use aa_texts::push_text;
 use aa_verdicts::Entry;

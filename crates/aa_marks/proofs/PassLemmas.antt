@@ -5,7 +5,7 @@ use Rattle.std.proofs.lemmas.Bool.{cases_lt}
 use Rattle.std.proofs.lemmas.List.{get_or-set_other, get_or-set_same}
 use Rattle.aa_elements.specs.Elements.{Element}
 use Rattle.aa_elements.specs.declared.context.Context.{Context}
-use Rattle.aa_marks.specs.Elements.{elements_left, elements_of}
+use Rattle.aa_trails.specs.Elements.{elements_left, elements_of}
 use Rattle.aa_marks.specs.Marks.{AreMarks, is_none, known_at, mark, next_past, Past}
 use Rattle.aa_marks.specs.code.Passes.{ArePassed, IsLeft, TellsSome}
 use Rattle.aa_trails.specs.Reads.{Known, known, known_behind}

@@ -11,7 +11,7 @@ use Rattle.aa_elements.specs.declared.context.Context.TheVariants.{AfterSlash, A
 use Rattle.aa_elements.specs.declared.pattern_error.PatternError.{PatternError}
 use Rattle.aa_elements.specs.declared.symbol.Symbol.{Symbol}
 use Rattle.aa_elements.specs.declared.symbol.Symbol.TheVariants.{Plain, Escaped, Broken}
-use Rattle.aa_marks.specs.Elements.{elements_of}
+use Rattle.aa_trails.specs.Elements.{elements_of}
 use Rattle.aa_trails.specs.Trails.{depth_behind, grouped}
 
 -- an element is no group

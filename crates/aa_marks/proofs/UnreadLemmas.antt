@@ -7,7 +7,7 @@ use Rattle.aa_elements.specs.Elements.{Element, Single, Open, Comma, Close, Faul
 use Rattle.aa_elements.specs.Items.{Byte, Set, Star, DoubleStar, Group}
 use Rattle.aa_marks.proofs.PassLemmas.{mark-all}
 use Rattle.aa_marks.proofs.PlainLemmas.{ArePlain, IsPlain, plain-of}
-use Rattle.aa_marks.specs.Elements.{elements_of}
+use Rattle.aa_trails.specs.Elements.{elements_of}
 use Rattle.aa_marks.specs.Marks.{AreMarks, AreUnset, known_at}
 use Rattle.aa_trails.specs.Reads.{element_behind, Known, known, known_behind, known_groups, KnownGroup, leading, reads, Texts}
 use Rattle.aa_trails.specs.Trails.{trail_of}

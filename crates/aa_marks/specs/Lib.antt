@@ -1,3 +1,2 @@
 pub mod code
-pub mod Elements
 pub mod Marks

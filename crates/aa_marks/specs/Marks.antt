@@ -1,7 +1,7 @@
 -- Marks: whether a past reads each beginning of a pattern's text. A past is the bytes of a path that were read so far.
 use Rattle.std.specs.Prelude.{◌≡◌, ℕ, ◌≤◌, zero, suc, Bool, true, false, List, [], ◌∷◌, length, get_or, Option, None, Some}
 use Rattle.aa_elements.specs.Elements.{Element}
-use Rattle.aa_marks.specs.Elements.{elements_of}
+use Rattle.aa_trails.specs.Elements.{elements_of}
 use Rattle.aa_trails.specs.Reads.{Known, known, known_behind, reads, Texts}
 use Rattle.aa_trails.specs.Trails.{trail_of}
 

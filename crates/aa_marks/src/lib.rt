@@ -3,7 +3,6 @@
 
 mod groups;
 mod matching;
-mod next;
 mod pass;
 mod place;
 mod places;

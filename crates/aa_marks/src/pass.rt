@@ -4,9 +4,9 @@ ghost use Rattle.std.specs.Prelude.{◌≡◌, ◌<◌, ◌*◌, ◌||◌, lengt
 ghost use Rattle.aa_elements.specs.Reading.{items_of, reading};
 ghost use Rattle.aa_marks.specs.Marks.{AreUnset, MarksGoOn, TellsWhole};
 
-use crate::next::next_within;
 use crate::places::Places;
 use aa_elements::Context;
+use aa_trails::{next_within, which_elements_stand};
 
 /// What a pass tells of its past.
 #[derive(Clone, Copy, Debug)]
@@ -26,6 +26,7 @@ pub fn pass(first: bool, byte: u8, text: &[u8], marks: &mut [bool]) -> Passed
     ensures whole { TellsWhole text.now first byte marks.old result.whole }
     ensures some { result.some ≡ false → AreUnset text.now marks.new }
 {
+    which_elements_stand();
     let mut places = Places::beginning(marks[0], first);
     let mut some = first;
     marks[0] = first;

@@ -2,7 +2,7 @@
 
 ghost use Rattle.std.specs.Prelude.{◌≡◌, []};
 ghost use Rattle.aa_elements.specs.Cursor.{meaning};
-ghost use Rattle.aa_marks.specs.Elements.{MayStand};
+ghost use Rattle.aa_trails.specs.Elements.{MayStand};
 ghost use Rattle.aa_marks.specs.code.Places.{groups_behind, leading_mark};
 ghost use Rattle.aa_marks.specs.code.OpenGroups.{open_groups};
 ghost use Rattle.aa_trails.specs.Trails.{depth_behind};

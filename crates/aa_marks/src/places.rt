@@ -19,7 +19,7 @@ pub struct Places {
 impl Places {
     ghost use Rattle.std.specs.Prelude.{◌≡◌, ℕ, Bool, []};
     ghost use Rattle.aa_elements.specs.Cursor.{meaning};
-    ghost use Rattle.aa_marks.specs.Elements.{MayStand};
+    ghost use Rattle.aa_trails.specs.Elements.{MayStand};
     ghost use Rattle.aa_marks.specs.Marks.{is_among, is_none, Past};
     ghost use Rattle.aa_marks.specs.code.Places.{AreAt, mark_behind};
     ghost use Rattle.aa_trails.specs.Reads.{Known, known, known_behind};

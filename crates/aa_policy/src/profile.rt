@@ -5,7 +5,7 @@ ghost use Rattle.aa_policy.specs.Profile.{child_place};
 
 use aa_access::{ExecWord, Perms};
 use aa_bytes::Sequence;
-use aa_glob::Pattern;
+use aa_patterns::Pattern;
 use std::alloc::{AllocError, Global};
 
 /// Whether what the rules don't allow is refused, or let through and logged.

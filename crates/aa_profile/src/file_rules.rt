@@ -6,8 +6,8 @@ ghost use Rattle.aa_text.specs.code.SplicingProgress.{seen_spliced};
 ghost use Rattle.aa_profile.specs.Profiles.{file_rule, link_of, text_of_target, transition_of};
 
 use aa_bytes::Sequence;
-use aa_glob::Pattern;
 use aa_grammar::{Access, Qualifiers};
+use aa_patterns::Pattern;
 use aa_policy::{FileRule, Rule, Transition};
 use aa_text::Spliced;
 use std::alloc::{AllocError, Global};

@@ -11,7 +11,7 @@ ghost use Rattle.aa_refusals.specs.declared.profile_error.ProfileRefusal.TheVari
 
 use aa_bytes::begins_with_byte;
 use aa_faults::place_of;
-use aa_glob::{LONGEST_PATTERN, Pattern};
+use aa_patterns::{LONGEST_PATTERN, Pattern};
 use aa_refusals::{ProfileError, ProfileRefusal, placed};
 use aa_text::{ExpansionTable, Place, Spliced};
 use std::alloc::{AllocError, Global};

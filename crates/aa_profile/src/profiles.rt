@@ -18,11 +18,11 @@ use crate::file_rules::push_file_rules;
 use crate::kept_rules::kept_text;
 use crate::patterns::read_patterns;
 use aa_bytes::Sequence;
-use aa_glob::Pattern;
 use aa_grammar::{
     Child as WrittenChild, Flags, Head, Member, Profile as WrittenProfile, Qualifiers,
     Rule as WrittenRule, Sockets,
 };
+use aa_patterns::Pattern;
 use aa_policy::{CapRule, Child, Mode, NetRule, OtherRule, Profile, Rule};
 use aa_refusals::ProfileError;
 use aa_text::{ExpansionTable, Spliced};

@@ -4,9 +4,9 @@ ghost use Rattle.std.specs.Prelude.{◌≡◌};
 ghost use Rattle.aa_refusals.specs.ProfileError.{name_of, number_of, placed, plain};
 ghost use Rattle.aa_refusals.specs.declared.profile_error.ProfileRefusal.TheVariants.{Memory};
 
+use aa_elements::PatternError;
 use aa_faults::{GrammarError, GrammarRefusal};
 use aa_files::{Place, TextError, TextRefusal};
-use aa_glob::PatternError;
 use std::alloc::{AllocError, AllocFailed};
 use std::fmt::{self, Display, Formatter, Write};
 use thiserror::Error;

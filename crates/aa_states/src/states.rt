@@ -49,6 +49,19 @@ impl States {
         self.tables.states.len()
     }
 
+    /// An equal automaton.
+    ///
+    /// # Errors
+    ///
+    /// Where memory runs out.
+    pub fn try_copy(&self, alloc: Global) -> Result<States, AllocError>
+        ensures { IfOk result (λ copy. copy ≡ self.now) }
+    {
+        Ok(States {
+            tables: self.tables.try_copy(alloc)?,
+        })
+    }
+
     /// The patterns of which an end is reached behind a text, each once, in rising order.
     ///
     /// Steps are counted: one for each visit of a state at a place of the text, which are its bytes and its end. It ends at the first byte

@@ -43,6 +43,21 @@ impl Tables {
         })
     }
 
+    // Equal tables.
+    pub fn try_copy(&self, alloc: Global) -> Result<Tables, AllocError>
+        ensures states { IfOk result (λ copy. copy.states.items ≡ self.now.states.items) }
+        ensures ways { IfOk result (λ copy. copy.ways.items ≡ self.now.ways.items) }
+        ensures classes { IfOk result (λ copy. copy.classes.items ≡ self.now.classes.items) }
+        ensures ends { IfOk result (λ copy. copy.ends.items ≡ self.now.ends.items) }
+    {
+        Ok(Tables {
+            states: Vec::from_slice(alloc, self.states.as_slice())?,
+            ways: Vec::from_slice(alloc, self.ways.as_slice())?,
+            classes: Vec::from_slice(alloc, self.classes.as_slice())?,
+            ends: Vec::from_slice(alloc, self.ends.as_slice())?,
+        })
+    }
+
     // Adds a state with this entry, and tells its number.
     pub fn add(&mut self, entry: &Entry) -> Result<u32, AllocError>
         requires { AreSound self.old }

@@ -102,11 +102,11 @@ pub trail_of-behind : (text : List ℕ) → trail_of text ≡ trail_behind [] 0 
 trail_of-behind text = sym (trail_behind-onto 0 (elements Elsewhere (symbols text)) [])
 
 -- as many groups are open as were opened and not closed
-length-with_end : (trail : Trail) (gs : List OpenGroup) → length (with_end trail gs) ≡ length gs
+pub length-with_end : (trail : Trail) (gs : List OpenGroup) → length (with_end trail gs) ≡ length gs
 length-with_end trail [] = refl
 length-with_end trail (g ∷ gs) = refl
 
-length-outer : (gs : List OpenGroup) → length (outer gs) ≡ length gs - 1
+pub length-outer : (gs : List OpenGroup) → length (outer gs) ≡ length gs - 1
 length-outer [] = refl
 length-outer (g ∷ gs) = omega arith
 
@@ -122,7 +122,7 @@ length-groups Close trail = length-outer (groups_of trail)
 length-groups (Fault error) trail = refl
 
 -- a depth that is not zero
-not_outside : (depth : ℕ) → (depth == 0) ≡ false → 0 < depth
+pub not_outside : (depth : ℕ) → (depth == 0) ≡ false → 0 < depth
 not_outside zero h = absurd (false≢true (sym h))
 not_outside (suc depth) h = omega arith
 

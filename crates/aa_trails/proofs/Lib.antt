@@ -2,6 +2,8 @@ pub mod BeginningLemmas
 pub mod BoundLemmas
 pub mod GatheringLemmas
 pub mod GroupLemmas
+pub mod MatchingLemmas
 pub mod PatternLemmas
 pub mod SourceLemmas
+pub mod StandLemmas
 pub mod WalkLemmas

@@ -1,14 +1,20 @@
 -- What holds of trails.
-use Rattle.std.specs.Prelude.{◌≡◌, ◌↔◌, ℕ, ◌<◌, ◌≤◌, Bool, true, false, Contains, Decides, List, [], ◌∷◌, ◌++◌, length, Ok, reverse}
+use Rattle.std.specs.Prelude.{◌≡◌, ◌↔◌, ℕ, ◌<◌, ◌≤◌, Bool, true, false, Contains, Decides, IsTrue, List, [], ◌∷◌, ◌++◌, length, Ok, reverse}
 use Rattle.std.specs.List.{IsDistinct}
 use Rattle.aa_elements.specs.Elements.{Element, Single, Open, Comma, Close, Fault, elements}
-use Rattle.aa_elements.specs.Matching.{matches}
+use Rattle.aa_elements.specs.Items.{Pattern}
+use Rattle.aa_elements.specs.Matching.{matches, Matches}
 use Rattle.aa_elements.specs.Reading.{items_of, reading}
 use Rattle.aa_elements.specs.Symbols.{symbols}
 use Rattle.aa_elements.specs.declared.context.Context.TheVariants.{Elsewhere}
 use Rattle.aa_trails.specs.Beginnings.{AreApart, AreBeginnings, Begun, HasStates, most_states}
+use Rattle.aa_trails.specs.Elements.{EachMayStand, elements_of}
 use Rattle.aa_trails.specs.Reads.{element_behind, reads, some_reads}
 use Rattle.aa_trails.specs.Trails.{depth_behind, element_within, grouped, groups_of, sources, Trail, trail_behind, trail_of}
+
+-- the test of a match says that the text can be cut into one text for each item
+abbrev pub MatchingIsBySplits : Type 0
+MatchingIsBySplits = (items : Pattern) (text : List ℕ) → (IsTrue (matches items text) ↔ Matches items text)
 
 -- the texts that read a pattern's trail are those that match the pattern
 abbrev pub WholeTrailsAreMatched : Type 0
@@ -71,6 +77,18 @@ WholeTrailsStandInGroups = (text : List ℕ) → reading text ≡ Ok (items_of t
 -- what holds of a trail's groups holds of its beginnings'
 abbrev pub BeginningsStandInGroups : Type 0
 BeginningsStandInGroups = (later : List Element) (trail : Trail) → StandsInGroups (later ++ trail) → StandsInGroups trail
+
+-- in a text that reads as a pattern each element may stand in as many groups as are open before it
+abbrev pub WholeTextsStand : Type 0
+WholeTextsStand = (text : List ℕ) → reading text ≡ Ok (items_of text) → EachMayStand 0 (elements_of text)
+
+-- a text's trail is its elements, the last one first
+abbrev pub WholeTrailsAreElements : Type 0
+WholeTrailsAreElements = (text : List ℕ) → trail_of text ≡ reverse (elements_of text)
+
+-- as many groups are open behind an element of a trail as it leaves open
+abbrev pub DepthIsOfElements : Type 0
+DepthIsOfElements = (e : Element) (trail : Trail) → length (groups_of (e ∷ trail)) ≡ depth_behind (length (groups_of trail)) e
 
 -- texts have one count of different beginnings
 abbrev pub StatesHaveOneCount : Type 0

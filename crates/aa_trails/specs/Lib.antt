@@ -1,4 +1,5 @@
 pub mod Beginnings
+pub mod Elements
 pub mod Laws
 pub mod Reads
 pub mod Trails

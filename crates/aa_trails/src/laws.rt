@@ -1,8 +1,11 @@
 //! What holds of trails, as laws over their definitions.
 
-ghost use Rattle.aa_trails.specs.Laws.{ApartIsDistinct, BeginningsStandInGroups, DepthIsOfOpenGroups, FirstTextIsBegun, KnownTrailIsMet, NewTrailIsAdded, NextTextIsBegun, SameTextsHaveSameStates, SomeAreReadAsOneIs, SourcesAreShorter, StatesAreFew, StatesHaveOneCount, TrailsAreReadBehindSources, TrailsGrowInFront, WholeTextIsThere, WholeTrailsAreMatched, WholeTrailsGrowByElements, WholeTrailsStandInGroups};
+ghost use Rattle.aa_trails.specs.Laws.{ApartIsDistinct, BeginningsStandInGroups, DepthIsOfElements, DepthIsOfOpenGroups, FirstTextIsBegun, KnownTrailIsMet, MatchingIsBySplits, NewTrailIsAdded, NextTextIsBegun, SameTextsHaveSameStates, SomeAreReadAsOneIs, SourcesAreShorter, StatesAreFew, StatesHaveOneCount, TrailsAreReadBehindSources, TrailsGrowInFront, WholeTextIsThere, WholeTextsStand, WholeTrailsAreElements, WholeTrailsAreMatched, WholeTrailsGrowByElements, WholeTrailsStandInGroups};
 
-use aa_glob::matching_is_by_splits;
+/// The test that contracts name says that the text can be cut into one text for each item.
+pub fn matching_is_by_splits()
+    ensures { MatchingIsBySplits }
+{}
 
 /// The texts that read a pattern's trail to its end are those that match the pattern.
 pub fn what_reads_to_the_end_matches()
@@ -26,6 +29,14 @@ pub fn how_trails_grow()
     ensures depth { DepthIsOfOpenGroups }
     ensures groups { WholeTrailsStandInGroups }
     ensures beginnings { BeginningsStandInGroups }
+{}
+
+/// In a text that reads as a pattern each element may stand in as many groups as are open before it, and the text's trail is its elements, the
+/// last one first. Behind each of them as many groups are open as its trail says.
+pub fn which_elements_stand()
+    ensures text { WholeTextsStand }
+    ensures trail { WholeTrailsAreElements }
+    ensures depth { DepthIsOfElements }
 {}
 
 /// The different beginnings of texts, which are the states of the automaton that reads them, have one count. It is at most two for each

@@ -2,8 +2,10 @@
 #![tactic(auto)]
 
 mod laws;
+mod next;
 
 pub use laws::{
     how_beginnings_are_gathered, how_many_states_there_are, how_trails_are_read, how_trails_grow,
-    what_reads_to_the_end_matches,
+    matching_is_by_splits, what_reads_to_the_end_matches, which_elements_stand,
 };
+pub use next::next_within;

@@ -1,23 +1,28 @@
 -- What rules cover together depends on which rules there are, and on nothing else.
-use Rattle.std.proofs.Common.{◌≡◌, ℕ, zero, suc, Some, ◌+◌, ◌-◌, ◌<◌, ◌≤◌, ◌^◌, Bool, true, false, not, List, [], ◌∷◌, drop, get_or, length, arith, refl, sym, ap, ◌∙◌, inl, inr, max, min, w8}
-use Rattle.std.specs.Prelude.{if◌then◌else◌, bit_and, bit_or, ◌==◌}
+use Rattle.std.proofs.Common.{◌≡◌, ℕ, zero, suc, None, Some, ◌+◌, ◌-◌, ◌<◌, ◌≤◌, ◌^◌, Bool, true, false, not, List, [], ◌∷◌, drop, get_or, length, arith, refl, sym, ap, ◌∙◌, inl, inr, max, min, w8}
+use Rattle.std.specs.Prelude.{if◌then◌else◌, bit_and, bit_or, slice_get, ◌==◌}
 use Rattle.std.specs.Int.{bit_at}
 use Rattle.std.specs.Int.Bits.{or_zero_l}
-use Rattle.std.specs.List.{Contains}
+use Rattle.std.specs.List.{Contains, filter}
+use Rattle.std.specs.List.Sorted.{IsStrictlyIncreasing}
 use Rattle.std.proofs.lemmas.Bool.{cases_lt}
 use Rattle.std.proofs.lemmas.Bool.Decides.{nat_tests}
 use Rattle.std.proofs.lemmas.Nat.{and_le_r, le_or_r}
 use Rattle.std.proofs.lemmas.Nat.Bits.{bit_at-zero, bit_at_above, bit_at_and, bit_at_not, bit_at_ones, bit_at_or, same_from_bits}
 use Rattle.aa_access.specs.Access.{union, without}
-use Rattle.aa_access.specs.Request.{Request}
+use Rattle.aa_access.specs.Request.{Request, ForFile}
 use Rattle.aa_policy.specs.declared.profile.Mode.{Mode}
 use Rattle.aa_policy.specs.declared.profile.Mode.TheVariants.{Complain, Enforce}
 use Rattle.aa_policy.specs.declared.profile.Rule.{Rule}
-use Rattle.aa_verdicts.specs.Verdict.{allows, allows_aloud, audited, covers, denied, denies, denies_aloud, granted, letters_among, logged, loud, mask, missing, needs, verdict, when_missing, with_covered, with_rule}
+use Rattle.aa_policy.specs.declared.profile.Rule.TheVariants.{Cap, File, Net, Other}
+use Rattle.aa_verdicts.proofs.MatchingLemmas.{picked-matching}
+use Rattle.aa_verdicts.specs.Matching.{AreMatchingRules, is_matching}
+use Rattle.aa_verdicts.specs.Verdict.{allows, allows_aloud, applies, audited, covers, denied, denies, denies_aloud, granted, letters_among, loud, mask, missing, needs, verdict, with_covered, with_rule}
+use Rattle.aa_verdicts.specs.code.Masks.{verdict_by}
+use Rattle.aa_verdicts.specs.code.Parts.{picked}
 use Rattle.aa_verdicts.specs.VerdictLaws.{HaveSameRules, in_complain}
 use Rattle.aa_verdicts.specs.declared.verdict.Answer.TheVariants.{Allow, Complain as Complained, Deny, Refuse}
-use Rattle.aa_verdicts.specs.declared.verdict.Tag.TheVariants.{Allowed, Audit, Denied}
-use Rattle.aa_verdicts.specs.declared.verdict.Verdict.{Verdict}
+use Rattle.aa_verdicts.specs.declared.verdict.Tag.TheVariants.{Allowed, Denied}
 use Rattle.std.proofs.lemmas.List.{drop_more}
 
 -- what is in either of two sets, or in a third
@@ -90,22 +95,57 @@ mask-step request test set next rules at rule within is n =
     ap (λ set. with_covered request test set (drop (at + 1) rules)) n
     ∙ sym (ap (with_covered request test set) (drop_more rules at rule within ∙ ap (λ rule. rule ∷ drop (at + 1) rules) (sym is)))
 
--- the verdict where these are the masks
-abbrev verdict-by : Mode → Request → ℕ → ℕ → ℕ → ℕ → Verdict
-verdict-by mode request denied loud granted audited =
-    let missing = without (needs request) (union denied (without granted denied)) in
-    if not (denied == 0) then logged Deny Denied (union loud missing) else
-    if not (missing == 0) then when_missing mode missing else
-    logged Allow Audit audited
+-- the same masks make the same verdict
+verdict-masks : (mode : Mode) (flag : Bool) (rules others : List Rule) (request : Request) → ((test : Rule → Bool) → mask request test rules ≡ mask request test others)
+    → verdict mode flag rules request ≡ verdict mode flag others request
+verdict-masks mode flag rules others request same =
+    ap (λ d. verdict_by mode request d (loud flag request rules) (granted request rules) (audited flag request rules)) (same denies)
+    ∙ ap (λ l. verdict_by mode request (denied request others) l (granted request rules) (audited flag request rules)) (same (denies_aloud flag))
+    ∙ ap (λ g. verdict_by mode request (denied request others) (loud flag request others) g (audited flag request rules)) (same allows)
+    ∙ ap (verdict_by mode request (denied request others) (loud flag request others) (granted request others)) (same (allows_aloud flag))
 
 -- the order of the rules changes no verdict, nor does a rule that stands twice
 pub verdict-order : (mode : Mode) (flag : Bool) (rules others : List Rule) (request : Request) → HaveSameRules rules others
     → verdict mode flag rules request ≡ verdict mode flag others request
-verdict-order mode flag rules others request same =
-    ap (λ d. verdict-by mode request d (loud flag request rules) (granted request rules) (audited flag request rules)) (mask-same request denies rules others same)
-    ∙ ap (λ l. verdict-by mode request (denied request others) l (granted request rules) (audited flag request rules)) (mask-same request (denies_aloud flag) rules others same)
-    ∙ ap (λ g. verdict-by mode request (denied request others) (loud flag request others) g (audited flag request rules)) (mask-same request allows rules others same)
-    ∙ ap (verdict-by mode request (denied request others) (loud flag request others) (granted request others)) (mask-same request (allows_aloud flag) rules others same)
+verdict-order mode flag rules others request same = verdict-masks mode flag rules others request (λ test. mask-same request test rules others same)
+
+-- a rule that doesn't apply covers nothing
+with-unmatched : (letters : ℕ) (owned : Bool) (path : List ℕ) (test : Rule → Bool) (set : ℕ) (rule : Rule) → is_matching path rule ≡ false
+    → with_rule (ForFile letters owned path) test set rule ≡ set
+with-unmatched letters owned path test set rule m = by (test rule) refl
+  where
+    unmatched : (rule : Rule) → is_matching path rule ≡ false → applies (ForFile letters owned path) rule ≡ false
+    unmatched (File rule) m = rw m refl
+    unmatched (Cap rule) m = refl
+    unmatched (Net rule) m = refl
+    unmatched (Other rule) m = refl
+
+    by : (b : Bool) → test rule ≡ b → with_rule (ForFile letters owned path) test set rule ≡ set
+    by true e = rw (e, unmatched rule m) (same_from_bits (union set 0) set (λ i. let bits = bit_at_or set 0 i in let none = bit_at-zero i in omega arith))
+    by false e = rw e refl
+
+-- the rules that match a path cover what all do
+with-matching : (letters : ℕ) (owned : Bool) (path : List ℕ) (test : Rule → Bool) (set : ℕ) (rules : List Rule)
+    → with_covered (ForFile letters owned path) test set (filter (is_matching path) rules) ≡ with_covered (ForFile letters owned path) test set rules
+with-matching letters owned path test set [] = refl
+with-matching letters owned path test set (rule ∷ rules) = by (is_matching path rule) refl (λ set. with-matching letters owned path test set rules)
+  where
+    request : Request
+    request = ForFile letters owned path
+
+    by : (b : Bool) → is_matching path rule ≡ b
+        → ((set : ℕ) → with_covered request test set (filter (is_matching path) rules) ≡ with_covered request test set rules)
+        → with_covered request test set (filter (is_matching path) (rule ∷ rules)) ≡ with_covered request test set (rule ∷ rules)
+    by true e rest = rw e (rest (with_rule request test set rule))
+    by false e rest = rw e (rest set ∙ ap (λ set. with_covered request test set rules) (sym (with-unmatched letters owned path test set rule e)))
+
+-- what the rules at the places of those that match a path say is what all say
+pub verdict-matching : (mode : Mode) (flag : Bool) (rules : List Rule) (letters : ℕ) (owned : Bool) (path places : List ℕ)
+    → AreMatchingRules rules path places → IsStrictlyIncreasing places
+    → verdict mode flag (picked rules places) (ForFile letters owned path) ≡ verdict mode flag rules (ForFile letters owned path)
+verdict-matching mode flag rules letters owned path places are rise =
+    ap (λ rules. verdict mode flag rules (ForFile letters owned path)) (picked-matching rules path places are rise)
+    ∙ verdict-masks mode flag (filter (is_matching path) rules) rules (ForFile letters owned path) (λ test. with-matching letters owned path test 0 rules)
 
 -- complain mode changes what is refused alone
 pub verdict-complain : (flag : Bool) (rules : List Rule) (request : Request) → verdict Complain flag rules request ≡ in_complain (verdict Enforce flag rules request)
@@ -227,3 +267,12 @@ verdict-deny mode flag rule rules request h before =
     let same : granted request (rule ∷ rules) ≡ granted request rules = mask-else request allows rule rules (ap not h) in
     allow-from mode flag rules request none
     (missing-of request rules none ∙ ap (λ set. lacking (needs request) set) (sym same) ∙ sym (missing-of request (rule ∷ rules) parts.0) ∙ parts.1)
+
+-- a rule more, before others whose mask is known
+pub pick-step : (request : Request) (test : Rule → Bool) (set next : ℕ) (rules : List Rule) (place : ℕ) (places : List ℕ) (rule : Rule) → slice_get rules place ≡ Some rule
+    → next ≡ with_rule request test set rule → with_covered request test next (picked rules places) ≡ with_covered request test set (picked rules (place ∷ places))
+pick-step request test set next rules place places rule is n = rw (picked, is, n) refl
+
+pub pick-none : (request : Request) (test : Rule → Bool) (set : ℕ) (rules : List Rule) (place : ℕ) (places : List ℕ) → slice_get rules place ≡ None
+    → with_covered request test set (picked rules places) ≡ with_covered request test set (picked rules (place ∷ places))
+pick-none request test set rules place places is = rw (picked, is) refl

@@ -5,6 +5,7 @@ mod confinement;
 mod entry;
 mod laws;
 mod log;
+mod part;
 mod ready;
 mod request;
 mod verdict;

@@ -1,12 +1,22 @@
 //! Profiles that requests are decided by.
 
-ghost use Rattle.std.specs.Prelude.{◌≡◌, IfOk};
+ghost use Rattle.std.specs.Prelude.{◌≡◌, IfOk, MatchOption};
+ghost use Rattle.std.specs.List.Sorted.{IsStrictlyIncreasing};
+ghost use Rattle.aa_automata.specs.Automata.{AreMatching};
+ghost use Rattle.aa_trails.specs.Beginnings.{HasStates};
+ghost use Rattle.aa_verdicts.specs.Matching.{AreFewStates, AreMatchingRules, AreStepsOf, AreVisitsOf, attachments_at, file_patterns};
 ghost use Rattle.aa_verdicts.specs.Ready.{audits, decided, rules_at};
+ghost use Rattle.aa_verdicts.specs.code.Parts.{HasNothingAt, IsPartOf};
 ghost use Rattle.aa_verdicts.specs.code.Requests.{request_of};
 
+use crate::part::{Part, copied_parts, parts_of};
 use crate::request::Request;
-use crate::verdict::{Verdict, rules_verdict};
+use crate::verdict::{Verdict, found_verdict, rules_verdict};
+use aa_bytes::Sequence;
+use aa_patterns::Pattern;
 use aa_policy::{Mode, Profile, Rule};
+use aa_states::Steps;
+use aa_trails::how_many_states_there_are;
 use std::alloc::{AllocError, Global};
 use std::marker::Model;
 
@@ -15,6 +25,10 @@ use std::marker::Model;
 pub struct Ready {
     /// The profile.
     pub profile: Profile,
+    // What was made of its own rules and attachments.
+    own: Part,
+    // What was made of those of each child and hat.
+    parts: Sequence<Part>,
 }
 
 impl Model for Ready {
@@ -23,21 +37,35 @@ impl Model for Ready {
     ghost Value = { Profile };
 
     ghost view = { λ r. r.profile };
+
+    ghost use Rattle.aa_verdicts.specs.code.Parts.{ArePartsOf, IsPartOf};
+
+    ghost invariant = { λ r. IsPartOf r.own r.profile.rules r.profile.attachments × ArePartsOf r.parts r.profile.children };
 }
 
 impl Ready {
-    /// A profile, made ready. It takes no memory so far.
+    /// A profile, made ready: an automaton is made of the patterns of its file rules, one of its attachments, and such of each child and hat.
     ///
     /// # Errors
     ///
     /// Where memory runs out. The profile is dropped then.
-    pub fn build(_alloc: Global, profile: Profile) -> Result<Ready, AllocError>
+    pub fn build(alloc: Global, profile: Profile) -> Result<Ready, AllocError>
         ensures { IfOk result (λ ready. ready ≡ profile) }
     {
-        Ok(Ready { profile })
+        let own = Part::build(
+            alloc,
+            profile.rules.as_slice(),
+            profile.attachments.as_slice(),
+        )?;
+        let parts = parts_of(alloc, profile.children.as_slice())?;
+        Ok(Ready {
+            profile,
+            own,
+            parts: Sequence::from_vec(parts),
+        })
     }
 
-    /// An equal one.
+    /// An equal one, whose automata are copied.
     ///
     /// # Errors
     ///
@@ -45,7 +73,14 @@ impl Ready {
     pub fn try_copy(&self, alloc: Global) -> Result<Ready, AllocError>
         ensures { IfOk result (λ copy. copy ≡ self.now) }
     {
-        Ready::build(alloc, self.profile.try_copy(alloc)?)
+        let profile = self.profile.try_copy(alloc)?;
+        let own = self.own.try_copy(alloc)?;
+        let parts = copied_parts(alloc, self.parts.as_slice())?;
+        Ok(Ready {
+            profile,
+            own,
+            parts: Sequence::from_vec(parts),
+        })
     }
 
     /// The rules by which the profile decides, or its child or hat at a place; one that isn't there has none.
@@ -74,21 +109,111 @@ impl Ready {
         }
     }
 
+    /// The patterns of the attachments of the profile, or of its child or hat at a place; one that isn't there has none.
+    pub fn attachments_at(&self, child: Option<usize>) -> &[Pattern]
+        ensures { result.now ≡ attachments_at self.now child }
+    {
+        match child {
+            None => self.profile.attachments.as_slice(),
+            Some(place) => match self.profile.children.as_slice().get(place) {
+                None => &[],
+                Some(child) => child.attachments.as_slice(),
+            },
+        }
+    }
+
+    // What was made of the rules and attachments of the profile, or of its child or hat at a place.
+    fn part_at(&self, child: Option<usize>) -> Option<&Part>
+        ensures { MatchOption result (HasNothingAt self.now child) (λ part. IsPartOf part.now (rules_at self.now child) (attachments_at self.now child)) }
+    {
+        match child {
+            None => Some(&self.own),
+            Some(place) => self.parts.as_slice().get(place),
+        }
+    }
+
+    /// How many states the automaton has that a request for a file asks (docs/policy.md, "Decisions"). It takes no memory.
+    pub fn states(&self, child: Option<usize>) -> usize
+        ensures states { HasStates (file_patterns (rules_at self.now child)) result }
+        ensures few { AreFewStates (rules_at self.now child) result }
+    {
+        how_many_states_there_are();
+        match self.part_at(child) {
+            None => 0,
+            Some(part) => part.states(),
+        }
+    }
+
+    /// The places of the rules on files whose pattern matches a path, in rising order. One automaton finds them.
+    ///
+    /// # Errors
+    ///
+    /// Where memory runs out.
+    pub fn matching_rules(
+        &self,
+        alloc: Global,
+        child: Option<usize>,
+        path: &[u8],
+        steps: &mut Steps,
+    ) -> Result<Vec<usize>, AllocError>
+        ensures found { IfOk result (λ places. AreMatchingRules (rules_at self.now child) path.now places.items) }
+        ensures rise { IfOk result (λ places. IsStrictlyIncreasing places.items) }
+        ensures steps { AreVisitsOf (file_patterns (rules_at self.now child)) path.now steps.old steps.new }
+    {
+        match self.part_at(child) {
+            None => Ok(Vec::new(alloc)),
+            Some(part) => part.matching_rules(alloc, path, steps),
+        }
+    }
+
+    /// The places of the attachments that match a path, in rising order. One automaton finds them.
+    ///
+    /// # Errors
+    ///
+    /// Where memory runs out.
+    pub fn matching_attachments(
+        &self,
+        alloc: Global,
+        child: Option<usize>,
+        path: &[u8],
+        steps: &mut Steps,
+    ) -> Result<Vec<usize>, AllocError>
+        ensures found { IfOk result (λ places. AreMatching (attachments_at self.now child) path.now places.items) }
+        ensures rise { IfOk result (λ places. IsStrictlyIncreasing places.items) }
+        ensures steps { AreVisitsOf (attachments_at self.now child) path.now steps.old steps.new }
+    {
+        match self.part_at(child) {
+            None => Ok(Vec::new(alloc)),
+            Some(part) => part.matching_attachments(alloc, path, steps),
+        }
+    }
+
     /// What the profile says of a request in a mode, or its child or hat at a place among its children: by its own rules, whatever the others
-    /// say (apparmor.d(5); docs/policy.md, "Decisions"). One that isn't there allows nothing. It takes no memory so far.
+    /// say (apparmor.d(5); docs/policy.md, "Decisions"). One that isn't there allows nothing. A request for a file is asked of one automaton,
+    /// whose visits are counted; any other goes over the rules, and takes neither visits nor memory.
     ///
     /// # Errors
     ///
     /// Where memory runs out.
     pub fn decide(
         &self,
-        _alloc: Global,
+        alloc: Global,
         child: Option<usize>,
         mode: Mode,
         request: &Request<'_>,
+        steps: &mut Steps,
     ) -> Result<Verdict, AllocError>
-        ensures { IfOk result (λ verdict. verdict ≡ decided self.now child mode (request_of request.entry.now)) }
+        ensures verdict { IfOk result (λ verdict. verdict ≡ decided self.now child mode (request_of request.entry.now)) }
+        ensures steps { AreStepsOf (rules_at self.now child) (request_of request.entry.now) steps.old steps.new }
     {
-        Ok(rules_verdict(mode, self.audits(child), self.rules_at(child), request))
+        let (audit, rules) = (self.audits(child), self.rules_at(child));
+        match request {
+            Request::File { path, owned, .. } => {
+                let places = self.matching_rules(alloc, child, path, steps)?;
+                Ok(found_verdict(mode, audit, rules, places.as_slice(), request, *owned))
+            }
+            Request::Cap(_) => Ok(rules_verdict(mode, audit, rules, request)),
+            Request::Net { .. } => Ok(rules_verdict(mode, audit, rules, request)),
+        }
     }
 }

@@ -3,6 +3,9 @@
 ghost use Rattle.std.specs.Prelude.{◌≡◌};
 ghost use Rattle.aa_verdicts.specs.Answer.{answer_word};
 ghost use Rattle.aa_verdicts.specs.Verdict.{allows, allows_aloud, applies, audited, covered_by, covered_by_file, covers, denied, denies, denies_aloud, granted, is_audited, letters_among, logged, loud, needs, the_need, verdict, with_rule};
+ghost use Rattle.aa_verdicts.specs.code.Masks.{verdict_by};
+ghost use Rattle.aa_verdicts.specs.code.Found.{covers_found, found_mask, found_verdict, put_if};
+ghost use Rattle.aa_verdicts.specs.code.Parts.{picked};
 ghost use Rattle.aa_verdicts.specs.code.Requests.{request_of};
 
 use crate::request::Request;
@@ -106,12 +109,10 @@ fn logged(answer: Answer, tag: Tag, mask: Perms) -> Verdict
     }
 }
 
-/// What rules say of a request, in a mode. `audit` says whether each of the rules is audited, whatever its own words are: that is the flag of
-/// their profile. It goes over the rules once, and takes no memory.
-pub fn rules_verdict(mode: Mode, audit: bool, rules: &[Rule], request: &Request<'_>) -> Verdict
-    ensures { result ≡ verdict mode audit rules.now (request_of request.entry.now) }
+// What is said of a request in a mode by the needs that rules cover.
+fn verdict_by(mode: Mode, masks: Masks, request: &Request<'_>) -> Verdict
+    ensures { result ≡ verdict_by mode (request_of request.entry.now) masks.denied.0 masks.loud.0 masks.granted.0 masks.audited.0 }
 {
-    let masks = masks_of(audit, rules, request);
     let allowed = masks.granted.difference(masks.denied);
     let missing = needs(request).difference(masks.denied.union(allowed));
     if !masks.denied.is_empty() {
@@ -126,6 +127,45 @@ pub fn rules_verdict(mode: Mode, audit: bool, rules: &[Rule], request: &Request<
     }
 }
 
+/// What rules say of a request, in a mode. `audit` says whether each of the rules is audited, whatever its own words are: that is the flag of
+/// their profile. It goes over the rules once, and takes no memory.
+pub fn rules_verdict(mode: Mode, audit: bool, rules: &[Rule], request: &Request<'_>) -> Verdict
+    ensures { result ≡ verdict mode audit rules.now (request_of request.entry.now) }
+{
+    verdict_by(mode, masks_of(audit, rules, request), request)
+}
+
+/// The same of a request for a file, by the rules at some places alone, of which it is known that their pattern matches the file's path: no pattern is
+/// tried.
+pub fn found_verdict(
+    mode: Mode,
+    audit: bool,
+    rules: &[Rule],
+    places: &[usize],
+    request: &Request<'_>,
+    owned: bool,
+) -> Verdict
+    ensures { result ≡ found_verdict mode audit owned (request_of request.entry.now) (picked rules.now places.now) }
+{
+    let masks = found_masks(audit, rules, places, needs(request), owned);
+    verdict_by(mode, masks, request)
+}
+
+// No needs.
+fn no_masks() -> Masks
+    ensures denied { result.denied.0 ≡ 0 }
+    ensures loud { result.loud.0 ≡ 0 }
+    ensures granted { result.granted.0 ≡ 0 }
+    ensures audited { result.audited.0 ≡ 0 }
+{
+    Masks {
+        denied: Perms::empty(),
+        loud: Perms::empty(),
+        granted: Perms::empty(),
+        audited: Perms::empty(),
+    }
+}
+
 // The needs that rules cover.
 fn masks_of(audit: bool, rules: &[Rule], request: &Request<'_>) -> Masks
     ensures denied { result.denied.0 ≡ denied (request_of request.entry.now) rules.now }
@@ -133,14 +173,27 @@ fn masks_of(audit: bool, rules: &[Rule], request: &Request<'_>) -> Masks
     ensures granted { result.granted.0 ≡ granted (request_of request.entry.now) rules.now }
     ensures audited { result.audited.0 ≡ audited audit (request_of request.entry.now) rules.now }
 {
-    let mut masks = Masks {
-        denied: Perms::empty(),
-        loud: Perms::empty(),
-        granted: Perms::empty(),
-        audited: Perms::empty(),
-    };
+    let mut masks = no_masks();
     for rule in rules {
         masks = with_rule(masks, audit, rule, request);
+    }
+    masks
+}
+
+// The needs that the rules at some places cover whose pattern matches.
+fn found_masks(audit: bool, rules: &[Rule], places: &[usize], needs: Perms, owned: bool) -> Masks
+    ensures denied { result.denied.0 ≡ found_mask needs.0 owned denies 0 (picked rules.now places.now) }
+    ensures loud { result.loud.0 ≡ found_mask needs.0 owned (denies_aloud audit) 0 (picked rules.now places.now) }
+    ensures granted { result.granted.0 ≡ found_mask needs.0 owned allows 0 (picked rules.now places.now) }
+    ensures audited { result.audited.0 ≡ found_mask needs.0 owned (allows_aloud audit) 0 (picked rules.now places.now) }
+{
+    let mut masks = no_masks();
+    let mut rest = places;
+    while let [place, behind @ ..] = rest {
+        if let Some(rule) = rules.get(*place) {
+            masks = with_covered(masks, audit, rule, covers_found(rule, needs, owned));
+        }
+        rest = behind;
     }
     masks
 }
@@ -152,7 +205,16 @@ fn with_rule(masks: Masks, audit: bool, rule: &Rule, request: &Request<'_>) -> M
     ensures granted { result.granted.0 ≡ with_rule (request_of request.entry.now) allows masks.granted.0 rule.now }
     ensures audited { result.audited.0 ≡ with_rule (request_of request.entry.now) (allows_aloud audit) masks.audited.0 rule.now }
 {
-    let covered = covers(rule, request);
+    with_covered(masks, audit, rule, covers(rule, request))
+}
+
+// The same with the needs that one rule more covers.
+fn with_covered(masks: Masks, audit: bool, rule: &Rule, covered: Perms) -> Masks
+    ensures denied { result.denied.0 ≡ put_if denies masks.denied.0 covered.0 rule.now }
+    ensures loud { result.loud.0 ≡ put_if (denies_aloud audit) masks.loud.0 covered.0 rule.now }
+    ensures granted { result.granted.0 ≡ put_if allows masks.granted.0 covered.0 rule.now }
+    ensures audited { result.audited.0 ≡ put_if (allows_aloud audit) masks.audited.0 covered.0 rule.now }
+{
     let mut masks = masks;
     if denies(rule) {
         masks.denied = masks.denied.union(covered);
@@ -166,6 +228,22 @@ fn with_rule(masks: Masks, audit: bool, rule: &Rule, request: &Request<'_>) -> M
         }
     }
     masks
+}
+
+// The needs of a request for a file that a rule covers whose pattern matches the path.
+fn covers_found(rule: &Rule, needs: Perms, owned: bool) -> Perms
+    ensures { result.0 ≡ covers_found needs.0 owned rule.now }
+{
+    match rule {
+        Rule::File(rule) => {
+            if !rule.owner || owned {
+                needs.intersection(covered_by_file(rule))
+            } else {
+                Perms::empty()
+            }
+        }
+        _ => Perms::empty(),
+    }
 }
 
 // The needs of a request that a rule covers: none, where it doesn't apply.

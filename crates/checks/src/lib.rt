@@ -1,9 +1,11 @@
 //! Tests of the library crates that no row can state: calls of the policy set itself, streams of the standard library that fail, files that
-//! are read in pieces, the words of arguments, and texts of many bytes.
+//! are read in pieces, the words of arguments, texts of many bytes, and automata of many patterns.
 #![tactic(auto)]
 
 #[cfg(test)]
 mod arguments;
+#[cfg(test)]
+mod automata;
 #[cfg(test)]
 mod calls;
 #[cfg(test)]

@@ -1,6 +1,7 @@
-//! Asks the rows of patterns, tokens, splicings, variables, files and tables.
+//! Asks the rows of patterns, automata, tokens, splicings, variables, files and tables.
 #![tactic(auto)]
 
+mod automata;
 mod files;
 mod patterns;
 mod splicings;
@@ -24,6 +25,7 @@ impl Asks for Texts {
     ) -> Result<(), RowError> {
         match kind {
             "patterns" => patterns::ask(tally, parts),
+            "automata" => automata::ask(tally, parts),
             "tokens" => tokens::ask(tally, parts),
             "splicings" => splicings::ask(tally, common, parts),
             "variables" => variables::ask(tally, parts),

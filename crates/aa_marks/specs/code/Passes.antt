@@ -2,7 +2,7 @@
 use Rattle.std.specs.Prelude.{◌≡◌, ℕ, ◌+◌, ◌*◌, ◌≤◌, ◌<◌, Bool, false, List, [], length, drop, get_or, Some}
 use Rattle.aa_elements.specs.Cursor.{left}
 use Rattle.aa_elements.specs.declared.context.Context.{Context}
-use Rattle.aa_marks.specs.Elements.{EachMayStand, elements_left, elements_of}
+use Rattle.aa_trails.specs.Elements.{EachMayStand, elements_left, elements_of}
 use Rattle.aa_marks.specs.Marks.{AreMarks, is_none, known_at, mark, next_past, Past}
 use Rattle.aa_marks.specs.code.Places.{AreAt}
 use Rattle.aa_marks.specs.declared.places.Places.{Places}

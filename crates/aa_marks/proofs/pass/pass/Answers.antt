@@ -2,12 +2,11 @@ use Rattle.std.proofs.Common.{◌≡◌, ◌∙◌, ◌+◌, ◌<◌, ap, arith,
 use Rattle.std.proofs.lemmas.List.{length-set}
 use Rattle.aa_elements.specs.Cursor.{meaning}
 use Rattle.aa_elements.specs.declared.context.Context.TheVariants.{Elsewhere}
-use Rattle.aa_marks.specs.Elements.{elements_left, elements_of}
+use Rattle.aa_trails.specs.Elements.{elements_left, elements_of}
 use Rattle.aa_marks.specs.Marks.{is_among, known_at, next_past}
 use Rattle.aa_marks.specs.code.Passes.{IsLeft, known_of}
 use Rattle.aa_marks.specs.code.Places.{AreAt}
 use Rattle.aa_marks.proofs.PassLemmas.{all-read, first-mark, known_at-more, mark-all, passed-first, passed-more, tells-first, tells-more}
-use Rattle.aa_marks.proofs.ReadingLemmas.{may_stand-of}
 use Rattle.aa_trails.specs.Reads.{known}
 use Rattle.aa_trails.specs.Trails.{depth_behind}
 use Rattle.aa_marks.proofs.pass.pass.Goals as goal
@@ -19,7 +18,7 @@ loop-next-init c =
     let room = c.requires.room in
     let some : 0 < length marks = omega arith in (
       length-set marks 0 c.args.first,
-      subst (λ d. IsLeft text 0 d Elsewhere text) (sym c.beginning-places.ensures.depth) (omega arith, refl, may_stand-of text c.requires.reads, omega arith),
+      subst (λ d. IsLeft text 0 d Elsewhere text) (sym c.beginning-places.ensures.depth) (omega arith, refl, c.which_elements_stand.ensures.text text c.requires.reads, omega arith),
       tells-first marks c.args.first some,
       λ past first marked. (
         c.beginning-places.ensures.known past c.args.byte (marked 0 (omega arith)) first,

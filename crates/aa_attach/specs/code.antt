@@ -1,0 +1,2 @@
+-- What is about the code: ranks of patterns that match.
+pub mod MatchingRanks

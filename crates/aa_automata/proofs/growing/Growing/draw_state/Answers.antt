@@ -1,0 +1,29 @@
+use Rattle.aa_automata.proofs.GrowthLemmas.{adds_state, ways_fit}
+use Rattle.aa_automata.specs.Grown.{kind_of}
+use Rattle.aa_automata.specs.Walks.{source_states}
+use Rattle.aa_elements.specs.Cursor.{meaning}
+use Rattle.std.proofs.Common.{ap, ◌∙◌, refl, subst, ℕ}
+use Rattle.aa_tree.specs.Ways.{HasOneMore}
+use Rattle.aa_automata.proofs.growing.Growing.draw_state.Goals as goal
+
+pub draw_to-requires-clause-from : goal.draw_to-requires-clause-from
+draw_to-requires-clause-from c =
+    ways_fit c.args.self.now.drawing c.add-2.new.self c.entry_of.result c.kind_of.result (meaning c.args.element) c.args.walk.now c.kind_of.ensures
+    c.requires.there c.requires.groups c.in_ok-state.ensures.added
+
+pub returns-clause-grows : goal.returns-clause-grows
+returns-clause-grows c =
+    let walk = c.args.walk.now in
+    let e = meaning c.args.element in
+    record {
+      entry = c.entry_of.result;
+      suits = c.entry_of.ensures;
+      adds =
+          adds_state c.args.self.now.drawing c.add-2.new.self c.draw_to.new.drawing c.entry_of.result (source_states c.kind_of.result walk) (source_states (kind_of e) walk) c.in_ok-state.state
+          c.in_ok-state.ensures.added c.in_ok-state.ensures.number (ap (λ kind. source_states kind walk) c.kind_of.ensures) c.in_ok-draw_to.ensures;
+      ends = c.in_ok-draw_to.ensures.ends ∙ ap (λ g. g.ends) c.in_ok-state.ensures.added;
+      more = subst (λ (state : ℕ). HasOneMore c.args.self.now.tree state c.args.number c.add.new.self) c.state.ensures c.in_ok-add.ensures.ways;
+      place = c.requires.places;
+      places_more = c.in_ok-add.ensures.places;
+      numbers = refl;
+    }

@@ -1,0 +1,2 @@
+-- What the code's own forms mean: what a pattern keeps beside its text. No public contract names these.
+pub mod Facts
