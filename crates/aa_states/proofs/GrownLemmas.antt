@@ -13,7 +13,7 @@ use Rattle.aa_states.specs.declared.entry.Entry.{Entry}
 use Rattle.aa_states.specs.declared.entry.Entry.TheVariants.{Free as FreeEntry, Byte as ByteEntry, Inside as InsideEntry, Class as ClassEntry, Star as StarEntry, DoubleStar as DoubleStarEntry}
 use Rattle.aa_states.specs.declared.state.Gate.{Gate}
 use Rattle.aa_states.specs.declared.state.Gate.TheVariants.{Free}
-use Rattle.aa_states.specs.declared.state.State.{State}
+use Rattle.aa_states.specs.code.Tables.{State}
 use Rattle.aa_states.specs.declared.state.Way.{Way}
 use Rattle.aa_states.specs.declared.state.Class.{Class as ClassRow}
 use Rattle.aa_states.specs.declared.state.End.{End}

@@ -1,10 +1,12 @@
 pub mod BitLemmas
+pub mod BlockLemmas
 pub mod FrontLemmas
 pub mod GrownLemmas
 pub mod LeadLemmas
 pub mod ListLemmas
 pub mod PatternLemmas
 pub mod ReachLemmas
+pub mod RowLemmas
 pub mod RunLemmas
 pub mod SoundLemmas
 pub mod StepLemmas

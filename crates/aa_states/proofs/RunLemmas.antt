@@ -6,6 +6,7 @@ use Rattle.std.proofs.Math.Nat.{suc-mul}
 use Rattle.std.proofs.lemmas.List.Elements.{All-append, All-contains, All-weaker, All-nil, All-cons, Contains-append_left}
 use Rattle.std.proofs.lemmas.Option.{get_or_from_slice_get, slice_get-get_or}
 use Rattle.std.specs.Prelude.{All, Contains, slice_get}
+use Rattle.aa_states.specs.Entries.{is_free}
 use Rattle.aa_states.specs.States.{Graph, Stays, Reaches}
 use Rattle.aa_states.specs.States.Reaches.{begins, comes, takes, stays}
 use Rattle.aa_states.specs.Steps.{counted, IsCounted}
@@ -31,7 +32,7 @@ reached_next g past c q r at (inr stay) = stays (subst (λ x. Reaches g past x) 
 
 -- one state more is visited
 pub passing_more : (g : Graph) (byte : Option ℕ) (at q : ℕ) (old here mine next behind : Live) → IsPassing g byte at old here next
-    → at < length here.states → slice_get here.states at ≡ Some q → Adds here mine (IsEntered g None q) → Adds next behind (FollowsIf g byte q)
+    → at < length here.states → slice_get here.states at ≡ Some q → Adds here mine (IsEntered g is_free q) → Adds next behind (FollowsIf g byte q)
     → IsPassing g byte (at + 1) old mine behind
 passing_more g byte at q old here mine next behind before low found adds follows =
     let wider : (k : ℕ) → k < length here.states → slice_get mine.states k ≡ slice_get here.states k =
@@ -53,7 +54,7 @@ passing_more g byte at q old here mine next behind before low found adds follows
           elim (cases_eq k at) [
             | inl last ↦
                 let same : q ≡ p = some_same q p (sym found ∙ ap (slice_get here.states) (sym last) ∙ read (omega arith)) in
-                adds.each r (subst (λ x. IsEntered g None x r) (sym same) entered)
+                adds.each r (subst (λ x. IsEntered g is_free x r) (sym same) entered)
             | inr other ↦ in_mine r (before.closed k p r (omega arith) (read (omega (arith, before.within))) entered)
           ];
       followed = λ k p r h is follow.
@@ -69,7 +70,7 @@ passing_more g byte at q old here mine next behind before low found adds follows
           let at_q : Reaches g past q = All-contains (Reaches g past) here.states q known q_in in
           subst (All (Reaches g past)) (sym adds.longer)
           (All-append (Reaches g past) here.states adds.more known
-          (All-weaker (IsEntered g None q) (Reaches g past) (λ r entered. comes at_q entered.0 entered.1) adds.more adds.only));
+          (All-weaker (IsEntered g is_free q) (Reaches g past) (λ r entered. comes at_q entered.0 entered.1) adds.more adds.only));
       brought = λ past c is all.
           let at_q : Reaches g past q = All-contains (Reaches g past) here.states q (before.reached past all) q_in in
           subst (All (Reaches g (c ∷ past))) (sym follows.longer)

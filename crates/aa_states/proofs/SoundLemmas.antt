@@ -8,7 +8,7 @@ use Rattle.aa_states.specs.States.{Leads, IsState, AddsWay, AddsEnd}
 use Rattle.aa_states.specs.code.Graphs.{graph_of}
 use Rattle.aa_states.specs.code.Tables.{entry_behind, by_of, no_byte, set_of, entries_in, ways_on, graph_in, bare, state_at, is_marked, marked, IsWay, IsSound}
 use Rattle.aa_states.specs.declared.state.Gate.TheVariants.{Free}
-use Rattle.aa_states.specs.declared.state.State.{State}
+use Rattle.aa_states.specs.code.Tables.{State}
 use Rattle.aa_states.specs.declared.state.Way.{Way}
 use Rattle.aa_states.specs.declared.state.Class.{Class as ClassRow}
 use Rattle.aa_states.specs.declared.state.End.{End}
@@ -16,8 +16,8 @@ use Rattle.aa_states.specs.declared.tables.Tables.{Tables}
 use Rattle.aa_states.proofs.TableLemmas.{length-entries_in, Leads-cases, Leads-on, Leads-way}
 
 -- a state of the graph is one of the table
-pub is_in_table : (t : Tables) (r : ℕ) → IsState (graph_of t) r → r < length t.states.items
-is_in_table t r h = omega (arith, length-entries_in t.classes.items 0 t.states.items, h)
+pub is_in_table : (t : Tables) (r : ℕ) → IsState (graph_of t) r → r < length t.states
+is_in_table t r h = omega (arith, length-entries_in t.classes.items 0 t.states, h)
 
 -- a state with the same gate and at least the same marks
 pub record MarksMore (old new : State) : Type 0 where

@@ -11,7 +11,7 @@ use Rattle.aa_states.specs.ByteMaps.{in_map}
 use Rattle.aa_states.specs.States.{entry_of, Leads}
 use Rattle.aa_states.specs.code.Tables.{entry_behind, no_byte, order_of, no_bytes, set_of, entries_in, ways_on, graph_in, state_at, IsAlong}
 use Rattle.aa_states.specs.declared.entry.Entry.TheVariants.{Free as FreeEntry}
-use Rattle.aa_states.specs.declared.state.State.{State}
+use Rattle.aa_states.specs.code.Tables.{State}
 use Rattle.aa_states.specs.declared.state.Way.{Way}
 use Rattle.aa_states.specs.declared.state.Class.{Class as ClassRow}
 use Rattle.aa_states.specs.declared.state.End.{End}

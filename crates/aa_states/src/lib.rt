@@ -8,11 +8,14 @@ mod entry;
 mod front;
 mod leading;
 mod patterns;
+mod row;
+mod rows;
 mod run;
 mod state;
 mod states;
 mod steps;
 mod tables;
+mod ways;
 
 pub use byte_map::ByteMap;
 pub use drawing::Drawing;

@@ -14,7 +14,7 @@ use std::alloc::{AllocError, Global};
 pub fn patterns_of(alloc: Global, tables: &Tables, front: &Front) -> Result<Vec<usize>, AllocError>
     requires sound { AreSound tables.now }
     requires sorted { AreSorted tables.now }
-    requires room { front.now.room ≡ length tables.now.states.items }
+    requires room { front.now.room ≡ length tables.now.states }
     ensures told { IfOk result (λ patterns. AreEndsOf (graph_of tables.now) front.now.states patterns.items) }
     ensures rise { IfOk result (λ patterns. AllPairs (λ p q. p < q) patterns.items) }
 {
@@ -27,7 +27,7 @@ pub fn patterns_of(alloc: Global, tables: &Tables, front: &Front) -> Result<Vec<
 fn told_by(alloc: Global, tables: &Tables, front: &Front) -> Result<Vec<u32>, AllocError>
     requires sound { AreSound tables.now }
     requires sorted { AreSorted tables.now }
-    requires room { front.now.room ≡ length tables.now.states.items }
+    requires room { front.now.room ≡ length tables.now.states }
     ensures { IfOk result (λ told. AreEndsOf (graph_of tables.now) front.now.states told.items) }
 {
     let mut told = Vec::new(alloc);
@@ -41,7 +41,7 @@ fn told_by(alloc: Global, tables: &Tables, front: &Front) -> Result<Vec<u32>, Al
 fn tell(tables: &Tables, state: u32, told: &mut Vec<u32>) -> Result<(), AllocError>
     requires sound { AreSound tables.now }
     requires sorted { AreSorted tables.now }
-    requires is_state { state < length tables.now.states.items }
+    requires is_state { state < length tables.now.states }
     ensures { OnOk result (Gets told.old.items told.new.items (EndsAt (graph_of tables.now) state)) }
 {
     for end in tables.ends_of(state) {

@@ -1,13 +1,12 @@
 //! A run over a text, from its first byte to its last: which states are reached.
 
-ghost use Rattle.std.specs.Prelude.{◌≡◌, ◌+◌, ◌*◌, ◌<◌, [], length, reverse, None};
+ghost use Rattle.std.specs.Prelude.{◌≡◌, ◌+◌, ◌*◌, [], length, reverse};
 ghost use Rattle.aa_states.specs.Steps.{counted, IsCounted};
-ghost use Rattle.aa_states.specs.code.Fronts.{Adds};
 ghost use Rattle.aa_states.specs.code.Graphs.{AreSound, AreSorted, graph_of};
-ghost use Rattle.aa_states.specs.code.Runs.{FollowsIf, IsEntered, IsPassed, IsWhole};
+ghost use Rattle.aa_states.specs.code.Runs.{IsPassed, IsWhole};
 
 use crate::front::Front;
-use crate::leading::{follow, lead};
+use crate::leading::visit;
 use crate::steps::Steps;
 use crate::tables::Tables;
 use std::mem::swap;
@@ -16,11 +15,11 @@ use std::mem::swap;
 pub fn run(tables: &Tables, text: &[u8], here: &mut Front, next: &mut Front, steps: &mut Steps)
     requires sound { AreSound tables.now }
     requires sorted { AreSorted tables.now }
-    requires here { here.old ≡ record { states = []; room = length tables.now.states.items } }
-    requires next { next.old ≡ record { states = []; room = length tables.now.states.items } }
+    requires here { here.old ≡ record { states = []; room = length tables.now.states } }
+    requires next { next.old ≡ record { states = []; room = length tables.now.states } }
     ensures whole { IsWhole (graph_of tables.now) (reverse text.now) here.new.states }
-    ensures room { here.new.room ≡ length tables.now.states.items }
-    ensures steps { IsCounted 1 ((length text.now + 1) * length tables.now.states.items) steps.old steps.new }
+    ensures room { here.new.room ≡ length tables.now.states }
+    ensures steps { IsCounted 1 ((length text.now + 1) * length tables.now.states) steps.old steps.new }
 {
     here.insert(0);
     for byte in text {
@@ -39,8 +38,8 @@ pub fn run(tables: &Tables, text: &[u8], here: &mut Front, next: &mut Front, ste
 fn pass(tables: &Tables, byte: Option<u8>, here: &mut Front, next: &mut Front, steps: &mut Steps)
     requires sound { AreSound tables.now }
     requires sorted { AreSorted tables.now }
-    requires here { here.old.room ≡ length tables.now.states.items }
-    requires next { next.old ≡ record { states = []; room = length tables.now.states.items } }
+    requires here { here.old.room ≡ length tables.now.states }
+    requires next { next.old ≡ record { states = []; room = length tables.now.states } }
     ensures passed { IsPassed (graph_of tables.now) byte here.old here.new next.new }
     ensures steps { steps.new ≡ counted steps.old (length here.new.states) }
 {
@@ -49,22 +48,5 @@ fn pass(tables: &Tables, byte: Option<u8>, here: &mut Front, next: &mut Front, s
         visit(tables, here.state(at), byte, here, next);
         steps.visit();
         at += 1;
-    }
-}
-
-// Visits a state: puts what comes from it freely into its own front, and what follows behind the byte, if one comes, into the next.
-fn visit(tables: &Tables, state: u32, byte: Option<u8>, here: &mut Front, next: &mut Front)
-    requires sound { AreSound tables.now }
-    requires sorted { AreSorted tables.now }
-    requires is_state { state < length tables.now.states.items }
-    requires here { here.old.room ≡ length tables.now.states.items }
-    requires next { next.old.room ≡ length tables.now.states.items }
-    ensures here { Adds here.old here.new (IsEntered (graph_of tables.now) None state) }
-    ensures next { Adds next.old next.new (FollowsIf (graph_of tables.now) byte state) }
-{
-    lead(tables, state, None, here);
-    match byte {
-        Some(own) => follow(tables, state, own, next),
-        None => {}
     }
 }

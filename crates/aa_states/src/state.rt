@@ -20,20 +20,6 @@ pub enum Gate {
     DoubleStar,
 }
 
-// A state, with marks that say where there is more of it in the other tables.
-#[derive(Clone, Copy, Debug)]
-pub struct State {
-    pub gate: Gate,
-    // A way leads on to the next state.
-    pub leads_on: bool,
-    // There are ways to states that a byte of their own leads into.
-    pub leads_by_bytes: bool,
-    // There are other ways.
-    pub leads_otherwise: bool,
-    // It's an end.
-    pub ends: bool,
-}
-
 // A way from a state to another, but for one that leads on to the next.
 #[derive(Clone, Copy, Debug)]
 pub struct Way {

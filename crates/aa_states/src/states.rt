@@ -39,6 +39,7 @@ impl States {
     {
         let mut tables = tables;
         tables.sort();
+        tables.shrink();
         States { tables }
     }
 

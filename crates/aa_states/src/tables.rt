@@ -3,24 +3,28 @@
 ghost use Rattle.std.specs.Prelude.{◌≡◌, ◌++◌, ◌+◌, ◌<◌, ◌≤◌, length, All, AllPairs, Contains, IfOk, OnErr, OnOk};
 ghost use Rattle.std.specs.List.{AllWithin};
 ghost use Rattle.std.specs.List.Sorted.{IsNonDecreasingBy};
-ghost use Rattle.aa_states.specs.Entries.{stays_at, takes_byte};
+ghost use Rattle.aa_states.specs.Entries.{is_free, stays_at, takes_byte};
 ghost use Rattle.aa_states.specs.ByteMaps.{in_map};
 ghost use Rattle.aa_states.specs.States.{AddsEnd, AddsWay, entry_of, SameGraph, start_alone, with_entry};
-ghost use Rattle.aa_states.specs.code.Runs.{enters};
+ghost use Rattle.aa_states.specs.code.Runs.{takes_if};
 ghost use Rattle.aa_states.specs.declared.state.End.{End};
 ghost use Rattle.aa_states.specs.declared.state.Way.{Way};
-ghost use Rattle.aa_states.specs.code.Tables.{IsAlong, bare, ending, entry_behind, leading_on, marked, sets_in, is_marked, no_byte, order_of, set_of, state_at};
+ghost use Rattle.aa_states.specs.code.Tables.{IsAlong, entry_behind, no_byte, set_of, sets_in};
 
 use crate::entry::Entry;
-use crate::state::{Class, End, Gate, NO_BYTE, State, Way};
+use crate::rows::Rows;
+use crate::state::{Class, End, Gate, Way};
+use crate::ways::{begin_block, find_firsts, ways_by};
 use aa_bytes::is_inside;
 use std::alloc::{AllocError, Global};
 
 // The tables of a graph.
 #[derive(Debug, Drop)]
 pub struct Tables {
-    pub states: Vec<State>,
+    pub states: Rows,
     pub ways: Vec<Way>,
+    // For each block of states where its ways begin, once they are in order.
+    pub firsts: Vec<usize>,
     pub classes: Vec<Class>,
     pub ends: Vec<End>,
 }
@@ -33,11 +37,14 @@ impl Tables {
         ensures sound { IfOk result AreSound }
         ensures alone { IfOk result (λ tables. graph_of tables ≡ start_alone) }
     {
-        let mut states = Vec::new(alloc);
-        states.push(State::bare(Gate::Free))?;
+        let mut states = Rows::new(alloc);
+        states.push(Gate::Free)?;
+        let mut firsts = Vec::new(alloc);
+        firsts.push(0)?;
         Ok(Tables {
             states,
             ways: Vec::new(alloc),
+            firsts,
             classes: Vec::new(alloc),
             ends: Vec::new(alloc),
         })
@@ -45,14 +52,16 @@ impl Tables {
 
     // Equal tables.
     pub fn try_copy(&self, alloc: Global) -> Result<Tables, AllocError>
-        ensures states { IfOk result (λ copy. copy.states.items ≡ self.now.states.items) }
+        ensures states { IfOk result (λ copy. copy.states ≡ self.now.states) }
         ensures ways { IfOk result (λ copy. copy.ways.items ≡ self.now.ways.items) }
+        ensures firsts { IfOk result (λ copy. copy.firsts.items ≡ self.now.firsts.items) }
         ensures classes { IfOk result (λ copy. copy.classes.items ≡ self.now.classes.items) }
         ensures ends { IfOk result (λ copy. copy.ends.items ≡ self.now.ends.items) }
     {
         Ok(Tables {
-            states: Vec::from_slice(alloc, self.states.as_slice())?,
+            states: self.states.try_copy(alloc)?,
             ways: Vec::from_slice(alloc, self.ways.as_slice())?,
+            firsts: Vec::from_slice(alloc, self.firsts.as_slice())?,
             classes: Vec::from_slice(alloc, self.classes.as_slice())?,
             ends: Vec::from_slice(alloc, self.ends.as_slice())?,
         })
@@ -69,8 +78,9 @@ impl Tables {
         if number >= u32::MAX as usize {
             return Err(AllocError);
         }
-        self.states.push(State::bare(Gate::of(entry)))?;
         let number = number as u32;
+        begin_block(&mut self.firsts, number)?;
+        self.states.push(Gate::of(entry))?;
         keep_set(&mut self.classes, number, entry)?;
         Ok(number)
     }
@@ -78,19 +88,18 @@ impl Tables {
     // Adds a way, which is a mark where it leads on to the next state.
     pub fn link(&mut self, from: u32, to: u32) -> Result<(), AllocError>
         requires sound { AreSound self.old }
-        requires from { from < length self.old.states.items }
-        requires to { to < length self.old.states.items }
+        requires from { from < length self.old.states }
+        requires to { to < length self.old.states }
         ensures sound { AreSound self.new }
         ensures added { OnOk result (AddsWay (graph_of self.old) (graph_of self.new) from to) }
         ensures err { OnErr result (graph_of self.new ≡ graph_of self.old) }
     {
-        let state = self.state(from);
         if to == from + 1 {
-            self.states[from as usize] = state.leading_on();
+            self.states.lead_on(from);
             return Ok(());
         }
-        let by = self.state(to).gate.by();
-        self.states[from as usize] = state.marked(by);
+        let by = self.states.gate(to).by();
+        self.states.mark(from, by);
         self.ways.push(Way { from, by, to })?;
         Ok(())
     }
@@ -98,18 +107,17 @@ impl Tables {
     // Adds an end.
     pub fn end(&mut self, state: u32, pattern: u32) -> Result<(), AllocError>
         requires sound { AreSound self.old }
-        requires is_state { state < length self.old.states.items }
+        requires is_state { state < length self.old.states }
         ensures sound { AreSound self.new }
         ensures added { OnOk result (AddsEnd (graph_of self.old) (graph_of self.new) state pattern) }
         ensures err { OnErr result (graph_of self.new ≡ graph_of self.old) }
     {
-        let ending = self.state(state).ending();
-        self.states[state as usize] = ending;
+        self.states.end(state);
         self.ends.push(End { state, pattern })?;
         Ok(())
     }
 
-    // Puts ways and ends in order.
+    // Puts ways and ends in order, and finds where the ways of each block begin.
     pub fn sort(&mut self)
         requires { AreSound self.old }
         ensures sound { AreSound self.new }
@@ -118,129 +126,84 @@ impl Tables {
     {
         self.ways.sort_unstable_by_key(|way| way.order());
         self.ends.sort_unstable_by_key(|end| end.state);
+        find_firsts(&self.ways, &mut self.firsts);
     }
 
-    // The state with a number.
-    pub fn state(&self, number: u32) -> State
-        requires { number < length self.now.states.items }
-        ensures { result ≡ state_at self.now.states.items number }
+    // Gives back what room there is beyond what the tables hold.
+    pub fn shrink(&mut self)
+        ensures states { self.new.states ≡ self.old.states }
+        ensures ways { self.new.ways.items ≡ self.old.ways.items }
+        ensures firsts { self.new.firsts.items ≡ self.old.firsts.items }
+        ensures classes { self.new.classes.items ≡ self.old.classes.items }
+        ensures ends { self.new.ends.items ≡ self.old.ends.items }
     {
-        self.states[number as usize]
+        self.states.shrink();
+        self.ways.shrink_to_fit();
+        self.firsts.shrink_to_fit();
+        self.classes.shrink_to_fit();
+        self.ends.shrink_to_fit();
+    }
+}
+
+impl Tables {
+    ghost use Rattle.aa_states.specs.code.Graphs.{AreSound, AreSorted, graph_of};
+
+    // Whether no byte is taken to come into a state.
+    pub fn is_free(&self, number: u32) -> bool
+        requires { number < length self.now.states }
+        ensures { result ≡ is_free (entry_of (graph_of self.now) number) }
+    {
+        self.states.gate(number).is_free()
     }
 
-    // Whether a state is entered: by this byte or, where there is none, without one.
-    pub fn enters(&self, number: u32, byte: Option<u8>) -> bool
+    // Whether this byte is taken to come into a state, if there is one.
+    pub fn takes_if(&self, number: u32, byte: Option<u8>) -> bool
         requires sound { AreSound self.now }
-        requires is_state { number < length self.now.states.items }
-        ensures { result ≡ enters (entry_of (graph_of self.now) number) byte }
+        requires is_state { number < length self.now.states }
+        ensures { result ≡ takes_if byte (entry_of (graph_of self.now) number) }
     {
-        let gate = self.state(number).gate;
         match byte {
-            Some(byte) => takes(gate, &self.classes, number, byte),
-            None => gate.is_free(),
+            Some(byte) => takes(self.states.gate(number), &self.classes, number, byte),
+            None => false,
         }
     }
 
     // Whether a state stays when the byte comes.
     pub fn stays(&self, number: u32, byte: u8) -> bool
-        requires { number < length self.now.states.items }
+        requires { number < length self.now.states }
         ensures { result ≡ stays_at (entry_of (graph_of self.now) number) byte }
     {
-        self.state(number).gate.stays(byte)
+        self.states.gate(number).stays(byte)
     }
 
     // The ways of a state by this number, of which the state has none where it isn't marked.
     pub fn ways_by(&self, from: u32, by: u16) -> &[Way]
         requires sound { AreSound self.now }
         requires sorted { AreSorted self.now }
-        requires is_state { from < length self.now.states.items }
+        requires is_state { from < length self.now.states }
         requires is_number { by ≤ no_byte }
         ensures only { All (IsAlong self.now.ways.items from by) result.now }
         ensures each { (way : Way) → IsAlong self.now.ways.items from by way → Contains result.now way }
     {
-        if self.state(from).is_marked(by) {
-            ways_along(&self.ways, from, by)
+        if self.states.is_marked(from, by) {
+            ways_by(&self.ways, &self.firsts, from, by)
         } else {
             &[]
         }
     }
-}
-
-impl Tables {
-    ghost use Rattle.aa_states.specs.code.Graphs.{AreSound, AreSorted};
 
     // The ends at a state.
     pub fn ends_of(&self, state: u32) -> &[End]
         requires sound { AreSound self.now }
         requires sorted { AreSorted self.now }
-        requires is_state { state < length self.now.states.items }
+        requires is_state { state < length self.now.states }
         ensures only { All (λ e. Contains self.now.ends.items e × (e.state ≡ state)) result.now }
         ensures each { (end : End) → Contains self.now.ends.items end → end.state ≡ state → Contains result.now end }
     {
-        if self.state(state).ends {
+        if self.states.ends(state) {
             ends_at(&self.ends, state)
         } else {
             &[]
-        }
-    }
-}
-
-impl State {
-    // A state with this gate, without ways or ends.
-    fn bare(gate: Gate) -> State
-        ensures { result ≡ bare gate }
-    {
-        State {
-            gate,
-            leads_on: false,
-            leads_by_bytes: false,
-            leads_otherwise: false,
-            ends: false,
-        }
-    }
-
-    // The same with the mark that a way leads on.
-    fn leading_on(self) -> State
-        ensures { result ≡ leading_on self }
-    {
-        State {
-            leads_on: true,
-            ..self
-        }
-    }
-
-    // The same with the mark that it's an end.
-    fn ending(self) -> State
-        ensures { result ≡ ending self }
-    {
-        State { ends: true, ..self }
-    }
-
-    // The same with the mark for ways by this number.
-    fn marked(self, by: u16) -> State
-        ensures { result ≡ marked by self }
-    {
-        if by == NO_BYTE {
-            State {
-                leads_otherwise: true,
-                ..self
-            }
-        } else {
-            State {
-                leads_by_bytes: true,
-                ..self
-            }
-        }
-    }
-
-    // Whether it is marked for ways by this number.
-    fn is_marked(&self, by: u16) -> bool
-        ensures { result ≡ is_marked self.now by }
-    {
-        if by == NO_BYTE {
-            self.leads_otherwise
-        } else {
-            self.leads_by_bytes
         }
     }
 }
@@ -291,30 +254,6 @@ fn first_class(classes: &[Class], state: u32) -> usize
     ensures behind { AllWithin (λ c. state ≤ c.state) classes.now result (length classes.now) }
 {
     classes.partition_point(|class| class.state < state)
-}
-
-// The ways from a state by this number.
-fn ways_along(ways: &[Way], from: u32, by: u16) -> &[Way]
-    requires sorted { IsNonDecreasingBy order_of ways.now }
-    requires each { All (λ w. w.by ≤ no_byte) ways.now }
-    requires is_number { by ≤ no_byte }
-    ensures only { All (IsAlong ways.now from by) result.now }
-    ensures each { (way : Way) → IsAlong ways.now from by way → Contains result.now way }
-{
-    let order = from as u64 * 512 + by as u64;
-    let start = first_way(ways, order);
-    let end = first_way(ways, order + 1);
-    &ways[start..end]
-}
-
-// Where the ways from this place in their order on begin.
-fn first_way(ways: &[Way], order: u64) -> usize
-    requires { IsNonDecreasingBy order_of ways.now }
-    ensures within { result ≤ length ways.now }
-    ensures before { AllWithin (λ w. order_of w < order) ways.now 0 result }
-    ensures behind { AllWithin (λ w. order ≤ order_of w) ways.now result (length ways.now) }
-{
-    ways.partition_point(|way| way.order() < order)
 }
 
 // The ends at a state.

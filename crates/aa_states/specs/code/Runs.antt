@@ -1,5 +1,5 @@
 -- How far a run over a text has come: which states are known to live behind what was read.
-use Rattle.std.specs.Prelude.{◌≡◌, ◌⊎◌, ℕ, ◌+◌, ◌*◌, ◌<◌, ◌≤◌, Bool, true, List, [], ◌∷◌, length, Contains, All, Option, Some, None, slice_get}
+use Rattle.std.specs.Prelude.{◌≡◌, ◌⊎◌, ℕ, ◌+◌, ◌*◌, ◌<◌, ◌≤◌, Bool, true, false, List, [], ◌∷◌, length, Contains, All, Option, Some, None, slice_get}
 use Rattle.aa_states.specs.Entries.{is_free, takes_byte}
 use Rattle.aa_states.specs.Steps.{counted}
 use Rattle.aa_states.specs.States.{Graph, entry_of, Leads, Stays, Reaches}
@@ -18,26 +18,26 @@ AreReached g past live = All (Reaches g past) live
 abbrev pub HasReached : Graph → List ℕ → List ℕ → Type 0
 HasReached g past live = (r : ℕ) → Reaches g past r → Contains live r
 
--- a state is entered by this byte or, where there is none, without one
-abbrev pub enters : Entry → Option ℕ → Bool
-enters entry None = is_free entry
-enters entry (Some c) = takes_byte entry c
+-- the byte is taken to come in, if there is one
+abbrev pub takes_if : Option ℕ → Entry → Bool
+takes_if None entry = false
+takes_if (Some c) entry = takes_byte entry c
 
--- a state is entered in such a way from the state q
-abbrev pub IsEntered : Graph → Option ℕ → ℕ → ℕ → Type 0
-IsEntered g byte q r = Leads g q r × (enters (entry_of g r) byte ≡ true)
+-- a state is entered from the state q, if its entry passes a test
+abbrev pub IsEntered : Graph → (Entry → Bool) → ℕ → ℕ → Type 0
+IsEntered g test q r = Leads g q r × (test (entry_of g r) ≡ true)
 
--- a state is entered and is among these
-abbrev pub IsEnteredAmong : Graph → Option ℕ → List ℕ → ℕ → Type 0
-IsEnteredAmong g byte targets r = Contains targets r × (enters (entry_of g r) byte ≡ true)
+-- a state whose entry passes a test is among these
+abbrev pub IsEnteredAmong : Graph → (Entry → Bool) → List ℕ → ℕ → Type 0
+IsEnteredAmong g test targets r = Contains targets r × (test (entry_of g r) ≡ true)
 
--- a state is entered by the way that leads on from the state q
-abbrev pub IsEnteredNext : Tables → Option ℕ → ℕ → ℕ → Type 0
-IsEnteredNext t byte q r = ((state_at t.states.items q).leads_on ≡ true) × (r ≡ q + 1) × (enters (entry_of (graph_of t) r) byte ≡ true)
+-- a state whose entry passes a test is entered by the way that leads on from the state q
+abbrev pub IsEnteredNext : Tables → (Entry → Bool) → ℕ → ℕ → Type 0
+IsEnteredNext t test q r = ((state_at t.states q).leads_on ≡ true) × (r ≡ q + 1) × (test (entry_of (graph_of t) r) ≡ true)
 
--- a state is entered from the state q by a way of the table by this number
-abbrev pub IsEnteredBy : Tables → Option ℕ → ℕ → ℕ → ℕ → Type 0
-IsEnteredBy t byte by q r = ((way : Way) × IsAlong t.ways.items q by way × (way.to ≡ r)) × (enters (entry_of (graph_of t) r) byte ≡ true)
+-- a state whose entry passes a test is entered from the state q by a way of the table by this number
+abbrev pub IsEnteredBy : Tables → (Entry → Bool) → ℕ → ℕ → ℕ → Type 0
+IsEnteredBy t test by q r = ((way : Way) × IsAlong t.ways.items q by way × (way.to ≡ r)) × (test (entry_of (graph_of t) r) ≡ true)
 
 -- a state is q, and stays when the byte comes
 abbrev pub StaysAt : Graph → ℕ → ℕ → ℕ → Type 0
@@ -45,7 +45,7 @@ StaysAt g c q r = (r ≡ q) × Stays g q c
 
 -- a state comes behind the byte from the state q: it is entered from there, or it is q and stays
 abbrev pub Follows : Graph → ℕ → ℕ → ℕ → Type 0
-Follows g c q r = IsEntered g (Some c) q r ⊎ StaysAt g c q r
+Follows g c q r = IsEntered g (takes_if (Some c)) q r ⊎ StaysAt g c q r
 
 -- a state follows behind a byte, if there is one
 abbrev pub FollowsIf : Graph → Option ℕ → ℕ → ℕ → Type 0
@@ -59,7 +59,7 @@ HasBrought g (c ∷ past) live = (q r : ℕ) → Reaches g past q → Follows g 
 
 -- what comes freely from the first states of a list is in the list
 abbrev pub IsClosedUpTo : Graph → ℕ → List ℕ → Type 0
-IsClosedUpTo g count live = (k q r : ℕ) → k < count → slice_get live k ≡ Some q → IsEntered g None q r → Contains live r
+IsClosedUpTo g count live = (k q r : ℕ) → k < count → slice_get live k ≡ Some q → IsEntered g is_free q r → Contains live r
 
 -- what follows from the first states of a list is in another list
 abbrev pub IsFollowedUpTo : Graph → Option ℕ → ℕ → List ℕ → List ℕ → Type 0

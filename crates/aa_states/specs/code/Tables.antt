@@ -6,10 +6,18 @@ use Rattle.aa_states.specs.declared.entry.Entry.{Entry}
 use Rattle.aa_states.specs.declared.entry.Entry.TheVariants.{Free as FreeEntry, Byte as ByteEntry, Inside as InsideEntry, Class as ClassEntry, Star as StarEntry, DoubleStar as DoubleStarEntry}
 use Rattle.aa_states.specs.declared.state.Gate.{Gate}
 use Rattle.aa_states.specs.declared.state.Gate.TheVariants.{Free, Byte, Inside, Class, Star, DoubleStar}
-use Rattle.aa_states.specs.declared.state.State.{State}
 use Rattle.aa_states.specs.declared.state.Way.{Way}
 use Rattle.aa_states.specs.declared.state.Class.{Class as ClassRow}
 use Rattle.aa_states.specs.declared.state.End.{End}
+
+-- A state: its gate, and marks that say where there is more of it in the other tables: a way leads on to the next state; there are ways to
+-- states that a byte of their own leads into; there are other ways; it's an end.
+pub record State : Type 0 where
+  pub gate : Gate
+  pub leads_on : Bool
+  pub leads_by_bytes : Bool
+  pub leads_otherwise : Bool
+  pub ends : Bool
 
 -- the entry that a gate stands for, with this set if it is a class
 abbrev pub entry_behind : Gate → ByteMap → Entry

@@ -1,8 +1,12 @@
 use Rattle.std.proofs.Common.{map, take}
+use Rattle.aa_states.specs.Entries.{is_free}
 use Rattle.aa_states.specs.code.Fronts.{Adds}
 use Rattle.aa_states.specs.code.Graphs.{graph_of}
-use Rattle.aa_states.specs.code.Runs.{IsEnteredAmong}
+use Rattle.aa_states.specs.code.Runs.{IsEnteredAmong, takes_if}
 use Rattle.aa_states.proofs.leading.lead_along.Given as goal
 
 abbrev pub invariant-loop-way : goal.invariant-loop-way
-invariant-loop-way l = Adds l.initial.front l.front (IsEnteredAmong (graph_of l.tables) l.byte (map (λ w. w.to) (take l.way-index l.ways)))
+invariant-loop-way l = record {
+  here : Adds l.initial.here l.here (IsEnteredAmong (graph_of l.tables) is_free (map (λ w. w.to) (take l.way-index l.ways)));
+  next : Adds l.initial.next l.next (IsEnteredAmong (graph_of l.tables) (takes_if l.byte) (map (λ w. w.to) (take l.way-index l.ways)));
+}

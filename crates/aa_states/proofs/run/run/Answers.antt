@@ -7,7 +7,7 @@ use Rattle.aa_states.proofs.run.run.Goals as goal
 pub loop-byte-init : goal.loop-byte-init
 loop-byte-init c =
     let t = c.args.tables.now in
-    running_start (graph_of t) (length t.states.items) c.args.steps.now c.args.here.now c.insert.new.self c.args.next.now c.requires.here c.insert.ensures c.requires.next
+    running_start (graph_of t) (length t.states) c.args.steps.now c.args.here.now c.insert.new.self c.args.next.now c.requires.here c.insert.ensures c.requires.next
 
 pub returns-then-len-eq0-clause-whole : goal.returns-then-len-eq0-clause-whole
 returns-then-len-eq0-clause-whole c =
@@ -20,7 +20,7 @@ loop-byte-preserved c =
     let g = graph_of t in
     let i = c.loop-byte.byte-index in
     let past = reverse (take i c.args.text.now) in
-    let room = length t.states.items in
+    let room = length t.states in
     let lives : length c.loop-byte.here.states ≢ 0 = omega (arith, c.len.ensures.len, c.if-len-eq0.false) in
     let e = c.pass.ensures.passed in
     rw (reverse-longer c.args.text.now i 0 c.loop-byte-test.true)
@@ -30,7 +30,7 @@ loop-byte-preserved c =
 pub returns-clause-steps : goal.returns-clause-steps
 returns-clause-steps c =
     let t = c.args.tables.now in
-    let room = length t.states.items in
+    let room = length t.states in
     let end : c.loop-byte.byte-index ≡ length c.args.text.now = omega arith in
     subst (λ n. IsCounted 1 ((n + 1) * room) c.args.steps.now c.pass-2.new.steps) end
     (running_end (graph_of t) _ room c.loop-byte.byte-index c.args.steps.now c.loop-byte.steps c.pass-2.new.steps c.loop-byte.here c.loop-byte.next c.pass-2.new.here c.pass-2.new.next

@@ -4,4 +4,4 @@ use Rattle.aa_states.specs.code.Runs.{IsRunning}
 use Rattle.aa_states.proofs.run.run.Given as goal
 
 abbrev pub invariant-loop-byte : goal.invariant-loop-byte
-invariant-loop-byte l = IsRunning (graph_of l.tables) (reverse (take l.byte-index l.text)) (length l.tables.states.items) l.byte-index l.here l.next l.initial.steps l.steps
+invariant-loop-byte l = IsRunning (graph_of l.tables) (reverse (take l.byte-index l.text)) (length l.tables.states) l.byte-index l.here l.next l.initial.steps l.steps

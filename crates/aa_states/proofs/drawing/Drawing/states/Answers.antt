@@ -5,4 +5,4 @@ use Rattle.aa_states.proofs.drawing.Drawing.states.Goals as goal
 pub returns : goal.returns
 returns c =
     let t = c.self.inside.tables in
-    omega (arith, c.len.ensures, t.states.ok.0, length-entries_in t.classes.items 0 t.states.items, ap (λ g. length g.entries) c.self.view_is)
+    omega (arith, c.len.ensures, length-entries_in t.classes.items 0 t.states, ap (λ g. length g.entries) c.self.view_is)

@@ -16,7 +16,7 @@ returns-clause-found c =
 pub returns-clause-steps : goal.returns-clause-steps
 returns-clause-steps c =
     let t = c.self.inside.tables in
-    let room : length t.states.items ≡ length c.args.self.now.entries = sym (length-entries_in t.classes.items 0 t.states.items) ∙ ap (λ g. length g.entries) c.self.view_is in
+    let room : length t.states ≡ length c.args.self.now.entries = sym (length-entries_in t.classes.items 0 t.states) ∙ ap (λ g. length g.entries) c.self.view_is in
     let counted = subst (λ n. IsCounted 1 ((length c.args.text.now + 1) * n) c.args.steps.now c.run.new.steps) room c.run.ensures.steps in
     let none : 0 ≤ counted.0 = omega arith in
     (counted.0, none, counted.2, counted.3)
@@ -24,5 +24,5 @@ returns-clause-steps c =
 pub returns-clause-visits : goal.returns-clause-visits
 returns-clause-visits c =
     let t = c.self.inside.tables in
-    let room : length t.states.items ≡ length c.args.self.now.entries = sym (length-entries_in t.classes.items 0 t.states.items) ∙ ap (λ g. length g.entries) c.self.view_is in
+    let room : length t.states ≡ length c.args.self.now.entries = sym (length-entries_in t.classes.items 0 t.states) ∙ ap (λ g. length g.entries) c.self.view_is in
     OnOk-from c.patterns_of.result _ (subst (λ n. IsCounted 1 ((length c.args.text.now + 1) * n) c.args.steps.now c.run.new.steps) room c.run.ensures.steps)

@@ -7,32 +7,27 @@ use Rattle.aa_states.proofs.tables.Tables.add.Goals as goal
 pub returns-in_err-keep_set-clause-sound : goal.returns-in_err-keep_set-clause-sound
 returns-in_err-keep_set-clause-sound c =
     let t = c.args.self.now in
-    let state : c.bare.result ≡ bare (gate_of c.args.entry.now) = c.bare.ensures ∙ ap bare c.of.ensures in
-    let states = c.in_ok-push.ensures.items ∙ ap (λ s. t.states.items ++ s ∷ []) state in
-    let few : length t.states.items + 1 < 2 ^ 32 = omega (arith, c.len-number.ensures, c.if-number.false, t.states.ok.0) in
-    rw (states, c.in_err-keep_set.ensures.err) (IsSound-grown t.states.items t.ways.items t.classes.items t.ends.items (gate_of c.args.entry.now) c.requires few)
+    let states = c.in_ok-push.ensures.added ∙ ap (λ gate. t.states ++ bare gate ∷ []) c.of.ensures in
+    let few : length t.states + 1 < 2 ^ 32 = omega (arith, c.len-number.ensures, c.if-number.false) in
+    rw (states, c.in_err-keep_set.ensures.err) (IsSound-grown t.states t.ways.items t.classes.items t.ends.items (gate_of c.args.entry.now) c.requires few)
 
 pub returns-clause-sound : goal.returns-clause-sound
 returns-clause-sound c =
     let t = c.args.self.now in
-    let number : c.len-number.result ≡ length t.states.items = omega (arith, c.len-number.ensures, t.states.ok.0) in
-    let state : c.bare.result ≡ bare (gate_of c.args.entry.now) = c.bare.ensures ∙ ap bare c.of.ensures in
-    let states = c.in_ok-push.ensures.items ∙ ap (λ s. t.states.items ++ s ∷ []) state in
-    let sets = c.in_ok-keep_set.ensures.ok ∙ ap (λ n. t.classes.items ++ sets_in n c.args.entry.now) number in
-    let few : length t.states.items + 1 < 2 ^ 32 = omega (arith, c.len-number.ensures, c.if-number.false, t.states.ok.0) in
-    rw (states, sets) (IsSound-added t.states.items t.ways.items t.classes.items t.ends.items c.args.entry.now c.requires few)
+    let states = c.in_ok-push.ensures.added ∙ ap (λ gate. t.states ++ bare gate ∷ []) c.of.ensures in
+    let sets = c.in_ok-keep_set.ensures.ok ∙ ap (λ n. t.classes.items ++ sets_in n c.args.entry.now) c.len-number.ensures in
+    let few : length t.states + 1 < 2 ^ 32 = omega (arith, c.len-number.ensures, c.if-number.false) in
+    rw (states, sets) (IsSound-added t.states t.ways.items t.classes.items t.ends.items c.args.entry.now c.requires few)
 
 pub returns-clause-number : goal.returns-clause-number
 returns-clause-number c =
     let t = c.args.self.now in
-    omega (arith, c.len-number.ensures, t.states.ok.0, length-entries_in t.classes.items 0 t.states.items)
+    omega (arith, c.len-number.ensures, length-entries_in t.classes.items 0 t.states)
 
 pub returns-clause-added : goal.returns-clause-added
 returns-clause-added c =
     let t = c.args.self.now in
-    let number : c.len-number.result ≡ length t.states.items = omega (arith, c.len-number.ensures, t.states.ok.0) in
-    let state : c.bare.result ≡ bare (gate_of c.args.entry.now) = c.bare.ensures ∙ ap bare c.of.ensures in
-    let states = c.in_ok-push.ensures.items ∙ ap (λ s. t.states.items ++ s ∷ []) state in
-    let sets = c.in_ok-keep_set.ensures.ok ∙ ap (λ n. t.classes.items ++ sets_in n c.args.entry.now) number in
+    let states = c.in_ok-push.ensures.added ∙ ap (λ gate. t.states ++ bare gate ∷ []) c.of.ensures in
+    let sets = c.in_ok-keep_set.ensures.ok ∙ ap (λ n. t.classes.items ++ sets_in n c.args.entry.now) c.len-number.ensures in
     ap₂ (λ states classes. graph_in states t.ways.items classes t.ends.items) states sets
-    ∙ graph_in-added t.states.items t.ways.items t.classes.items t.ends.items c.args.entry.now c.requires.each_class
+    ∙ graph_in-added t.states t.ways.items t.classes.items t.ends.items c.args.entry.now c.requires.each_class

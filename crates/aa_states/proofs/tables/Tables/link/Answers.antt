@@ -1,17 +1,10 @@
 use Rattle.std.proofs.Common.{◌≡◌, ◌++◌, [], ◌∷◌, set, sym, refl, ◌∙◌, ap, ap₂, subst, arith}
 use Rattle.aa_states.specs.States.{AddsWay}
 use Rattle.aa_states.specs.code.Graphs.{graph_of}
-use Rattle.aa_states.specs.code.Tables.{by_of, graph_in, leading_on, marked, state_at}
-use Rattle.aa_states.specs.declared.state.State.{State}
+use Rattle.aa_states.specs.code.Tables.{State, by_of, graph_in, leading_on, marked, state_at}
 use Rattle.aa_states.specs.declared.state.Way.{Way}
 use Rattle.aa_states.proofs.SoundLemmas.{OnErr-from, AddsWay-on, AddsWay-push, IsSound-set, IsSound-way, graph_in-set, leads_on-marked, more_marked}
 use Rattle.aa_states.proofs.tables.Tables.link.Goals as goal
-
-pub index_mut-requires : goal.index_mut-requires
-index_mut-requires c = omega (arith, c.args.self.now.states.ok.0, c.requires.from)
-
-pub index_mut-requires-2 : goal.index_mut-requires-2
-index_mut-requires-2 c = omega (arith, c.args.self.now.states.ok.0, c.requires.from)
 
 pub overflow_add-from : goal.overflow_add-from
 overflow_add-from c = omega (arith, c.requires.from, c.requires.sound.few)
@@ -19,38 +12,31 @@ overflow_add-from c = omega (arith, c.requires.from, c.requires.sound.few)
 pub returns-then-to-from-clause-sound : goal.returns-then-to-from-clause-sound
 returns-then-to-from-clause-sound c =
     let t = c.args.self.now in
-    let old = state_at t.states.items c.args.from in
-    let s : State = leading_on old in
-    let is : c.leading_on.result ≡ s = c.leading_on.ensures ∙ ap leading_on c.state-state.ensures in
-    rw is (IsSound-set t.states.items t.ways.items t.classes.items t.ends.items c.args.from s c.requires.sound c.requires.from
+    let s : State = leading_on (state_at t.states c.args.from) in
+    rw c.lead_on.ensures (IsSound-set t.states t.ways.items t.classes.items t.ends.items c.args.from s c.requires.sound c.requires.from
     (record { gate = refl; marks = λ by h. h; ends = λ h. h }) (λ h. omega (arith, c.if-to-from.true, c.requires.to)))
 
 pub returns-then-to-from-clause-added : goal.returns-then-to-from-clause-added
 returns-then-to-from-clause-added c =
     let t = c.args.self.now in
-    let old = state_at t.states.items c.args.from in
-    let s : State = leading_on old in
-    let is : c.leading_on.result ≡ s = c.leading_on.ensures ∙ ap leading_on c.state-state.ensures in
-    subst (λ x. AddsWay (graph_of t) (graph_in (set t.states.items c.args.from x) t.ways.items t.classes.items t.ends.items) c.args.from c.args.to) (sym is)
-    (AddsWay-on t.states.items t.ways.items t.classes.items t.ends.items c.args.from c.args.to c.requires.from c.if-to-from.true)
+    subst (λ states. AddsWay (graph_of t) (graph_in states t.ways.items t.classes.items t.ends.items) c.args.from c.args.to) (sym c.lead_on.ensures)
+    (AddsWay-on t.states t.ways.items t.classes.items t.ends.items c.args.from c.args.to c.requires.from c.if-to-from.true)
 
 pub returns-in_err-push-clause-sound : goal.returns-in_err-push-clause-sound
 returns-in_err-push-clause-sound c =
     let t = c.args.self.now in
-    let old = state_at t.states.items c.args.from in
-    let is : c.marked.result ≡ marked c.by-by.result old = c.marked.ensures ∙ ap (marked c.by-by.result) c.state-state.ensures in
-    rw (is, c.in_err-push.ensures.items)
-    (IsSound-set t.states.items t.ways.items t.classes.items t.ends.items c.args.from (marked c.by-by.result old) c.requires.sound c.requires.from
+    let old = state_at t.states c.args.from in
+    rw (c.mark.ensures, c.in_err-push.ensures.items)
+    (IsSound-set t.states t.ways.items t.classes.items t.ends.items c.args.from (marked c.by-by.result old) c.requires.sound c.requires.from
     (more_marked c.by-by.result old) (λ h. c.requires.sound.on c.args.from (sym (leads_on-marked c.by-by.result old) ∙ h)))
 
 pub returns-in_err-push-clause-err : goal.returns-in_err-push-clause-err
 returns-in_err-push-clause-err c =
     let t = c.args.self.now in
-    let old = state_at t.states.items c.args.from in
-    let is : c.marked.result ≡ marked c.by-by.result old = c.marked.ensures ∙ ap (marked c.by-by.result) c.state-state.ensures in
-    let same : graph_in (set t.states.items c.args.from c.marked.result) c.push.new.self.items t.classes.items t.ends.items ≡ graph_of t =
-    ap₂ (λ s ways. graph_in (set t.states.items c.args.from s) ways t.classes.items t.ends.items) is c.in_err-push.ensures.items
-    ∙ graph_in-set t.states.items t.ways.items t.classes.items t.ends.items c.args.from (marked c.by-by.result old)
+    let old = state_at t.states c.args.from in
+    let same : graph_in c.mark.new.self c.push.new.self.items t.classes.items t.ends.items ≡ graph_of t =
+    ap₂ (λ states ways. graph_in states ways t.classes.items t.ends.items) c.mark.ensures c.in_err-push.ensures.items
+    ∙ graph_in-set t.states t.ways.items t.classes.items t.ends.items c.args.from (marked c.by-by.result old)
     (more_marked c.by-by.result old).gate (leads_on-marked c.by-by.result old) in
     OnErr-from _ _ same
 
@@ -58,20 +44,17 @@ pub returns-clause-sound : goal.returns-clause-sound
 returns-clause-sound c =
     let t = c.args.self.now in
     let way : Way = record { from = c.args.from; by = c.by-by.result; to = c.args.to } in
-    let old = state_at t.states.items c.args.from in
-    let is : c.marked.result ≡ marked c.by-by.result old = c.marked.ensures ∙ ap (marked c.by-by.result) c.state-state.ensures in
-    rw (is, c.in_ok-push.ensures.items)
-    (IsSound-way t.states.items t.ways.items t.classes.items t.ends.items way c.requires.sound c.requires.from c.requires.to
-    (c.by-by.ensures.value ∙ ap (λ s. by_of s.gate) c.state.ensures) c.by-by.ensures.within)
+    rw (c.mark.ensures, c.in_ok-push.ensures.items)
+    (IsSound-way t.states t.ways.items t.classes.items t.ends.items way c.requires.sound c.requires.from c.requires.to
+    (c.by-by.ensures.value ∙ ap by_of c.gate.ensures) c.by-by.ensures.within)
 
 pub returns-clause-added : goal.returns-clause-added
 returns-clause-added c =
     let t = c.args.self.now in
     let way : Way = record { from = c.args.from; by = c.by-by.result; to = c.args.to } in
-    let old = state_at t.states.items c.args.from in
-    let is : c.marked.result ≡ marked c.by-by.result old = c.marked.ensures ∙ ap (marked c.by-by.result) c.state-state.ensures in
-    let same : graph_in (set t.states.items c.args.from (marked c.by-by.result old)) (t.ways.items ++ way ∷ []) t.classes.items t.ends.items
-    ≡ graph_in (set t.states.items c.args.from c.marked.result) c.push.new.self.items t.classes.items t.ends.items =
-    ap₂ (λ s ways. graph_in (set t.states.items c.args.from s) ways t.classes.items t.ends.items) (sym is) (sym c.in_ok-push.ensures.items) in
+    let old = state_at t.states c.args.from in
+    let same : graph_in (set t.states c.args.from (marked c.by-by.result old)) (t.ways.items ++ way ∷ []) t.classes.items t.ends.items
+    ≡ graph_in c.mark.new.self c.push.new.self.items t.classes.items t.ends.items =
+    ap₂ (λ states ways. graph_in states ways t.classes.items t.ends.items) (sym c.mark.ensures) (sym c.in_ok-push.ensures.items) in
     subst (λ g. AddsWay (graph_of t) g c.args.from c.args.to) same
-    (AddsWay-push t.states.items t.ways.items t.classes.items t.ends.items way c.requires.from)
+    (AddsWay-push t.states t.ways.items t.classes.items t.ends.items way c.requires.from)

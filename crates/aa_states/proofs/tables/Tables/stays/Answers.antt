@@ -8,5 +8,5 @@ pub returns : goal.returns
 returns c =
     let t = c.args.self.now in
     let set = set_of t.classes.items c.args.number in
-    rw (entry_of-graph_in t.states.items t.ways.items t.classes.items t.ends.items c.args.number c.requires)
-    (c.stays.ensures set ∙ ap (λ state. stays_at (entry_behind state.gate set) c.args.byte) c.state.ensures)
+    rw (entry_of-graph_in t.states t.ways.items t.classes.items t.ends.items c.args.number c.requires)
+    (c.stays.ensures set ∙ ap (λ gate. stays_at (entry_behind gate set) c.args.byte) c.gate.ensures)

@@ -1,6 +1,6 @@
 use Rattle.std.proofs.Common.{rules, ◌≤◌, ◌+◌, ◌*◌}
 use Rattle.aa_states.proofs.TableLemmas.{bounds_in_order, only_along, each_along}
-use Rattle.aa_states.proofs.tables.ways_along.Goals as goal
+use Rattle.aa_states.proofs.ways.ways_along.Goals as goal
 
 pub slice_bounds-result-count : goal.slice_bounds-result-count
 slice_bounds-result-count c =

@@ -3,7 +3,7 @@ use Rattle.std.proofs.lemmas.Bool.{ltb-true, ltb-false}
 use Rattle.std.proofs.lemmas.List.Sorted.{IsPartitionPoint-from_clause, IsPartitionedBy-ltb}
 use Rattle.std.specs.Prelude.{nat_lt}
 use Rattle.aa_states.specs.code.Tables.{order_of}
-use Rattle.aa_states.proofs.tables.first_way.Goals as goal
+use Rattle.aa_states.proofs.ways.first_way.Goals as goal
 
 pub returns-clause-before : goal.returns-clause-before
 returns-clause-before c =
