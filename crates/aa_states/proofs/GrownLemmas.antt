@@ -8,7 +8,7 @@ use Rattle.std.proofs.lemmas.List.Sorted.{Contains-permutation, IsPermutation-sy
 use Rattle.std.specs.Prelude.{All, AllPairs, Contains}
 use Rattle.std.specs.List.Sorted.{IsPermutation}
 use Rattle.aa_states.specs.States.{SameGraph, with_entry}
-use Rattle.aa_states.specs.code.Tables.{entry_behind, gate_of, by_of, set_of, sets_in, entries_in, ways_on, graph_in, bare, state_at, is_marked, IsWay, IsSound}
+use Rattle.aa_states.specs.code.Tables.{entry_behind, gate_of, by_of, set_of, sets_in, entries_in, ways_on, graph_in, bare, state_at, IsWay, IsSound}
 use Rattle.aa_states.specs.declared.entry.Entry.{Entry}
 use Rattle.aa_states.specs.declared.entry.Entry.TheVariants.{Free as FreeEntry, Byte as ByteEntry, Inside as InsideEntry, Class as ClassEntry, Star as StarEntry, DoubleStar as DoubleStarEntry}
 use Rattle.aa_states.specs.declared.state.Gate.{Gate}
@@ -60,7 +60,7 @@ IsSound-grown states ways classes ends gate sound few =
         to = omega (arith, is.to);
         by = is.by ∙ ap (λ s. by_of s.gate) (sym (old way.to is.to));
         number = is.number;
-        marked = ap (λ s. is_marked s way.by) (old way.from is.from) ∙ is.marked;
+        marked = ap (λ s. s.leads_away) (old way.from is.from) ∙ is.marked;
       }) ways sound.each_way;
       rising = sound.rising;
       each_class = All-weaker (λ c. c.state < length states) (λ c. c.state < length grown) (λ c h. omega arith) classes sound.each_class;

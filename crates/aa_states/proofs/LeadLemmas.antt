@@ -1,13 +1,13 @@
 -- Where a state leads, by the ways that lead on and by those of the table.
-use Rattle.std.proofs.Common.{◌≡◌, ℕ, ◌+◌, ◌<◌, ◌⊎◌, Bool, true, false, cond, List, [], ◌∷◌, ◌++◌, length, map, Option, Some, None, refl, sym, ◌∙◌, ap, subst, inl, inr, true≢false}
+use Rattle.std.proofs.Common.{◌≡◌, ◌≢◌, ℕ, ◌+◌, ◌<◌, ◌⊎◌, Bool, true, false, cond, List, [], ◌∷◌, ◌++◌, length, map, Option, Some, None, refl, sym, ◌∙◌, ap, subst, inl, inr, true≢false}
 use Rattle.std.proofs.lemmas.Bool.{eqb-true}
-use Rattle.std.proofs.lemmas.List.Elements.{All-contains, Contains-append_left, Contains-push, Contains-push_cases}
+use Rattle.std.proofs.lemmas.List.Elements.{All-contains, All-weaker, Contains-append_left, Contains-push, Contains-push_cases}
 use Rattle.std.specs.Prelude.{All, Contains}
 use Rattle.aa_states.specs.Entries.{is_free}
 use Rattle.aa_states.specs.States.{Graph, entry_of, Leads}
 use Rattle.aa_states.specs.code.Fronts.{Live, with_state, Adds}
 use Rattle.aa_states.specs.code.Graphs.{AreSound, graph_of}
-use Rattle.aa_states.specs.code.Runs.{FollowsIf, IsEntered, IsEnteredAmong, IsEnteredBy, IsEnteredNext, StaysAt, takes_if}
+use Rattle.aa_states.specs.code.Runs.{FollowsIf, is_byte, IsEntered, IsEnteredAmong, IsEnteredAway, IsEnteredBy, IsEnteredNext, StaysAt, takes_if}
 use Rattle.aa_states.specs.code.Tables.{by_of, entry_behind, IsAlong, IsWay, no_byte, set_of, state_at}
 use Rattle.aa_states.specs.declared.byte_map.ByteMap.{ByteMap}
 use Rattle.aa_states.specs.declared.entry.Entry.{Entry}
@@ -16,7 +16,7 @@ use Rattle.aa_states.specs.declared.state.Gate.{Gate}
 use Rattle.aa_states.specs.declared.state.Gate.TheVariants.{Free, Byte, Inside, Class, Star, DoubleStar}
 use Rattle.aa_states.specs.declared.state.Way.{Way}
 use Rattle.aa_states.specs.declared.tables.Tables.{Tables}
-use Rattle.aa_states.proofs.FrontLemmas.{Adds-as, Adds-nothing, Adds-tested, Adds-then}
+use Rattle.aa_states.proofs.FrontLemmas.{Adds-as, Adds-tested, Adds-then}
 use Rattle.aa_states.proofs.ListLemmas.{some_same, Contains-map, Contains-map_cases}
 use Rattle.aa_states.proofs.TableLemmas.{entry_of-graph_in, Leads-cases, Leads-on, Leads-way}
 
@@ -43,20 +43,37 @@ entered_next t test q old new on is =
     (λ r kind. (on, kind.0, ap (λ x. test (entry_of g x)) kind.0 ∙ kind.1))
     (λ r kind. (kind.1, ap (λ x. test (entry_of g x)) (sym kind.1) ∙ kind.2))
 
--- the states that the ways by a number lead to are states
-pub along_to : (t : Tables) (q by : ℕ) (ways : List Way) → AreSound t → All (IsAlong t.ways.items q by) ways → All (λ w. w.to < length t.states) ways
-along_to t q by ways sound only k d h = (All-contains (IsWay t.states) t.ways.items _ sound.each_way (only k d h).among).to
-
--- what is entered among the ways by a number
-pub entered_along : (t : Tables) (test : Entry → Bool) (q by : ℕ) (ways : List Way) (old new : Live)
-    → All (IsAlong t.ways.items q by) ways → ((way : Way) → IsAlong t.ways.items q by way → Contains ways way)
-    → Adds old new (IsEnteredAmong (graph_of t) test (map (λ w. w.to) ways)) → Adds old new (IsEnteredBy t test by q)
-entered_along t test q by ways old new only each adds =
-    Adds-as old new (IsEnteredAmong (graph_of t) test (map (λ w. w.to) ways)) (IsEnteredBy t test by q) adds
+-- what is entered among a state's ways
+pub entered_away : (t : Tables) (test : Entry → Bool) (q : ℕ) (ways : List Way) (old new : Live)
+    → All (λ w. Contains t.ways.items w × (w.from ≡ q)) ways → ((way : Way) → Contains t.ways.items way → way.from ≡ q → Contains ways way)
+    → Adds old new (IsEnteredAmong (graph_of t) test (map (λ w. w.to) ways)) → Adds old new (IsEnteredAway t test q)
+entered_away t test q ways old new only each adds =
+    Adds-as old new (IsEnteredAmong (graph_of t) test (map (λ w. w.to) ways)) (IsEnteredAway t test q) adds
     (λ r kind.
     let found = Contains-map_cases (λ w. w.to) ways r kind.0 in
-    ((found.0, All-contains (IsAlong t.ways.items q by) ways found.0 only found.1, found.2), kind.1))
-    (λ r kind. (subst (λ x. Contains (map (λ w. w.to) ways) x) kind.0.2 (Contains-map (λ w. w.to) ways kind.0.0 (each kind.0.0 kind.0.1)), kind.1))
+    let known = All-contains (λ w. Contains t.ways.items w × (w.from ≡ q)) ways found.0 only found.1 in
+    ((found.0, known.0, known.1, found.2), kind.1))
+    (λ r kind. (subst (λ x. Contains (map (λ w. w.to) ways) x) kind.0.3 (Contains-map (λ w. w.to) ways kind.0.0 (each kind.0.0 kind.0.1 kind.0.2)), kind.1))
+
+-- what is entered among those of some ways that have a number
+pub entered_along : (g : Graph) (ways : List Way) (test : Entry → Bool) (q by : ℕ) (part : List Way) (old new : Live)
+    → All (IsAlong ways q by) part → ((way : Way) → IsAlong ways q by way → Contains part way)
+    → Adds old new (IsEnteredAmong g test (map (λ w. w.to) part)) → Adds old new (IsEnteredBy g ways test by q)
+entered_along g ways test q by part old new only each adds =
+    Adds-as old new (IsEnteredAmong g test (map (λ w. w.to) part)) (IsEnteredBy g ways test by q) adds
+    (λ r kind.
+    let found = Contains-map_cases (λ w. w.to) part r kind.0 in
+    ((found.0, All-contains (IsAlong ways q by) part found.0 only found.1, found.2), kind.1))
+    (λ r kind. (subst (λ x. Contains (map (λ w. w.to) part) x) kind.0.2 (Contains-map (λ w. w.to) part kind.0.0 (each kind.0.0 kind.0.1)), kind.1))
+
+-- ways among a state's are ways of the table, and those by a number are among them
+pub known_ways : (t : Tables) (q : ℕ) (ways : List Way) → AreSound t → All (λ w. Contains t.ways.items w × (w.from ≡ q)) ways → All (IsWay t.states) ways
+known_ways t q ways sound only =
+    All-weaker (λ w. Contains t.ways.items w × (w.from ≡ q)) (IsWay t.states) (λ way h. All-contains (IsWay t.states) t.ways.items way sound.each_way h.0) ways only
+
+pub known_along : (t : Tables) (q by : ℕ) (ways part : List Way) → All (IsWay t.states) ways → All (IsAlong ways q by) part → All (IsWay t.states) part
+known_along t q by ways part known only =
+    All-weaker (IsAlong ways q by) (IsWay t.states) (λ way along. All-contains (IsWay t.states) ways way known along.among) part only
 
 -- what passes a test comes in along a way by no byte, or by the byte that comes
 abbrev pub ComesBy : (Entry → Bool) → Option ℕ → Type 0
@@ -90,76 +107,104 @@ free_takes_none (ClassEntry set) (Some c) h = absurd (true≢false (sym h))
 free_takes_none StarEntry (Some c) h = refl
 free_takes_none DoubleStarEntry (Some c) h = refl
 
--- by which of the tables a state is entered from another
-pub entered_cases : (t : Tables) (test : Entry → Bool) (byte : Option ℕ) (q r : ℕ) → ComesBy test byte → AreSound t → IsEntered (graph_of t) test q r
-    → IsEnteredNext t test q r ⊎ (IsEnteredBy t test no_byte q r ⊎ ((c : ℕ) × (byte ≡ Some c) × IsEnteredBy t test c q r))
-entered_cases t test byte q r comes sound entered =
-    let states = t.states in
-    elim (Leads-cases states t.ways.items t.classes.items t.ends.items q r entered.0) [
+-- a way by a byte leads to a state that this byte leads into
+own_byte : (gate : Gate) (set : ByteMap) → by_of gate ≢ no_byte → entry_behind gate set ≡ ByteEntry (by_of gate)
+own_byte Free set h = absurd (h refl)
+own_byte (Byte b) set h = refl
+own_byte Inside set h = absurd (h refl)
+own_byte Class set h = absurd (h refl)
+own_byte Star set h = absurd (h refl)
+own_byte DoubleStar set h = absurd (h refl)
+
+pub entry_along : (t : Tables) (way : Way) → IsWay t.states way → way.by ≢ no_byte → entry_of (graph_of t) way.to ≡ ByteEntry way.by
+entry_along t way known other =
+    entry_of-graph_in t.states t.ways.items t.classes.items t.ends.items way.to known.to
+    ∙ own_byte (state_at t.states way.to).gate (set_of t.classes.items way.to) (λ h. other (known.by ∙ h))
+    ∙ ap ByteEntry (sym known.by)
+
+pub takes_own : (number : ℕ) (byte : Option ℕ) → takes_if byte (ByteEntry number) ≡ is_byte number byte
+takes_own number None = refl
+takes_own number (Some c) = refl
+
+-- by which way a state is entered from another
+pub entered_cases : (t : Tables) (test : Entry → Bool) (q r : ℕ) → IsEntered (graph_of t) test q r → IsEnteredNext t test q r ⊎ IsEnteredAway t test q r
+entered_cases t test q r entered =
+    elim (Leads-cases t.states t.ways.items t.classes.items t.ends.items q r entered.0) [
       | inl on ↦ inl (on.1, on.2, entered.1)
-      | inr found ↦
-          let way = found.0 in
-          let known = All-contains (IsWay states) t.ways.items way sound.each_way found.1 in
-          let is : entry_of (graph_of t) r ≡ entry_behind (state_at states way.to).gate (set_of t.classes.items way.to) =
-          ap (entry_of (graph_of t)) (sym found.3) ∙ entry_of-graph_in states t.ways.items t.classes.items t.ends.items way.to known.to in
-          let taken = ap test (sym is) ∙ entered.1 in
-          inr (elim (comes (state_at states way.to).gate (set_of t.classes.items way.to) taken) [
-            | inl none ↦ inl ((way, record { among = found.1; from = found.2; by_it = known.by ∙ none }, found.3), entered.1)
-            | inr own ↦ inr (own.0, own.1, ((way, record { among = found.1; from = found.2; by_it = known.by ∙ own.2 }, found.3), entered.1))
-          ])
+      | inr found ↦ inr (found, entered.1)
     ]
 
--- what is entered by one of the tables is entered
+-- what is entered by either is entered
 pub IsEntered-next : (t : Tables) (test : Entry → Bool) (q r : ℕ) → q < length t.states → IsEnteredNext t test q r → IsEntered (graph_of t) test q r
 IsEntered-next t test q r within next =
     (subst (λ x. Leads (graph_of t) q x) (sym next.1) (Leads-on t.states t.ways.items t.classes.items t.ends.items q within next.0), next.2)
 
-pub IsEntered-by : (t : Tables) (test : Entry → Bool) (by q r : ℕ) → IsEnteredBy t test by q r → IsEntered (graph_of t) test q r
-IsEntered-by t test by q r entered =
+pub IsEntered-away : (t : Tables) (test : Entry → Bool) (q r : ℕ) → IsEnteredAway t test q r → IsEntered (graph_of t) test q r
+IsEntered-away t test q r entered =
     let way = entered.0.0 in
-    let along = entered.0.1 in
-    let leads : Leads (graph_of t) way.from way.to = Leads-way t.states t.ways.items t.classes.items t.ends.items way along.among in
-    (subst (λ x. Leads (graph_of t) q x) entered.0.2 (subst (λ x. Leads (graph_of t) x way.to) along.from leads), entered.1)
+    let leads : Leads (graph_of t) way.from way.to = Leads-way t.states t.ways.items t.classes.items t.ends.items way entered.0.1 in
+    (subst (λ x. Leads (graph_of t) q x) entered.0.3 (subst (λ x. Leads (graph_of t) x way.to) entered.0.2 leads), entered.1)
+
+-- what is added by the way that leads on, and by those of the table
+pub Adds-lead : (t : Tables) (test : Entry → Bool) (q : ℕ) (old mid new : Live) → q < length t.states
+    → Adds old mid (IsEnteredNext t test q) → Adds mid new (IsEnteredAway t test q) → Adds old new (IsEntered (graph_of t) test q)
+Adds-lead t test q old mid new within on away =
+    Adds-then old mid new (IsEnteredNext t test q) (IsEnteredAway t test q) (IsEntered (graph_of t) test q) on away
+    (λ r next. IsEntered-next t test q r within next)
+    (λ r kind. IsEntered-away t test q r kind)
+    (λ r kind. entered_cases t test q r kind)
 
 none_same : (c : ℕ) → None ≡ Some c → ⊥
 none_same c e = cc
 
--- what is added by all tables, one behind the other
-pub Adds-lead : (t : Tables) (test : Entry → Bool) (byte : Option ℕ) (c q : ℕ) (old first second new : Live) → ComesBy test byte → byte ≡ Some c
-    → AreSound t → q < length t.states
-    → Adds old first (IsEnteredNext t test q) → Adds first second (IsEnteredBy t test no_byte q) → Adds second new (IsEnteredBy t test c q)
-    → Adds old new (IsEntered (graph_of t) test q)
-Adds-lead t test byte c q old first second new comes is sound within on other own =
-    let Two : ℕ → Type 0 = λ r. IsEnteredNext t test q r ⊎ IsEnteredBy t test no_byte q r in
-    Adds-then old second new Two (IsEnteredBy t test c q) (IsEntered (graph_of t) test q)
-    (Adds-then old first second (IsEnteredNext t test q) (IsEnteredBy t test no_byte q) Two on other (λ r kind. inl kind) (λ r kind. inr kind) (λ r kind. kind))
-    own
-    (λ r kind. elim kind [ inl next ↦ IsEntered-next t test q r within next | inr by ↦ IsEntered-by t test no_byte q r by ])
-    (λ r kind. IsEntered-by t test c q r kind)
-    (λ r kind. elim (entered_cases t test byte q r comes sound kind) [
-      | inl next ↦ inl (inl next)
-      | inr more ↦ elim more [
-        | inl by ↦ inl (inr by)
-        | inr own ↦
-            let same : own.0 ≡ c = sym (some_same c own.0 (sym is ∙ own.1)) in
-            inr (subst (λ b. IsEnteredBy t test b q r) same own.2)
-      ]
+-- what is entered by a number among a state's ways is entered by one of the table
+away_by : (t : Tables) (test : Entry → Bool) (q by r : ℕ) (ways : List Way) → All (λ w. Contains t.ways.items w × (w.from ≡ q)) ways
+    → IsEnteredBy (graph_of t) ways test by q r → IsEnteredAway t test q r
+away_by t test q by r ways only kind =
+    let known = All-contains (λ w. Contains t.ways.items w × (w.from ≡ q)) ways kind.0.0 only kind.0.1.among in
+    ((kind.0.0, known.0, known.1, kind.0.2), kind.1)
+
+-- by which number a state is entered by one of the table
+away_cases : (t : Tables) (test : Entry → Bool) (byte : Option ℕ) (q r : ℕ) (ways : List Way) → ComesBy test byte → AreSound t
+    → ((way : Way) → Contains t.ways.items way → way.from ≡ q → Contains ways way) → IsEnteredAway t test q r
+    → IsEnteredBy (graph_of t) ways test no_byte q r ⊎ ((c : ℕ) × (byte ≡ Some c) × IsEnteredBy (graph_of t) ways test c q r)
+away_cases t test byte q r ways comes sound each kind =
+    let way = kind.0.0 in
+    let known = All-contains (IsWay t.states) t.ways.items way sound.each_way kind.0.1 in
+    let is : entry_of (graph_of t) r ≡ entry_behind (state_at t.states way.to).gate (set_of t.classes.items way.to) =
+    ap (entry_of (graph_of t)) (sym kind.0.3) ∙ entry_of-graph_in t.states t.ways.items t.classes.items t.ends.items way.to known.to in
+    let among = each way kind.0.1 kind.0.2 in
+    elim (comes (state_at t.states way.to).gate (set_of t.classes.items way.to) (ap test (sym is) ∙ kind.1)) [
+      | inl none ↦ inl ((way, record { among = among; from = kind.0.2; by_it = known.by ∙ none }, kind.0.3), kind.1)
+      | inr own ↦ inr (own.0, own.1, ((way, record { among = among; from = kind.0.2; by_it = known.by ∙ own.2 }, kind.0.3), kind.1))
+    ]
+
+-- what is added by number: by those without a byte, and by those of the byte that comes
+pub Adds-by_number : (t : Tables) (test : Entry → Bool) (byte : Option ℕ) (c q : ℕ) (ways : List Way) (old mid new : Live) → ComesBy test byte → byte ≡ Some c
+    → AreSound t → All (λ w. Contains t.ways.items w × (w.from ≡ q)) ways → ((way : Way) → Contains t.ways.items way → way.from ≡ q → Contains ways way)
+    → Adds old mid (IsEnteredBy (graph_of t) ways test no_byte q) → Adds mid new (IsEnteredBy (graph_of t) ways test c q)
+    → Adds old new (IsEnteredAway t test q)
+Adds-by_number t test byte c q ways old mid new comes is sound only each other own =
+    Adds-then old mid new (IsEnteredBy (graph_of t) ways test no_byte q) (IsEnteredBy (graph_of t) ways test c q) (IsEnteredAway t test q) other own
+    (λ r kind. away_by t test q no_byte r ways only kind)
+    (λ r kind. away_by t test q c r ways only kind)
+    (λ r kind. elim (away_cases t test byte q r ways comes sound each kind) [
+      | inl none ↦ inl none
+      | inr found ↦
+          let same : found.0 ≡ c = sym (some_same c found.0 (sym is ∙ found.1)) in
+          inr (subst (λ b. IsEnteredBy (graph_of t) ways test b q r) same found.2)
     ])
 
 -- the same where no byte comes
-pub Adds-lead_freely : (t : Tables) (test : Entry → Bool) (byte : Option ℕ) (q : ℕ) (old first new : Live) → ComesBy test byte → byte ≡ None
-    → AreSound t → q < length t.states
-    → Adds old first (IsEnteredNext t test q) → Adds first new (IsEnteredBy t test no_byte q) → Adds old new (IsEntered (graph_of t) test q)
-Adds-lead_freely t test byte q old first new comes is sound within on other =
-    Adds-then old first new (IsEnteredNext t test q) (IsEnteredBy t test no_byte q) (IsEntered (graph_of t) test q) on other
-    (λ r next. IsEntered-next t test q r within next)
-    (λ r by. IsEntered-by t test no_byte q r by)
-    (λ r kind. elim (entered_cases t test byte q r comes sound kind) [
-      | inl next ↦ inl next
-      | inr more ↦ elim more [
-        | inl by ↦ inr by
-        | inr own ↦ absurd (none_same own.0 (sym is ∙ own.1))
-      ]
+pub Adds-by_none : (t : Tables) (test : Entry → Bool) (byte : Option ℕ) (q : ℕ) (ways : List Way) (old new : Live) → ComesBy test byte → byte ≡ None
+    → AreSound t → All (λ w. Contains t.ways.items w × (w.from ≡ q)) ways → ((way : Way) → Contains t.ways.items way → way.from ≡ q → Contains ways way)
+    → Adds old new (IsEnteredBy (graph_of t) ways test no_byte q) → Adds old new (IsEnteredAway t test q)
+Adds-by_none t test byte q ways old new comes is sound only each adds =
+    Adds-as old new (IsEnteredBy (graph_of t) ways test no_byte q) (IsEnteredAway t test q) adds
+    (λ r kind. away_by t test q no_byte r ways only kind)
+    (λ r kind. elim (away_cases t test byte q r ways comes sound each kind) [
+      | inl none ↦ none
+      | inr found ↦ absurd (none_same found.0 (sym is ∙ found.1))
     ])
 
 -- what follows behind a byte: what it leads into, and the state itself if it stays

@@ -6,7 +6,7 @@ use Rattle.std.proofs.lemmas.List.Elements.{All-weaker, All-push, Contains-appen
 use Rattle.std.specs.Prelude.{Contains, Result, Ok, Err, OnErr}
 use Rattle.aa_states.specs.States.{Leads, IsState, AddsWay, AddsEnd}
 use Rattle.aa_states.specs.code.Graphs.{graph_of}
-use Rattle.aa_states.specs.code.Tables.{entry_behind, by_of, no_byte, set_of, entries_in, ways_on, graph_in, bare, state_at, is_marked, marked, IsWay, IsSound}
+use Rattle.aa_states.specs.code.Tables.{entry_behind, by_of, no_byte, set_of, entries_in, ways_on, graph_in, bare, state_at, leading_away, IsWay, IsSound}
 use Rattle.aa_states.specs.declared.state.Gate.TheVariants.{Free}
 use Rattle.aa_states.specs.code.Tables.{State}
 use Rattle.aa_states.specs.declared.state.Way.{Way}
@@ -22,13 +22,13 @@ is_in_table t r h = omega (arith, length-entries_in t.classes.items 0 t.states, 
 -- a state with the same gate and at least the same marks
 pub record MarksMore (old new : State) : Type 0 where
   pub gate : new.gate ≡ old.gate
-  pub marks : (by : ℕ) → is_marked old by ≡ true → is_marked new by ≡ true
+  pub marks : old.leads_away ≡ true → new.leads_away ≡ true
   pub ends : old.ends ≡ true → new.ends ≡ true
 
 more_same : (old new : State) → new ≡ old → MarksMore old new
 more_same old new e = record {
   gate = ap (λ s. s.gate) e;
-  marks = λ by h. ap (λ s. is_marked s by) e ∙ h;
+  marks = λ h. ap (λ s. s.leads_away) e ∙ h;
   ends = λ h. ap (λ s. s.ends) e ∙ h;
 }
 
@@ -62,7 +62,7 @@ IsSound-set states ways classes ends q s sound within more on =
         to = omega (arith, is.to);
         by = is.by ∙ ap by_of (sym (more_at states q way.to s within more).gate);
         number = is.number;
-        marked = (more_at states q way.from s within more).marks way.by is.marked;
+        marked = (more_at states q way.from s within more).marks is.marked;
       }) ways sound.each_way;
       rising = sound.rising;
       each_class = All-weaker (λ c. c.state < length states) (λ c. c.state < length (set states q s)) (λ c h. omega arith) classes sound.each_class;
@@ -147,54 +147,27 @@ AddsWay-on states ways classes ends from to within next =
     (λ way h. inl h) (λ way h. h)
     (subst (λ x. Leads (graph_in grown ways classes ends) from x) (sym next) (Leads-on grown ways classes ends from (omega arith) (ap (λ x. x.leads_on) here)))
 
--- the mark for ways by a number
-marked-cases : (by : ℕ) (s : State) → MarksMore s (marked by s) × (is_marked (marked by s) by ≡ true) × ((marked by s).leads_on ≡ s.leads_on)
-marked-cases by s =
-    elim (cases_Bool (by == no_byte)) [
-      | inl none ↦ rw none (
-        record {
-          gate = refl;
-          marks = λ n h. elim (cases_Bool (n == no_byte)) [ inl same ↦ rw same refl | inr other ↦ rw other (rw other at h) ];
-          ends = λ h. h;
-        },
-        refl,
-        refl,
-      )
-      | inr own ↦ rw own (
-        record {
-          gate = refl;
-          marks = λ n h. elim (cases_Bool (n == no_byte)) [ inl same ↦ rw same (rw same at h) | inr other ↦ rw other refl ];
-          ends = λ h. h;
-        },
-        refl,
-        refl,
-      )
-    ]
-
-pub more_marked : (by : ℕ) (s : State) → MarksMore s (marked by s)
-more_marked by s = (marked-cases by s).0
-
-pub leads_on-marked : (by : ℕ) (s : State) → (marked by s).leads_on ≡ s.leads_on
-leads_on-marked by s = (marked-cases by s).2
+-- the mark that there are ways in the table
+pub more_away : (s : State) → MarksMore s (leading_away s)
+more_away s = record { gate = refl; marks = λ h. refl; ends = λ h. h }
 
 -- a way in the table
 pub AddsWay-push : (states : List State) (ways : List Way) (classes : List ClassRow) (ends : List End) (way : Way) → way.from < length states
     → AddsWay (graph_in states ways classes ends)
-    (graph_in (set states way.from (marked way.by (state_at states way.from))) (ways ++ way ∷ []) classes ends) way.from way.to
+    (graph_in (set states way.from (leading_away (state_at states way.from))) (ways ++ way ∷ []) classes ends) way.from way.to
 AddsWay-push states ways classes ends way within =
-    let s = marked way.by (state_at states way.from) in
+    let s = leading_away (state_at states way.from) in
     let grown = set states way.from s in
     let len : length grown ≡ length states = length-set states way.from s in
     let same_on : (q : ℕ) → (state_at grown q).leads_on ≡ (state_at states q).leads_on = λ q. elim (cases_eq q way.from) [
       | inl same ↦
           ap (λ x. (state_at grown x).leads_on) same
           ∙ ap (λ x. x.leads_on) (get_or-set_same states way.from s (bare Free) within)
-          ∙ leads_on-marked way.by (state_at states way.from)
           ∙ ap (λ x. (state_at states x).leads_on) (sym same)
       | inr other ↦ ap (λ x. x.leads_on) (get_or-set_other states way.from q s (bare Free) other)
     ] in
     AddsWay-by states grown ways (ways ++ way ∷ []) classes ends way.from way.to
-    (entries_in-set classes 0 way.from states s (more_marked way.by (state_at states way.from)).gate)
+    (entries_in-set classes 0 way.from states s (more_away (state_at states way.from)).gate)
     (λ q h on. inl (omega arith, sym (same_on q) ∙ on))
     (λ q h on. (omega arith, same_on q ∙ on))
     (λ other h. elim (Contains-push_cases ways way other h) [
@@ -206,14 +179,14 @@ AddsWay-push states ways classes ends way within =
 
 pub IsSound-way : (states : List State) (ways : List Way) (classes : List ClassRow) (ends : List End) (way : Way) → IsSound states ways classes ends
     → way.from < length states → way.to < length states → way.by ≡ by_of (state_at states way.to).gate → way.by ≤ no_byte
-    → IsSound (set states way.from (marked way.by (state_at states way.from))) (ways ++ way ∷ []) classes ends
+    → IsSound (set states way.from (leading_away (state_at states way.from))) (ways ++ way ∷ []) classes ends
 IsSound-way states ways classes ends way sound from to by number =
     let old = state_at states way.from in
-    let s = marked way.by old in
+    let s = leading_away old in
     let grown = set states way.from s in
     let len : length grown ≡ length states = length-set states way.from s in
-    let first : IsSound grown ways classes ends = IsSound-set states ways classes ends way.from s sound from (more_marked way.by old)
-    (λ h. sound.on way.from (sym (leads_on-marked way.by old) ∙ h)) in
+    let first : IsSound grown ways classes ends = IsSound-set states ways classes ends way.from s sound from (more_away old)
+    (λ h. sound.on way.from h) in
     let here : state_at grown way.from ≡ s = get_or-set_same states way.from s (bare Free) from in
     record {
       few = first.few;
@@ -222,9 +195,9 @@ IsSound-way states ways classes ends way sound from to by number =
       each_way = All-push (IsWay grown) ways way first.each_way (record {
         from = omega arith;
         to = omega arith;
-        by = by ∙ ap by_of (sym (more_at states way.from way.to s from (more_marked way.by old)).gate);
+        by = by ∙ ap by_of (sym (more_at states way.from way.to s from (more_away old)).gate);
         number = number;
-        marked = ap (λ x. is_marked x way.by) here ∙ (marked-cases way.by old).1;
+        marked = ap (λ x. x.leads_away) here;
       });
       rising = first.rising;
       each_class = first.each_class;
@@ -233,7 +206,7 @@ IsSound-way states ways classes ends way sound from to by number =
 
 -- an end in the table
 more_ending : (s : State) → MarksMore s (record s { ends = true })
-more_ending s = record { gate = refl; marks = λ by h. h; ends = λ h. refl }
+more_ending s = record { gate = refl; marks = λ h. h; ends = λ h. refl }
 
 pub IsSound-ending : (states : List State) (ways : List Way) (classes : List ClassRow) (ends : List End) (q : ℕ) → IsSound states ways classes ends
     → q < length states → IsSound (set states q (record (state_at states q) { ends = true })) ways classes ends

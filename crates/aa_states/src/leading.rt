@@ -1,16 +1,22 @@
 //! Where a state that lives leads, without a byte and behind one.
 
-ghost use Rattle.std.specs.Prelude.{◌≡◌, ◌<◌, ◌≤◌, length, map, All, if◌then◌else◌};
+ghost use Rattle.std.specs.Prelude.{◌≡◌, ◌<◌, length, map, All, Contains, if◌then◌else◌};
+ghost use Rattle.std.specs.List.Sorted.{IsNonDecreasingBy};
 ghost use Rattle.aa_states.specs.Entries.{is_free};
 ghost use Rattle.aa_states.specs.States.{entry_of};
 ghost use Rattle.aa_states.specs.code.Fronts.{Adds, with_state};
 ghost use Rattle.aa_states.specs.code.Graphs.{AreSound, AreSorted, graph_of};
-ghost use Rattle.aa_states.specs.code.Runs.{FollowsIf, IsEntered, IsEnteredAmong, IsEnteredBy, IsEnteredNext, StaysAt, takes_if};
-ghost use Rattle.aa_states.specs.code.Tables.{no_byte};
+ghost use Rattle.aa_states.specs.code.Runs.{FollowsIf, is_byte, IsEntered, IsEnteredAmong, IsEnteredAway, IsEnteredNext, StaysAt, takes_if};
+ghost use Rattle.aa_states.specs.code.Tables.{IsWay, order_of};
+ghost use Rattle.aa_states.specs.declared.state.Way.{Way};
 
 use crate::front::Front;
 use crate::state::{NO_BYTE, Way};
 use crate::tables::Tables;
+use crate::ways::ways_along;
+
+// Up to so many ways of a state are looked at one by one; among more, those of a byte are found by halving.
+const FEW: usize = 8;
 
 // Visits a state: puts what comes from it freely into its own front, and what follows behind the byte, if one comes, into the next.
 pub fn visit(tables: &Tables, from: u32, byte: Option<u8>, here: &mut Front, next: &mut Front)
@@ -23,12 +29,9 @@ pub fn visit(tables: &Tables, from: u32, byte: Option<u8>, here: &mut Front, nex
     ensures next { Adds next.old next.new (FollowsIf (graph_of tables.now) byte from) }
 {
     lead_on(tables, from, byte, here, next);
-    lead_by(tables, from, NO_BYTE, byte, here, next);
+    lead_away(tables, from, byte, here, next);
     match byte {
-        Some(own) => {
-            lead_by(tables, from, own as u16, byte, here, next);
-            stay(tables, from, own, next);
-        }
+        Some(own) => stay(tables, from, own, next),
         None => {}
     }
 }
@@ -47,38 +50,86 @@ fn lead_on(tables: &Tables, from: u32, byte: Option<u8>, here: &mut Front, next:
     }
 }
 
-// The same by the ways of the table by this number alone.
-fn lead_by(
+// The same by the ways of the table alone. Where they are few, each is looked at.
+fn lead_away(tables: &Tables, from: u32, byte: Option<u8>, here: &mut Front, next: &mut Front)
+    requires sound { AreSound tables.now }
+    requires sorted { AreSorted tables.now }
+    requires is_state { from < length tables.now.states }
+    requires here { here.old.room ≡ length tables.now.states }
+    requires next { next.old.room ≡ length tables.now.states }
+    ensures here { Adds here.old here.new (IsEnteredAway tables.now is_free from) }
+    ensures next { Adds next.old next.new (IsEnteredAway tables.now (takes_if byte) from) }
+{
+    let ways = tables.ways_of(from);
+    if ways.len() <= FEW {
+        lead_along(tables, ways, byte, here, next);
+    } else {
+        lead_by_number(tables, ways, from, byte, here, next);
+    }
+}
+
+// The same by a state's ways, in their order: by those without a byte of their own, and by those of the byte.
+fn lead_by_number(
     tables: &Tables,
+    ways: &[Way],
     from: u32,
-    by: u16,
     byte: Option<u8>,
     here: &mut Front,
     next: &mut Front,
 )
     requires sound { AreSound tables.now }
-    requires sorted { AreSorted tables.now }
-    requires is_state { from < length tables.now.states }
-    requires is_number { by ≤ no_byte }
+    requires sorted { IsNonDecreasingBy order_of ways.now }
+    requires only { All (λ w. Contains tables.now.ways.items w × (w.from ≡ from)) ways.now }
+    requires each { (way : Way) → Contains tables.now.ways.items way → way.from ≡ from → Contains ways.now way }
     requires here { here.old.room ≡ length tables.now.states }
     requires next { next.old.room ≡ length tables.now.states }
-    ensures here { Adds here.old here.new (IsEnteredBy tables.now is_free by from) }
-    ensures next { Adds next.old next.new (IsEnteredBy tables.now (takes_if byte) by from) }
+    ensures here { Adds here.old here.new (IsEnteredAway tables.now is_free from) }
+    ensures next { Adds next.old next.new (IsEnteredAway tables.now (takes_if byte) from) }
 {
-    lead_along(tables, tables.ways_by(from, by), byte, here, next);
+    lead_along(tables, ways_along(ways, from, NO_BYTE), byte, here, next);
+    match byte {
+        Some(own) => lead_along(tables, ways_along(ways, from, own as u16), byte, here, next),
+        None => {}
+    }
 }
 
 // The same by these ways.
 fn lead_along(tables: &Tables, ways: &[Way], byte: Option<u8>, here: &mut Front, next: &mut Front)
     requires sound { AreSound tables.now }
-    requires each { All (λ w. w.to < length tables.now.states) ways.now }
+    requires each { All (IsWay tables.now.states) ways.now }
     requires here { here.old.room ≡ length tables.now.states }
     requires next { next.old.room ≡ length tables.now.states }
     ensures here { Adds here.old here.new (IsEnteredAmong (graph_of tables.now) is_free (map (λ w. w.to) ways.now)) }
     ensures next { Adds next.old next.new (IsEnteredAmong (graph_of tables.now) (takes_if byte) (map (λ w. w.to) ways.now)) }
 {
     for way in ways {
+        enter_along(tables, way, byte, here, next);
+    }
+}
+
+// The same by one way. One to a state that a byte of its own leads into is told by that byte, and the state isn't looked at.
+fn enter_along(tables: &Tables, way: &Way, byte: Option<u8>, here: &mut Front, next: &mut Front)
+    requires sound { AreSound tables.now }
+    requires is_way { IsWay tables.now.states way.now }
+    requires here { here.old.room ≡ length tables.now.states }
+    requires next { next.old.room ≡ length tables.now.states }
+    ensures here { here.new ≡ (if is_free (entry_of (graph_of tables.now) way.now.to) then with_state way.now.to here.old else here.old) }
+    ensures next { next.new ≡ (if takes_if byte (entry_of (graph_of tables.now) way.now.to) then with_state way.now.to next.old else next.old) }
+{
+    if way.by == NO_BYTE {
         enter(tables, way.to, byte, here, next);
+    } else if is_byte(way.by, byte) {
+        next.insert(way.to);
+    }
+}
+
+// Whether a number is that of the byte, if there is one.
+fn is_byte(number: u16, byte: Option<u8>) -> bool
+    ensures { result ≡ is_byte number byte }
+{
+    match byte {
+        Some(own) => own as u16 == number,
+        None => false,
     }
 }
 

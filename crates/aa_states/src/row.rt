@@ -2,9 +2,9 @@
 
 ghost use Rattle.std.specs.Prelude.{◌≡◌, ℕ, ◌<◌, ◌==◌, ◌||◌};
 ghost use Rattle.aa_states.specs.code.Rows.{gate_numbered, has_mark, state_of};
-ghost use Rattle.aa_states.specs.code.Tables.{bare, ending, is_marked, leading_on, marked};
+ghost use Rattle.aa_states.specs.code.Tables.{bare, ending, leading_away, leading_on};
 
-use crate::state::{Gate, NO_BYTE};
+use crate::state::Gate;
 
 // A state: the byte that leads into it, or its gate's number; and its marks, a bit for each.
 #[derive(Clone, Copy, Debug)]
@@ -13,17 +13,14 @@ pub struct Row {
     marks: u8,
 }
 
-// The marks: the byte leads into the state; a way leads on to the next state; there are ways to states that a byte of their own leads into; there
-// are other ways; it's an end.
+// The marks: the byte leads into the state; a way leads on to the next state; there are ways in the table; it's an end.
 const BY_BYTE: u8 = 0;
 
 const LEADS_ON: u8 = 1;
 
-const LEADS_BY_BYTES: u8 = 2;
+const LEADS_AWAY: u8 = 2;
 
-const LEADS_OTHERWISE: u8 = 3;
-
-const ENDS: u8 = 4;
+const ENDS: u8 = 3;
 
 impl Row {
     // A state with this gate, without ways or ends.
@@ -58,15 +55,11 @@ impl Row {
         has_mark(self.marks, LEADS_ON)
     }
 
-    // Whether it is marked for ways by this number.
-    pub fn is_marked(self, by: u16) -> bool
-        ensures { result ≡ is_marked (state_of self) by }
+    // Whether there are ways in the table.
+    pub fn leads_away(self) -> bool
+        ensures { result ≡ (state_of self).leads_away }
     {
-        if by == NO_BYTE {
-            has_mark(self.marks, LEADS_OTHERWISE)
-        } else {
-            has_mark(self.marks, LEADS_BY_BYTES)
-        }
+        has_mark(self.marks, LEADS_AWAY)
     }
 
     // Whether it's an end.
@@ -96,20 +89,13 @@ impl Row {
         }
     }
 
-    // The same with the mark for ways by this number.
-    pub fn marked(self, by: u16) -> Row
-        ensures { state_of result ≡ marked by (state_of self) }
+    // The same with the mark that there are ways in the table.
+    pub fn leading_away(self) -> Row
+        ensures { state_of result ≡ leading_away (state_of self) }
     {
-        if by == NO_BYTE {
-            Row {
-                marks: with_mark(self.marks, LEADS_OTHERWISE),
-                ..self
-            }
-        } else {
-            Row {
-                marks: with_mark(self.marks, LEADS_BY_BYTES),
-                ..self
-            }
+        Row {
+            marks: with_mark(self.marks, LEADS_AWAY),
+            ..self
         }
     }
 }

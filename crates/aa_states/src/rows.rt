@@ -1,7 +1,7 @@
 //! The states of an automaton, by their numbers.
 
 ghost use Rattle.std.specs.Prelude.{◌≡◌, ◌++◌, ◌∷◌, ◌<◌, [], length, set, IfOk, OnErr, OnOk};
-ghost use Rattle.aa_states.specs.code.Tables.{bare, ending, is_marked, leading_on, marked, state_at};
+ghost use Rattle.aa_states.specs.code.Tables.{bare, ending, leading_away, leading_on, state_at};
 
 use crate::row::Row;
 use crate::state::Gate;
@@ -82,12 +82,12 @@ impl Rows {
         self.rows[number as usize].leads_on()
     }
 
-    // Whether a state is marked for ways by this number.
-    pub fn is_marked(&self, number: u32, by: u16) -> bool
+    // Whether a state has ways in the table.
+    pub fn leads_away(&self, number: u32) -> bool
         requires { number < length self.now }
-        ensures { result ≡ is_marked (state_at self.now number) by }
+        ensures { result ≡ (state_at self.now number).leads_away }
     {
-        self.rows[number as usize].is_marked(by)
+        self.rows[number as usize].leads_away()
     }
 
     // Whether a state is an end.
@@ -107,12 +107,12 @@ impl Rows {
         self.rows[number as usize] = row;
     }
 
-    // Marks a state for ways by this number.
-    pub fn mark(&mut self, number: u32, by: u16)
+    // Marks that a state has ways in the table.
+    pub fn lead_away(&mut self, number: u32)
         requires { number < length self.old }
-        ensures { self.new ≡ set self.old number (marked by (state_at self.old number)) }
+        ensures { self.new ≡ set self.old number (leading_away (state_at self.old number)) }
     {
-        let row = self.rows[number as usize].marked(by);
+        let row = self.rows[number as usize].leading_away();
         self.rows[number as usize] = row;
     }
 

@@ -46,7 +46,7 @@ fn pass(tables: &Tables, byte: Option<u8>, here: &mut Front, next: &mut Front, s
     let mut at = 0;
     while at < here.len() {
         visit(tables, here.state(at), byte, here, next);
-        steps.visit();
         at += 1;
     }
+    steps.visited(at);
 }

@@ -34,10 +34,10 @@ impl Steps {
         self.count
     }
 
-    /// Counts one visit more, if the count has room for it.
-    pub fn visit(&mut self)
-        ensures { self.new ≡ counted self.old 1 }
+    /// Counts so many visits more, as far as the count has room for them.
+    pub fn visited(&mut self, states: usize)
+        ensures { self.new ≡ counted self.old states }
     {
-        self.count = self.count.saturating_add(1);
+        self.count = self.count.saturating_add(states as u128);
     }
 }

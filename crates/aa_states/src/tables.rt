@@ -9,12 +9,12 @@ ghost use Rattle.aa_states.specs.States.{AddsEnd, AddsWay, entry_of, SameGraph, 
 ghost use Rattle.aa_states.specs.code.Runs.{takes_if};
 ghost use Rattle.aa_states.specs.declared.state.End.{End};
 ghost use Rattle.aa_states.specs.declared.state.Way.{Way};
-ghost use Rattle.aa_states.specs.code.Tables.{IsAlong, entry_behind, no_byte, set_of, sets_in};
+ghost use Rattle.aa_states.specs.code.Tables.{entry_behind, order_of, set_of, sets_in};
 
 use crate::entry::Entry;
 use crate::rows::Rows;
 use crate::state::{Class, End, Gate, Way};
-use crate::ways::{begin_block, find_firsts, ways_by};
+use crate::ways::{begin_block, find_firsts, ways_of};
 use aa_bytes::is_inside;
 use std::alloc::{AllocError, Global};
 
@@ -24,7 +24,7 @@ pub struct Tables {
     pub states: Rows,
     pub ways: Vec<Way>,
     // For each block of states where its ways begin, once they are in order.
-    pub firsts: Vec<usize>,
+    pub firsts: Vec<u32>,
     pub classes: Vec<Class>,
     pub ends: Vec<End>,
 }
@@ -40,7 +40,7 @@ impl Tables {
         let mut states = Rows::new(alloc);
         states.push(Gate::Free)?;
         let mut firsts = Vec::new(alloc);
-        firsts.push(0)?;
+        begin_block(&mut firsts, 0)?;
         Ok(Tables {
             states,
             ways: Vec::new(alloc),
@@ -99,7 +99,7 @@ impl Tables {
             return Ok(());
         }
         let by = self.states.gate(to).by();
-        self.states.mark(from, by);
+        self.states.lead_away(from);
         self.ways.push(Way { from, by, to })?;
         Ok(())
     }
@@ -176,17 +176,17 @@ impl Tables {
         self.states.gate(number).stays(byte)
     }
 
-    // The ways of a state by this number, of which the state has none where it isn't marked.
-    pub fn ways_by(&self, from: u32, by: u16) -> &[Way]
+    // The ways of a state in the table, of which it has none where it isn't marked.
+    pub fn ways_of(&self, from: u32) -> &[Way]
         requires sound { AreSound self.now }
         requires sorted { AreSorted self.now }
         requires is_state { from < length self.now.states }
-        requires is_number { by ≤ no_byte }
-        ensures only { All (IsAlong self.now.ways.items from by) result.now }
-        ensures each { (way : Way) → IsAlong self.now.ways.items from by way → Contains result.now way }
+        ensures sorted { IsNonDecreasingBy order_of result.now }
+        ensures only { All (λ w. Contains self.now.ways.items w × (w.from ≡ from)) result.now }
+        ensures each { (way : Way) → Contains self.now.ways.items way → way.from ≡ from → Contains result.now way }
     {
-        if self.states.is_marked(from, by) {
-            ways_by(&self.ways, &self.firsts, from, by)
+        if self.states.leads_away(from) {
+            ways_of(&self.ways, &self.firsts, from)
         } else {
             &[]
         }

@@ -1,9 +1,9 @@
 //! The table of ways, and what is found in it.
 
-ghost use Rattle.std.specs.Prelude.{◌≡◌, ◌<◌, ◌≤◌, length, slice_index_or, All, Contains};
+ghost use Rattle.std.specs.Prelude.{◌≡◌, ◌<◌, ◌≤◌, length, All, Contains};
 ghost use Rattle.std.specs.List.{AllWithin};
 ghost use Rattle.std.specs.List.Sorted.{IsNonDecreasingBy};
-ghost use Rattle.aa_states.specs.code.Blocks.{AreFirsts, Begins, block_of};
+ghost use Rattle.aa_states.specs.code.Blocks.{AreFirsts, Begins, block_of, place_or, unknown};
 ghost use Rattle.aa_states.specs.code.Tables.{IsAlong, no_byte, order_of};
 ghost use Rattle.aa_states.specs.declared.state.Way.{Way};
 
@@ -11,18 +11,18 @@ use crate::state::Way;
 use std::alloc::AllocError;
 
 // How many states a block has.
-const BLOCK: u32 = 32;
+const BLOCK: u32 = 8;
 
 // Makes room for where the ways of a state's block begin, if the state is the block's first.
-pub fn begin_block(firsts: &mut Vec<usize>, state: u32) -> Result<(), AllocError> {
+pub fn begin_block(firsts: &mut Vec<u32>, state: u32) -> Result<(), AllocError> {
     if state % BLOCK == 0 {
-        firsts.push(0)?;
+        firsts.push(u32::MAX)?;
     }
     Ok(())
 }
 
 // Finds for each block of states where its ways begin.
-pub fn find_firsts(ways: &[Way], firsts: &mut Vec<usize>)
+pub fn find_firsts(ways: &[Way], firsts: &mut Vec<u32>)
     requires sorted { IsNonDecreasingBy order_of ways.now }
     requires each { All (λ w. w.by ≤ no_byte) ways.now }
     ensures { AreFirsts ways.now firsts.new.items }
@@ -32,29 +32,32 @@ pub fn find_firsts(ways: &[Way], firsts: &mut Vec<usize>)
     }
 }
 
-// Where the ways of this block of states begin.
-fn first_of_block(ways: &[Way], block: usize) -> usize
+// Where the ways of this block of states begin, if a number of a place tells it.
+fn first_of_block(ways: &[Way], block: usize) -> u32
     requires sorted { IsNonDecreasingBy order_of ways.now }
     requires each { All (λ w. w.by ≤ no_byte) ways.now }
-    ensures { Begins ways.now block result }
+    ensures { result < unknown → Begins ways.now block result }
 {
-    ways.partition_point(|way| ((way.from / BLOCK) as usize) < block)
+    match u32::try_from(ways.partition_point(|way| ((way.from / BLOCK) as usize) < block)) {
+        Ok(first) => first,
+        Err(_) => u32::MAX,
+    }
 }
 
-// The ways from a state by this number, by the places where the ways of blocks begin.
-pub fn ways_by<'a>(ways: &'a [Way], firsts: &[usize], from: u32, by: u16) -> &'a [Way]
+// The ways from a state, by the places where the ways of blocks begin.
+pub fn ways_of<'a>(ways: &'a [Way], firsts: &[u32], from: u32) -> &'a [Way]
     requires sorted { IsNonDecreasingBy order_of ways.now }
     requires firsts { AreFirsts ways.now firsts.now }
     requires each { All (λ w. w.by ≤ no_byte) ways.now }
-    requires is_number { by ≤ no_byte }
-    ensures only { All (IsAlong ways.now from by) result.now }
-    ensures each { (way : Way) → IsAlong ways.now from by way → Contains result.now way }
+    ensures sorted { IsNonDecreasingBy order_of result.now }
+    ensures only { All (λ w. Contains ways.now w × (w.from ≡ from)) result.now }
+    ensures each { (way : Way) → Contains ways.now way → way.from ≡ from → Contains result.now way }
 {
-    ways_along(ways_of_block(ways, firsts, from), from, by)
+    ways_from(ways_of_block(ways, firsts, from), from)
 }
 
 // The ways from the states of a state's block.
-fn ways_of_block<'a>(ways: &'a [Way], firsts: &[usize], from: u32) -> &'a [Way]
+fn ways_of_block<'a>(ways: &'a [Way], firsts: &[u32], from: u32) -> &'a [Way]
     requires sorted { IsNonDecreasingBy order_of ways.now }
     requires firsts { AreFirsts ways.now firsts.now }
     ensures sorted { IsNonDecreasingBy order_of result.now }
@@ -67,18 +70,42 @@ fn ways_of_block<'a>(ways: &'a [Way], firsts: &[usize], from: u32) -> &'a [Way]
     &ways[start..end]
 }
 
-// The place at an index or, where there is none, another.
-fn place_or(places: &[usize], at: usize, other: usize) -> usize
-    ensures { result ≡ slice_index_or places.now at other }
+// The known place at an index or, where there is none, another.
+fn place_or(places: &[u32], at: usize, other: usize) -> usize
+    ensures { result ≡ place_or places.now at other }
 {
     match places.get(at) {
-        Some(place) => *place,
-        None => other,
+        Some(place) if *place < u32::MAX => *place as usize,
+        _ => other,
     }
 }
 
+// The ways from a state.
+fn ways_from(ways: &[Way], from: u32) -> &[Way]
+    requires sorted { IsNonDecreasingBy order_of ways.now }
+    requires each { All (λ w. w.by ≤ no_byte) ways.now }
+    ensures sorted { IsNonDecreasingBy order_of result.now }
+    ensures only { All (λ w. Contains ways.now w × (w.from ≡ from)) result.now }
+    ensures each { (way : Way) → Contains ways.now way → way.from ≡ from → Contains result.now way }
+{
+    let start = first_from(ways, from as u64);
+    let end = first_from(ways, from as u64 + 1);
+    &ways[start..end]
+}
+
+// Where the ways from states of this number on begin.
+fn first_from(ways: &[Way], from: u64) -> usize
+    requires sorted { IsNonDecreasingBy order_of ways.now }
+    requires each { All (λ w. w.by ≤ no_byte) ways.now }
+    ensures within { result ≤ length ways.now }
+    ensures before { AllWithin (λ w. w.from < from) ways.now 0 result }
+    ensures behind { AllWithin (λ w. from ≤ w.from) ways.now result (length ways.now) }
+{
+    ways.partition_point(|way| (way.from as u64) < from)
+}
+
 // The ways from a state by this number.
-fn ways_along(ways: &[Way], from: u32, by: u16) -> &[Way]
+pub fn ways_along(ways: &[Way], from: u32, by: u16) -> &[Way]
     requires sorted { IsNonDecreasingBy order_of ways.now }
     requires each { All (λ w. w.by ≤ no_byte) ways.now }
     requires is_number { by ≤ no_byte }

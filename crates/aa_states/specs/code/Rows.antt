@@ -20,7 +20,6 @@ state_of row =
     record {
       gate = if has_mark row.marks 0 then Byte row.byte else gate_numbered row.byte;
       leads_on = has_mark row.marks 1;
-      leads_by_bytes = has_mark row.marks 2;
-      leads_otherwise = has_mark row.marks 3;
-      ends = has_mark row.marks 4;
+      leads_away = has_mark row.marks 2;
+      ends = has_mark row.marks 3;
     }

@@ -1,5 +1,5 @@
 -- How far a run over a text has come: which states are known to live behind what was read.
-use Rattle.std.specs.Prelude.{◌≡◌, ◌⊎◌, ℕ, ◌+◌, ◌*◌, ◌<◌, ◌≤◌, Bool, true, false, List, [], ◌∷◌, length, Contains, All, Option, Some, None, slice_get}
+use Rattle.std.specs.Prelude.{◌≡◌, ◌⊎◌, ℕ, ◌+◌, ◌*◌, ◌<◌, ◌≤◌, Bool, true, false, ◌==◌, List, [], ◌∷◌, length, Contains, All, Option, Some, None, slice_get}
 use Rattle.aa_states.specs.Entries.{is_free, takes_byte}
 use Rattle.aa_states.specs.Steps.{counted}
 use Rattle.aa_states.specs.States.{Graph, entry_of, Leads, Stays, Reaches}
@@ -23,6 +23,11 @@ abbrev pub takes_if : Option ℕ → Entry → Bool
 takes_if None entry = false
 takes_if (Some c) entry = takes_byte entry c
 
+-- a number is that of the byte, if there is one
+abbrev pub is_byte : ℕ → Option ℕ → Bool
+is_byte number None = false
+is_byte number (Some c) = c == number
+
 -- a state is entered from the state q, if its entry passes a test
 abbrev pub IsEntered : Graph → (Entry → Bool) → ℕ → ℕ → Type 0
 IsEntered g test q r = Leads g q r × (test (entry_of g r) ≡ true)
@@ -35,9 +40,13 @@ IsEnteredAmong g test targets r = Contains targets r × (test (entry_of g r) ≡
 abbrev pub IsEnteredNext : Tables → (Entry → Bool) → ℕ → ℕ → Type 0
 IsEnteredNext t test q r = ((state_at t.states q).leads_on ≡ true) × (r ≡ q + 1) × (test (entry_of (graph_of t) r) ≡ true)
 
--- a state whose entry passes a test is entered from the state q by a way of the table by this number
-abbrev pub IsEnteredBy : Tables → (Entry → Bool) → ℕ → ℕ → ℕ → Type 0
-IsEnteredBy t test by q r = ((way : Way) × IsAlong t.ways.items q by way × (way.to ≡ r)) × (test (entry_of (graph_of t) r) ≡ true)
+-- a state whose entry passes a test is entered from the state q by one of these ways by this number
+abbrev pub IsEnteredBy : Graph → List Way → (Entry → Bool) → ℕ → ℕ → ℕ → Type 0
+IsEnteredBy g ways test by q r = ((way : Way) × IsAlong ways q by way × (way.to ≡ r)) × (test (entry_of g r) ≡ true)
+
+-- a state whose entry passes a test is entered from the state q by a way of the table
+abbrev pub IsEnteredAway : Tables → (Entry → Bool) → ℕ → ℕ → Type 0
+IsEnteredAway t test q r = ((way : Way) × Contains t.ways.items way × (way.from ≡ q) × (way.to ≡ r)) × (test (entry_of (graph_of t) r) ≡ true)
 
 -- a state is q, and stays when the byte comes
 abbrev pub StaysAt : Graph → ℕ → ℕ → ℕ → Type 0

@@ -10,13 +10,11 @@ use Rattle.aa_states.specs.declared.state.Way.{Way}
 use Rattle.aa_states.specs.declared.state.Class.{Class as ClassRow}
 use Rattle.aa_states.specs.declared.state.End.{End}
 
--- A state: its gate, and marks that say where there is more of it in the other tables: a way leads on to the next state; there are ways to
--- states that a byte of their own leads into; there are other ways; it's an end.
+-- A state: its gate, and marks that say where there is more of it: a way leads on to the next state; there are ways in the table; it's an end.
 pub record State : Type 0 where
   pub gate : Gate
   pub leads_on : Bool
-  pub leads_by_bytes : Bool
-  pub leads_otherwise : Bool
+  pub leads_away : Bool
   pub ends : Bool
 
 -- the entry that a gate stands for, with this set if it is a class
@@ -84,15 +82,11 @@ graph_in states ways classes ends =
 
 -- a state without ways or ends
 abbrev pub bare : Gate → State
-bare gate = record { gate = gate; leads_on = false; leads_by_bytes = false; leads_otherwise = false; ends = false }
+bare gate = record { gate = gate; leads_on = false; leads_away = false; ends = false }
 
 -- the state with a number
 abbrev pub state_at : List State → ℕ → State
 state_at states q = slice_index_or states q (bare Free)
-
--- a state's mark for ways by this number
-abbrev pub is_marked : State → ℕ → Bool
-is_marked state by = if by == no_byte then state.leads_otherwise else state.leads_by_bytes
 
 -- the row of a state's set, if its entry is a class
 abbrev pub sets_in : ℕ → Entry → List ClassRow
@@ -111,9 +105,9 @@ leading_on state = record state { leads_on = true }
 abbrev pub ending : State → State
 ending state = record state { ends = true }
 
--- a state with the mark for ways by this number
-abbrev pub marked : ℕ → State → State
-marked by state = if by == no_byte then record state { leads_otherwise = true } else record state { leads_by_bytes = true }
+-- a state with the mark that there are ways in the table
+abbrev pub leading_away : State → State
+leading_away state = record state { leads_away = true }
 
 -- a way is between states, by the right byte, and the state that it leads from is marked
 pub record IsWay (states : List State) (way : Way) : Type 0 where
@@ -121,7 +115,7 @@ pub record IsWay (states : List State) (way : Way) : Type 0 where
   pub to : way.to < length states
   pub by : way.by ≡ by_of (state_at states way.to).gate
   pub number : way.by ≤ no_byte
-  pub marked : is_marked (state_at states way.from) way.by ≡ true
+  pub marked : (state_at states way.from).leads_away ≡ true
 
 -- what holds of the tables of a graph
 pub record IsSound (states : List State) (ways : List Way) (classes : List ClassRow) (ends : List End) : Type 0 where

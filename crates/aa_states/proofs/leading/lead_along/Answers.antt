@@ -14,10 +14,10 @@ loop-way-preserved c =
     let d : Way = record { from = 0; by = 0; to = 0 } in
     let g = graph_of c.args.tables.now in
     let tos = map (λ w. w.to) (take i ways) in
-    let e = c.enter.ensures in
+    let e = c.enter_along.ensures in
     let all = c.loop-way.invariant in
     rw (map_more (λ w. w.to) ways i d c.loop-way-test.true)
     (record {
-      here = entered_more g is_free tos _ c.args.here.now c.loop-way.here c.enter.new.here all.here e.here;
-      next = entered_more g (takes_if c.args.byte) tos _ c.args.next.now c.loop-way.next c.enter.new.next all.next e.next;
+      here = entered_more g is_free tos _ c.args.here.now c.loop-way.here c.enter_along.new.here all.here e.here;
+      next = entered_more g (takes_if c.args.byte) tos _ c.args.next.now c.loop-way.next c.enter_along.new.next all.next e.next;
     })

@@ -11,7 +11,7 @@ loop-at-preserved c =
     record {
       passing = passing_more (graph_of t) c.args.byte c.loop-at.at c.state.result c.args.here.now c.loop-at.here c.visit.new.here c.loop-at.next c.visit.new.next
           c.loop-at.invariant.passing (omega (arith, c.len.ensures.len, c.loop-at-test.true)) c.state.ensures.state c.visit.ensures.here c.visit.ensures.next;
-      steps = c.visit-in-loop-at.ensures ∙ ap (λ s. counted s 1) c.loop-at.invariant.steps ∙ counted-counted c.args.steps.now c.loop-at.at 1;
+      steps = c.loop-at.invariant.steps;
     }
 
 pub returns-clause-passed : goal.returns-clause-passed

@@ -7,7 +7,7 @@ use Rattle.aa_states.proofs.run.pass.Given as goal
 abbrev pub invariant-loop-at : goal.invariant-loop-at
 invariant-loop-at l = record {
   passing : IsPassing (graph_of l.tables) l.byte l.at l.initial.here l.here l.next;
-  steps : l.steps ≡ counted l.initial.steps l.at;
+  steps : l.steps ≡ l.initial.steps;
 }
 
 abbrev pub decreases-loop-at : goal.decreases-loop-at
