@@ -1,6 +1,6 @@
 -- Where a state leads, by the ways that lead on and by those of the table.
 use Rattle.std.proofs.Common.{◌≡◌, ◌≢◌, ℕ, ◌+◌, ◌<◌, ◌⊎◌, Bool, true, false, cond, List, [], ◌∷◌, ◌++◌, length, map, Option, Some, None, refl, sym, ◌∙◌, ap, subst, inl, inr, true≢false}
-use Rattle.std.proofs.lemmas.Bool.{eqb-true}
+use Rattle.std.proofs.lemmas.Bool.{both_ways, eqb-true}
 use Rattle.std.proofs.lemmas.List.Elements.{All-contains, All-weaker, Contains-append_left, Contains-push, Contains-push_cases}
 use Rattle.std.specs.Prelude.{All, Contains}
 use Rattle.aa_states.specs.Entries.{is_free}
@@ -42,6 +42,12 @@ entered_next t test q old new on is =
     (Adds-tested (q + 1) (test (entry_of g (q + 1))) old new is)
     (λ r kind. (on, kind.0, ap (λ x. test (entry_of g x)) kind.0 ∙ kind.1))
     (λ r kind. (kind.1, ap (λ x. test (entry_of g x)) (sym kind.1) ∙ kind.2))
+
+-- nothing is entered by the table from a state that isn't marked
+pub none_away : (t : Tables) (test : Entry → Bool) (q : ℕ) → AreSound t → (state_at t.states q).leads_away ≡ false → (r : ℕ) → IsEnteredAway t test q r → ⊥
+none_away t test q sound off r kind =
+    let known = All-contains (IsWay t.states) t.ways.items kind.0.0 sound.each_way kind.0.1 in
+    both_ways _ off (sym (ap (λ x. (state_at t.states x).leads_away) kind.0.2) ∙ known.marked)
 
 -- what is entered among a state's ways
 pub entered_away : (t : Tables) (test : Entry → Bool) (q : ℕ) (ways : List Way) (old new : Live)

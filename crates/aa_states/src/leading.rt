@@ -50,8 +50,30 @@ fn lead_on(tables: &Tables, from: u32, byte: Option<u8>, here: &mut Front, next:
     }
 }
 
-// The same by the ways of the table alone. Where they are few, each is looked at.
+// The same by the ways of the table alone.
 fn lead_away(tables: &Tables, from: u32, byte: Option<u8>, here: &mut Front, next: &mut Front)
+    requires sound { AreSound tables.now }
+    requires sorted { AreSorted tables.now }
+    requires is_state { from < length tables.now.states }
+    requires here { here.old.room ≡ length tables.now.states }
+    requires next { next.old.room ≡ length tables.now.states }
+    ensures here { Adds here.old here.new (IsEnteredAway tables.now is_free from) }
+    ensures next { Adds next.old next.new (IsEnteredAway tables.now (takes_if byte) from) }
+{
+    if tables.states.leads_away(from) {
+        lead_by_table(tables, from, byte, here, next);
+    }
+}
+
+// The same where there are some. Where they are few, each is looked at. It stands by itself, since most states have none.
+#[inline(never)]
+fn lead_by_table(
+    tables: &Tables,
+    from: u32,
+    byte: Option<u8>,
+    here: &mut Front,
+    next: &mut Front,
+)
     requires sound { AreSound tables.now }
     requires sorted { AreSorted tables.now }
     requires is_state { from < length tables.now.states }
@@ -134,6 +156,7 @@ fn is_byte(number: u16, byte: Option<u8>) -> bool
 }
 
 // Puts a state into the first front if it is entered freely, and into the next if it is entered by the byte.
+#[inline(always)]
 fn enter(tables: &Tables, number: u32, byte: Option<u8>, here: &mut Front, next: &mut Front)
     requires sound { AreSound tables.now }
     requires is_state { number < length tables.now.states }

@@ -176,7 +176,7 @@ impl Tables {
         self.states.gate(number).stays(byte)
     }
 
-    // The ways of a state in the table, of which it has none where it isn't marked.
+    // The ways of a state in the table. There are none where it isn't marked.
     pub fn ways_of(&self, from: u32) -> &[Way]
         requires sound { AreSound self.now }
         requires sorted { AreSorted self.now }
@@ -185,11 +185,7 @@ impl Tables {
         ensures only { All (λ w. Contains self.now.ways.items w × (w.from ≡ from)) result.now }
         ensures each { (way : Way) → Contains self.now.ways.items way → way.from ≡ from → Contains result.now way }
     {
-        if self.states.leads_away(from) {
-            ways_of(&self.ways, &self.firsts, from)
-        } else {
-            &[]
-        }
+        ways_of(&self.ways, &self.firsts, from)
     }
 
     // The ends at a state.
