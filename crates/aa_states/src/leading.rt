@@ -19,6 +19,7 @@ use crate::ways::ways_along;
 const FEW: usize = 8;
 
 // Visits a state: puts what comes from it freely into its own front, and what follows behind the byte, if one comes, into the next.
+#[inline(always)]
 pub fn visit(tables: &Tables, from: u32, byte: Option<u8>, here: &mut Front, next: &mut Front)
     requires sound { AreSound tables.now }
     requires sorted { AreSorted tables.now }

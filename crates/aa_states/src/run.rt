@@ -35,6 +35,7 @@ pub fn run(tables: &Tables, text: &[u8], here: &mut Front, next: &mut Front, ste
 
 // Visits each state that lives at a place, those among them that are found on the way. What follows behind the byte, if one comes, is put
 // into the next front.
+#[inline(always)]
 fn pass(tables: &Tables, byte: Option<u8>, here: &mut Front, next: &mut Front, steps: &mut Steps)
     requires sound { AreSound tables.now }
     requires sorted { AreSorted tables.now }
