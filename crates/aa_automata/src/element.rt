@@ -5,13 +5,13 @@ ghost use Rattle.aa_bytes.specs.ByteSets.{has};
 ghost use Rattle.aa_automata.specs.Grown.{kind_of};
 ghost use Rattle.aa_automata.specs.Numbers.{AreKept, most_number, number_of};
 ghost use Rattle.aa_drawn.specs.Drawn.{Suits};
-ghost use Rattle.aa_elements.specs.Cursor.{class_set, meaning};
+ghost use Rattle.aa_elements.specs.Cursor.{meaning};
 ghost use Rattle.aa_states.specs.ByteMaps.{in_map};
 
 use crate::numbers::Numbers;
 use crate::walk::Kind;
 use aa_bytes::ByteSet;
-use aa_elements::{Class, Element};
+use aa_elements::Element;
 use aa_states::{ByteMap, Entry};
 use std::alloc::{AllocError, Global};
 
@@ -31,39 +31,39 @@ pub fn kind_of(element: Element<'_>) -> Kind
     }
 }
 
-// Puts a byte into a map, if the class has it.
-fn put_if_had(map: &mut ByteMap, class: Class<'_>, byte: u8)
-    ensures { (other : ℕ) → in_map map.new other ≡ (other == byte && has (class_set class.entry) byte || in_map map.old other) }
+// Puts a byte into a map, if the set has it.
+fn put_if_had(map: &mut ByteMap, set: &ByteSet, byte: u8)
+    ensures { (other : ℕ) → in_map map.new other ≡ (other == byte && has set.now byte || in_map map.old other) }
 {
-    if class.has(byte) {
+    if set.has(byte) {
         map.insert(byte);
     }
 }
 
-// The bytes of a class.
-fn map_of(class: Class<'_>) -> ByteMap
-    ensures { (byte : ℕ) → byte < 2 ^ 8 → in_map result byte ≡ has (class_set class.entry) byte }
+// The bytes of a set.
+fn map_of(set: &ByteSet) -> ByteMap
+    ensures { (byte : ℕ) → byte < 2 ^ 8 → in_map result byte ≡ has set.now byte }
 {
     let mut map = ByteMap::new();
     for byte in 0..255 {
-        put_if_had(&mut map, class, byte);
+        put_if_had(&mut map, set, byte);
     }
-    put_if_had(&mut map, class, 255);
+    put_if_had(&mut map, set, 255);
     map
 }
 
-/// What it takes to come into a state by an element.
-pub fn entry_of(element: Element<'_>) -> Entry
-    ensures { Suits (meaning element.entry) result }
+/// What it takes to come into a state by an element, or `AllocError` where memory ran out.
+pub fn entry_of(alloc: Global, element: Element<'_>) -> Result<Entry, AllocError>
+    ensures { IfOk result (λ entry. Suits (meaning element.entry) entry) }
 {
-    match element {
+    Ok(match element {
         Element::Byte(byte) => Entry::Byte(byte),
         Element::Inside => Entry::Inside,
-        Element::Class(class) => Entry::Class(map_of(class)),
+        Element::Class(class) => Entry::Class(map_of(&class.set(alloc)?)),
         Element::Star => Entry::Star,
         Element::DoubleStar => Entry::DoubleStar,
         Element::Open | Element::Comma | Element::Close => Entry::Free,
-    }
+    })
 }
 
 /// The number of an element: below 4,294,967,295. `AllocError` is answered where memory ran out, or where no number is left.
