@@ -1,18 +1,20 @@
 //! What the elements of patterns are to an automaton.
 
-ghost use Rattle.std.specs.Prelude.{◌≡◌, ℕ, ◌<◌, ◌^◌, ◌==◌, ◌&&◌, ◌||◌, Some, IfOk, OnOk};
+ghost use Rattle.std.specs.Prelude.{◌≡◌, ℕ, ◌<◌, ◌^◌, ◌==◌, ◌&&◌, ◌||◌, length, Some, IfOk, OnOk};
 ghost use Rattle.aa_bytes.specs.ByteSets.{has};
 ghost use Rattle.aa_automata.specs.Grown.{kind_of};
 ghost use Rattle.aa_automata.specs.Numbers.{AreKept, most_number, number_of};
 ghost use Rattle.aa_drawn.specs.Drawn.{Suits};
 ghost use Rattle.aa_elements.specs.Cursor.{meaning};
 ghost use Rattle.aa_states.specs.ByteMaps.{in_map};
+ghost use Rattle.aa_states.specs.States.{with_entry};
+ghost use Rattle.aa_states.specs.declared.entry.Entry.{Entry};
 
 use crate::numbers::Numbers;
 use crate::walk::Kind;
 use aa_bytes::ByteSet;
 use aa_elements::Element;
-use aa_states::{ByteMap, Entry};
+use aa_states::{ByteMap, Drawing, Entry};
 use std::alloc::{AllocError, Global};
 
 /// What an element does to the groups that are open.
@@ -52,18 +54,27 @@ fn map_of(set: &ByteSet) -> ByteMap
     map
 }
 
-/// What it takes to come into a state by an element, or `AllocError` where memory ran out.
-pub fn entry_of(alloc: Global, element: Element<'_>) -> Result<Entry, AllocError>
-    ensures { IfOk result (λ entry. Suits (meaning element.entry) entry) }
+/// Adds a state that is come into by an element. Its number is how many there were before. `AllocError` is answered where memory ran out, or where
+/// there are 4,294,967,295 states already.
+pub fn add_state(
+    drawing: &mut Drawing,
+    alloc: Global,
+    element: Element<'_>,
+) -> Result<u32, AllocError>
+    ensures number { IfOk result (λ number. number ≡ length drawing.old.entries) }
+    ensures added { OnOk result ((entry : Entry) × Suits (meaning element.entry) entry × (drawing.new ≡ with_entry entry drawing.old)) }
 {
-    Ok(match element {
-        Element::Byte(byte) => Entry::Byte(byte),
-        Element::Inside => Entry::Inside,
-        Element::Class(class) => Entry::Class(map_of(&class.set(alloc)?)),
-        Element::Star => Entry::Star,
-        Element::DoubleStar => Entry::DoubleStar,
-        Element::Open | Element::Comma | Element::Close => Entry::Free,
-    })
+    match element {
+        Element::Byte(byte) => drawing.add(Entry::Byte(byte)),
+        Element::Inside => drawing.add(Entry::Inside),
+        Element::Class(class) => {
+            let map = map_of(&class.set(alloc)?);
+            drawing.add(Entry::Class(map))
+        }
+        Element::Star => drawing.add(Entry::Star),
+        Element::DoubleStar => drawing.add(Entry::DoubleStar),
+        Element::Open | Element::Comma | Element::Close => drawing.add(Entry::Free),
+    }
 }
 
 /// The number of an element: below 4,294,967,295. `AllocError` is answered where memory ran out, or where no number is left.

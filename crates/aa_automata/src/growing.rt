@@ -8,7 +8,7 @@ ghost use Rattle.aa_automata.specs.code.Growths.{GoesOver, GrowsBy, IsWalked, Le
 ghost use Rattle.aa_elements.specs.Cursor.{meaning};
 ghost use Rattle.aa_tree.specs.Ways.{next, places};
 
-use crate::element::{entry_of, kind_of, number_of};
+use crate::element::{add_state, kind_of, number_of};
 use crate::numbers::Numbers;
 use crate::walk::Walk;
 use aa_drawn::how_graphs_are_drawn;
@@ -98,8 +98,7 @@ impl Growing {
         ensures grows { OnOk result (GrowsBy self.old walk.now (meaning element.entry) number self.new) }
     {
         self.tree.add(walk.state(), number)?;
-        let entry = entry_of(alloc, element)?;
-        let state = self.drawing.add(entry)?;
+        let state = add_state(&mut self.drawing, alloc, element)?;
         walk.draw_to(kind_of(element), &mut self.drawing, state)?;
         Ok(state)
     }
