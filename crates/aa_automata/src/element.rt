@@ -1,18 +1,20 @@
 //! What the elements of patterns are to an automaton.
 
-ghost use Rattle.std.specs.Prelude.{◌≡◌, ℕ, ◌<◌, ◌^◌, ◌==◌, ◌&&◌, ◌||◌, Some, IfOk, OnOk};
+ghost use Rattle.std.specs.Prelude.{◌≡◌, ℕ, ◌<◌, ◌^◌, ◌==◌, ◌&&◌, ◌||◌, length, Some, IfOk, OnOk};
 ghost use Rattle.aa_bytes.specs.ByteSets.{has};
 ghost use Rattle.aa_automata.specs.Grown.{kind_of};
 ghost use Rattle.aa_automata.specs.Numbers.{AreKept, most_number, number_of};
 ghost use Rattle.aa_drawn.specs.Drawn.{Suits};
-ghost use Rattle.aa_elements.specs.Cursor.{class_set, meaning};
+ghost use Rattle.aa_elements.specs.Cursor.{meaning};
 ghost use Rattle.aa_states.specs.ByteMaps.{in_map};
+ghost use Rattle.aa_states.specs.States.{with_entry};
+ghost use Rattle.aa_states.specs.declared.entry.Entry.{Entry};
 
 use crate::numbers::Numbers;
 use crate::walk::Kind;
 use aa_bytes::ByteSet;
-use aa_elements::{Class, Element};
-use aa_states::{ByteMap, Entry};
+use aa_elements::Element;
+use aa_states::{ByteMap, Drawing, Entry};
 use std::alloc::{AllocError, Global};
 
 /// What an element does to the groups that are open.
@@ -31,38 +33,47 @@ pub fn kind_of(element: Element<'_>) -> Kind
     }
 }
 
-// Puts a byte into a map, if the class has it.
-fn put_if_had(map: &mut ByteMap, class: Class<'_>, byte: u8)
-    ensures { (other : ℕ) → in_map map.new other ≡ (other == byte && has (class_set class.entry) byte || in_map map.old other) }
+// Puts a byte into a map, if the set has it.
+fn put_if_had(map: &mut ByteMap, set: &ByteSet, byte: u8)
+    ensures { (other : ℕ) → in_map map.new other ≡ (other == byte && has set.now byte || in_map map.old other) }
 {
-    if class.has(byte) {
+    if set.has(byte) {
         map.insert(byte);
     }
 }
 
-// The bytes of a class.
-fn map_of(class: Class<'_>) -> ByteMap
-    ensures { (byte : ℕ) → byte < 2 ^ 8 → in_map result byte ≡ has (class_set class.entry) byte }
+// The bytes of a set.
+fn map_of(set: &ByteSet) -> ByteMap
+    ensures { (byte : ℕ) → byte < 2 ^ 8 → in_map result byte ≡ has set.now byte }
 {
     let mut map = ByteMap::new();
     for byte in 0..255 {
-        put_if_had(&mut map, class, byte);
+        put_if_had(&mut map, set, byte);
     }
-    put_if_had(&mut map, class, 255);
+    put_if_had(&mut map, set, 255);
     map
 }
 
-/// What it takes to come into a state by an element.
-pub fn entry_of(element: Element<'_>) -> Entry
-    ensures { Suits (meaning element.entry) result }
+/// Adds a state that is come into by an element. Its number is how many there were before. `AllocError` is answered where memory ran out, or where
+/// there are 4,294,967,295 states already.
+pub fn add_state(
+    drawing: &mut Drawing,
+    alloc: Global,
+    element: Element<'_>,
+) -> Result<u32, AllocError>
+    ensures number { IfOk result (λ number. number ≡ length drawing.old.entries) }
+    ensures added { OnOk result ((entry : Entry) × Suits (meaning element.entry) entry × (drawing.new ≡ with_entry entry drawing.old)) }
 {
     match element {
-        Element::Byte(byte) => Entry::Byte(byte),
-        Element::Inside => Entry::Inside,
-        Element::Class(class) => Entry::Class(map_of(class)),
-        Element::Star => Entry::Star,
-        Element::DoubleStar => Entry::DoubleStar,
-        Element::Open | Element::Comma | Element::Close => Entry::Free,
+        Element::Byte(byte) => drawing.add(Entry::Byte(byte)),
+        Element::Inside => drawing.add(Entry::Inside),
+        Element::Class(class) => {
+            let map = map_of(&class.set(alloc)?);
+            drawing.add(Entry::Class(map))
+        }
+        Element::Star => drawing.add(Entry::Star),
+        Element::DoubleStar => drawing.add(Entry::DoubleStar),
+        Element::Open | Element::Comma | Element::Close => drawing.add(Entry::Free),
     }
 }
 

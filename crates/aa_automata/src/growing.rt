@@ -8,7 +8,7 @@ ghost use Rattle.aa_automata.specs.code.Growths.{GoesOver, GrowsBy, IsWalked, Le
 ghost use Rattle.aa_elements.specs.Cursor.{meaning};
 ghost use Rattle.aa_tree.specs.Ways.{next, places};
 
-use crate::element::{entry_of, kind_of, number_of};
+use crate::element::{add_state, kind_of, number_of};
 use crate::numbers::Numbers;
 use crate::walk::Walk;
 use aa_drawn::how_graphs_are_drawn;
@@ -58,13 +58,14 @@ impl Growing {
                 how_beginnings_are_gathered();
                 Ok(state)
             }
-            None => self.new_state(walk, element, number),
+            None => self.new_state(alloc, walk, element, number),
         }
     }
 
     // Adds the state to which an element leads by its number.
     fn new_state(
         &mut self,
+        alloc: Global,
         walk: &Walk,
         element: Element<'_>,
         number: u32,
@@ -77,12 +78,13 @@ impl Growing {
     {
         how_beginnings_are_gathered();
         how_graphs_are_drawn();
-        self.draw_state(walk, element, number)
+        self.draw_state(alloc, walk, element, number)
     }
 
     // The same, by its ways alone.
     fn draw_state(
         &mut self,
+        alloc: Global,
         walk: &Walk,
         element: Element<'_>,
         number: u32,
@@ -96,7 +98,7 @@ impl Growing {
         ensures grows { OnOk result (GrowsBy self.old walk.now (meaning element.entry) number self.new) }
     {
         self.tree.add(walk.state(), number)?;
-        let state = self.drawing.add(entry_of(element))?;
+        let state = add_state(&mut self.drawing, alloc, element)?;
         walk.draw_to(kind_of(element), &mut self.drawing, state)?;
         Ok(state)
     }

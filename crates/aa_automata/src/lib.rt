@@ -13,5 +13,3 @@ mod ways;
 pub use aa_states::Steps;
 pub use automaton::Automaton;
 pub use builder::AutomatonBuilder;
-pub use numbers::Numbers;
-pub use walk::{Kind, Walk};

@@ -1,10 +1,11 @@
 -- What one more place changes.
-use Rattle.std.proofs.Common.{◌≡◌, ℕ, ◌+◌, ◌<◌, ◌==◌, ◌&&◌, true, false, cond, get_or, List, [], ◌∷◌, ◌++◌, length, nat_eq, refl, sym, ap, ◌∙◌, arith, inl, inr, ◌⊎◌, zero, suc}
-use Rattle.std.specs.Prelude.{Option, None, Some, if◌then◌else◌, slice_get, slice_set}
+use Rattle.std.proofs.Common.{◌≡◌, ℕ, ◌+◌, ◌<◌, ◌≤◌, ◌==◌, ◌&&◌, true, false, cond, get_or, List, [], ◌∷◌, ◌++◌, length, nat_eq, refl, sym, ap, ◌∙◌, arith, inl, inr, ◌⊎◌, zero, suc}
+use Rattle.std.specs.Prelude.{Option, None, Some, if◌then◌else◌, nat_lt, not, slice_get, slice_set}
 use Rattle.std.specs.Map.{lookup}
-use Rattle.std.proofs.lemmas.Bool.{cases_Bool, cond-true, eqb-true, eqb-false, eq-eqb}
+use Rattle.std.proofs.lemmas.Bool.{and_parts, cases_Bool, cond-true, eqb-true, eqb-false, eq-eqb, le-ltb, lt-ltb}
 use Rattle.std.proofs.lemmas.List.{length-append}
-use Rattle.aa_tree.specs.Ways.{HasOneMore, Ways, is_number, key, next, nowhere, places}
+use Rattle.aa_tree.specs.Ways.{HasOneMore, Ways, is_number, key, next, nothing, nowhere, others_alone, places}
+use Rattle.aa_tree.specs.code.Marks.{AreMarked, Marks, has_none_behind}
 
 same-false : (a b : ℕ) → (a ≡ b → ⊥) → (a == b) ≡ false
 same-false a b apart = elim (cases_Bool (a == b)) [
@@ -21,12 +22,44 @@ keys_apart place number p n small within = by (cases_Bool (p == place)) (cases_B
     by (inl here) (inr other) = rw here (rw other (same-false (key place number) (key p n) (λ e. eqb-false n number other (omega (arith, e, small, within)))))
     by (inr other) any = rw other (same-false (key place number) (key p n) (λ e. eqb-false p place other (omega (arith, e, small, within))))
 
+-- a mark is no number
+mark-none : (mark n : ℕ) → others_alone ≤ mark → (mark == n && nat_lt n others_alone) ≡ false
+mark-none mark n high = elim (cases_Bool (mark == n)) [
+  | inl same ↦ rw same (le-ltb n others_alone (omega (arith, high, eqb-true mark n same)))
+  | inr apart ↦ rw apart refl
+]
+
 -- a place that nothing is told of yet tells no number
-told-push : (on : List ℕ) (p n : ℕ) → n < nowhere → is_number n (slice_get (on ++ nowhere ∷ []) p) ≡ is_number n (slice_get on p)
-told-push [] zero n within = same-false nowhere n (λ e. omega (arith, e, within))
-told-push [] (suc p) n within = refl
-told-push (a ∷ on) zero n within = refl
-told-push (a ∷ on) (suc p) n within = told-push on p n within
+told-push : (on : List ℕ) (p n : ℕ) → is_number n (slice_get (on ++ nothing ∷ []) p) ≡ is_number n (slice_get on p)
+told-push [] zero n = mark-none nothing n (omega arith)
+told-push [] (suc p) n = refl
+told-push (a ∷ on) zero n = refl
+told-push (a ∷ on) (suc p) n = told-push on p n
+
+-- and none is found behind it, as where there is no place
+behind-push : (on : List ℕ) (p : ℕ) → has_none_behind (slice_get (on ++ nothing ∷ []) p) ≡ has_none_behind (slice_get on p)
+behind-push [] zero = refl
+behind-push [] (suc p) = refl
+behind-push (a ∷ on) zero = refl
+behind-push (a ∷ on) (suc p) = behind-push on p
+
+-- a place behind which others are found from now on
+pub marked-mark : (on new : List ℕ) (others : List (ℕ × ℕ)) (place : ℕ) → AreMarked on others → Marks (on ++ nothing ∷ []) place new → AreMarked new others
+marked-mark on new others place marked marks p n within free =
+    let both = and_parts (has_none_behind (slice_get (on ++ nothing ∷ []) p)) (not (p == place)) (sym (marks.behind p) ∙ free) in
+    marked p n within (sym (behind-push on p) ∙ both.0)
+
+-- and then are
+pub marked-other : (on new : List ℕ) (old others : List (ℕ × ℕ)) (place number at added : ℕ)
+    → AreMarked on old → Marks (on ++ nothing ∷ []) place new → at ≡ key place number → number < nowhere
+    → ((q : ℕ) → lookup (nat_eq q) others ≡ cond (nat_eq at q) (Some added) (lookup (nat_eq q) old))
+    → AreMarked new others
+marked-other on new old others place number at added marked marks is small told p n within free =
+    let both = and_parts (has_none_behind (slice_get (on ++ nothing ∷ []) p)) (not (p == place)) (sym (marks.behind p) ∙ free) in
+    rw (told (key p n)) (rw is (rw (keys_apart place number p n small within) (elim (cases_Bool (p == place)) [
+      | inl here ↦ let never : false ≡ true = sym (ap not here) ∙ both.1 in absurd cc
+      | inr other ↦ rw other (marked p n within (sym (behind-push on p) ∙ both.0))
+    ])))
 
 -- where nothing is found behind a place, the one right behind it isn't either
 none-told : (told others : Option ℕ) (number place : ℕ) → (if is_number number told then Some (place + 1) else others) ≡ None → is_number number told ≡ false
@@ -37,11 +70,11 @@ none-told told others number place none = elim (cases_Bool (is_number number tol
 
 -- one more place that stands elsewhere
 pub more-elsewhere : (old : Ways) (on : List ℕ) (others : List (ℕ × ℕ)) (place number at added : ℕ)
-    → at ≡ key place number → added ≡ places old → on ≡ old.0 ++ nowhere ∷ [] → number < nowhere → next old place number ≡ None
+    → at ≡ key place number → added ≡ places old → Marks (old.0 ++ nothing ∷ []) place on → number < nowhere → next old place number ≡ None
     → ((q : ℕ) → lookup (nat_eq q) others ≡ cond (nat_eq at q) (Some added) (lookup (nat_eq q) old.1))
     → HasOneMore old place number (on, others)
-more-elsewhere old on others place number at added is count pushed small free told p n within =
-    rw pushed (rw (told-push old.0 p n within) (rw (told (key p n)) (rw is (rw count (rw (keys_apart place number p n small within) (by (cases_Bool (p == place)) (cases_Bool (n == number))))))))
+more-elsewhere old on others place number at added is count marks small free told p n within =
+    rw (marks.told p n) (rw (told-push old.0 p n) (rw (told (key p n)) (rw is (rw count (rw (keys_apart place number p n small within) (by (cases_Bool (p == place)) (cases_Bool (n == number))))))))
   where
     by : ((p == place) ≡ true) ⊎ ((p == place) ≡ false) → ((n == number) ≡ true) ⊎ ((n == number) ≡ false)
         → (if is_number n (slice_get old.0 p) then Some (p + 1) else cond (p == place && n == number) (Some (places old)) (lookup (nat_eq (key p n)) old.1))
@@ -54,7 +87,7 @@ more-elsewhere old on others place number at added is count pushed small free to
     by (inr other) any = rw other refl
 
 -- a place of which a number is told now
-told-here : (on : List ℕ) (place number n : ℕ) → place < length on → is_number n (slice_get (slice_set on place number) place) ≡ (number == n)
+told-here : (on : List ℕ) (place number n : ℕ) → place < length on → is_number n (slice_get (slice_set on place number) place) ≡ (number == n && nat_lt n others_alone)
 told-here [] place number n within = absurd (omega (arith, within))
 told-here (a ∷ on) zero number n within = refl
 told-here (a ∷ on) (suc place) number n within = told-here on place number n (omega (arith, within))
@@ -68,27 +101,27 @@ told-there (a ∷ on) (suc place) zero number n apart = refl
 told-there (a ∷ on) (suc place) (suc p) number n apart = told-there on place p number n (λ e. apart (ap suc e))
 
 -- where no number is told of a place, none is
-untold-none : (on : List ℕ) (place n d : ℕ) → n < nowhere → get_or (on ++ nowhere ∷ []) place d ≡ nowhere → is_number n (slice_get on place) ≡ false
-untold-none [] place n d within h = refl
-untold-none (a ∷ on) zero n d within h = same-false a n (λ e. omega (arith, e, within, h))
-untold-none (a ∷ on) (suc place) n d within h = untold-none on place n d within h
+untold-none : (on : List ℕ) (place n d : ℕ) → get_or (on ++ nothing ∷ []) place d ≡ nothing → is_number n (slice_get on place) ≡ false
+untold-none [] place n d h = refl
+untold-none (a ∷ on) zero n d h = mark-none a n (omega (arith, h))
+untold-none (a ∷ on) (suc place) n d h = untold-none on place n d h
 
 -- one more place that stands right behind the last one
 pub more-behind : (old : Ways) (on : List ℕ) (place number d : ℕ)
-    → on ≡ old.0 ++ nowhere ∷ [] → number < nowhere → place + 1 ≡ places old → get_or on place d ≡ nowhere
+    → on ≡ old.0 ++ nothing ∷ [] → number < others_alone → place + 1 ≡ places old → get_or on place d ≡ nothing
     → HasOneMore old place number (slice_set on place number, old.1)
-more-behind old on place number d pushed small last untold p n within = rw pushed (elim (cases_Bool (p == place)) [
-  | inl here ↦ rw here (rw (eqb-true p place here) (rw (told-here (old.0 ++ nowhere ∷ []) place number n room) (by (cases_Bool (number == n)))))
-  | inr other ↦ rw other (rw (told-there (old.0 ++ nowhere ∷ []) place p number n (eqb-false p place other)) (rw (told-push old.0 p n within) refl))
+more-behind old on place number d pushed low last untold p n within = rw pushed (elim (cases_Bool (p == place)) [
+  | inl here ↦ rw here (rw (eqb-true p place here) (rw (told-here (old.0 ++ nothing ∷ []) place number n room) (by (cases_Bool (number == n)))))
+  | inr other ↦ rw other (rw (told-there (old.0 ++ nothing ∷ []) place p number n (eqb-false p place other)) (rw (told-push old.0 p n) refl))
 ])
   where
-    room : place < length (old.0 ++ nowhere ∷ [])
-    room = omega (arith, last, length-append old.0 (nowhere ∷ []))
+    room : place < length (old.0 ++ nothing ∷ [])
+    room = omega (arith, last, length-append old.0 (nothing ∷ []))
 
     free : is_number n (slice_get old.0 place) ≡ false
-    free = untold-none old.0 place n d within (sym (ap (λ told. get_or told place d) pushed) ∙ untold)
+    free = untold-none old.0 place n d (sym (ap (λ told. get_or told place d) pushed) ∙ untold)
 
     by : ((number == n) ≡ true) ⊎ ((number == n) ≡ false)
-        → (if number == n then Some (place + 1) else lookup (nat_eq (key place n)) old.1) ≡ (if n == number then Some (places old) else next old place n)
-    by (inl same) = rw same (rw (eq-eqb n number (sym (eqb-true number n same))) (ap Some last))
+        → (if number == n && nat_lt n others_alone then Some (place + 1) else lookup (nat_eq (key place n)) old.1) ≡ (if n == number then Some (places old) else next old place n)
+    by (inl same) = rw same (rw (lt-ltb n others_alone (omega (arith, low, eqb-true number n same))) (rw (eq-eqb n number (sym (eqb-true number n same))) (ap Some last)))
     by (inr apart) = rw apart (rw (same-false n number (λ e. eqb-false number n apart (sym e))) (rw free refl))

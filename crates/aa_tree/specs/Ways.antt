@@ -1,15 +1,23 @@
 -- Which place is found behind a place by a number, and how that changes as places are added.
-use Rattle.std.specs.Prelude.{◌≡◌, ◌<◌, ℕ, ◌==◌, ◌&&◌, ◌+◌, ◌*◌, ◌^◌, Bool, false, Option, None, Some, if◌then◌else◌, List, length, nat_eq, slice_get}
+use Rattle.std.specs.Prelude.{◌≡◌, ◌<◌, ℕ, ◌==◌, ◌&&◌, ◌+◌, ◌*◌, ◌^◌, Bool, false, Option, None, Some, if◌then◌else◌, List, length, nat_eq, nat_lt, slice_get}
 use Rattle.std.specs.Map.{lookup}
 
--- A tree as contracts see it: for each place the number by which the place right behind it in count is found there, if it is, and
--- the other places by the place that they stand behind and their number.
+-- A tree as contracts see it: for each place the number by which the place right behind it in count is found there, or a mark that there is
+-- none such; and the other places by the place that they stand behind and their number.
 abbrev pub Ways : Type 0
 Ways = List ℕ × List (ℕ × ℕ)
 
 -- the number by which no place is found
 abbrev pub nowhere : ℕ
 nowhere = 4294967295
+
+-- the mark of a place behind which others alone are found: numbers from this one on aren't told of a place
+abbrev pub others_alone : ℕ
+others_alone = 65534
+
+-- the mark of a place behind which none is found
+abbrev pub nothing : ℕ
+nothing = 65535
 
 -- how many places there are
 abbrev pub places : Ways → ℕ
@@ -19,10 +27,10 @@ places ways = length ways.0
 abbrev pub key : ℕ → ℕ → ℕ
 key place number = place * 2 ^ 32 + number
 
--- what is told is this number
+-- what is told is this number, and no mark
 abbrev pub is_number : ℕ → Option ℕ → Bool
 is_number number None = false
-is_number number (Some own) = own == number
+is_number number (Some own) = own == number && nat_lt number others_alone
 
 -- the place that is found behind a place by a number
 abbrev pub next : Ways → ℕ → ℕ → Option ℕ

@@ -1,7 +1,8 @@
 //! The tree.
 
-ghost use Rattle.std.specs.Prelude.{◌≡◌, ◌<◌, ◌+◌, None, IfOk, OnOk};
+ghost use Rattle.std.specs.Prelude.{◌≡◌, ◌<◌, ◌+◌, length, None, IfOk, OnOk};
 ghost use Rattle.aa_tree.specs.Ways.{HasNoWay, HasOneMore, key, next, nowhere, places};
+ghost use Rattle.aa_tree.specs.code.Marks.{Marks};
 
 use indexmap::IndexMap;
 use std::alloc::{AllocError, Global};
@@ -13,13 +14,20 @@ pub const NO_NUMBER: u32 = u32::MAX;
 // Two numbers as one.
 const NUMBERS: u64 = 1 << 32;
 
+// The mark of a place behind which none is found.
+const NOTHING: u16 = 65_535;
+
+// The mark of a place behind which others alone are found.
+const OTHERS_ALONE: u16 = 65_534;
+
 /// Places from 0 on, of which each but the first stands behind an earlier one and is found there by a number.
 ///
-/// Contracts see how many places there are, and which place is found behind a place by a number.
+/// Contracts see how many places there are, and which place is found behind a place by a number. A place takes two bytes. One takes an entry
+/// of a map too, if it wasn't added directly after the place that it stands behind, or is found by a number from 65,534 on.
 #[derive(Drop)]
 pub struct Tree {
-    // For each place, by which number the place behind it is found that was added directly after it.
-    on: Vec<u32>,
+    // For each place, by which number the place behind it is found that was added directly after it, or a mark.
+    on: Vec<u16>,
     // The other places, by the place that they stand behind and their number.
     others: IndexMap<u64, u32>,
 }
@@ -27,12 +35,13 @@ pub struct Tree {
 impl Model for Tree {
     ghost use Rattle.std.specs.Prelude.{◌≤◌, length};
     ghost use Rattle.aa_tree.specs.Ways.{Ways, nowhere};
+    ghost use Rattle.aa_tree.specs.code.Marks.{AreMarked};
 
     ghost Value = { Ways };
 
     ghost view = { λ t. (t.on.items, t.others.entries) };
 
-    ghost invariant = { λ t. length t.on.items ≤ nowhere };
+    ghost invariant = { λ t. (length t.on.items ≤ nowhere) × AreMarked t.on.items t.others.entries };
 }
 
 impl Tree {
@@ -42,7 +51,7 @@ impl Tree {
         ensures ways { IfOk result (λ tree. HasNoWay tree) }
     {
         let mut on = Vec::new(alloc);
-        on.push(NO_NUMBER)?;
+        on.push(NOTHING)?;
         Ok(Tree {
             on,
             others: IndexMap::new(alloc),
@@ -62,8 +71,10 @@ impl Tree {
         ensures { result ≡ next self.now place number }
     {
         match self.on.get(place as usize) {
-            Some(next) if *next == number => Some(place + 1),
-            _ => match self.others.get(&key(place, number)) {
+            None => None,
+            Some(told) if *told == NOTHING => None,
+            Some(told) if *told as u32 == number && *told < OTHERS_ALONE => Some(place + 1),
+            Some(_) => match self.others.get(&key(place, number)) {
                 Some(next) => Some(*next),
                 None => None,
             },
@@ -86,13 +97,27 @@ impl Tree {
         if added == NO_NUMBER {
             return Err(AllocError);
         }
-        self.on.push(NO_NUMBER)?;
-        if place + 1 == added && self.on[place as usize] == NO_NUMBER {
-            self.on[place as usize] = number;
+        self.on.push(NOTHING)?;
+        if place + 1 == added
+            && number < OTHERS_ALONE as u32
+            && self.on[place as usize] == NOTHING
+        {
+            self.on[place as usize] = number as u16;
         } else {
+            mark(&mut self.on, place as usize);
             self.others.insert(key(place, number), added)?;
         }
         Ok(added)
+    }
+}
+
+// Marks a place of which nothing is told yet as one behind which others are found.
+fn mark(on: &mut Vec<u16>, place: usize)
+    requires { place < length on.old.items }
+    ensures { Marks on.old.items place on.new.items }
+{
+    if on[place] == NOTHING {
+        on[place] = OTHERS_ALONE;
     }
 }
 

@@ -1,8 +1,7 @@
 use Rattle.std.proofs.Common.{◌≡◌, ℕ, ◌&&◌, nat_lt}
 use Rattle.aa_bytes.specs.ByteSets.{has}
-use Rattle.aa_elements.specs.Cursor.{class_set}
 use Rattle.aa_states.specs.ByteMaps.{in_map}
 use Rattle.aa_automata.proofs.element.map_of.Given as goal
 
 abbrev pub invariant-loop-byte : goal.invariant-loop-byte
-invariant-loop-byte l = (b : ℕ) → in_map l.map b ≡ (nat_lt b l.byte && has (class_set l.class) b)
+invariant-loop-byte l = (b : ℕ) → in_map l.map b ≡ (nat_lt b l.byte && has l.set b)

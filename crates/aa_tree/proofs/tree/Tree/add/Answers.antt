@@ -1,18 +1,36 @@
-use Rattle.std.proofs.Common.{arith, subst, sym, ◌∙◌, ◌≡◌, None, length}
-use Rattle.aa_tree.specs.Ways.{Ways, next}
-use Rattle.aa_tree.proofs.TreeLemmas.{more-behind, more-elsewhere}
+use Rattle.std.proofs.Common.{arith, subst, sym, ◌∙◌, ◌≡◌, None, length, List, ℕ, ◌∷◌, []}
+use Rattle.std.proofs.lemmas.List.{length-append}
+use Rattle.aa_tree.specs.Ways.{Ways, next, nothing}
+use Rattle.aa_tree.specs.code.Marks.{Marks}
+use Rattle.aa_tree.proofs.TreeLemmas.{marked-mark, marked-other, more-behind, more-elsewhere}
 use Rattle.aa_tree.proofs.tree.Tree.add.Goals as goal
 
--- src/tree.rt:75:5
 pub returns-in_ok-insert-clause-ways : goal.returns-in_ok-insert-clause-ways
 returns-in_ok-insert-clause-ways c =
     let old : Ways = (c.self.inside.on.items, c.self.inside.others.entries) in
     let free = subst (λ ways. next ways c.args.place c.args.number ≡ None) (sym c.self.view_is) c.requires.free in
     let count : c.in-Ok.added ≡ length c.self.inside.on.items = c.in-Ok.ensures.1 ∙ omega (arith, c.len.ensures) in
-    rw (← c.self.view_is) (more-elsewhere old c.push.new.self.items c.insert.new.self.entries c.args.place c.args.number c.key.result c.in-Ok.added c.key.ensures count c.in_ok-push.ensures.items c.requires.number free c.in_ok-insert.ensures.updates.0)
+    let marks = subst (λ (on : List ℕ). Marks on c.args.place c.mark.new.on.items) c.in_ok-push.ensures.items c.mark.ensures in
+    rw (← c.self.view_is) (more-elsewhere old c.mark.new.on.items c.insert.new.self.entries c.args.place c.args.number c.key.result c.in-Ok.added c.key.ensures count marks c.requires.number free c.in_ok-insert.ensures.updates.0)
 
 pub returns-then-index-clause-ways : goal.returns-then-index-clause-ways
 returns-then-index-clause-ways c =
     let old : Ways = (c.self.inside.on.items, c.self.inside.others.entries) in
     let count : c.in-Ok.added ≡ length c.self.inside.on.items = c.in-Ok.ensures.1 ∙ omega (arith, c.len.ensures) in
-    rw (← c.self.view_is) (more-behind old c.push.new.self.items c.args.place c.args.number c.index.result.now c.in_ok-push.ensures.items c.requires.number (c.if-place-added.true ∙ count) (sym c.index.ensures ∙ c.if-index.true))
+    rw (← c.self.view_is) (more-behind old c.push.new.self.items c.args.place c.args.number c.index.result.now c.in_ok-push.ensures.items c.if-number.true (c.if-place-added.true ∙ count) (sym c.index.ensures ∙ c.if-index.true))
+
+pub invariant_of-self-in_ok-insert : goal.invariant_of-self-in_ok-insert
+invariant_of-self-in_ok-insert c =
+    let marks = subst (λ (on : List ℕ). Marks on c.args.place c.mark.new.on.items) c.in_ok-push.ensures.items c.mark.ensures in
+    let count : c.in-Ok.added ≡ length c.self.inside.on.items = c.in-Ok.ensures.1 ∙ omega (arith, c.len.ensures) in (
+      omega (arith, marks.count, length-append c.self.inside.on.items (nothing ∷ []), count, c.if-added.false, c.in-Ok.ensures.0, c.self.invariant.0),
+      marked-other c.self.inside.on.items c.mark.new.on.items c.self.inside.others.entries c.insert.new.self.entries c.args.place c.args.number c.key.result c.in-Ok.added c.self.invariant.1 marks c.key.ensures c.requires.number c.in_ok-insert.ensures.updates.0,
+    )
+
+pub invariant_of-self-in_err-insert : goal.invariant_of-self-in_err-insert
+invariant_of-self-in_err-insert c =
+    let marks = subst (λ (on : List ℕ). Marks on c.args.place c.mark.new.on.items) c.in_ok-push.ensures.items c.mark.ensures in
+    let count : c.in-Ok.added ≡ length c.self.inside.on.items = c.in-Ok.ensures.1 ∙ omega (arith, c.len.ensures) in (
+      omega (arith, marks.count, length-append c.self.inside.on.items (nothing ∷ []), count, c.if-added.false, c.in-Ok.ensures.0, c.self.invariant.0),
+      rw c.in_err-insert.ensures.err (marked-mark c.self.inside.on.items c.mark.new.on.items c.self.inside.others.entries c.args.place c.self.invariant.1 marks),
+    )
