@@ -6,7 +6,7 @@ use Rattle.std.proofs.lemmas.List.Elements.{All-contains}
 use Rattle.std.specs.List.{AllWithin}
 use Rattle.std.specs.List.Sorted.{IsNonDecreasingBy}
 use Rattle.std.specs.Prelude.{All, Contains}
-use Rattle.aa_states.specs.code.Blocks.{AreFirsts, Begins, block_of, place_or, unknown}
+use Rattle.aa_states.specs.code.Blocks.{AreFirsts, block_of, place_or, unknown}
 use Rattle.aa_states.specs.code.Tables.{no_byte, order_of}
 use Rattle.aa_states.specs.declared.state.Way.{Way}
 use Rattle.aa_states.proofs.ListLemmas.{bounds_by}

@@ -68,13 +68,7 @@ fn lead_away(tables: &Tables, from: u32, byte: Option<u8>, here: &mut Front, nex
 
 // The same where there are some. Where they are few, each is looked at. It stands by itself, since most states have none.
 #[inline(never)]
-fn lead_by_table(
-    tables: &Tables,
-    from: u32,
-    byte: Option<u8>,
-    here: &mut Front,
-    next: &mut Front,
-)
+fn lead_by_table(tables: &Tables, from: u32, byte: Option<u8>, here: &mut Front, next: &mut Front)
     requires sound { AreSound tables.now }
     requires sorted { AreSorted tables.now }
     requires is_state { from < length tables.now.states }

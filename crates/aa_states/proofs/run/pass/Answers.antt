@@ -1,8 +1,6 @@
-use Rattle.std.proofs.Common.{◌∙◌, ap, arith}
-use Rattle.aa_states.specs.Steps.{counted}
+use Rattle.std.proofs.Common.{arith}
 use Rattle.aa_states.specs.code.Graphs.{graph_of}
 use Rattle.aa_states.proofs.RunLemmas.{passing_more, passed}
-use Rattle.aa_states.proofs.StepLemmas.{counted-counted}
 use Rattle.aa_states.proofs.run.pass.Goals as goal
 
 pub loop-at-preserved : goal.loop-at-preserved

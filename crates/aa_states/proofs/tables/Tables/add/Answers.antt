@@ -1,4 +1,4 @@
-use Rattle.std.proofs.Common.{◌≡◌, ◌+◌, ◌^◌, ◌<◌, ◌++◌, [], ◌∷◌, length, ◌∙◌, ap, ap₂, arith}
+use Rattle.std.proofs.Common.{◌+◌, ◌^◌, ◌<◌, ◌++◌, [], ◌∷◌, length, ◌∙◌, ap, ap₂, arith}
 use Rattle.aa_states.specs.code.Tables.{bare, gate_of, graph_in, sets_in}
 use Rattle.aa_states.proofs.GrownLemmas.{IsSound-added, IsSound-grown, graph_in-added}
 use Rattle.aa_states.proofs.TableLemmas.{length-entries_in}
