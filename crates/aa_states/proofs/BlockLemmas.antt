@@ -83,7 +83,3 @@ around_block ways firsts block start end known from to =
       before = before;
       behind = behind;
     }
-
--- the ways of a state are those of its block from it
-pub from_more : (ways some : List Way) (q : ℕ) (way : Way) → All (Contains ways) some → Contains some way × (way.from ≡ q) → Contains ways way × (way.from ≡ q)
-from_more ways some q way only from = (All-contains (Contains ways) some way only from.0, from.1)

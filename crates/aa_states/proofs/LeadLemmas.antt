@@ -1,13 +1,13 @@
 -- Where a state leads, by the ways that lead on and by those of the table.
-use Rattle.std.proofs.Common.{◌≡◌, ◌≢◌, ℕ, ◌+◌, ◌<◌, ◌⊎◌, Bool, true, false, cond, List, [], ◌∷◌, ◌++◌, length, map, Option, Some, None, refl, sym, ◌∙◌, ap, subst, inl, inr, true≢false}
+use Rattle.std.proofs.Common.{◌≡◌, ◌≢◌, ℕ, ◌+◌, ◌<◌, ◌⊎◌, Bool, true, false, cond, List, [], ◌∷◌, ◌++◌, length, map, Option, Some, None, refl, sym, ◌∙◌, ap, subst, inl, inr, true≢false, arith}
 use Rattle.std.proofs.lemmas.Bool.{both_ways, eqb-true}
-use Rattle.std.proofs.lemmas.List.Elements.{All-contains, All-weaker, Contains-append_left, Contains-push, Contains-push_cases}
+use Rattle.std.proofs.lemmas.List.Elements.{All-contains, All-weaker, Contains-append_cases, Contains-append_left, Contains-append_right, Contains-push, Contains-push_cases}
 use Rattle.std.specs.Prelude.{All, Contains}
 use Rattle.aa_states.specs.Entries.{is_free}
 use Rattle.aa_states.specs.States.{Graph, entry_of, Leads}
 use Rattle.aa_states.specs.code.Fronts.{Live, with_state, Adds}
 use Rattle.aa_states.specs.code.Graphs.{AreSound, graph_of}
-use Rattle.aa_states.specs.code.Runs.{FollowsIf, is_byte, IsEntered, IsEnteredAmong, IsEnteredAway, IsEnteredBy, IsEnteredNext, StaysAt, takes_if}
+use Rattle.aa_states.specs.code.Runs.{FollowsIf, is_byte, IsEntered, IsEnteredAmong, IsEnteredAway, IsEnteredBy, IsEnteredFrom, IsEnteredNext, StaysAt, takes_if}
 use Rattle.aa_states.specs.code.Tables.{by_of, entry_behind, IsAlong, IsWay, no_byte, set_of, state_at}
 use Rattle.aa_states.specs.declared.byte_map.ByteMap.{ByteMap}
 use Rattle.aa_states.specs.declared.entry.Entry.{Entry}
@@ -17,7 +17,7 @@ use Rattle.aa_states.specs.declared.state.Gate.TheVariants.{Free, Byte, Inside, 
 use Rattle.aa_states.specs.declared.state.Way.{Way}
 use Rattle.aa_states.specs.declared.tables.Tables.{Tables}
 use Rattle.aa_states.proofs.FrontLemmas.{Adds-as, Adds-tested, Adds-then}
-use Rattle.aa_states.proofs.ListLemmas.{some_same, Contains-map, Contains-map_cases}
+use Rattle.aa_states.proofs.ListLemmas.{some_same, Contains-cons_cases, Contains-first, Contains-map, Contains-map_cases}
 use Rattle.aa_states.proofs.TableLemmas.{entry_of-graph_in, Leads-cases, Leads-on, Leads-way}
 
 -- one state more among which those whose entry passes a test are put into a front
@@ -49,17 +49,44 @@ none_away t test q sound off r kind =
     let known = All-contains (IsWay t.states) t.ways.items kind.0.0 sound.each_way kind.0.1 in
     both_ways _ off (sym (ap (λ x. (state_at t.states x).leads_away) kind.0.2) ∙ known.marked)
 
--- what is entered among a state's ways
+-- what is entered from a state by some of the ways, among which are all that lead from it
 pub entered_away : (t : Tables) (test : Entry → Bool) (q : ℕ) (ways : List Way) (old new : Live)
-    → All (λ w. Contains t.ways.items w × (w.from ≡ q)) ways → ((way : Way) → Contains t.ways.items way → way.from ≡ q → Contains ways way)
-    → Adds old new (IsEnteredAmong (graph_of t) test (map (λ w. w.to) ways)) → Adds old new (IsEnteredAway t test q)
+    → All (Contains t.ways.items) ways → ((way : Way) → Contains t.ways.items way → way.from ≡ q → Contains ways way)
+    → Adds old new (IsEnteredFrom (graph_of t) ways test q) → Adds old new (IsEnteredAway t test q)
 entered_away t test q ways old new only each adds =
-    Adds-as old new (IsEnteredAmong (graph_of t) test (map (λ w. w.to) ways)) (IsEnteredAway t test q) adds
+    Adds-as old new (IsEnteredFrom (graph_of t) ways test q) (IsEnteredAway t test q) adds
+    (λ r kind. ((kind.0.0, All-contains (Contains t.ways.items) ways kind.0.0 only kind.0.1, kind.0.2, kind.0.3), kind.1))
+    (λ r kind. ((kind.0.0, each kind.0.0 kind.0.1 kind.0.2, kind.0.2, kind.0.3), kind.1))
+
+-- one way more by which states may be entered
+pub entered_from_more : (g : Graph) (test : Entry → Bool) (q : ℕ) (ways : List Way) (way : Way) (old mid new : Live)
+    → Adds old mid (IsEnteredFrom g ways test q) → Adds mid new (IsEnteredFrom g (way ∷ []) test q) → Adds old new (IsEnteredFrom g (ways ++ way ∷ []) test q)
+entered_from_more g test q ways way old mid new before more =
+    Adds-then old mid new (IsEnteredFrom g ways test q) (IsEnteredFrom g (way ∷ []) test q) (IsEnteredFrom g (ways ++ way ∷ []) test q) before more
+    (λ r kind. ((kind.0.0, Contains-append_left ways (way ∷ []) kind.0.0 kind.0.1, kind.0.2, kind.0.3), kind.1))
+    (λ r kind. ((kind.0.0, Contains-append_right ways (way ∷ []) kind.0.0 kind.0.1, kind.0.2, kind.0.3), kind.1))
+    (λ r kind. elim (Contains-append_cases ways (way ∷ []) kind.0.0 kind.0.1) [
+      | inl early ↦ inl ((kind.0.0, early, kind.0.2, kind.0.3), kind.1)
+      | inr last ↦ inr ((kind.0.0, last, kind.0.2, kind.0.3), kind.1)
+    ])
+
+-- the way alone that leads from a state
+alone : (way other : Way) → Contains (way ∷ []) other → way ≡ other
+alone way other h = elim (Contains-cons_cases way [] other h) [ inl same ↦ same | inr none ↦ absurd (omega (arith, none.1)) ]
+
+pub entered_from_one : (g : Graph) (test : Entry → Bool) (q : ℕ) (way : Way) (old new : Live) → way.from ≡ q
+    → new ≡ cond (test (entry_of g way.to)) (with_state way.to old) old → Adds old new (IsEnteredFrom g (way ∷ []) test q)
+entered_from_one g test q way old new from is =
+    Adds-as old new (λ x. (x ≡ way.to) × (test (entry_of g way.to) ≡ true)) (IsEnteredFrom g (way ∷ []) test q)
+    (Adds-tested way.to (test (entry_of g way.to)) old new is)
+    (λ r kind. ((way, Contains-first way [], from, sym kind.0), ap (λ x. test (entry_of g x)) kind.0 ∙ kind.1))
     (λ r kind.
-    let found = Contains-map_cases (λ w. w.to) ways r kind.0 in
-    let known = All-contains (λ w. Contains t.ways.items w × (w.from ≡ q)) ways found.0 only found.1 in
-    ((found.0, known.0, known.1, found.2), kind.1))
-    (λ r kind. (subst (λ x. Contains (map (λ w. w.to) ways) x) kind.0.3 (Contains-map (λ w. w.to) ways kind.0.0 (each kind.0.0 kind.0.1 kind.0.2)), kind.1))
+    let to : r ≡ way.to = sym kind.0.3 ∙ ap (λ w. w.to) (sym (alone way kind.0.0 kind.0.1)) in
+    (to, ap (λ x. test (entry_of g x)) (sym to) ∙ kind.1))
+
+-- no way alone that leads from another state
+pub entered_from_other : (g : Graph) (test : Entry → Bool) (q : ℕ) (way : Way) → way.from ≢ q → (r : ℕ) → IsEnteredFrom g (way ∷ []) test q r → ⊥
+entered_from_other g test q way other r kind = other (ap (λ w. w.from) (alone way kind.0.0 kind.0.1) ∙ kind.0.2)
 
 -- what is entered among those of some ways that have a number
 pub entered_along : (g : Graph) (ways : List Way) (test : Entry → Bool) (q by : ℕ) (part : List Way) (old new : Live)
@@ -72,10 +99,10 @@ entered_along g ways test q by part old new only each adds =
     ((found.0, All-contains (IsAlong ways q by) part found.0 only found.1, found.2), kind.1))
     (λ r kind. (subst (λ x. Contains (map (λ w. w.to) part) x) kind.0.2 (Contains-map (λ w. w.to) part kind.0.0 (each kind.0.0 kind.0.1)), kind.1))
 
--- ways among a state's are ways of the table, and those by a number are among them
-pub known_ways : (t : Tables) (q : ℕ) (ways : List Way) → AreSound t → All (λ w. Contains t.ways.items w × (w.from ≡ q)) ways → All (IsWay t.states) ways
-known_ways t q ways sound only =
-    All-weaker (λ w. Contains t.ways.items w × (w.from ≡ q)) (IsWay t.states) (λ way h. All-contains (IsWay t.states) t.ways.items way sound.each_way h.0) ways only
+-- ways of the table, and those of some that have a number
+pub known_ways : (t : Tables) (ways : List Way) → AreSound t → All (Contains t.ways.items) ways → All (IsWay t.states) ways
+known_ways t ways sound only =
+    All-weaker (Contains t.ways.items) (IsWay t.states) (λ way h. All-contains (IsWay t.states) t.ways.items way sound.each_way h) ways only
 
 pub known_along : (t : Tables) (q by : ℕ) (ways part : List Way) → All (IsWay t.states) ways → All (IsAlong ways q by) part → All (IsWay t.states) part
 known_along t q by ways part known only =
@@ -163,12 +190,11 @@ Adds-lead t test q old mid new within on away =
 none_same : (c : ℕ) → None ≡ Some c → ⊥
 none_same c e = cc
 
--- what is entered by a number among a state's ways is entered by one of the table
-away_by : (t : Tables) (test : Entry → Bool) (q by r : ℕ) (ways : List Way) → All (λ w. Contains t.ways.items w × (w.from ≡ q)) ways
+-- what is entered by a number among some of the ways is entered by one of the table
+away_by : (t : Tables) (test : Entry → Bool) (q by r : ℕ) (ways : List Way) → All (Contains t.ways.items) ways
     → IsEnteredBy (graph_of t) ways test by q r → IsEnteredAway t test q r
 away_by t test q by r ways only kind =
-    let known = All-contains (λ w. Contains t.ways.items w × (w.from ≡ q)) ways kind.0.0 only kind.0.1.among in
-    ((kind.0.0, known.0, known.1, kind.0.2), kind.1)
+    ((kind.0.0, All-contains (Contains t.ways.items) ways kind.0.0 only kind.0.1.among, kind.0.1.from, kind.0.2), kind.1)
 
 -- by which number a state is entered by one of the table
 away_cases : (t : Tables) (test : Entry → Bool) (byte : Option ℕ) (q r : ℕ) (ways : List Way) → ComesBy test byte → AreSound t
@@ -187,7 +213,7 @@ away_cases t test byte q r ways comes sound each kind =
 
 -- what is added by number: by those without a byte, and by those of the byte that comes
 pub Adds-by_number : (t : Tables) (test : Entry → Bool) (byte : Option ℕ) (c q : ℕ) (ways : List Way) (old mid new : Live) → ComesBy test byte → byte ≡ Some c
-    → AreSound t → All (λ w. Contains t.ways.items w × (w.from ≡ q)) ways → ((way : Way) → Contains t.ways.items way → way.from ≡ q → Contains ways way)
+    → AreSound t → All (Contains t.ways.items) ways → ((way : Way) → Contains t.ways.items way → way.from ≡ q → Contains ways way)
     → Adds old mid (IsEnteredBy (graph_of t) ways test no_byte q) → Adds mid new (IsEnteredBy (graph_of t) ways test c q)
     → Adds old new (IsEnteredAway t test q)
 Adds-by_number t test byte c q ways old mid new comes is sound only each other own =
@@ -203,7 +229,7 @@ Adds-by_number t test byte c q ways old mid new comes is sound only each other o
 
 -- the same where no byte comes
 pub Adds-by_none : (t : Tables) (test : Entry → Bool) (byte : Option ℕ) (q : ℕ) (ways : List Way) (old new : Live) → ComesBy test byte → byte ≡ None
-    → AreSound t → All (λ w. Contains t.ways.items w × (w.from ≡ q)) ways → ((way : Way) → Contains t.ways.items way → way.from ≡ q → Contains ways way)
+    → AreSound t → All (Contains t.ways.items) ways → ((way : Way) → Contains t.ways.items way → way.from ≡ q → Contains ways way)
     → Adds old new (IsEnteredBy (graph_of t) ways test no_byte q) → Adds old new (IsEnteredAway t test q)
 Adds-by_none t test byte q ways old new comes is sound only each adds =
     Adds-as old new (IsEnteredBy (graph_of t) ways test no_byte q) (IsEnteredAway t test q) adds

@@ -1,12 +1,12 @@
 //! Where a state that lives leads, without a byte and behind one.
 
-ghost use Rattle.std.specs.Prelude.{◌≡◌, ◌<◌, length, map, All, Contains, if◌then◌else◌};
+ghost use Rattle.std.specs.Prelude.{◌≡◌, ◌<◌, ◌∷◌, [], length, map, All, Contains, if◌then◌else◌};
 ghost use Rattle.std.specs.List.Sorted.{IsNonDecreasingBy};
 ghost use Rattle.aa_states.specs.Entries.{is_free};
 ghost use Rattle.aa_states.specs.States.{entry_of};
 ghost use Rattle.aa_states.specs.code.Fronts.{Adds, with_state};
 ghost use Rattle.aa_states.specs.code.Graphs.{AreSound, AreSorted, graph_of};
-ghost use Rattle.aa_states.specs.code.Runs.{FollowsIf, is_byte, IsEntered, IsEnteredAmong, IsEnteredAway, IsEnteredNext, StaysAt, takes_if};
+ghost use Rattle.aa_states.specs.code.Runs.{FollowsIf, is_byte, IsEntered, IsEnteredAmong, IsEnteredAway, IsEnteredFrom, IsEnteredNext, StaysAt, takes_if};
 ghost use Rattle.aa_states.specs.code.Tables.{IsWay, order_of};
 ghost use Rattle.aa_states.specs.declared.state.Way.{Way};
 
@@ -15,8 +15,8 @@ use crate::state::{NO_BYTE, Way};
 use crate::tables::Tables;
 use crate::ways::ways_along;
 
-// Up to so many ways of a state are looked at one by one; among more, those of a byte are found by halving.
-const FEW: usize = 8;
+// Up to so many ways are looked at one by one; among more, those of a state and a byte are found by halving.
+const FEW: usize = 12;
 
 // Visits a state: puts what comes from it freely into its own front, and what follows behind the byte, if one comes, into the next.
 #[inline(always)]
@@ -66,7 +66,7 @@ fn lead_away(tables: &Tables, from: u32, byte: Option<u8>, here: &mut Front, nex
     }
 }
 
-// The same where there are some. Where they are few, each is looked at. It stands by itself, since most states have none.
+// The same where there are some. Where the block has few, each is looked at. It stands by itself, since most states have none.
 #[inline(never)]
 fn lead_by_table(tables: &Tables, from: u32, byte: Option<u8>, here: &mut Front, next: &mut Front)
     requires sound { AreSound tables.now }
@@ -77,15 +77,57 @@ fn lead_by_table(tables: &Tables, from: u32, byte: Option<u8>, here: &mut Front,
     ensures here { Adds here.old here.new (IsEnteredAway tables.now is_free from) }
     ensures next { Adds next.old next.new (IsEnteredAway tables.now (takes_if byte) from) }
 {
-    let ways = tables.ways_of(from);
+    let ways = tables.ways_around(from);
     if ways.len() <= FEW {
-        lead_along(tables, ways, byte, here, next);
+        lead_from(tables, ways, from, byte, here, next);
     } else {
         lead_by_number(tables, ways, from, byte, here, next);
     }
 }
 
-// The same by a state's ways, in their order: by those without a byte of their own, and by those of the byte.
+// The same by those of some ways that lead from the state.
+fn lead_from(
+    tables: &Tables,
+    ways: &[Way],
+    from: u32,
+    byte: Option<u8>,
+    here: &mut Front,
+    next: &mut Front,
+)
+    requires sound { AreSound tables.now }
+    requires each { All (IsWay tables.now.states) ways.now }
+    requires here { here.old.room ≡ length tables.now.states }
+    requires next { next.old.room ≡ length tables.now.states }
+    ensures here { Adds here.old here.new (IsEnteredFrom (graph_of tables.now) ways.now is_free from) }
+    ensures next { Adds next.old next.new (IsEnteredFrom (graph_of tables.now) ways.now (takes_if byte) from) }
+{
+    for way in ways {
+        enter_from(tables, way, from, byte, here, next);
+    }
+}
+
+// The same by one way, if it leads from the state.
+fn enter_from(
+    tables: &Tables,
+    way: &Way,
+    from: u32,
+    byte: Option<u8>,
+    here: &mut Front,
+    next: &mut Front,
+)
+    requires sound { AreSound tables.now }
+    requires is_way { IsWay tables.now.states way.now }
+    requires here { here.old.room ≡ length tables.now.states }
+    requires next { next.old.room ≡ length tables.now.states }
+    ensures here { Adds here.old here.new (IsEnteredFrom (graph_of tables.now) (way.now ∷ []) is_free from) }
+    ensures next { Adds next.old next.new (IsEnteredFrom (graph_of tables.now) (way.now ∷ []) (takes_if byte) from) }
+{
+    if way.from == from {
+        enter_along(tables, way, byte, here, next);
+    }
+}
+
+// The same by ways that are in their order: by those without a byte of their own, and by those of the byte.
 fn lead_by_number(
     tables: &Tables,
     ways: &[Way],
@@ -96,7 +138,7 @@ fn lead_by_number(
 )
     requires sound { AreSound tables.now }
     requires sorted { IsNonDecreasingBy order_of ways.now }
-    requires only { All (λ w. Contains tables.now.ways.items w × (w.from ≡ from)) ways.now }
+    requires only { All (Contains tables.now.ways.items) ways.now }
     requires each { (way : Way) → Contains tables.now.ways.items way → way.from ≡ from → Contains ways.now way }
     requires here { here.old.room ≡ length tables.now.states }
     requires next { next.old.room ≡ length tables.now.states }

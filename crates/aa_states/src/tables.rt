@@ -14,7 +14,7 @@ ghost use Rattle.aa_states.specs.code.Tables.{entry_behind, order_of, set_of, se
 use crate::entry::Entry;
 use crate::rows::Rows;
 use crate::state::{Class, End, Gate, Way};
-use crate::ways::{begin_block, find_firsts, ways_of};
+use crate::ways::{begin_block, find_firsts, ways_of_block};
 use aa_bytes::is_inside;
 use std::alloc::{AllocError, Global};
 
@@ -176,16 +176,14 @@ impl Tables {
         self.states.gate(number).stays(byte)
     }
 
-    // The ways of a state in the table. There are none where it isn't marked.
-    pub fn ways_of(&self, from: u32) -> &[Way]
-        requires sound { AreSound self.now }
-        requires sorted { AreSorted self.now }
-        requires is_state { from < length self.now.states }
+    // The ways from the states of a state's block, its own among them.
+    pub fn ways_around(&self, from: u32) -> &[Way]
+        requires { AreSorted self.now }
         ensures sorted { IsNonDecreasingBy order_of result.now }
-        ensures only { All (λ w. Contains self.now.ways.items w × (w.from ≡ from)) result.now }
+        ensures only { All (Contains self.now.ways.items) result.now }
         ensures each { (way : Way) → Contains self.now.ways.items way → way.from ≡ from → Contains result.now way }
     {
-        ways_of(&self.ways, &self.firsts, from)
+        ways_of_block(&self.ways, &self.firsts, from)
     }
 
     // The ends at a state.

@@ -44,20 +44,8 @@ fn first_of_block(ways: &[Way], block: usize) -> u32
     }
 }
 
-// The ways from a state, by the places where the ways of blocks begin.
-pub fn ways_of<'a>(ways: &'a [Way], firsts: &[u32], from: u32) -> &'a [Way]
-    requires sorted { IsNonDecreasingBy order_of ways.now }
-    requires firsts { AreFirsts ways.now firsts.now }
-    requires each { All (λ w. w.by ≤ no_byte) ways.now }
-    ensures sorted { IsNonDecreasingBy order_of result.now }
-    ensures only { All (λ w. Contains ways.now w × (w.from ≡ from)) result.now }
-    ensures each { (way : Way) → Contains ways.now way → way.from ≡ from → Contains result.now way }
-{
-    ways_from(ways_of_block(ways, firsts, from), from)
-}
-
-// The ways from the states of a state's block.
-fn ways_of_block<'a>(ways: &'a [Way], firsts: &[u32], from: u32) -> &'a [Way]
+// The ways from the states of a state's block, by the places where those of blocks begin.
+pub fn ways_of_block<'a>(ways: &'a [Way], firsts: &[u32], from: u32) -> &'a [Way]
     requires sorted { IsNonDecreasingBy order_of ways.now }
     requires firsts { AreFirsts ways.now firsts.now }
     ensures sorted { IsNonDecreasingBy order_of result.now }
@@ -80,31 +68,7 @@ fn place_or(places: &[u32], at: usize, other: usize) -> usize
     }
 }
 
-// The ways from a state.
-fn ways_from(ways: &[Way], from: u32) -> &[Way]
-    requires sorted { IsNonDecreasingBy order_of ways.now }
-    requires each { All (λ w. w.by ≤ no_byte) ways.now }
-    ensures sorted { IsNonDecreasingBy order_of result.now }
-    ensures only { All (λ w. Contains ways.now w × (w.from ≡ from)) result.now }
-    ensures each { (way : Way) → Contains ways.now way → way.from ≡ from → Contains result.now way }
-{
-    let start = first_from(ways, from as u64);
-    let end = first_from(ways, from as u64 + 1);
-    &ways[start..end]
-}
-
-// Where the ways from states of this number on begin.
-fn first_from(ways: &[Way], from: u64) -> usize
-    requires sorted { IsNonDecreasingBy order_of ways.now }
-    requires each { All (λ w. w.by ≤ no_byte) ways.now }
-    ensures within { result ≤ length ways.now }
-    ensures before { AllWithin (λ w. w.from < from) ways.now 0 result }
-    ensures behind { AllWithin (λ w. from ≤ w.from) ways.now result (length ways.now) }
-{
-    ways.partition_point(|way| (way.from as u64) < from)
-}
-
-// The ways from a state by this number.
+// Those of some ways, in their order, that lead from a state by this number.
 pub fn ways_along(ways: &[Way], from: u32, by: u16) -> &[Way]
     requires sorted { IsNonDecreasingBy order_of ways.now }
     requires each { All (λ w. w.by ≤ no_byte) ways.now }

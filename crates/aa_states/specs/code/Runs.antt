@@ -44,9 +44,13 @@ IsEnteredNext t test q r = ((state_at t.states q).leads_on ≡ true) × (r ≡ q
 abbrev pub IsEnteredBy : Graph → List Way → (Entry → Bool) → ℕ → ℕ → ℕ → Type 0
 IsEnteredBy g ways test by q r = ((way : Way) × IsAlong ways q by way × (way.to ≡ r)) × (test (entry_of g r) ≡ true)
 
+-- a state whose entry passes a test is entered from the state q by one of these ways
+abbrev pub IsEnteredFrom : Graph → List Way → (Entry → Bool) → ℕ → ℕ → Type 0
+IsEnteredFrom g ways test q r = ((way : Way) × Contains ways way × (way.from ≡ q) × (way.to ≡ r)) × (test (entry_of g r) ≡ true)
+
 -- a state whose entry passes a test is entered from the state q by a way of the table
 abbrev pub IsEnteredAway : Tables → (Entry → Bool) → ℕ → ℕ → Type 0
-IsEnteredAway t test q r = ((way : Way) × Contains t.ways.items way × (way.from ≡ q) × (way.to ≡ r)) × (test (entry_of (graph_of t) r) ≡ true)
+IsEnteredAway t test q r = IsEnteredFrom (graph_of t) t.ways.items test q r
 
 -- a state is q, and stays when the byte comes
 abbrev pub StaysAt : Graph → ℕ → ℕ → ℕ → Type 0

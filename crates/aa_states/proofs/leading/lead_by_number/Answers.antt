@@ -12,16 +12,21 @@ use Rattle.aa_states.proofs.leading.lead_by_number.Goals as goal
 pub ways_along-requires-clause-each : goal.ways_along-requires-clause-each
 ways_along-requires-clause-each c =
     All-weaker (IsWay c.args.tables.now.states) (λ w. w.by ≤ no_byte) (λ way is. is.number) c.args.ways.now
-    (known_ways c.args.tables.now c.args.from c.args.ways.now c.requires.sound c.requires.only)
+    (known_ways c.args.tables.now c.args.ways.now c.requires.sound c.requires.only)
+
+pub ways_along-requires-in-Some-clause-each : goal.ways_along-requires-in-Some-clause-each
+ways_along-requires-in-Some-clause-each c =
+    All-weaker (IsWay c.args.tables.now.states) (λ w. w.by ≤ no_byte) (λ way is. is.number) c.args.ways.now
+    (known_ways c.args.tables.now c.args.ways.now c.requires.sound c.requires.only)
 
 pub lead_along-requires-clause-each : goal.lead_along-requires-clause-each
 lead_along-requires-clause-each c =
-    known_along c.args.tables.now c.args.from no_byte c.args.ways.now _ (known_ways c.args.tables.now c.args.from c.args.ways.now c.requires.sound c.requires.only)
+    known_along c.args.tables.now c.args.from no_byte c.args.ways.now _ (known_ways c.args.tables.now c.args.ways.now c.requires.sound c.requires.only)
     c.ways_along.ensures.only
 
 pub lead_along-requires-in-Some-clause-each : goal.lead_along-requires-in-Some-clause-each
 lead_along-requires-in-Some-clause-each c =
-    known_along c.args.tables.now c.args.from c.in-Some.own c.args.ways.now _ (known_ways c.args.tables.now c.args.from c.args.ways.now c.requires.sound c.requires.only)
+    known_along c.args.tables.now c.args.from c.in-Some.own c.args.ways.now _ (known_ways c.args.tables.now c.args.ways.now c.requires.sound c.requires.only)
     c.ways_along-in-Some.ensures.only
 
 pub returns-in-Some-clause-here : goal.returns-in-Some-clause-here

@@ -3,13 +3,13 @@ use Rattle.aa_states.specs.code.Runs.{takes_if}
 use Rattle.aa_states.proofs.LeadLemmas.{entered_away, known_ways}
 use Rattle.aa_states.proofs.leading.lead_by_table.Goals as goal
 
-pub lead_along-requires-clause-each : goal.lead_along-requires-clause-each
-lead_along-requires-clause-each c = known_ways c.args.tables.now c.args.from _ c.requires.sound c.ways_of-ways.ensures.only
+pub lead_from-requires-clause-each : goal.lead_from-requires-clause-each
+lead_from-requires-clause-each c = known_ways c.args.tables.now _ c.requires.sound c.ways_around-ways.ensures.only
 
 pub returns-then-ways-le-FEW-clause-here : goal.returns-then-ways-le-FEW-clause-here
 returns-then-ways-le-FEW-clause-here c =
-    entered_away c.args.tables.now is_free c.args.from _ _ _ c.ways_of-ways.ensures.only c.ways_of-ways.ensures.each c.lead_along.ensures.here
+    entered_away c.args.tables.now is_free c.args.from _ _ _ c.ways_around-ways.ensures.only c.ways_around-ways.ensures.each c.lead_from.ensures.here
 
 pub returns-then-ways-le-FEW-clause-next : goal.returns-then-ways-le-FEW-clause-next
 returns-then-ways-le-FEW-clause-next c =
-    entered_away c.args.tables.now (takes_if c.args.byte) c.args.from _ _ _ c.ways_of-ways.ensures.only c.ways_of-ways.ensures.each c.lead_along.ensures.next
+    entered_away c.args.tables.now (takes_if c.args.byte) c.args.from _ _ _ c.ways_around-ways.ensures.only c.ways_around-ways.ensures.each c.lead_from.ensures.next
