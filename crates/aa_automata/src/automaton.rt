@@ -98,7 +98,7 @@ impl Automaton {
     ///
     /// # Errors
     ///
-    /// Where memory runs out. The steps that were made until then are counted.
+    /// Where memory runs out. The steps at the places before are counted.
     pub fn matching(
         &self,
         alloc: Global,

@@ -1,5 +1,5 @@
 -- Lists of the states that live: what is in them, how long they are, and what an insert does.
-use Rattle.std.proofs.Common.{append_assoc, append-nil, ◌≡◌, ◌≢◌, ℕ, zero, suc, ◌+◌, ◌<◌, ◌≤◌, ◌⊎◌, Bool, true, false, not, cond, ◌==◌, ◌||◌, ◌&&◌, List, [], ◌∷◌, ◌++◌, length, take, get_or, refl, sym, ◌∙◌, ap, subst, inl, inr, arith, eq-eqb, ne_eqb, length-append}
+use Rattle.std.proofs.Common.{append_assoc, append-nil, ◌≡◌, ◌≢◌, ℕ, zero, suc, ◌+◌, ◌<◌, ◌≤◌, ◌⊎◌, Bool, true, false, not, cond, ◌==◌, ◌||◌, ◌&&◌, List, [], ◌∷◌, ◌++◌, length, take, get_or, refl, sym, ◌∙◌, ap, subst, inl, inr, arith, eq-eqb, ne_eqb}
 use Rattle.std.proofs.lemmas.Bool.{both_ways, cases_Bool, eqb-true, eqb-false, or_parts, or_from}
 use Rattle.std.proofs.lemmas.List.Folds.{list_any-append, list_any_more, Any-from_list_any, list_any-from_Any}
 use Rattle.std.proofs.lemmas.List.Elements.{All-append, All-weaker, Contains-append_left, Contains-push, All-cons, All-head, All-tail, All-nil, All-push}
@@ -93,39 +93,32 @@ distinct-push r (x ∷ rs) h none =
     let apart : x ≡ r → ⊥ = λ e. eqb-false r x parts.0 (sym e) in
     (is_in-push x r rs ∙ or_from (is_in x rs) (x == r || false) h.0 (or_from (x == r) false (ne_eqb x r apart) refl), distinct-push r rs h.1 parts.1)
 
--- fewer than the bound, where one below it is missing
-pub length_missing : (n r : ℕ) (rs : List ℕ) → r < n → AreDistinct rs → All (λ r. r < n) rs → is_in r rs ≡ false → length rs < n
-length_missing n r rs low distinct below none =
-    omega (arith, length-append rs (r ∷ []), length_distinct n (rs ++ r ∷ []) (distinct-push r rs distinct none) (All-push (λ r. r < n) rs r below low))
-
 turned_around : (x y : Bool) → (x || y) ≡ (y || (x || false))
 turned_around x y = grind arith
 
 -- one state more in the front
-pub IsFront-push : (r room capacity larger : ℕ) (rs marks marked : List ℕ) → IsFront rs room marks capacity → r < room → is_in r rs ≡ false
-    → ((x : ℕ) → has_bit marked x ≡ (x == r || has_bit marks x)) → length marked ≡ length marks → capacity ≤ larger
-    → IsFront (rs ++ r ∷ []) room marked larger
-IsFront-push r room capacity larger rs marks marked front low none bits len more = record {
+pub IsFront-push : (r room : ℕ) (rs marks marked : List ℕ) → IsFront rs room marks → r < room → is_in r rs ≡ false
+    → ((x : ℕ) → has_bit marked x ≡ (x == r || has_bit marks x)) → length marked ≡ length marks
+    → IsFront (rs ++ r ∷ []) room marked
+IsFront-push r room rs marks marked front low none bits len = record {
   distinct = distinct-push r rs front.distinct none;
   below = All-push (λ r. r < room) rs r front.below low;
   marked = λ x. bits x ∙ ap (λ b. x == r || b) (front.marked x) ∙ turned_around (x == r) (is_in x rs) ∙ sym (is_in-push x r rs);
   bits = omega (arith, front.bits);
-  fits = omega (arith, front.fits);
 }
 
 cleared : (x : Bool) → (not x && x) ≡ false
 cleared x = grind arith
 
 -- a front whose states are taken out
-pub IsFront-cleared : (room capacity : ℕ) (rs marks bits : List ℕ) → IsFront rs room marks capacity
+pub IsFront-cleared : (room : ℕ) (rs marks bits : List ℕ) → IsFront rs room marks
     → ((x : ℕ) → has_bit bits x ≡ (not (is_in x rs) && has_bit marks x)) → length bits ≡ length marks
-    → IsFront [] room bits capacity
-IsFront-cleared room capacity rs marks bits front is len = record {
+    → IsFront [] room bits
+IsFront-cleared room rs marks bits front is len = record {
   distinct = tt;
   below = All-nil (λ r. r < room);
   marked = λ x. is x ∙ ap (λ b. not (is_in x rs) && b) (front.marked x) ∙ cleared (is_in x rs);
   bits = omega (arith, front.bits);
-  fits = front.fits;
 }
 
 one_less : (x y b : Bool) → (not x && (not y && b)) ≡ (not (y || x) && b)

@@ -3,6 +3,7 @@ use Rattle.std.proofs.Common.{◌≡◌, ◌≢◌, ℕ, zero, suc, ◌+◌, ◌
 use Rattle.std.proofs.lemmas.Bool.{cases_eq}
 use Rattle.std.proofs.lemmas.List.{reverse-append, take-append-drop, take_more}
 use Rattle.std.proofs.Math.Nat.{suc-mul}
+use Rattle.std.proofs.lemmas.Nat.{mul-le}
 use Rattle.std.proofs.lemmas.List.Elements.{All-append, All-contains, All-weaker, All-nil, All-cons, Contains-append_left}
 use Rattle.std.proofs.lemmas.Option.{get_or_from_slice_get, slice_get-get_or}
 use Rattle.std.specs.Prelude.{All, Contains, slice_get}
@@ -183,6 +184,32 @@ running_more g past room places c old mid new here next mine behind cleared firs
       few = more_visits places room running.visits (length mine.states) running.few (omega (arith, passed.fits, same_room));
       steps = steps ∙ ap (λ s. counted s (length mine.states)) running.steps ∙ counted-counted old running.visits (length mine.states);
     }
+
+few_visits : (visits places n room : ℕ) → visits ≤ places * room → places ≤ n → visits ≤ (n + 1) * room
+few_visits visits places n room few up =
+    let more : places * room ≤ (n + 1) * room = mul-le places room (n + 1) room (omega arith) (omega arith) in
+    omega (arith, few, more)
+
+-- the steps of a run until now
+pub running_so_far : (g : Graph) (past : List ℕ) (room places n old mid : ℕ) (here next : Live) → IsRunning g past room places here next old mid → places ≤ n
+    → IsCounted 0 ((n + 1) * room) old mid
+running_so_far g past room places n old mid here next running up =
+    let none : 0 ≤ running.visits = omega arith in
+    (running.visits, none, few_visits running.visits places n room running.few up, running.steps)
+
+-- the steps of a run that ends early, where nothing lives
+pub running_early : (g : Graph) (past : List ℕ) (room places n old mid : ℕ) (here next : Live) → IsRunning g past room places here next old mid → places ≤ n
+    → length here.states ≡ 0 → IsCounted 1 ((n + 1) * room) old mid
+running_early g past room places n old mid here next running up none =
+    let some : 1 ≤ running.visits = elim (cases_eq running.visits 0) [
+      | inl zero_visits ↦ let lives = running.some zero_visits in absurd (omega arith)
+      | inr visited ↦ omega arith
+    ] in
+    (running.visits, some, few_visits running.visits places n room running.few up, running.steps)
+
+-- what is counted once is counted
+pub counted_some : (most old new : ℕ) → IsCounted 1 most old new → IsCounted 0 most old new
+counted_some most old new counted = let none : 0 ≤ counted.0 = omega arith in (counted.0, none, counted.2, counted.3)
 
 -- the steps of a run that came to the end of its text
 pub running_end : (g : Graph) (past : List ℕ) (room places old mid new : ℕ) (here next mine behind : Live)

@@ -1,12 +1,15 @@
 //! The states that live at one place of a text.
 
-ghost use Rattle.std.specs.Prelude.{◌≡◌, ℕ, ◌*◌, ◌<◌, ◌≤◌, not, ◌&&◌, [], length, All, IfOk, slice_get, Some};
+ghost use Rattle.std.specs.Prelude.{◌≡◌, ℕ, ◌*◌, ◌<◌, ◌≤◌, not, ◌&&◌, [], length, All, IfOk, OnOk, slice_get, Some};
 ghost use Rattle.aa_states.specs.Bits.{has_bit};
 ghost use Rattle.aa_states.specs.code.Fronts.{is_in, with_state};
 
 use crate::bits::{clear_bit, has_bit, set_bit};
 use std::alloc::{AllocError, Global};
 use std::marker::Model;
+
+// For how many states there is room at first.
+const FIRST: usize = 64;
 
 // States in the order in which they were found, none twice, with a bit for each that is among them.
 #[derive(Drop)]
@@ -18,24 +21,23 @@ pub struct Front {
 }
 
 impl Model for Front {
-    ghost use Rattle.std.specs.Prelude.{vec_capacity};
     ghost use Rattle.aa_states.specs.code.Fronts.{Live, IsFront};
 
     ghost Value = { Live };
 
     ghost view = { λ f. record { states = f.states.items; room = f.room } };
 
-    ghost invariant = { λ f. IsFront f.states.items f.room f.marks.items (vec_capacity f.states) };
+    ghost invariant = { λ f. IsFront f.states.items f.room f.marks.items };
 }
 
 impl Front {
-    // No states, with room for all below a number.
+    // No states, with a mark for each below a number. The list grows as they come: seldom more than a few live.
     pub fn new(alloc: Global, room: usize) -> Result<Front, AllocError>
         ensures { IfOk result (λ front. front ≡ record { states = []; room = room }) }
     {
         let marks = vec![in alloc; 0u64; room / 64 + 1]?;
         Ok(Front {
-            states: Vec::with_capacity(alloc, room)?,
+            states: Vec::with_capacity(alloc, FIRST)?,
             marks,
             room,
         })
@@ -59,18 +61,16 @@ impl Front {
     }
 
     // Puts a state behind the others, if it isn't among them.
-    pub fn insert(&mut self, state: u32)
+    pub fn insert(&mut self, state: u32) -> Result<(), AllocError>
         requires { state < self.old.room }
-        ensures { self.new ≡ with_state state self.old }
+        ensures { OnOk result (self.new ≡ with_state state self.old) }
     {
         if has_bit(&self.marks, state as usize) {
-            return;
+            return Ok(());
         }
+        self.states.push(state)?;
         set_bit(&mut self.marks, state as usize);
-        match self.states.push(state) {
-            Ok(()) => {}
-            Err(_) => unreachable!(),
-        }
+        Ok(())
     }
 
     // Takes all states out. What was never put in isn't touched.

@@ -70,7 +70,7 @@ impl States {
     ///
     /// # Errors
     ///
-    /// Where memory runs out. The steps that were made until then are counted.
+    /// Where memory runs out. The steps at the places before are counted.
     pub fn ends_reached(
         &self,
         alloc: Global,
@@ -85,7 +85,7 @@ impl States {
         let count = self.tables.states.len();
         let mut here = Front::new(alloc, count)?;
         let mut next = Front::new(alloc, count)?;
-        run(&self.tables, text, &mut here, &mut next, steps);
+        run(&self.tables, text, &mut here, &mut next, steps)?;
         patterns_of(alloc, &self.tables, &here)
     }
 }

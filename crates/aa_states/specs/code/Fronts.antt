@@ -22,12 +22,11 @@ AreDistinct [] = Unit {0}
 AreDistinct (r ∷ rs) = (is_in r rs ≡ false) × AreDistinct rs
 
 -- a list of states with a bit for each that is in it
-pub record IsFront (states : List ℕ) (room : ℕ) (marks : List ℕ) (capacity : ℕ) : Type 0 where
+pub record IsFront (states : List ℕ) (room : ℕ) (marks : List ℕ) : Type 0 where
   pub distinct : AreDistinct states
   pub below : All (λ r. r < room) states
   pub marked : (r : ℕ) → has_bit marks r ≡ is_in r states
   pub bits : room ≤ 64 * length marks
-  pub fits : room ≤ capacity
 
 -- a list of states got those of a kind, and no others, behind its own
 pub record Adds (old new : Live) (Kind : ℕ → Type 0) : Type 0 where

@@ -1,4 +1,5 @@
 use Rattle.std.proofs.Common.{[], ◌∷◌}
+use Rattle.std.proofs.lemmas.Result.{on_ok_weaker}
 use Rattle.aa_states.specs.Entries.{is_free}
 use Rattle.aa_states.specs.code.Graphs.{graph_of}
 use Rattle.aa_states.specs.code.Runs.{IsEnteredFrom, takes_if}
@@ -8,11 +9,12 @@ use Rattle.aa_states.proofs.leading.enter_from.Goals as goal
 
 pub returns-then-way-from-clause-here : goal.returns-then-way-from-clause-here
 returns-then-way-from-clause-here c =
-    entered_from_one (graph_of c.args.tables.now) is_free c.args.from c.args.way.now _ _ c.if-way-from.true c.enter_along.ensures.here
+    on_ok_weaker c.enter_along.result (entered_from_one (graph_of c.args.tables.now) is_free c.args.from c.args.way.now _ _ c.if-way-from.true) c.enter_along.ensures.here
 
 pub returns-then-way-from-clause-next : goal.returns-then-way-from-clause-next
 returns-then-way-from-clause-next c =
-    entered_from_one (graph_of c.args.tables.now) (takes_if c.args.byte) c.args.from c.args.way.now _ _ c.if-way-from.true c.enter_along.ensures.next
+    on_ok_weaker c.enter_along.result (entered_from_one (graph_of c.args.tables.now) (takes_if c.args.byte) c.args.from c.args.way.now _ _ c.if-way-from.true)
+    c.enter_along.ensures.next
 
 pub returns-else-way-from-clause-here : goal.returns-else-way-from-clause-here
 returns-else-way-from-clause-here c =

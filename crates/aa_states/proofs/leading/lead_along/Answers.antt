@@ -14,7 +14,7 @@ loop-way-preserved c =
     let d : Way = record { from = 0; by = 0; to = 0 } in
     let g = graph_of c.args.tables.now in
     let tos = map (λ w. w.to) (take i ways) in
-    let e = c.enter_along.ensures in
+    let e = c.in_ok-enter_along.ensures in
     let all = c.loop-way.invariant in
     rw (map_more (λ w. w.to) ways i d c.loop-way-test.true)
     (record {

@@ -1,5 +1,6 @@
 use Rattle.std.proofs.Common.{◌≤◌, sym, subst}
 use Rattle.std.proofs.lemmas.List.Elements.{All-weaker}
+use Rattle.std.proofs.lemmas.Result.{on_ok_weaker}
 use Rattle.std.specs.Prelude.{map}
 use Rattle.aa_states.specs.Entries.{is_free}
 use Rattle.aa_states.specs.code.Fronts.{Adds}
@@ -33,33 +34,33 @@ pub returns-in-Some-clause-here : goal.returns-in-Some-clause-here
 returns-in-Some-clause-here c =
     let t = c.args.tables.now in
     let ways = c.args.ways.now in
-    Adds-by_number t is_free c.args.byte c.in-Some.own c.args.from ways _ _ _ (comes_freely c.args.byte) c.in-Some.is c.requires.sound c.requires.only c.requires.each
-    (entered_along (graph_of t) ways is_free c.args.from no_byte _ _ _ c.ways_along.ensures.only c.ways_along.ensures.each c.lead_along.ensures.here)
+    on_ok_weaker c.lead_along-in-Some.result (λ adds. Adds-by_number t is_free c.args.byte c.in-Some.own c.args.from ways _ _ _ (comes_freely c.args.byte) c.in-Some.is c.requires.sound c.requires.only c.requires.each
+    (entered_along (graph_of t) ways is_free c.args.from no_byte _ _ _ c.ways_along.ensures.only c.ways_along.ensures.each c.in_ok-lead_along.ensures.here)
     (entered_along (graph_of t) ways is_free c.args.from c.in-Some.own _ _ _ c.ways_along-in-Some.ensures.only c.ways_along-in-Some.ensures.each
-    c.lead_along-in-Some.ensures.here)
+    adds)) c.lead_along-in-Some.ensures.here
 
 pub returns-in-Some-clause-next : goal.returns-in-Some-clause-next
 returns-in-Some-clause-next c =
     let t = c.args.tables.now in
     let ways = c.args.ways.now in
     let own = c.ways_along-in-Some.result.now in
-    Adds-by_number t (takes_if c.args.byte) c.args.byte c.in-Some.own c.args.from ways _ _ _ (comes_if c.args.byte) c.in-Some.is c.requires.sound c.requires.only
+    on_ok_weaker c.lead_along-in-Some.result (λ adds. Adds-by_number t (takes_if c.args.byte) c.args.byte c.in-Some.own c.args.from ways _ _ _ (comes_if c.args.byte) c.in-Some.is c.requires.sound c.requires.only
     c.requires.each
-    (entered_along (graph_of t) ways (takes_if c.args.byte) c.args.from no_byte _ _ _ c.ways_along.ensures.only c.ways_along.ensures.each c.lead_along.ensures.next)
+    (entered_along (graph_of t) ways (takes_if c.args.byte) c.args.from no_byte _ _ _ c.ways_along.ensures.only c.ways_along.ensures.each c.in_ok-lead_along.ensures.next)
     (entered_along (graph_of t) ways (takes_if c.args.byte) c.args.from c.in-Some.own own _ _ c.ways_along-in-Some.ensures.only c.ways_along-in-Some.ensures.each
     (subst (λ b. Adds c.lead_along.new.next c.lead_along-in-Some.new.next (IsEnteredAmong (graph_of t) (takes_if b) (map (λ w. w.to) own))) (sym c.in-Some.is)
-    c.lead_along-in-Some.ensures.next))
+    adds))) c.lead_along-in-Some.ensures.next
 
 pub returns-in-None-clause-here : goal.returns-in-None-clause-here
 returns-in-None-clause-here c =
     let t = c.args.tables.now in
     let ways = c.args.ways.now in
     Adds-by_none t is_free c.args.byte c.args.from ways _ _ (comes_freely c.args.byte) c.in-None.is c.requires.sound c.requires.only c.requires.each
-    (entered_along (graph_of t) ways is_free c.args.from no_byte _ _ _ c.ways_along.ensures.only c.ways_along.ensures.each c.lead_along.ensures.here)
+    (entered_along (graph_of t) ways is_free c.args.from no_byte _ _ _ c.ways_along.ensures.only c.ways_along.ensures.each c.in_ok-lead_along.ensures.here)
 
 pub returns-in-None-clause-next : goal.returns-in-None-clause-next
 returns-in-None-clause-next c =
     let t = c.args.tables.now in
     let ways = c.args.ways.now in
     Adds-by_none t (takes_if c.args.byte) c.args.byte c.args.from ways _ _ (comes_if c.args.byte) c.in-None.is c.requires.sound c.requires.only c.requires.each
-    (entered_along (graph_of t) ways (takes_if c.args.byte) c.args.from no_byte _ _ _ c.ways_along.ensures.only c.ways_along.ensures.each c.lead_along.ensures.next)
+    (entered_along (graph_of t) ways (takes_if c.args.byte) c.args.from no_byte _ _ _ c.ways_along.ensures.only c.ways_along.ensures.each c.in_ok-lead_along.ensures.next)

@@ -1,3 +1,4 @@
+use Rattle.std.proofs.lemmas.Result.{on_ok_weaker}
 use Rattle.aa_states.specs.Entries.{is_free}
 use Rattle.aa_states.specs.code.Runs.{takes_if}
 use Rattle.aa_states.proofs.LeadLemmas.{entered_away, known_ways}
@@ -8,8 +9,9 @@ lead_from-requires-clause-each c = known_ways c.args.tables.now _ c.requires.sou
 
 pub returns-then-ways-le-FEW-clause-here : goal.returns-then-ways-le-FEW-clause-here
 returns-then-ways-le-FEW-clause-here c =
-    entered_away c.args.tables.now is_free c.args.from _ _ _ c.ways_around-ways.ensures.only c.ways_around-ways.ensures.each c.lead_from.ensures.here
+    on_ok_weaker c.lead_from.result (entered_away c.args.tables.now is_free c.args.from _ _ _ c.ways_around-ways.ensures.only c.ways_around-ways.ensures.each) c.lead_from.ensures.here
 
 pub returns-then-ways-le-FEW-clause-next : goal.returns-then-ways-le-FEW-clause-next
 returns-then-ways-le-FEW-clause-next c =
-    entered_away c.args.tables.now (takes_if c.args.byte) c.args.from _ _ _ c.ways_around-ways.ensures.only c.ways_around-ways.ensures.each c.lead_from.ensures.next
+    on_ok_weaker c.lead_from.result (entered_away c.args.tables.now (takes_if c.args.byte) c.args.from _ _ _ c.ways_around-ways.ensures.only c.ways_around-ways.ensures.each)
+    c.lead_from.ensures.next

@@ -13,7 +13,7 @@ loop-way-preserved c =
     let i = c.loop-way.way-index in
     let d : Way = record { from = 0; by = 0; to = 0 } in
     let g = graph_of c.args.tables.now in
-    let e = c.enter_from.ensures in
+    let e = c.in_ok-enter_from.ensures in
     let all = c.loop-way.invariant in
     rw (take_more ways i d c.loop-way-test.true)
     (record {

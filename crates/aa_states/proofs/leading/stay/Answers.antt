@@ -1,4 +1,5 @@
 use Rattle.std.proofs.Common.{◌≡◌, true, refl, sym, ◌∙◌}
+use Rattle.std.proofs.lemmas.Result.{on_ok_weaker}
 use Rattle.aa_states.specs.code.Graphs.{graph_of}
 use Rattle.aa_states.specs.code.Runs.{StaysAt}
 use Rattle.aa_states.proofs.FrontLemmas.{Adds-as, Adds-tested}
@@ -7,7 +8,7 @@ use Rattle.aa_states.proofs.leading.stay.Goals as goal
 pub returns-then-stays : goal.returns-then-stays
 returns-then-stays c =
     let front = c.args.front.now in
-    Adds-as front c.insert.new.self (λ x. (x ≡ c.args.number) × (true ≡ true)) (StaysAt (graph_of c.args.tables.now) c.args.byte c.args.number)
-    (Adds-tested c.args.number true front c.insert.new.self c.insert.ensures)
+    on_ok_weaker c.insert.result (λ is. Adds-as front c.insert.new.self (λ x. (x ≡ c.args.number) × (true ≡ true)) (StaysAt (graph_of c.args.tables.now) c.args.byte c.args.number)
+    (Adds-tested c.args.number true front c.insert.new.self is)
     (λ r kind. (kind.0, sym c.stays.ensures ∙ c.if-stays.true))
-    (λ r kind. (kind.0, refl))
+    (λ r kind. (kind.0, refl))) c.insert.ensures

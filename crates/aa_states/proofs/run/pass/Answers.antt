@@ -8,7 +8,7 @@ loop-at-preserved c =
     let t = c.args.tables.now in
     record {
       passing = passing_more (graph_of t) c.args.byte c.loop-at.at c.state.result c.args.here.now c.loop-at.here c.visit.new.here c.loop-at.next c.visit.new.next
-          c.loop-at.invariant.passing (omega (arith, c.len.ensures.len, c.loop-at-test.true)) c.state.ensures.state c.visit.ensures.here c.visit.ensures.next;
+          c.loop-at.invariant.passing (omega (arith, c.len.ensures.len, c.loop-at-test.true)) c.state.ensures.state c.in_ok-visit.ensures.here c.in_ok-visit.ensures.next;
       steps = c.loop-at.invariant.steps;
     }
 

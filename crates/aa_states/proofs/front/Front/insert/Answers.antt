@@ -2,26 +2,20 @@ use Rattle.std.proofs.Common.{rules, ◌≡◌, ◌<◌, ◌∙◌, ◌==◌, �
 use Rattle.std.proofs.lemmas.List.{with_items_is}
 use Rattle.aa_states.specs.Bits.{has_bit}
 use Rattle.aa_states.specs.code.Fronts.{is_in}
-use Rattle.aa_states.proofs.FrontLemmas.{IsFront-push, length_missing}
+use Rattle.aa_states.proofs.FrontLemmas.{IsFront-push}
 use Rattle.aa_states.proofs.front.Front.insert.Goals as goal
 
-pub unreachable-requires : goal.unreachable-requires
-unreachable-requires c =
-    let front = c.self.inside in
-    let room = front.room in
-    let low : c.args.state < room = omega (arith, ap (λ f. f.room) c.self.view_is) in
-    let none : is_in c.args.state front.states.items ≡ false = search rules in
-    let fewer = length_missing room c.args.state front.states.items low c.self.invariant.distinct c.self.invariant.below none in
-    omega (arith, fewer, c.self.invariant.fits, c.in-Err.ensures.full, front.states.ok.0)
-
 pub invariant_of-self : goal.invariant_of-self
-invariant_of-self c =
+invariant_of-self c = rw c.in_err-push.ensures.items c.self.invariant
+
+pub invariant_of-self-2 : goal.invariant_of-self-2
+invariant_of-self-2 c =
     let front = c.self.inside in
     let low : c.args.state < front.room = omega (arith, ap (λ f. f.room) c.self.view_is) in
     let none : is_in c.args.state front.states.items ≡ false = search rules in
     let len : length c.set_bit.new.words ≡ front.marks.len = omega (arith, c.set_bit.auto.words, c.deref_mut.ensures.len, front.marks.ok.0) in
     let back = with_items_is front.marks c.set_bit.new.words len in
-    rw (back, c.in-Ok.ensures.items)
-    (IsFront-push c.args.state front.room _ _ front.states.items front.marks.items c.set_bit.new.words c.self.invariant low none
+    rw (back, c.in_ok-push.ensures.items)
+    (IsFront-push c.args.state front.room front.states.items front.marks.items c.set_bit.new.words c.self.invariant low none
     (λ x. c.set_bit.ensures x ∙ ap (λ m. x == c.args.state || has_bit m x) c.deref_mut.ensures.value)
-    (omega (arith, c.set_bit.auto.words, ap length c.deref_mut.ensures.value)) c.in-Ok.ensures.capacity)
+    (omega (arith, c.set_bit.auto.words, ap length c.deref_mut.ensures.value)))

@@ -1,4 +1,4 @@
-use Rattle.std.proofs.Common.{◌≡◌, ◌+◌, ◌*◌, ◌≤◌, length, ◌∙◌, ap, sym, subst, arith}
+use Rattle.std.proofs.Common.{◌≡◌, ◌+◌, ◌*◌, length, ◌∙◌, ap, sym, subst}
 use Rattle.aa_states.specs.States.{IsFound}
 use Rattle.aa_states.specs.Steps.{IsCounted}
 use Rattle.aa_states.specs.code.Graphs.{graph_of}
@@ -11,18 +11,22 @@ returns-clause-found c =
     let g = graph_of c.self.inside.tables in
     IfOk-then c.patterns_of.result _ (λ patterns. IsFound c.args.self.now c.args.text.now patterns.items)
     (λ patterns told. subst (λ h. IsFound h c.args.text.now patterns.items) c.self.view_is
-    (found_all g c.args.text.now c.run.new.here.states patterns.items c.run.ensures.whole told)) c.patterns_of.ensures.told
+    (found_all g c.args.text.now c.run.new.here.states patterns.items c.in_ok-run.ensures.whole told)) c.patterns_of.ensures.told
+
+pub returns-in_err-run-clause-steps : goal.returns-in_err-run-clause-steps
+returns-in_err-run-clause-steps c =
+    let t = c.self.inside.tables in
+    let room : length t.states ≡ length c.args.self.now.entries = sym (length-entries_in t.classes.items 0 t.states) ∙ ap (λ g. length g.entries) c.self.view_is in
+    subst (λ n. IsCounted 0 ((length c.args.text.now + 1) * n) c.args.steps.now c.run.new.steps) room c.run.ensures.steps
 
 pub returns-clause-steps : goal.returns-clause-steps
 returns-clause-steps c =
     let t = c.self.inside.tables in
     let room : length t.states ≡ length c.args.self.now.entries = sym (length-entries_in t.classes.items 0 t.states) ∙ ap (λ g. length g.entries) c.self.view_is in
-    let counted = subst (λ n. IsCounted 1 ((length c.args.text.now + 1) * n) c.args.steps.now c.run.new.steps) room c.run.ensures.steps in
-    let none : 0 ≤ counted.0 = omega arith in
-    (counted.0, none, counted.2, counted.3)
+    subst (λ n. IsCounted 0 ((length c.args.text.now + 1) * n) c.args.steps.now c.run.new.steps) room c.run.ensures.steps
 
 pub returns-clause-visits : goal.returns-clause-visits
 returns-clause-visits c =
     let t = c.self.inside.tables in
     let room : length t.states ≡ length c.args.self.now.entries = sym (length-entries_in t.classes.items 0 t.states) ∙ ap (λ g. length g.entries) c.self.view_is in
-    OnOk-from c.patterns_of.result _ (subst (λ n. IsCounted 1 ((length c.args.text.now + 1) * n) c.args.steps.now c.run.new.steps) room c.run.ensures.steps)
+    OnOk-from c.patterns_of.result _ (subst (λ n. IsCounted 1 ((length c.args.text.now + 1) * n) c.args.steps.now c.run.new.steps) room c.in_ok-run.ensures.visits)
