@@ -16,7 +16,7 @@ use Rattle.aa_drawn.specs.Laws.{AreBytes, ReachingTheEndIsMatching, SameIsDrawn,
 use Rattle.aa_elements.specs.Elements.{Element}
 use Rattle.aa_elements.specs.Matching.{matches}
 use Rattle.aa_elements.specs.Reading.{items_of, reading}
-use Rattle.aa_states.specs.States.{AddsEnd, EndsAt, Graph, IsFound, SameGraph, start_alone}
+use Rattle.aa_graphs.specs.Graphs.{AddsEnd, EndsAt, Graph, IsFound, SameGraph, start_alone}
 use Rattle.aa_trails.specs.Beginnings.{AreBeginnings, Begun, HasStates, IsBeginning, IsSuffixOf}
 use Rattle.aa_trails.specs.Laws.{FirstTextIsBegun, NextTextIsBegun, WholeTextIsThere}
 use Rattle.aa_trails.specs.Trails.{Trail, trail_of}

@@ -18,8 +18,8 @@ use Rattle.aa_automata.proofs.StandLemmas.{sources_named, sources_there, stands_
 use Rattle.aa_drawn.specs.Drawn.{AddsState, HaveSources, trail_at}
 use Rattle.aa_drawn.specs.Laws.{AddedIsDrawn}
 use Rattle.aa_elements.specs.Elements.{Element}
-use Rattle.aa_states.specs.States.{EndsAt, Graph, with_entry}
-use Rattle.aa_states.specs.declared.entry.Entry.{Entry}
+use Rattle.aa_graphs.specs.Graphs.{EndsAt, Graph, with_entry}
+use Rattle.aa_graphs.specs.declared.entry.Entry.{Entry}
 use Rattle.aa_trails.specs.Beginnings.{Begun}
 use Rattle.aa_trails.specs.Laws.{KnownTrailIsMet, NewTrailIsAdded}
 use Rattle.aa_trails.specs.Trails.{sources, Trail, trail_of}

@@ -8,7 +8,7 @@ use Rattle.aa_automata.specs.declared.walk.Group.{Group}
 use Rattle.aa_automata.specs.Walks.{close_sources, comma_sources, OpenStates}
 use Rattle.aa_automata.specs.Ways.{AddsWays}
 use Rattle.aa_automata.proofs.WayLemmas.{reversed_has, ways-append, ways-reverse}
-use Rattle.aa_states.specs.States.{Graph}
+use Rattle.aa_graphs.specs.Graphs.{Graph}
 
 -- the last one that is kept is the innermost
 last_seen : (gs : List Group) (g : Group) → 0 < length gs → ((d : Group) → g ≡ get_or gs (length gs - 1) d) → (rest : List OpenStates) × (seen_groups gs ≡ seen_group g ∷ rest)

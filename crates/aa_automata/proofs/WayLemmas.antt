@@ -4,7 +4,7 @@ use Rattle.std.specs.Prelude.{Contains}
 use Rattle.std.proofs.lemmas.List.{reverse-append, take_more}
 use Rattle.std.proofs.lemmas.List.Elements.{All-contains, All-nil, Contains-append_cases, Contains-append_left, Contains-append_right, Contains-push, Contains-push_cases}
 use Rattle.aa_automata.specs.Ways.{AddsWays}
-use Rattle.aa_states.specs.States.{Graph, Leads, AddsWay}
+use Rattle.aa_graphs.specs.Graphs.{Graph, Leads, AddsWay}
 
 none_there : (q : ℕ) → Contains [] q → ⊥
 none_there q h = All-contains (λ _. ⊥) [] q (All-nil (λ _. ⊥)) h

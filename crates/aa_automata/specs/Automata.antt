@@ -5,7 +5,7 @@ use Rattle.std.specs.List.{All}
 use Rattle.aa_drawn.specs.Drawn.{IsDrawn, trail_at}
 use Rattle.aa_elements.specs.Matching.{matches}
 use Rattle.aa_elements.specs.Reading.{items_of, reading}
-use Rattle.aa_states.specs.States.{EndsAt, Graph}
+use Rattle.aa_graphs.specs.Graphs.{EndsAt, Graph}
 use Rattle.aa_trails.specs.Beginnings.{AreBeginnings}
 use Rattle.aa_trails.specs.Trails.{Trail, trail_of}
 

@@ -1,6 +1,6 @@
 -- Ways that are drawn to one state.
 use Rattle.std.specs.Prelude.{◌≡◌, ◌⊎◌, ◌↔◌, ℕ, Contains, List}
-use Rattle.aa_states.specs.States.{Graph, Leads}
+use Rattle.aa_graphs.specs.Graphs.{Graph, Leads}
 
 -- ways more, from each of these states to one, and nothing else
 pub record AddsWays (old new : Graph) (from : List ℕ) (to : ℕ) : Type 0 where

@@ -24,7 +24,7 @@ pub struct Automaton {
 
 impl Model for Automaton {
     ghost use Rattle.std.specs.Prelude.{Option};
-    ghost use Rattle.aa_states.specs.States.{Graph};
+    ghost use Rattle.aa_graphs.specs.Graphs.{Graph};
 
     ghost Value = { Option Graph };
 

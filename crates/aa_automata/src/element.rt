@@ -6,15 +6,16 @@ ghost use Rattle.aa_automata.specs.Grown.{kind_of};
 ghost use Rattle.aa_automata.specs.Numbers.{AreKept, most_number, number_of};
 ghost use Rattle.aa_drawn.specs.Drawn.{Suits};
 ghost use Rattle.aa_elements.specs.Cursor.{meaning};
-ghost use Rattle.aa_states.specs.ByteMaps.{in_map};
-ghost use Rattle.aa_states.specs.States.{with_entry};
-ghost use Rattle.aa_states.specs.declared.entry.Entry.{Entry};
+ghost use Rattle.aa_graphs.specs.ByteMaps.{in_map};
+ghost use Rattle.aa_graphs.specs.Graphs.{with_entry};
+ghost use Rattle.aa_graphs.specs.declared.entry.Entry.{Entry};
 
 use crate::numbers::Numbers;
 use crate::walk::Kind;
 use aa_bytes::ByteSet;
 use aa_elements::Element;
-use aa_states::{ByteMap, Drawing, Entry};
+use aa_graphs::{ByteMap, Entry};
+use aa_states::Drawing;
 use std::alloc::{AllocError, Global};
 
 /// What an element does to the groups that are open.

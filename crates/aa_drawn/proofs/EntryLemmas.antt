@@ -5,8 +5,8 @@ use Rattle.aa_bytes.specs.ByteSets.{has, is_inside}
 use Rattle.aa_elements.specs.Elements.{Element, Single, Open, Comma, Close, Fault}
 use Rattle.aa_elements.specs.Items.{Byte, Set, Star, DoubleStar, Group}
 use Rattle.aa_drawn.specs.Drawn.{Suits}
-use Rattle.aa_states.specs.Entries.{is_free, stays_at, takes_byte}
-use Rattle.aa_states.specs.declared.entry.Entry.{Entry}
+use Rattle.aa_graphs.specs.Entries.{is_free, stays_at, takes_byte}
+use Rattle.aa_graphs.specs.declared.entry.Entry.{Entry}
 use Rattle.aa_trails.specs.Reads.{element_behind, run_behind, Texts}
 
 -- a run may be empty

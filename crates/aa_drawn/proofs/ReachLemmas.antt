@@ -11,8 +11,8 @@ use Rattle.aa_elements.specs.Reading.{items_of, reading}
 use Rattle.aa_drawn.proofs.EntryLemmas.{arrives, free-behind, stays-behind, takes-behind}
 use Rattle.aa_drawn.specs.Drawn.{IsDrawn, Suits, SuitsLast, trail_at}
 use Rattle.aa_drawn.specs.Laws.{AreBytes}
-use Rattle.aa_states.specs.Entries.{stays_at}
-use Rattle.aa_states.specs.States.{begins, comes, entry_of, Graph, Leads, Reaches, stays, takes}
+use Rattle.aa_graphs.specs.Entries.{stays_at}
+use Rattle.aa_graphs.specs.Graphs.{begins, comes, entry_of, Graph, Leads, Reaches, stays, takes}
 use Rattle.aa_trails.specs.Laws.{SomeAreReadAsOneIs, SourcesAreShorter, TrailsAreReadBehindSources, WholeTrailsAreMatched}
 use Rattle.aa_trails.specs.Reads.{element_behind, reads, some_reads, Texts}
 use Rattle.aa_trails.specs.Trails.{sources, Trail, trail_of}

@@ -5,9 +5,9 @@ use Rattle.std.proofs.lemmas.List.{get_or_append_left, get_or_at, get_or_default
 use Rattle.std.proofs.lemmas.List.Elements.{All-contains, Contains-append_left, Contains-push, Contains-push_cases}
 use Rattle.aa_elements.specs.Elements.{Element}
 use Rattle.aa_drawn.specs.Drawn.{AddsState, AddsWay, HaveSources, IsDrawn, Suits, SuitsLast, trail_at}
-use Rattle.aa_states.specs.States.{entry_of, Graph, Leads}
-use Rattle.aa_states.specs.declared.entry.Entry.{Entry}
-use Rattle.aa_states.specs.declared.entry.Entry.TheVariants.{Free}
+use Rattle.aa_graphs.specs.Graphs.{entry_of, Graph, Leads}
+use Rattle.aa_graphs.specs.declared.entry.Entry.{Entry}
+use Rattle.aa_graphs.specs.declared.entry.Entry.TheVariants.{Free}
 use Rattle.aa_trails.specs.Laws.{SourcesAreShorter}
 use Rattle.aa_trails.specs.Trails.{sources, Trail}
 

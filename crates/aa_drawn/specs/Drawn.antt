@@ -5,10 +5,10 @@ use Rattle.aa_bytes.specs.ByteSets.{has}
 use Rattle.aa_bytes.specs.declared.byte_set.ByteSet.{ByteSet}
 use Rattle.aa_elements.specs.Elements.{Element, Single, Open, Comma, Close, Fault}
 use Rattle.aa_elements.specs.Items.{Byte, Set, Star, DoubleStar, Group}
-use Rattle.aa_states.specs.Entries.{is_free, stays_at, takes_byte}
-use Rattle.aa_states.specs.States.{entry_of, Graph, Leads}
-use Rattle.aa_states.specs.declared.entry.Entry.{Entry}
-use Rattle.aa_states.specs.declared.entry.Entry.TheVariants.{Free, Byte as ByteEntry, Star as StarEntry, DoubleStar as DoubleStarEntry}
+use Rattle.aa_graphs.specs.Entries.{is_free, stays_at, takes_byte}
+use Rattle.aa_graphs.specs.Graphs.{entry_of, Graph, Leads}
+use Rattle.aa_graphs.specs.declared.entry.Entry.{Entry}
+use Rattle.aa_graphs.specs.declared.entry.Entry.TheVariants.{Free, Byte as ByteEntry, Star as StarEntry, DoubleStar as DoubleStarEntry}
 use Rattle.aa_trails.specs.Trails.{sources, Trail}
 
 -- a byte of a set is taken to come in, and no byte leaves the state as it is

@@ -4,9 +4,9 @@ use Rattle.std.specs.List.{All}
 use Rattle.aa_elements.specs.Elements.{Element}
 use Rattle.aa_elements.specs.Matching.{matches}
 use Rattle.aa_elements.specs.Reading.{items_of, reading}
-use Rattle.aa_states.specs.States.{Graph, Leads, Reaches}
-use Rattle.aa_states.specs.declared.entry.Entry.{Entry}
-use Rattle.aa_states.specs.declared.entry.Entry.TheVariants.{Free}
+use Rattle.aa_graphs.specs.Graphs.{Graph, Leads, Reaches}
+use Rattle.aa_graphs.specs.declared.entry.Entry.{Entry}
+use Rattle.aa_graphs.specs.declared.entry.Entry.TheVariants.{Free}
 use Rattle.aa_drawn.specs.Drawn.{AddsState, AddsWay, HaveSources, IsDrawn, Suits, trail_at}
 use Rattle.aa_trails.specs.Reads.{reads}
 use Rattle.aa_trails.specs.Trails.{Trail, trail_of}

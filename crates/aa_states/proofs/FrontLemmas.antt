@@ -4,7 +4,7 @@ use Rattle.std.proofs.lemmas.Bool.{both_ways, cases_Bool, eqb-true, eqb-false, o
 use Rattle.std.proofs.lemmas.List.Folds.{list_any-append, list_any_more, Any-from_list_any, list_any-from_Any}
 use Rattle.std.proofs.lemmas.List.Elements.{All-append, All-weaker, Contains-append_left, Contains-push, All-cons, All-head, All-tail, All-nil, All-push}
 use Rattle.std.specs.Prelude.{All, Contains}
-use Rattle.aa_states.specs.Bits.{has_bit}
+use Rattle.aa_graphs.specs.Bits.{has_bit}
 use Rattle.aa_states.specs.code.Fronts.{Live, is_in, with_state, AreDistinct, IsFront, Adds}
 
 -- the test of being in a list, and the fact

@@ -3,22 +3,22 @@ use Rattle.std.proofs.Common.{◌≡◌, ◌≢◌, ℕ, ◌+◌, ◌<◌, ◌�
 use Rattle.std.proofs.lemmas.Bool.{both_ways, eqb-true}
 use Rattle.std.proofs.lemmas.List.Elements.{All-contains, All-weaker, Contains-append_cases, Contains-append_left, Contains-append_right, Contains-push, Contains-push_cases}
 use Rattle.std.specs.Prelude.{All, Contains}
-use Rattle.aa_states.specs.Entries.{is_free}
-use Rattle.aa_states.specs.States.{Graph, entry_of, Leads}
+use Rattle.aa_graphs.specs.Entries.{is_free, takes_if}
+use Rattle.aa_graphs.specs.Graphs.{Graph, entry_of, Leads}
 use Rattle.aa_states.specs.code.Fronts.{Live, with_state, Adds}
-use Rattle.aa_states.specs.code.Graphs.{AreSound, graph_of}
-use Rattle.aa_states.specs.code.Runs.{FollowsIf, is_byte, IsEntered, IsEnteredAmong, IsEnteredAway, IsEnteredBy, IsEnteredFrom, IsEnteredNext, StaysAt, takes_if}
-use Rattle.aa_states.specs.code.Tables.{by_of, entry_behind, IsAlong, IsWay, no_byte, set_of, state_at}
-use Rattle.aa_states.specs.declared.byte_map.ByteMap.{ByteMap}
-use Rattle.aa_states.specs.declared.entry.Entry.{Entry}
-use Rattle.aa_states.specs.declared.entry.Entry.TheVariants.{Free as FreeEntry, Byte as ByteEntry, Inside as InsideEntry, Class as ClassEntry, Star as StarEntry, DoubleStar as DoubleStarEntry}
-use Rattle.aa_states.specs.declared.state.Gate.{Gate}
-use Rattle.aa_states.specs.declared.state.Gate.TheVariants.{Free, Byte, Inside, Class, Star, DoubleStar}
-use Rattle.aa_states.specs.declared.state.Way.{Way}
-use Rattle.aa_states.specs.declared.tables.Tables.{Tables}
+use Rattle.aa_graphs.specs.OfTables.{AreSound, graph_of}
+use Rattle.aa_states.specs.code.Runs.{FollowsIf, is_byte, IsEntered, IsEnteredAmong, IsEnteredAway, IsEnteredBy, IsEnteredFrom, IsEnteredNext, StaysAt}
+use Rattle.aa_graphs.specs.Tables.{by_of, entry_behind, IsAlong, IsWay, no_byte, set_of, state_at}
+use Rattle.aa_graphs.specs.declared.byte_map.ByteMap.{ByteMap}
+use Rattle.aa_graphs.specs.declared.entry.Entry.{Entry}
+use Rattle.aa_graphs.specs.declared.entry.Entry.TheVariants.{Free as FreeEntry, Byte as ByteEntry, Inside as InsideEntry, Class as ClassEntry, Star as StarEntry, DoubleStar as DoubleStarEntry}
+use Rattle.aa_graphs.specs.declared.state.Gate.{Gate}
+use Rattle.aa_graphs.specs.declared.state.Gate.TheVariants.{Free, Byte, Inside, Class, Star, DoubleStar}
+use Rattle.aa_graphs.specs.declared.state.Way.{Way}
+use Rattle.aa_graphs.specs.declared.tables.Tables.{Tables}
 use Rattle.aa_states.proofs.FrontLemmas.{Adds-as, Adds-tested, Adds-then}
-use Rattle.aa_states.proofs.ListLemmas.{some_same, Contains-cons_cases, Contains-first, Contains-map, Contains-map_cases}
-use Rattle.aa_states.proofs.TableLemmas.{entry_of-graph_in, Leads-cases, Leads-on, Leads-way}
+use Rattle.aa_graphs.proofs.ListLemmas.{some_same, Contains-cons_cases, Contains-first, Contains-map, Contains-map_cases}
+use Rattle.aa_graphs.proofs.TableLemmas.{entry_of-graph_in, Leads-cases, Leads-on, Leads-way}
 
 -- one state more among which those whose entry passes a test are put into a front
 pub entered_more : (g : Graph) (test : Entry → Bool) (tos : List ℕ) (to : ℕ) (old mid new : Live) → Adds old mid (IsEnteredAmong g test tos)

@@ -1,13 +1,6 @@
-pub mod BitLemmas
-pub mod BlockLemmas
 pub mod FrontLemmas
-pub mod GrownLemmas
 pub mod LeadLemmas
-pub mod ListLemmas
 pub mod PatternLemmas
 pub mod ReachLemmas
-pub mod RowLemmas
 pub mod RunLemmas
-pub mod SoundLemmas
 pub mod StepLemmas
-pub mod TableLemmas

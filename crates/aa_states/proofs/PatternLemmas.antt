@@ -7,14 +7,14 @@ use Rattle.std.proofs.lemmas.List.Elements.{All-contains, Contains-append_left, 
 use Rattle.std.proofs.lemmas.List.Quantifiers.{all_pairs_push}
 use Rattle.std.specs.Prelude.{All, AllPairs, Contains, slice_get, Result, Ok, Err, IfOk, OnOk}
 use Rattle.std.specs.List.Sorted.{IsNonDecreasing}
-use Rattle.aa_states.specs.States.{Graph, EndsAt, IsFound, Reaches}
+use Rattle.aa_graphs.specs.Graphs.{Graph, EndsAt, IsFound, Reaches}
 use Rattle.aa_states.specs.code.Runs.{IsWhole}
 use Rattle.aa_states.proofs.RunLemmas.{Contains-slice_get}
 use Rattle.aa_states.specs.code.Ends.{Gets, is_new, IsEndIn}
-use Rattle.aa_states.specs.code.Graphs.{graph_of}
-use Rattle.aa_states.specs.declared.state.End.{End}
-use Rattle.aa_states.specs.declared.tables.Tables.{Tables}
-use Rattle.aa_states.proofs.ListLemmas.{some_same, Contains-map, Contains-map_cases}
+use Rattle.aa_graphs.specs.OfTables.{graph_of}
+use Rattle.aa_graphs.specs.declared.state.End.{End}
+use Rattle.aa_graphs.specs.declared.tables.Tables.{Tables}
+use Rattle.aa_graphs.proofs.ListLemmas.{some_same, Contains-map, Contains-map_cases}
 
 -- one pattern more is told
 pub gets_more : (old mid new : List ℕ) (told : List ℕ) (p : ℕ) → Gets old mid (Contains told) → new ≡ mid ++ p ∷ [] → Gets old new (Contains (told ++ p ∷ []))

@@ -1,10 +1,10 @@
 -- A text reaches the same states in graphs with the same entries and ways.
 use Rattle.std.proofs.Common.{◌≡◌, ℕ, List, sym, ap, ◌∙◌}
-use Rattle.aa_states.specs.Entries.{is_free, takes_byte, stays_at}
-use Rattle.aa_states.specs.States.{Graph, entry_of, Reaches, SameGraph, SameRuns}
-use Rattle.aa_states.specs.States.Reaches.{begins, comes, takes, stays}
+use Rattle.aa_graphs.specs.Entries.{is_free, takes_byte, stays_at}
+use Rattle.aa_graphs.specs.Graphs.{Graph, entry_of, Reaches, SameGraph, SameRuns}
+use Rattle.aa_graphs.specs.Graphs.Reaches.{begins, comes, takes, stays}
 use Rattle.std.specs.Prelude.{slice_index_or}
-use Rattle.aa_states.specs.declared.entry.Entry.TheVariants.{Free}
+use Rattle.aa_graphs.specs.declared.entry.Entry.TheVariants.{Free}
 
 same_entry : (g h : Graph) (r : ℕ) → SameGraph g h → entry_of h r ≡ entry_of g r
 same_entry g h r same = ap (λ l. slice_index_or l r Free) (sym same.entries)

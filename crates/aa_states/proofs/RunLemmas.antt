@@ -7,13 +7,13 @@ use Rattle.std.proofs.lemmas.Nat.{mul-le}
 use Rattle.std.proofs.lemmas.List.Elements.{All-append, All-contains, All-weaker, All-nil, All-cons, Contains-append_left}
 use Rattle.std.proofs.lemmas.Option.{get_or_from_slice_get, slice_get-get_or}
 use Rattle.std.specs.Prelude.{All, Contains, slice_get}
-use Rattle.aa_states.specs.Entries.{is_free}
-use Rattle.aa_states.specs.States.{Graph, Stays, Reaches}
-use Rattle.aa_states.specs.States.Reaches.{begins, comes, takes, stays}
+use Rattle.aa_graphs.specs.Entries.{is_free}
+use Rattle.aa_graphs.specs.Graphs.{Graph, Stays, Reaches}
+use Rattle.aa_graphs.specs.Graphs.Reaches.{begins, comes, takes, stays}
 use Rattle.aa_states.specs.Steps.{counted, IsCounted}
 use Rattle.aa_states.specs.code.Fronts.{Live, with_state, Adds}
 use Rattle.aa_states.specs.code.Runs.{HasReached, IsEntered, Follows, FollowsIf, HasBrought, IsClosedUpTo, IsPassing, IsBegun, IsWhole, IsPassed, IsRunning}
-use Rattle.aa_states.proofs.ListLemmas.{some_same, Contains-first}
+use Rattle.aa_graphs.proofs.ListLemmas.{some_same, Contains-first}
 use Rattle.aa_states.proofs.StepLemmas.{counted-counted}
 
 -- the elements of a list stay where they are when others are put behind it

@@ -1,6 +1,2 @@
-pub mod Bits
-pub mod ByteMaps
-pub mod Entries
-pub mod States
 pub mod Steps
 pub mod code

@@ -1,6 +1,6 @@
 -- How much work a run was. A step is the visit of one state at one place of a text.
 use Rattle.std.specs.Prelude.{◌≡◌, ℕ, zero, suc, ◌+◌, ◌-◌, ◌*◌, ◌^◌, ◌≤◌, List, length, min}
-use Rattle.aa_states.specs.States.{Graph}
+use Rattle.aa_graphs.specs.Graphs.{Graph}
 
 -- the greatest count that is told
 abbrev pub most_steps : ℕ

@@ -1,9 +1,4 @@
--- What the code's own forms mean: the tables of a graph, lists of states that live, and how far a run has come. No public contract names
--- these.
-pub mod Blocks
+-- What the code's own forms mean: lists of states that live, how far a run has come, and the patterns of ends. No public contract names these.
 pub mod Ends
 pub mod Fronts
-pub mod Graphs
-pub mod Rows
 pub mod Runs
-pub mod Tables

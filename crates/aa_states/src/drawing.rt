@@ -1,11 +1,10 @@
 //! Automata while they are made.
 
 ghost use Rattle.std.specs.Prelude.{◌≡◌, ◌<◌, length, IfOk, OnOk, OnErr};
-ghost use Rattle.aa_states.specs.States.{AddsEnd, AddsWay, IsState, SameGraph, SameRuns, start_alone, with_entry};
+ghost use Rattle.aa_graphs.specs.Graphs.{AddsEnd, AddsWay, IsState, SameGraph, SameRuns, start_alone, with_entry};
 
-use crate::entry::Entry;
 use crate::states::States;
-use crate::tables::Tables;
+use aa_graphs::{Entry, Tables};
 use std::alloc::{AllocError, Global};
 use std::marker::Model;
 
@@ -18,8 +17,8 @@ pub struct Drawing {
 }
 
 impl Model for Drawing {
-    ghost use Rattle.aa_states.specs.States.{Graph};
-    ghost use Rattle.aa_states.specs.code.Graphs.{AreSound, graph_of};
+    ghost use Rattle.aa_graphs.specs.Graphs.{Graph};
+    ghost use Rattle.aa_graphs.specs.OfTables.{AreSound, graph_of};
 
     ghost Value = { Graph };
 

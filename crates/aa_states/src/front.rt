@@ -1,10 +1,10 @@
 //! The states that live at one place of a text.
 
 ghost use Rattle.std.specs.Prelude.{◌≡◌, ℕ, ◌*◌, ◌<◌, ◌≤◌, not, ◌&&◌, [], length, All, IfOk, OnOk, slice_get, Some};
-ghost use Rattle.aa_states.specs.Bits.{has_bit};
+ghost use Rattle.aa_graphs.specs.Bits.{has_bit};
 ghost use Rattle.aa_states.specs.code.Fronts.{is_in, with_state};
 
-use crate::bits::{clear_bit, has_bit, set_bit};
+use aa_graphs::{clear_bit, has_bit, set_bit};
 use std::alloc::{AllocError, Global};
 use std::marker::Model;
 

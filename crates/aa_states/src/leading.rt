@@ -2,18 +2,16 @@
 
 ghost use Rattle.std.specs.Prelude.{◌≡◌, ◌<◌, ◌∷◌, [], length, map, All, Contains, OnOk, if◌then◌else◌};
 ghost use Rattle.std.specs.List.Sorted.{IsNonDecreasingBy};
-ghost use Rattle.aa_states.specs.Entries.{is_free};
-ghost use Rattle.aa_states.specs.States.{entry_of};
+ghost use Rattle.aa_graphs.specs.Entries.{is_free, takes_if};
+ghost use Rattle.aa_graphs.specs.Graphs.{entry_of};
 ghost use Rattle.aa_states.specs.code.Fronts.{Adds, with_state};
-ghost use Rattle.aa_states.specs.code.Graphs.{AreSound, AreSorted, graph_of};
-ghost use Rattle.aa_states.specs.code.Runs.{FollowsIf, is_byte, IsEntered, IsEnteredAmong, IsEnteredAway, IsEnteredFrom, IsEnteredNext, StaysAt, takes_if};
-ghost use Rattle.aa_states.specs.code.Tables.{IsWay, order_of};
-ghost use Rattle.aa_states.specs.declared.state.Way.{Way};
+ghost use Rattle.aa_graphs.specs.OfTables.{AreSound, AreSorted, graph_of};
+ghost use Rattle.aa_states.specs.code.Runs.{FollowsIf, is_byte, IsEntered, IsEnteredAmong, IsEnteredAway, IsEnteredFrom, IsEnteredNext, StaysAt};
+ghost use Rattle.aa_graphs.specs.Tables.{IsWay, order_of};
+ghost use Rattle.aa_graphs.specs.declared.state.Way.{Way};
 
 use crate::front::Front;
-use crate::state::{NO_BYTE, Way};
-use crate::tables::Tables;
-use crate::ways::ways_along;
+use aa_graphs::{NO_BYTE, Tables, Way, ways_along};
 use std::alloc::AllocError;
 
 // Up to so many ways are looked at one by one; among more, those of a state and a byte are found by halving.

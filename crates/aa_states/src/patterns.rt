@@ -2,12 +2,12 @@
 
 ghost use Rattle.std.specs.Prelude.{◌≡◌, ◌<◌, ◌≤◌, ◌↔◌, ℕ, length, All, AllPairs, Contains, IfOk, OnOk};
 ghost use Rattle.std.specs.List.Sorted.{IsNonDecreasing};
-ghost use Rattle.aa_states.specs.States.{EndsAt};
+ghost use Rattle.aa_graphs.specs.Graphs.{EndsAt};
 ghost use Rattle.aa_states.specs.code.Ends.{AreEndsOf, Gets, is_new, with_new};
-ghost use Rattle.aa_states.specs.code.Graphs.{AreSound, AreSorted, graph_of};
+ghost use Rattle.aa_graphs.specs.OfTables.{AreSound, AreSorted, graph_of};
 
 use crate::front::Front;
-use crate::tables::Tables;
+use aa_graphs::Tables;
 use std::alloc::{AllocError, Global};
 
 // The patterns of which states are ends, each once, in rising order.

@@ -2,13 +2,13 @@
 
 ghost use Rattle.std.specs.Prelude.{◌≡◌, ◌+◌, ◌*◌, [], length, reverse, OnErr, OnOk};
 ghost use Rattle.aa_states.specs.Steps.{counted, IsCounted};
-ghost use Rattle.aa_states.specs.code.Graphs.{AreSound, AreSorted, graph_of};
+ghost use Rattle.aa_graphs.specs.OfTables.{AreSound, AreSorted, graph_of};
 ghost use Rattle.aa_states.specs.code.Runs.{IsPassed, IsWhole};
 
 use crate::front::Front;
 use crate::leading::visit;
 use crate::steps::Steps;
-use crate::tables::Tables;
+use aa_graphs::Tables;
 use std::alloc::AllocError;
 use std::mem::swap;
 

@@ -2,15 +2,15 @@
 
 ghost use Rattle.std.specs.Prelude.{◌≡◌, length, IfOk, OnOk};
 ghost use Rattle.std.specs.List.Sorted.{IsStrictlyIncreasing};
-ghost use Rattle.aa_states.specs.States.{IsFound, SameGraph};
+ghost use Rattle.aa_graphs.specs.Graphs.{IsFound, SameGraph};
 ghost use Rattle.aa_states.specs.Steps.{IsCounted, most_visits};
-ghost use Rattle.aa_states.specs.code.Graphs.{AreSound, graph_of};
+ghost use Rattle.aa_graphs.specs.OfTables.{AreSound, graph_of};
 
 use crate::front::Front;
 use crate::patterns::patterns_of;
 use crate::run::run;
 use crate::steps::Steps;
-use crate::tables::Tables;
+use aa_graphs::Tables;
 use std::alloc::{AllocError, Global};
 use std::marker::Model;
 
@@ -21,8 +21,8 @@ pub struct States {
 }
 
 impl Model for States {
-    ghost use Rattle.aa_states.specs.States.{Graph};
-    ghost use Rattle.aa_states.specs.code.Graphs.{AreSound, AreSorted, graph_of};
+    ghost use Rattle.aa_graphs.specs.Graphs.{Graph};
+    ghost use Rattle.aa_graphs.specs.OfTables.{AreSound, AreSorted, graph_of};
 
     ghost Value = { Graph };
 

@@ -6,7 +6,7 @@ use Rattle.aa_automata.specs.Walks.{Standing, source_states}
 use Rattle.aa_automata.specs.declared.growing.Growing.{Growing}
 use Rattle.aa_drawn.specs.Drawn.{AddsState, IsDrawn, Suits, trail_at}
 use Rattle.aa_elements.specs.Elements.{Element}
-use Rattle.aa_states.specs.declared.entry.Entry.{Entry}
+use Rattle.aa_graphs.specs.declared.entry.Entry.{Entry}
 use Rattle.aa_trails.specs.Beginnings.{Begun}
 use Rattle.aa_trails.specs.Trails.{Trail}
 use Rattle.aa_tree.specs.Ways.{HasOneMore, places}

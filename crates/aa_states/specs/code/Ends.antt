@@ -1,6 +1,6 @@
 -- Patterns of which some states are ends.
 use Rattle.std.specs.Prelude.{◌≡◌, ◌↔◌, ◌⊎◌, ℕ, ◌-◌, ◌<◌, Bool, ◌==◌, ◌||◌, not, List, Contains, Some, slice_get, slice_index, [], ◌∷◌, ◌++◌, length, if◌then◌else◌}
-use Rattle.aa_states.specs.States.{Graph, EndsAt}
+use Rattle.aa_graphs.specs.Graphs.{Graph, EndsAt}
 
 -- a list got those of a kind, and no others
 abbrev pub Gets : List ℕ → List ℕ → (ℕ → Type 0) → Type 0

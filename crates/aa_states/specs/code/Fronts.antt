@@ -1,7 +1,7 @@
 -- Lists of the states that live at one place of a text.
 use Rattle.std.specs.Prelude.{◌≡◌, ℕ, ◌*◌, ◌<◌, ◌≤◌, Bool, false, ◌==◌, if◌then◌else◌, List, [], ◌∷◌, ◌++◌, length, All, Contains}
 use Rattle.std.specs.List.{list_any}
-use Rattle.aa_states.specs.Bits.{has_bit}
+use Rattle.aa_graphs.specs.Bits.{has_bit}
 
 -- states in the order in which they were found, all of them below a number
 pub record Live : Type 0 where

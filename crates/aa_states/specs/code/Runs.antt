@@ -1,14 +1,14 @@
 -- How far a run over a text has come: which states are known to live behind what was read.
 use Rattle.std.specs.Prelude.{◌≡◌, ◌⊎◌, ℕ, ◌+◌, ◌*◌, ◌<◌, ◌≤◌, Bool, true, false, ◌==◌, List, [], ◌∷◌, length, Contains, All, Option, Some, None, slice_get}
-use Rattle.aa_states.specs.Entries.{is_free, takes_byte}
+use Rattle.aa_graphs.specs.Entries.{is_free, takes_if}
 use Rattle.aa_states.specs.Steps.{counted}
-use Rattle.aa_states.specs.States.{Graph, entry_of, Leads, Stays, Reaches}
+use Rattle.aa_graphs.specs.Graphs.{Graph, entry_of, Leads, Stays, Reaches}
 use Rattle.aa_states.specs.code.Fronts.{Live}
-use Rattle.aa_states.specs.code.Graphs.{graph_of}
-use Rattle.aa_states.specs.code.Tables.{state_at, IsAlong}
-use Rattle.aa_states.specs.declared.entry.Entry.{Entry}
-use Rattle.aa_states.specs.declared.state.Way.{Way}
-use Rattle.aa_states.specs.declared.tables.Tables.{Tables}
+use Rattle.aa_graphs.specs.OfTables.{graph_of}
+use Rattle.aa_graphs.specs.Tables.{state_at, IsAlong}
+use Rattle.aa_graphs.specs.declared.entry.Entry.{Entry}
+use Rattle.aa_graphs.specs.declared.state.Way.{Way}
+use Rattle.aa_graphs.specs.declared.tables.Tables.{Tables}
 
 -- the list has those states alone that are reached behind a text
 abbrev pub AreReached : Graph → List ℕ → List ℕ → Type 0
@@ -17,11 +17,6 @@ AreReached g past live = All (Reaches g past) live
 -- the list has each state that is reached behind a text
 abbrev pub HasReached : Graph → List ℕ → List ℕ → Type 0
 HasReached g past live = (r : ℕ) → Reaches g past r → Contains live r
-
--- the byte is taken to come in, if there is one
-abbrev pub takes_if : Option ℕ → Entry → Bool
-takes_if None entry = false
-takes_if (Some c) entry = takes_byte entry c
 
 -- a number is that of the byte, if there is one
 abbrev pub is_byte : ℕ → Option ℕ → Bool

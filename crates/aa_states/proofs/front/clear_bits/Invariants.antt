@@ -1,5 +1,5 @@
 use Rattle.std.proofs.Common.{◌≡◌, ℕ, not, ◌&&◌, take}
-use Rattle.aa_states.specs.Bits.{has_bit}
+use Rattle.aa_graphs.specs.Bits.{has_bit}
 use Rattle.aa_states.specs.code.Fronts.{is_in}
 use Rattle.aa_states.proofs.front.clear_bits.Given as goal
 

@@ -1,6 +1,6 @@
+use Rattle.aa_graphs.specs.Entries.{takes_if}
 use Rattle.std.proofs.Common.{refl, ap, sym, ◌∙◌}
 use Rattle.std.proofs.lemmas.Result.{on_ok_weaker}
-use Rattle.aa_states.specs.code.Runs.{takes_if}
 use Rattle.aa_states.proofs.LeadLemmas.{entry_along, takes_own}
 use Rattle.aa_states.proofs.PatternLemmas.{OnOk-from}
 use Rattle.aa_states.proofs.leading.enter_along.Goals as goal

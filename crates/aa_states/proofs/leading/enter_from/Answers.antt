@@ -1,8 +1,8 @@
 use Rattle.std.proofs.Common.{[], ◌∷◌}
 use Rattle.std.proofs.lemmas.Result.{on_ok_weaker}
-use Rattle.aa_states.specs.Entries.{is_free}
-use Rattle.aa_states.specs.code.Graphs.{graph_of}
-use Rattle.aa_states.specs.code.Runs.{IsEnteredFrom, takes_if}
+use Rattle.aa_graphs.specs.Entries.{is_free, takes_if}
+use Rattle.aa_graphs.specs.OfTables.{graph_of}
+use Rattle.aa_states.specs.code.Runs.{IsEnteredFrom}
 use Rattle.aa_states.proofs.FrontLemmas.{Adds-nothing}
 use Rattle.aa_states.proofs.LeadLemmas.{entered_from_one, entered_from_other}
 use Rattle.aa_states.proofs.leading.enter_from.Goals as goal

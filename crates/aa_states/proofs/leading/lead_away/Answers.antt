@@ -1,6 +1,6 @@
 use Rattle.std.proofs.Common.{sym, ◌∙◌}
-use Rattle.aa_states.specs.Entries.{is_free}
-use Rattle.aa_states.specs.code.Runs.{IsEnteredAway, takes_if}
+use Rattle.aa_graphs.specs.Entries.{is_free, takes_if}
+use Rattle.aa_states.specs.code.Runs.{IsEnteredAway}
 use Rattle.aa_states.proofs.FrontLemmas.{Adds-nothing}
 use Rattle.aa_states.proofs.LeadLemmas.{none_away}
 use Rattle.aa_states.proofs.leading.lead_away.Goals as goal

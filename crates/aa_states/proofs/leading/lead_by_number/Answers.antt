@@ -2,11 +2,11 @@ use Rattle.std.proofs.Common.{◌≤◌, sym, subst}
 use Rattle.std.proofs.lemmas.List.Elements.{All-weaker}
 use Rattle.std.proofs.lemmas.Result.{on_ok_weaker}
 use Rattle.std.specs.Prelude.{map}
-use Rattle.aa_states.specs.Entries.{is_free}
+use Rattle.aa_graphs.specs.Entries.{is_free, takes_if}
 use Rattle.aa_states.specs.code.Fronts.{Adds}
-use Rattle.aa_states.specs.code.Graphs.{graph_of}
-use Rattle.aa_states.specs.code.Runs.{IsEnteredAmong, takes_if}
-use Rattle.aa_states.specs.code.Tables.{IsWay, no_byte}
+use Rattle.aa_graphs.specs.OfTables.{graph_of}
+use Rattle.aa_states.specs.code.Runs.{IsEnteredAmong}
+use Rattle.aa_graphs.specs.Tables.{IsWay, no_byte}
 use Rattle.aa_states.proofs.LeadLemmas.{Adds-by_none, Adds-by_number, comes_freely, comes_if, entered_along, known_along, known_ways}
 use Rattle.aa_states.proofs.leading.lead_by_number.Goals as goal
 

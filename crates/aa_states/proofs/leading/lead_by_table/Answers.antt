@@ -1,6 +1,5 @@
 use Rattle.std.proofs.lemmas.Result.{on_ok_weaker}
-use Rattle.aa_states.specs.Entries.{is_free}
-use Rattle.aa_states.specs.code.Runs.{takes_if}
+use Rattle.aa_graphs.specs.Entries.{is_free, takes_if}
 use Rattle.aa_states.proofs.LeadLemmas.{entered_away, known_ways}
 use Rattle.aa_states.proofs.leading.lead_by_table.Goals as goal
 

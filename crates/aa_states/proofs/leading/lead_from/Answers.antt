@@ -1,9 +1,8 @@
 use Rattle.std.proofs.Common.{take}
 use Rattle.std.proofs.lemmas.List.{take_more}
-use Rattle.aa_states.specs.Entries.{is_free}
-use Rattle.aa_states.specs.code.Graphs.{graph_of}
-use Rattle.aa_states.specs.code.Runs.{takes_if}
-use Rattle.aa_states.specs.declared.state.Way.{Way}
+use Rattle.aa_graphs.specs.Entries.{is_free, takes_if}
+use Rattle.aa_graphs.specs.OfTables.{graph_of}
+use Rattle.aa_graphs.specs.declared.state.Way.{Way}
 use Rattle.aa_states.proofs.LeadLemmas.{entered_from_more}
 use Rattle.aa_states.proofs.leading.lead_from.Goals as goal
 

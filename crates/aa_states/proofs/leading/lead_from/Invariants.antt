@@ -1,8 +1,8 @@
 use Rattle.std.proofs.Common.{take}
-use Rattle.aa_states.specs.Entries.{is_free}
+use Rattle.aa_graphs.specs.Entries.{is_free, takes_if}
 use Rattle.aa_states.specs.code.Fronts.{Adds}
-use Rattle.aa_states.specs.code.Graphs.{graph_of}
-use Rattle.aa_states.specs.code.Runs.{IsEnteredFrom, takes_if}
+use Rattle.aa_graphs.specs.OfTables.{graph_of}
+use Rattle.aa_states.specs.code.Runs.{IsEnteredFrom}
 use Rattle.aa_states.proofs.leading.lead_from.Given as goal
 
 abbrev pub invariant-loop-way : goal.invariant-loop-way

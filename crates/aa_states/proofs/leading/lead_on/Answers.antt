@@ -1,7 +1,6 @@
 use Rattle.std.proofs.Common.{sym, ◌∙◌}
 use Rattle.std.proofs.lemmas.Result.{on_ok_weaker}
-use Rattle.aa_states.specs.Entries.{is_free}
-use Rattle.aa_states.specs.code.Runs.{takes_if}
+use Rattle.aa_graphs.specs.Entries.{is_free, takes_if}
 use Rattle.aa_states.proofs.LeadLemmas.{entered_next}
 use Rattle.aa_states.proofs.leading.lead_on.Goals as goal
 

@@ -1,6 +1,6 @@
 use Rattle.std.proofs.Common.{◌≡◌, true, refl, sym, ◌∙◌}
 use Rattle.std.proofs.lemmas.Result.{on_ok_weaker}
-use Rattle.aa_states.specs.code.Graphs.{graph_of}
+use Rattle.aa_graphs.specs.OfTables.{graph_of}
 use Rattle.aa_states.specs.code.Runs.{StaysAt}
 use Rattle.aa_states.proofs.FrontLemmas.{Adds-as, Adds-tested}
 use Rattle.aa_states.proofs.leading.stay.Goals as goal

@@ -1,7 +1,6 @@
 use Rattle.std.proofs.lemmas.Result.{on_ok_weaker}
-use Rattle.aa_states.specs.Entries.{is_free}
-use Rattle.aa_states.specs.code.Graphs.{graph_of}
-use Rattle.aa_states.specs.code.Runs.{takes_if}
+use Rattle.aa_graphs.specs.Entries.{is_free, takes_if}
+use Rattle.aa_graphs.specs.OfTables.{graph_of}
 use Rattle.aa_states.proofs.LeadLemmas.{Adds-lead, follows_none, follows_some}
 use Rattle.aa_states.proofs.PatternLemmas.{OnOk-from}
 use Rattle.aa_states.proofs.leading.visit.Goals as goal

@@ -3,7 +3,7 @@ use Rattle.std.proofs.lemmas.List.Sorted.{Contains-permutation, IsPermutation-sy
 use Rattle.std.specs.Prelude.{Contains}
 use Rattle.std.specs.List.Sorted.{IsNonDecreasing}
 use Rattle.aa_states.specs.code.Ends.{IsEndIn}
-use Rattle.aa_states.specs.code.Graphs.{graph_of}
+use Rattle.aa_graphs.specs.OfTables.{graph_of}
 use Rattle.aa_states.proofs.PatternLemmas.{IfOk-then}
 use Rattle.aa_states.proofs.patterns.patterns_of.Goals as goal
 

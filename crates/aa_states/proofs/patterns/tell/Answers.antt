@@ -3,7 +3,7 @@ use Rattle.std.proofs.Math.Seq.{take-length}
 use Rattle.std.specs.Prelude.{Contains}
 use Rattle.aa_states.specs.code.Ends.{Gets}
 use Rattle.std.proofs.lemmas.List.{map_more}
-use Rattle.aa_states.specs.declared.state.End.{End}
+use Rattle.aa_graphs.specs.declared.state.End.{End}
 use Rattle.aa_states.proofs.PatternLemmas.{gets_more, gets_ends}
 use Rattle.aa_states.proofs.patterns.tell.Goals as goal
 

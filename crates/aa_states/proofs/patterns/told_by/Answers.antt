@@ -1,7 +1,7 @@
 use Rattle.std.proofs.Common.{◌≡◌, ◌↔◌, ℕ, length, subst, arith}
 use Rattle.std.specs.Prelude.{Contains}
 use Rattle.aa_states.specs.code.Ends.{IsEndIn}
-use Rattle.aa_states.specs.code.Graphs.{graph_of}
+use Rattle.aa_graphs.specs.OfTables.{graph_of}
 use Rattle.aa_states.proofs.PatternLemmas.{ends_more}
 use Rattle.aa_states.proofs.patterns.told_by.Goals as goal
 

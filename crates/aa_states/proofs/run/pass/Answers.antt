@@ -1,5 +1,5 @@
 use Rattle.std.proofs.Common.{arith}
-use Rattle.aa_states.specs.code.Graphs.{graph_of}
+use Rattle.aa_graphs.specs.OfTables.{graph_of}
 use Rattle.aa_states.proofs.RunLemmas.{passing_more, passed}
 use Rattle.aa_states.proofs.run.pass.Goals as goal
 

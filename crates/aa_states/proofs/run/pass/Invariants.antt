@@ -1,5 +1,5 @@
 use Rattle.std.proofs.Common.{◌≡◌, ◌-◌}
-use Rattle.aa_states.specs.code.Graphs.{graph_of}
+use Rattle.aa_graphs.specs.OfTables.{graph_of}
 use Rattle.aa_states.specs.code.Runs.{IsPassing}
 use Rattle.aa_states.proofs.run.pass.Given as goal
 

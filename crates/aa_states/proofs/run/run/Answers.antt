@@ -1,6 +1,6 @@
 use Rattle.std.proofs.Common.{◌≡◌, ◌≢◌, ◌+◌, ◌*◌, length, refl, reverse, take, subst, arith}
 use Rattle.aa_states.specs.Steps.{IsCounted}
-use Rattle.aa_states.specs.code.Graphs.{graph_of}
+use Rattle.aa_graphs.specs.OfTables.{graph_of}
 use Rattle.aa_states.proofs.RunLemmas.{counted_some, running_early, running_start, running_more, running_end, running_so_far, reverse-longer, whole_early}
 use Rattle.aa_states.proofs.run.run.Goals as goal
 

@@ -3,7 +3,7 @@ use Rattle.std.specs.Prelude.{Option, Some, length}
 use Rattle.std.proofs.lemmas.Result.{IfOk-weaker}
 use Rattle.aa_automata.proofs.BuiltLemmas.{bytes-of, graph-states, matching-found}
 use Rattle.aa_automata.specs.Automata.{IsAutomatonOf, IsGraphOf}
-use Rattle.aa_states.specs.States.{Graph}
+use Rattle.aa_graphs.specs.Graphs.{Graph}
 use Rattle.aa_automata.proofs.automaton.Automaton.matching.Goals as goal
 
 graph_of : (seen : Option Graph) (g : Graph) (patterns : List (List ℕ)) → seen ≡ Some g → IsAutomatonOf seen patterns → IsGraphOf g patterns

@@ -1,6 +1,6 @@
 use Rattle.std.proofs.Common.{sym, subst}
-use Rattle.aa_states.specs.States.{IsState}
-use Rattle.aa_states.proofs.SoundLemmas.{is_in_table}
+use Rattle.aa_graphs.specs.Graphs.{IsState}
+use Rattle.aa_graphs.proofs.SoundLemmas.{is_in_table}
 use Rattle.aa_states.proofs.drawing.Drawing.end.Goals as goal
 
 pub end-requires-clause-is_state : goal.end-requires-clause-is_state

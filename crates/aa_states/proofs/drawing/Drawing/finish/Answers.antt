@@ -1,5 +1,5 @@
 use Rattle.std.proofs.Common.{subst}
-use Rattle.aa_states.specs.States.{SameGraph}
+use Rattle.aa_graphs.specs.Graphs.{SameGraph}
 use Rattle.aa_states.proofs.ReachLemmas.{same_runs}
 use Rattle.aa_states.proofs.drawing.Drawing.finish.Goals as goal
 

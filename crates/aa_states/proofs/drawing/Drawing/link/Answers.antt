@@ -1,6 +1,6 @@
 use Rattle.std.proofs.Common.{sym, subst}
-use Rattle.aa_states.specs.States.{IsState}
-use Rattle.aa_states.proofs.SoundLemmas.{is_in_table}
+use Rattle.aa_graphs.specs.Graphs.{IsState}
+use Rattle.aa_graphs.proofs.SoundLemmas.{is_in_table}
 use Rattle.aa_states.proofs.drawing.Drawing.link.Goals as goal
 
 pub link-requires-clause-from : goal.link-requires-clause-from

@@ -1,6 +1,6 @@
 use Rattle.std.proofs.Common.{rules, ◌≡◌, ◌<◌, ◌∙◌, ◌==◌, ◌||◌, false, length, arith, ap}
 use Rattle.std.proofs.lemmas.List.{with_items_is}
-use Rattle.aa_states.specs.Bits.{has_bit}
+use Rattle.aa_graphs.specs.Bits.{has_bit}
 use Rattle.aa_states.specs.code.Fronts.{is_in}
 use Rattle.aa_states.proofs.FrontLemmas.{IsFront-push}
 use Rattle.aa_states.proofs.front.Front.insert.Goals as goal

@@ -1,9 +1,9 @@
 use Rattle.std.proofs.Common.{◌≡◌, ◌+◌, ◌*◌, length, ◌∙◌, ap, sym, subst}
-use Rattle.aa_states.specs.States.{IsFound}
+use Rattle.aa_graphs.specs.Graphs.{IsFound}
 use Rattle.aa_states.specs.Steps.{IsCounted}
-use Rattle.aa_states.specs.code.Graphs.{graph_of}
+use Rattle.aa_graphs.specs.OfTables.{graph_of}
 use Rattle.aa_states.proofs.PatternLemmas.{IfOk-then, OnOk-from, found_all}
-use Rattle.aa_states.proofs.TableLemmas.{length-entries_in}
+use Rattle.aa_graphs.proofs.TableLemmas.{length-entries_in}
 use Rattle.aa_states.proofs.states.States.ends_reached.Goals as goal
 
 pub returns-clause-found : goal.returns-clause-found

@@ -1,5 +1,5 @@
 use Rattle.std.proofs.Common.{ap, arith, length}
-use Rattle.aa_states.proofs.TableLemmas.{length-entries_in}
+use Rattle.aa_graphs.proofs.TableLemmas.{length-entries_in}
 use Rattle.aa_states.proofs.states.States.states.Goals as goal
 
 pub returns : goal.returns
