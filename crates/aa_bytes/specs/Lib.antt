@@ -1,3 +1,5 @@
-pub mod Bytes
+pub mod Bits
+pub mod ByteMaps
 pub mod ByteSets
+pub mod Bytes
 pub mod Texts

@@ -6,29 +6,29 @@ use Rattle.std.specs.Option.{option_map}
 use Rattle.std.specs.Str.{bytes_eq}
 use Rattle.std.proofs.lemmas.Bool.{and_parts}
 use Rattle.std.proofs.lemmas.Slice.Eq.{bytes_eq-Decides}
-use Rattle.aa_access.specs.Access.{EXEC}
-use Rattle.aa_access.specs.ExecWords.{row}
-use Rattle.aa_access.specs.declared.exec_word.Destination.{Destination}
-use Rattle.aa_access.specs.declared.exec_word.Destination.TheVariants as to
-use Rattle.aa_attach.specs.Ranks.{best_rank}
-use Rattle.aa_exec.specs.Choices.{Choice, Clashing, Denied as DeniedByRule, Leads, Missing, choice, choice_of, denies}
-use Rattle.aa_exec.specs.ExecRules.{Denying, ExecRule, Leading, exec_rules, said_of}
-use Rattle.aa_names.specs.FullNames.{full_name}
-use Rattle.aa_policy.specs.Profile.{child_place}
-use Rattle.aa_policy.specs.declared.profile.Mode.{Mode}
-use Rattle.aa_policy.specs.declared.profile.Mode.TheVariants.{Complain, Enforce}
-use Rattle.aa_policy.specs.declared.profile.Profile.{Profile}
-use Rattle.aa_policy.specs.declared.profile.Rule.{Rule}
-use Rattle.aa_policy.specs.declared.profile.Transition.{Transition}
+use Rattle.aa_profile_access.specs.Access.{EXEC}
+use Rattle.aa_profile_access.specs.ExecWords.{row}
+use Rattle.aa_profile_access.specs.declared.exec_word.Destination.{Destination}
+use Rattle.aa_profile_access.specs.declared.exec_word.Destination.TheVariants as to
+use Rattle.aa_decide_attachment.specs.Ranks.{best_rank}
+use Rattle.aa_decide_exec_rules.specs.Choices.{Choice, Clashing, Denied as DeniedByRule, Leads, Missing, choice, choice_of, denies}
+use Rattle.aa_decide_exec_rules.specs.ExecRules.{Denying, ExecRule, Leading, exec_rules, said_of}
+use Rattle.aa_profile_names.specs.FullNames.{full_name}
+use Rattle.aa_profile_data.specs.Profile.{child_place}
+use Rattle.aa_profile_data.specs.declared.profile.Mode.{Mode}
+use Rattle.aa_profile_data.specs.declared.profile.Mode.TheVariants.{Complain, Enforce}
+use Rattle.aa_profile_data.specs.declared.profile.Profile.{Profile}
+use Rattle.aa_profile_data.specs.declared.profile.Rule.{Rule}
+use Rattle.aa_profile_data.specs.declared.profile.Transition.{Transition}
 use Rattle.aa_decide.specs.Attachment.{attached}
-use Rattle.aa_verdicts.specs.Confinement.{By, Confinement, Unconfined as NotConfined, in_state}
-use Rattle.aa_verdicts.specs.Entries.{Loaded, is_in_force}
+use Rattle.aa_decide_verdict.specs.Confinement.{By, Confinement, Unconfined as NotConfined, in_state}
+use Rattle.aa_decide_verdict.specs.Entries.{Loaded, is_in_force}
 use Rattle.aa_decide.specs.Exec.{Asker, ExecAnswer, Nowhere, Null, Started, Unconfined, Under, by_choice, by_full_name, carried_out, confined_start, exec_answer, in_profile, is_named_in_force, led, led_by, missing, named_in_force, place_of_child, started, to_child, to_profile, unconfined_start}
 use Rattle.aa_decide.specs.ExecLaws.{DifferInOrder, SomeRuleDenies}
-use Rattle.aa_verdicts.specs.Ready.{audits, rules_at}
-use Rattle.aa_verdicts.specs.declared.entry.State.{State}
-use Rattle.aa_verdicts.specs.declared.entry.State.TheVariants.{Disabled, Modes}
-use Rattle.aa_verdicts.specs.declared.verdict.Answer.TheVariants.{Deny}
+use Rattle.aa_decide_verdict.specs.Ready.{audits, rules_at}
+use Rattle.aa_decide_verdict.specs.declared.entry.State.{State}
+use Rattle.aa_decide_verdict.specs.declared.entry.State.TheVariants.{Disabled, Modes}
+use Rattle.aa_decide_audit.specs.declared.verdict.Answer.TheVariants.{Deny}
 use Rattle.aa_decide.proofs.AttachmentLemmas.{RankLaw, at-there, attached-order, attached-told, one-named}
 
 -- the answer by where a transition leads, and by the profile that is attached

@@ -1,15 +1,16 @@
 -- Answers of the code, as the definitions see them.
 use Rattle.std.proofs.Common.{◌≡◌, ℕ, Bool, List, Option, None, Some, ap, refl, ◌∙◌}
-use Rattle.aa_access.specs.ExecWords.{row}
-use Rattle.aa_policy.specs.declared.profile.Mode.{Mode}
-use Rattle.aa_policy.specs.declared.profile.Transition.{Transition}
-use Rattle.aa_verdicts.specs.Entries.{Loaded}
+use Rattle.aa_profile_access.specs.ExecWords.{row}
+use Rattle.aa_profile_data.specs.declared.profile.Mode.{Mode}
+use Rattle.aa_profile_data.specs.declared.profile.Transition.{Transition}
+use Rattle.aa_decide_verdict.specs.Entries.{Loaded}
 use Rattle.aa_decide.specs.Exec.{Asker, Started, carried_out, exec_verdict, led_by, missing, started, tag_if}
-use Rattle.aa_decide.specs.code.SeenExec.{IsAnswer, IsDestination, seen_to}
-use Rattle.aa_decide.specs.declared.execution.ExecTo.{ExecTo}
-use Rattle.aa_decide.specs.declared.execution.ExecVerdict.{ExecVerdict}
-use Rattle.aa_verdicts.specs.declared.verdict.Answer.TheVariants.{Allow}
-use Rattle.aa_verdicts.specs.declared.verdict.Tag.TheVariants.{Audit}
+use Rattle.aa_decide.specs.code.SeenExec.{IsDestination}
+use Rattle.aa_decide.specs.SeenExec.{IsAnswer, seen_to}
+use Rattle.aa_decide_audit.specs.declared.exec_verdict.ExecTo.{ExecTo}
+use Rattle.aa_decide_audit.specs.declared.exec_verdict.ExecVerdict.{ExecVerdict}
+use Rattle.aa_decide_audit.specs.declared.verdict.Answer.TheVariants.{Allow}
+use Rattle.aa_decide_audit.specs.declared.verdict.Tag.TheVariants.{Audit}
 
 some-of : {A : Type 0} (one other : A) → Some one ≡ Some other → one ≡ other
 some-of one other same = cc

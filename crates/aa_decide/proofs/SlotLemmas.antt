@@ -3,11 +3,11 @@ use Rattle.std.proofs.Common.{◌≡◌, ℕ, zero, suc, ◌+◌, ◌==◌, Bool
 use Rattle.std.specs.Prelude.{fold, if◌then◌else◌, option_and_then, slice_get}
 use Rattle.std.specs.Option.{option_map}
 use Rattle.std.proofs.Math.Dec.{eqb-suc-zero, eqb-zero-suc, leb-suc-zero}
-use Rattle.aa_attach.specs.Ranks.{greater}
-use Rattle.aa_attach.specs.StandingOut.{greatest, has_rank, place_of_only, standing_out}
+use Rattle.aa_decide_attachment.specs.Ranks.{greater}
+use Rattle.aa_decide_attachment.specs.StandingOut.{greatest, has_rank, place_of_only, standing_out}
 use Rattle.aa_decide.specs.Attachment.{attached, entry_rank}
-use Rattle.aa_verdicts.specs.Entries.{Loaded}
-use Rattle.aa_decide.specs.Slots.{Holds, filled}
+use Rattle.aa_decide_verdict.specs.Entries.{Loaded}
+use Rattle.aa_decide_verdict.specs.Slots.{Holds, filled}
 use Rattle.aa_decide.specs.code.SlotRanks.{slot_rank}
 
 -- rank 0 is above none

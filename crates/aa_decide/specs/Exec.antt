@@ -2,26 +2,26 @@
 use Rattle.std.specs.Prelude.{ℕ, Bool, false, ◌&&◌, if◌then◌else◌, List, find, Option, None, Some, option_and_then}
 use Rattle.std.specs.Option.{option_map}
 use Rattle.std.specs.Str.{bytes_eq}
-use Rattle.aa_access.specs.Access.{EXEC}
-use Rattle.aa_access.specs.ExecWords.{row}
-use Rattle.aa_access.specs.declared.exec_word.Destination.{Destination}
-use Rattle.aa_access.specs.declared.exec_word.Destination.TheVariants as to
-use Rattle.aa_exec.specs.Choices.{Choice, Clashing, Denied as DeniedByRule, Leads, Missing, choice}
-use Rattle.aa_names.specs.FullNames.{full_name}
-use Rattle.aa_policy.specs.Profile.{child_place}
-use Rattle.aa_policy.specs.declared.profile.Mode.{Mode}
-use Rattle.aa_policy.specs.declared.profile.Mode.TheVariants.{Complain, Enforce}
-use Rattle.aa_policy.specs.declared.profile.Profile.{Profile}
-use Rattle.aa_policy.specs.declared.profile.Transition.{Transition}
+use Rattle.aa_profile_access.specs.Access.{EXEC}
+use Rattle.aa_profile_access.specs.ExecWords.{row}
+use Rattle.aa_profile_access.specs.declared.exec_word.Destination.{Destination}
+use Rattle.aa_profile_access.specs.declared.exec_word.Destination.TheVariants as to
+use Rattle.aa_decide_exec_rules.specs.Choices.{Choice, Clashing, Denied as DeniedByRule, Leads, Missing, choice}
+use Rattle.aa_profile_names.specs.FullNames.{full_name}
+use Rattle.aa_profile_data.specs.Profile.{child_place}
+use Rattle.aa_profile_data.specs.declared.profile.Mode.{Mode}
+use Rattle.aa_profile_data.specs.declared.profile.Mode.TheVariants.{Complain, Enforce}
+use Rattle.aa_profile_data.specs.declared.profile.Profile.{Profile}
+use Rattle.aa_profile_data.specs.declared.profile.Transition.{Transition}
 use Rattle.aa_decide.specs.Attachment.{attached, attached_child}
-use Rattle.aa_verdicts.specs.Confinement.{By, Confinement, Unconfined as NotConfined, in_state}
-use Rattle.aa_verdicts.specs.Entries.{Loaded, is_in_force}
-use Rattle.aa_verdicts.specs.Ready.{audits, rules_at}
-use Rattle.aa_verdicts.specs.declared.verdict.Answer.{Answer}
-use Rattle.aa_verdicts.specs.declared.verdict.Answer.TheVariants.{Allow, Deny, Refuse, Complain as Complained}
-use Rattle.aa_verdicts.specs.declared.verdict.Tag.{Tag}
-use Rattle.aa_verdicts.specs.declared.verdict.Tag.TheVariants.{Allowed, Audit, Denied}
-use Rattle.aa_verdicts.specs.declared.verdict.Verdict.{Verdict}
+use Rattle.aa_decide_verdict.specs.Confinement.{By, Confinement, Unconfined as NotConfined, in_state}
+use Rattle.aa_decide_verdict.specs.Entries.{Loaded, is_in_force}
+use Rattle.aa_decide_verdict.specs.Ready.{audits, rules_at}
+use Rattle.aa_decide_audit.specs.declared.verdict.Answer.{Answer}
+use Rattle.aa_decide_audit.specs.declared.verdict.Answer.TheVariants.{Allow, Deny, Refuse, Complain as Complained}
+use Rattle.aa_decide_audit.specs.declared.verdict.Tag.{Tag}
+use Rattle.aa_decide_audit.specs.declared.verdict.Tag.TheVariants.{Allowed, Audit, Denied}
+use Rattle.aa_decide_audit.specs.declared.verdict.Verdict.{Verdict}
 
 -- who asks by a loaded profile: itself, or its child or hat at a place
 pub record Asker : Type 0 where

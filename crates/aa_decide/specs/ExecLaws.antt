@@ -2,13 +2,13 @@
 use Rattle.std.specs.Prelude.{◌≡◌, ◌<◌, ℕ, Bool, true, false, List, Option, Some}
 use Rattle.std.specs.List.{Contains}
 use Rattle.std.specs.Str.{bytes_eq}
-use Rattle.aa_exec.specs.ExecRules.{Denying, said_of}
-use Rattle.aa_policy.specs.declared.profile.Profile.{Profile}
-use Rattle.aa_policy.specs.declared.profile.Rule.{Rule}
+use Rattle.aa_decide_exec_rules.specs.ExecRules.{Denying, said_of}
+use Rattle.aa_profile_data.specs.declared.profile.Profile.{Profile}
+use Rattle.aa_profile_data.specs.declared.profile.Rule.{Rule}
 use Rattle.aa_decide.specs.Attachment.{entry_rank}
 use Rattle.aa_decide.specs.Named.{have_distinct_names}
-use Rattle.aa_verdicts.specs.Entries.{Loaded}
-use Rattle.aa_verdicts.specs.Ready.{audits, rules_at}
+use Rattle.aa_decide_verdict.specs.Entries.{Loaded}
+use Rattle.aa_decide_verdict.specs.Ready.{audits, rules_at}
 
 -- no two entries have one name
 abbrev pub HaveDistinctNames : List Loaded → Type 0

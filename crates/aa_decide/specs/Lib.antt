@@ -2,5 +2,5 @@ pub mod Attachment
 pub mod Exec
 pub mod ExecLaws
 pub mod Named
-pub mod Slots
+pub mod SeenExec
 pub mod code

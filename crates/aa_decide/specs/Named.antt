@@ -2,9 +2,9 @@
 use Rattle.std.specs.Prelude.{ℕ, Bool, List, map, Option, find}
 use Rattle.std.specs.List.{list_any}
 use Rattle.std.specs.Str.{bytes_eq}
-use Rattle.aa_policy.specs.Profile.{are_distinct}
-use Rattle.aa_policy.specs.declared.profile.Profile.{Profile}
-use Rattle.aa_verdicts.specs.Entries.{Loaded}
+use Rattle.aa_profile_data.specs.Profile.{are_distinct}
+use Rattle.aa_profile_data.specs.declared.profile.Profile.{Profile}
+use Rattle.aa_decide_verdict.specs.Entries.{Loaded}
 
 -- an entry's profile has the name
 abbrev pub is_named : List ℕ → Loaded → Bool

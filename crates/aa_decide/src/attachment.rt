@@ -1,15 +1,14 @@
 //! Which of the profiles in force a program belongs to by its path.
 
 ghost use Rattle.std.specs.Prelude.{◌≡◌, IfOk, map};
-ghost use Rattle.aa_attach.specs.Ranks.{best_rank};
+ghost use Rattle.aa_decide_attachment.specs.Ranks.{best_rank};
 ghost use Rattle.aa_decide.specs.Attachment.{attached, attached_child, entry_rank};
-ghost use Rattle.aa_decide.specs.Slots.{Holds, filled};
-ghost use Rattle.aa_verdicts.specs.Matching.{attachments_at};
+ghost use Rattle.aa_decide_verdict.specs.Slots.{Holds, filled};
+ghost use Rattle.aa_decide_verdict.specs.Visits.{attachments_at};
 ghost use Rattle.aa_decide.specs.code.SlotRanks.{slot_rank};
 
-use aa_attach::{best_rank, standing_out};
-use aa_states::Steps;
-use aa_verdicts::{Entry, Ready};
+use aa_decide_attachment::{best_rank, standing_out};
+use aa_decide_verdict::{Entry, Ready, Steps};
 use std::alloc::{AllocError, Global};
 
 // The rank of a profile on a path, or of its child or hat at a place.

@@ -3,53 +3,25 @@
 ghost use Rattle.std.specs.Prelude.{◌≡◌, IfOk, IfSome, None, Some};
 ghost use Rattle.std.specs.Option.{option_copied, option_map};
 ghost use Rattle.aa_decide.specs.Exec.{by_choice, by_full_name, carried_out, exec_answer, exec_verdict, in_profile, led, led_by, missing, place_of_child, stopped, tag_if, to_child, to_profile, unconfined_start};
-ghost use Rattle.aa_decide.specs.Slots.{filled};
-ghost use Rattle.aa_decide.specs.code.SeenExec.{IsAnswer, IsAnswerAnywhere, IsDestination, IsDestinationFrom, IsIn, asker_in, seen_asker};
-ghost use Rattle.aa_verdicts.specs.declared.verdict.Answer.TheVariants.{Allow};
-ghost use Rattle.aa_verdicts.specs.declared.verdict.Tag.TheVariants.{Audit};
-ghost use Rattle.aa_verdicts.specs.Ready.{audits, rules_at};
-ghost use Rattle.aa_exec.specs.Choices.{choice};
-ghost use Rattle.aa_exec.specs.code.SeenChoices.{seen_choice};
+ghost use Rattle.aa_decide_verdict.specs.Slots.{filled};
+ghost use Rattle.aa_decide.specs.code.SeenExec.{IsAnswerAnywhere, IsDestination, IsDestinationFrom, IsIn, seen_asker};
+ghost use Rattle.aa_decide.specs.SeenExec.{IsAnswer, asker_in};
+ghost use Rattle.aa_decide_audit.specs.declared.verdict.Answer.TheVariants.{Allow};
+ghost use Rattle.aa_decide_audit.specs.declared.verdict.Tag.TheVariants.{Audit};
+ghost use Rattle.aa_decide_verdict.specs.Ready.{audits, rules_at};
+ghost use Rattle.aa_decide_exec_rules.specs.Choices.{choice};
+ghost use Rattle.aa_decide_exec_rules.specs.SeenChoices.{seen_choice};
 
 use crate::attachment::{attach, attached_child};
 use crate::slots::{Who, entry_at, find_in_force};
-use aa_access::{Destination, Perms};
 use aa_bytes::Sequence;
-use aa_exec::{ExecChoice, exec_choice};
-use aa_names::cut_full_name;
-use aa_policy::{Mode, Transition, child_place};
-use aa_states::Steps;
-use aa_verdicts::{Answer, Confinement, Entry, Ready, Tag, Verdict};
+use aa_decide_audit::{Answer, ExecTo, ExecVerdict, Tag, Verdict};
+use aa_decide_exec_rules::{ExecChoice, exec_choice};
+use aa_decide_verdict::{Confinement, Entry, Ready, Steps};
+use aa_profile_access::{Destination, Perms};
+use aa_profile_data::{Mode, Transition, child_place};
+use aa_profile_names::cut_full_name;
 use std::alloc::{AllocError, Global};
-
-/// Under what a program runs that is started.
-#[derive(Clone, Copy, Debug, PartialEq, Eq)]
-pub enum ExecTo {
-    /// Under a profile in force, or a child or hat of it.
-    Profile {
-        /// The profile's slot.
-        slot: usize,
-        /// The place of the child or hat among its children; none where it is the profile itself.
-        child: Option<usize>,
-    },
-    /// Under no profile.
-    Unconfined,
-    /// It is let through in complain mode alone, with the answer `Complain`.
-    Null,
-    /// It isn't started: the answer is `Deny` or `Refuse`.
-    Nowhere,
-}
-
-/// The answer to the start of a program.
-#[derive(Clone, Copy, Debug)]
-pub struct ExecVerdict {
-    /// The answer, and how it is logged; the mask is `x`.
-    pub verdict: Verdict,
-    /// Under what the program runs.
-    pub to: ExecTo,
-    /// Whether its environment is scrubbed.
-    pub scrub: bool,
-}
 
 // Who asks by a loaded profile.
 #[derive(Clone, Copy)]

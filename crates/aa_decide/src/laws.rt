@@ -1,17 +1,17 @@
 //! What holds of attachment and of the start of programs, as laws over the definitions that `attach` and `exec` are proved to follow.
 
 ghost use Rattle.std.specs.Prelude.{◌≡◌, ◌↔◌, ℕ, Bool, List, Option, Some, true};
-ghost use Rattle.aa_access.specs.Access.{EXEC};
+ghost use Rattle.aa_profile_access.specs.Access.{EXEC};
 ghost use Rattle.aa_decide.specs.Attachment.{attached};
-ghost use Rattle.aa_verdicts.specs.Confinement.{By, in_state};
-ghost use Rattle.aa_verdicts.specs.Entries.{Loaded, is_in_force};
+ghost use Rattle.aa_decide_verdict.specs.Confinement.{By, in_state};
+ghost use Rattle.aa_decide_verdict.specs.Entries.{Loaded, is_in_force};
 ghost use Rattle.aa_decide.specs.Exec.{Asker, Under, exec_answer};
 ghost use Rattle.aa_decide.specs.ExecLaws.{DifferInOrder, FitsBest, HaveDistinctNames, SomeRuleDenies};
-ghost use Rattle.aa_verdicts.specs.declared.verdict.Answer.TheVariants.{Deny};
-ghost use Rattle.aa_policy.specs.declared.profile.Mode.{Mode};
-ghost use Rattle.aa_policy.specs.declared.profile.Profile.{Profile};
+ghost use Rattle.aa_decide_audit.specs.declared.verdict.Answer.TheVariants.{Deny};
+ghost use Rattle.aa_profile_data.specs.declared.profile.Mode.{Mode};
+ghost use Rattle.aa_profile_data.specs.declared.profile.Profile.{Profile};
 
-use aa_attach::which_rank_stands_out;
+use aa_decide_attachment::which_rank_stands_out;
 
 /// A program never runs under a disabled profile, nor under a child or hat of one. Of profiles of different names a path is attached to one exactly
 /// where this has an attachment that matches and ranks above all others. The order of the profiles changes neither that nor any answer. A

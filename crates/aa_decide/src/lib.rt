@@ -4,14 +4,12 @@
 mod attachment;
 mod execution;
 mod laws;
-mod log;
 mod slots;
 
-pub use aa_verdicts::{
-    Answer, Confinement, Entry, Ready, Request, State, Tag, Verdict, log_line, what_rules_decide,
-};
+pub use aa_decide_audit::{Answer, ExecTo, ExecVerdict, Tag, Verdict, exec_line, log_line};
+pub use aa_decide_verdict::{Confinement, Entry, Ready, State, Steps, what_rules_decide};
+pub use aa_profile_access::Request;
 pub use attachment::attach;
-pub use execution::{ExecTo, ExecVerdict, exec};
+pub use execution::exec;
 pub use laws::where_programs_run;
-pub use log::exec_line;
 pub use slots::{Who, entry_at, find_named};

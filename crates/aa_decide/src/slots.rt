@@ -4,9 +4,9 @@ ghost use Rattle.std.specs.Prelude.{◌≡◌, IfSome, Some};
 ghost use Rattle.std.specs.Option.{option_copied, option_map};
 ghost use Rattle.aa_decide.specs.Exec.{is_named_in_force, named_in_force};
 ghost use Rattle.aa_decide.specs.Named.{entry_named};
-ghost use Rattle.aa_decide.specs.Slots.{entry_at, filled};
+ghost use Rattle.aa_decide_verdict.specs.Slots.{entry_at, filled};
 
-use aa_verdicts::Entry;
+use aa_decide_verdict::Entry;
 
 /// Who asks to start a program.
 #[derive(Clone, Copy, Debug, PartialEq, Eq)]

@@ -6,22 +6,22 @@ use Rattle.std.specs.List.{All}
 use Rattle.aa_bytes.specs.Bytes.{is_letter_or_digit}
 use Rattle.aa_glob.proofs.ReadingLaws.{reading-quoted}
 use Rattle.aa_bytes.specs.ByteSets.{has}
-use Rattle.aa_elements.specs.Items.{Item, Byte, Set, Star, DoubleStar, Group, Pattern, End, Next, Patterns, NoMore, More}
-use Rattle.aa_elements.specs.Exactness.{is_exact}
-use Rattle.aa_elements.specs.Symbols.{symbols}
-use Rattle.aa_elements.specs.Elements.{Element, Single, Open, Comma, Close, Fault, context_after, begins_plain, behind_class, class_element, is_whole_segment, stars, run, elements}
-use Rattle.aa_elements.specs.Classes.{class}
-use Rattle.aa_elements.specs.Reading.{Pieces, Cut, Ending, Ended, Closed, Refused, onto, behind_comma, group, deepest, pieces, whole, longest, begins_with_slash, has_zero, reading, items_read, items_of, HasNoFirstFault}
-use Rattle.aa_elements.specs.Matching.{matches, IsOf, Matches, SomeMatches}
+use Rattle.aa_glob_syntax.specs.Items.{Item, Byte, Set, Star, DoubleStar, Group, Pattern, End, Next, Patterns, NoMore, More}
+use Rattle.aa_glob_syntax.specs.Exactness.{is_exact}
+use Rattle.aa_glob_syntax.specs.Symbols.{symbols}
+use Rattle.aa_glob_syntax.specs.Elements.{Element, Single, Open, Comma, Close, Fault, context_after, begins_plain, behind_class, class_element, is_whole_segment, stars, run, elements}
+use Rattle.aa_glob_syntax.specs.Classes.{class}
+use Rattle.aa_glob_syntax.specs.Reading.{Pieces, Cut, Ending, Ended, Closed, Refused, onto, behind_comma, group, deepest, pieces, whole, longest, begins_with_slash, has_zero, reading, items_read, items_of, HasNoFirstFault}
+use Rattle.aa_glob_syntax.specs.Matching.{matches, IsOf, Matches, SomeMatches}
 use Rattle.aa_glob.specs.Laws.{quoted, bytes_pattern, bytes_of}
-use Rattle.aa_trails.specs.Laws.{MatchingIsBySplits}
+use Rattle.aa_glob_prefixes.specs.Laws.{MatchingIsBySplits}
 use Rattle.aa_bytes.specs.declared.byte_set.ByteSet.{ByteSet}
 use Rattle.aa_bytes.specs.declared.byte_set.ByteSet.TheVariants.{Inside, Class}
-use Rattle.aa_elements.specs.declared.symbol.Symbol.{Symbol}
-use Rattle.aa_elements.specs.declared.symbol.Symbol.TheVariants.{Plain, Escaped, Broken}
-use Rattle.aa_elements.specs.declared.pattern_error.PatternError.{PatternError}
-use Rattle.aa_elements.specs.declared.context.Context.{Context}
-use Rattle.aa_elements.specs.declared.context.Context.TheVariants.{AfterSlash, AfterStar, Elsewhere}
+use Rattle.aa_glob_syntax.specs.declared.symbol.Symbol.{Symbol}
+use Rattle.aa_glob_syntax.specs.declared.symbol.Symbol.TheVariants.{Plain, Escaped, Broken}
+use Rattle.aa_glob_syntax.specs.declared.pattern_error.PatternError.{PatternError}
+use Rattle.aa_glob_syntax.specs.declared.context.Context.{Context}
+use Rattle.aa_glob_syntax.specs.declared.context.Context.TheVariants.{AfterSlash, AfterStar, Elsewhere}
 
 Matches-exact : (items : Pattern) (text : List ℕ) → is_exact items ≡ true → (Matches items text ↔ (text ≡ bytes_of items))
 Matches-exact End text exact = (λ m. m, λ same. same)

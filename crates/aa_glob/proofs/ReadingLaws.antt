@@ -5,23 +5,23 @@ use Rattle.std.proofs.lemmas.Bool.Decides.{nat_tests}
 use Rattle.std.proofs.lemmas.List.Elements.{All-head, All-tail}
 use Rattle.std.specs.List.{All, list_any}
 use Rattle.aa_bytes.specs.Bytes.{is_letter_or_digit}
-use Rattle.aa_elements.specs.Items.{Item, Byte, Set, Pattern, Patterns, NoMore, More}
-use Rattle.aa_elements.specs.Symbols.{byte_of, is_broken, is_plain, symbols}
-use Rattle.aa_elements.specs.Elements.{Element, Single, Open, Comma, Close, Fault, behind_class, class_element, context_after, is_whole_segment, run, elements}
-use Rattle.aa_elements.specs.Classes.{class, is_range, members, set_of}
-use Rattle.aa_elements.proofs.ClassLemmas.{behind_first, behind_first-alone, is_dash, members-first}
-use Rattle.aa_elements.proofs.FaultLemmas.{reading-whole}
-use Rattle.aa_elements.proofs.SymbolLemmas.{symbols-plain}
-use Rattle.aa_elements.specs.Reading.{Pieces, Cut, Ended, Closed, Refused, onto, behind_comma, group, deepest, pieces, whole, longest, begins_with_slash, HasNoFirstFault, reading}
+use Rattle.aa_glob_syntax.specs.Items.{Item, Byte, Set, Pattern, Patterns, NoMore, More}
+use Rattle.aa_glob_syntax.specs.Symbols.{byte_of, is_broken, is_plain, symbols}
+use Rattle.aa_glob_syntax.specs.Elements.{Element, Single, Open, Comma, Close, Fault, behind_class, class_element, context_after, is_whole_segment, run, elements}
+use Rattle.aa_glob_syntax.specs.Classes.{class, is_range, members, set_of}
+use Rattle.aa_glob_syntax.proofs.ClassLemmas.{behind_first, behind_first-alone, is_dash, members-first}
+use Rattle.aa_glob_syntax.proofs.FaultLemmas.{reading-whole}
+use Rattle.aa_glob_syntax.proofs.SymbolLemmas.{symbols-plain}
+use Rattle.aa_glob_syntax.specs.Reading.{Pieces, Cut, Ended, Closed, Refused, onto, behind_comma, group, deepest, pieces, whole, longest, begins_with_slash, HasNoFirstFault, reading}
 use Rattle.aa_glob.specs.Laws.{needs_backslash, quoted, bytes_pattern, ends_with_backslash, is_told_before_end, IsRefusedBeforeEnd, IsRefusedHoweverItEnds}
 use Rattle.aa_bytes.specs.declared.byte_set.ByteRange.{ByteRange}
 use Rattle.aa_bytes.specs.declared.byte_set.ByteSet.TheVariants.{Inside}
-use Rattle.aa_elements.specs.declared.symbol.Symbol.{Symbol}
-use Rattle.aa_elements.specs.declared.symbol.Symbol.TheVariants.{Plain, Escaped, Broken}
-use Rattle.aa_elements.specs.declared.pattern_error.PatternError.{PatternError}
-use Rattle.aa_elements.specs.declared.pattern_error.PatternError.TheVariants.{NotAbsolute, UnclosedClass, EmptyClass, UnclosedGroup, FewAlternatives, BadEscape, TooLong, TooDeep, ZeroByte}
-use Rattle.aa_elements.specs.declared.context.Context.{Context}
-use Rattle.aa_elements.specs.declared.context.Context.TheVariants.{AfterSlash, AfterStar, Elsewhere}
+use Rattle.aa_glob_syntax.specs.declared.symbol.Symbol.{Symbol}
+use Rattle.aa_glob_syntax.specs.declared.symbol.Symbol.TheVariants.{Plain, Escaped, Broken}
+use Rattle.aa_glob_syntax.specs.declared.pattern_error.PatternError.{PatternError}
+use Rattle.aa_glob_syntax.specs.declared.pattern_error.PatternError.TheVariants.{NotAbsolute, UnclosedClass, EmptyClass, UnclosedGroup, FewAlternatives, BadEscape, TooLong, TooDeep, ZeroByte}
+use Rattle.aa_glob_syntax.specs.declared.context.Context.{Context}
+use Rattle.aa_glob_syntax.specs.declared.context.Context.TheVariants.{AfterSlash, AfterStar, Elsewhere}
 
 -- a byte that needs a backslash is no letter and no digit
 marked-no_letter : (b : ℕ) → needs_backslash b ≡ true → is_letter_or_digit b ≡ false

@@ -2,10 +2,10 @@
 -- before a text's end.
 use Rattle.std.specs.Prelude.{◌≡◌, ℕ, Bool, true, false, ◌==◌, ◌||◌, not, if◌then◌else◌, List, [], ◌∷◌, ◌++◌, Err}
 use Rattle.aa_bytes.specs.Bytes.{backslash, closing_brace, opening_brace, opening_bracket, question_mark, star}
-use Rattle.aa_elements.specs.Items.{Byte, Pattern, End, Next}
-use Rattle.aa_elements.specs.Reading.{HasNoFirstFault, reading}
-use Rattle.aa_elements.specs.declared.pattern_error.PatternError.{PatternError}
-use Rattle.aa_elements.specs.declared.pattern_error.PatternError.TheVariants.{EmptyClass, BadRange, StrayClose, FewAlternatives, BadEscape, TooDeep}
+use Rattle.aa_glob_syntax.specs.Items.{Byte, Pattern, End, Next}
+use Rattle.aa_glob_syntax.specs.Reading.{HasNoFirstFault, reading}
+use Rattle.aa_glob_syntax.specs.declared.pattern_error.PatternError.{PatternError}
+use Rattle.aa_glob_syntax.specs.declared.pattern_error.PatternError.TheVariants.{EmptyClass, BadRange, StrayClose, FewAlternatives, BadEscape, TooDeep}
 
 -- a byte that outside groups and classes stands for itself only behind a backslash: `\`, `*`, `?`, `[`, `{` and `}`
 abbrev pub needs_backslash : ℕ → Bool

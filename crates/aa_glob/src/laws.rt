@@ -3,14 +3,14 @@
 
 ghost use Rattle.std.specs.Prelude.{◌≡◌, ◌↔◌, ℕ, true, false, List, Ok, IsTrue};
 ghost use Rattle.std.specs.List.{All};
-ghost use Rattle.aa_elements.specs.Exactness.{is_exact};
-ghost use Rattle.aa_elements.specs.Items.{Pattern};
+ghost use Rattle.aa_glob_syntax.specs.Exactness.{is_exact};
+ghost use Rattle.aa_glob_syntax.specs.Items.{Pattern};
 ghost use Rattle.aa_glob.specs.Laws.{bytes_of, bytes_pattern, IsRefusedBeforeEnd, IsRefusedHoweverItEnds, needs_backslash, quoted};
-ghost use Rattle.aa_elements.specs.Matching.{matches};
-ghost use Rattle.aa_elements.specs.Reading.{HasNoFirstFault, has_zero, items_of, reading};
-ghost use Rattle.aa_elements.specs.declared.pattern_error.PatternError.{PatternError};
+ghost use Rattle.aa_glob_syntax.specs.Matching.{matches};
+ghost use Rattle.aa_glob_syntax.specs.Reading.{HasNoFirstFault, has_zero, items_of, reading};
+ghost use Rattle.aa_glob_syntax.specs.declared.pattern_error.PatternError.{PatternError};
 
-use aa_trails::matching_is_by_splits;
+use aa_glob_prefixes::matching_is_by_splits;
 
 /// A text of bytes that need no backslash reads as these bytes, if it has none of the faults that are told first.
 pub fn plain_text_reads_as_itself()

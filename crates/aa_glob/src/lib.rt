@@ -3,9 +3,9 @@
 
 mod laws;
 
-pub use aa_automata::{Automaton, AutomatonBuilder, Steps};
-pub use aa_patterns::{LONGEST_PATTERN, Pattern, PatternError};
-pub use aa_trails::matching_is_by_splits;
+pub use aa_glob_automaton::{Automaton, AutomatonBuilder, Steps};
+pub use aa_glob_pattern::{LONGEST_PATTERN, Pattern, PatternError};
+pub use aa_glob_prefixes::matching_is_by_splits;
 pub use laws::{
     exact_pattern_matches_one_text, first_fault_is_told, no_text_with_a_zero_byte_matches,
     plain_text_reads_as_itself, quoted_text_matches_itself, quoted_text_reads_as_itself,

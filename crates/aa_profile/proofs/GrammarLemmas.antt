@@ -4,22 +4,22 @@ use Rattle.std.specs.Prelude.{◌==◌, if◌then◌else◌, codes}
 use Rattle.std.specs.List.{list_any}
 use Rattle.std.proofs.lemmas.Bool.{or_parts}
 use Rattle.aa_bytes.specs.Texts.{is_empty}
-use Rattle.aa_text.specs.Splicing.{Placed}
-use Rattle.aa_grammar.specs.Blocks.{Profile as WrittenProfile, next_profile, profile}
-use Rattle.aa_grammar.specs.Files.{File, file}
-use Rattle.aa_grammar.specs.Preamble.{Assignment, assignment, behind_version, is_value, next_assignment, preamble, value_count}
-use Rattle.aa_faults.specs.GrammarError.{told}
-use Rattle.aa_faults.specs.declared.grammar_error.GrammarError.{GrammarError}
+use Rattle.aa_text_splicing.specs.Splicing.{Placed}
+use Rattle.aa_profile_grammar.specs.Blocks.{Profile as WrittenProfile, next_profile, profile}
+use Rattle.aa_profile_grammar.specs.Files.{File, file}
+use Rattle.aa_profile_grammar.specs.Preamble.{Assignment, assignment, behind_version, is_value, next_assignment, preamble, value_count}
+use Rattle.aa_profile_parsing.specs.GrammarError.{told}
+use Rattle.aa_profile_parsing.specs.declared.grammar_error.GrammarError.{GrammarError}
 use Rattle.aa_profile.specs.code.FileReadingProgress.{has_no_value}
-use Rattle.aa_tokens.specs.declared.cut.TokenKind.{TokenKind}
-use Rattle.aa_tokens.specs.declared.cut.TokenKind.TheVariants.{Include, Assign, Value, Quoted, Word, Comma, OpenBrace, CloseBrace}
-use Rattle.aa_grammar.specs.Sequences.{row, rows, skipped}
-use Rattle.aa_grammar.specs.declared.sequence.Next.{Next}
-use Rattle.aa_grammar.specs.declared.sequence.Next.TheVariants.{Item, Nothing, End}
-use Rattle.aa_faults.specs.Parts.{Part, followed, unexpected}
-use Rattle.aa_faults.specs.Tokens.{is_word_of}
-use Rattle.aa_faults.specs.declared.fault.GrammarRefusal.TheVariants.{NoProfile}
-use Rattle.aa_faults.specs.declared.fault.Fault.{Fault}
+use Rattle.aa_text_tokens.specs.declared.cut.TokenKind.{TokenKind}
+use Rattle.aa_text_tokens.specs.declared.cut.TokenKind.TheVariants.{Include, Assign, Value, Quoted, Word, Comma, OpenBrace, CloseBrace}
+use Rattle.aa_profile_grammar.specs.Sequences.{row, rows, skipped}
+use Rattle.aa_profile_grammar.specs.declared.sequence.Next.{Next}
+use Rattle.aa_profile_grammar.specs.declared.sequence.Next.TheVariants.{Item, Nothing, End}
+use Rattle.aa_profile_parsing.specs.Parts.{Part, followed, unexpected}
+use Rattle.aa_profile_parsing.specs.Tokens.{is_word_of}
+use Rattle.aa_profile_parsing.specs.declared.fault.GrammarRefusal.TheVariants.{NoProfile}
+use Rattle.aa_profile_parsing.specs.declared.fault.Fault.{Fault}
 
 -- what was read is one, where it is told twice
 pub first-told : {A : Type 0} (x y : A × List Placed) → ◌≡◌ {A = Part A} (Ok x) (Ok y) → x.0 ≡ y.0

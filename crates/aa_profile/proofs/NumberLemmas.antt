@@ -5,24 +5,24 @@ use Rattle.std.specs.List.{list_all}
 use Rattle.std.proofs.lemmas.Bool.{and_parts}
 use Rattle.std.proofs.lemmas.List.Folds.{list_all-append}
 use Rattle.std.proofs.lemmas.Result.{IfOk-at_ok}
-use Rattle.aa_text.specs.Splicing.{Placed}
-use Rattle.aa_faults.specs.Parts.{Part, followed, refused}
-use Rattle.aa_faults.specs.Tokens.{is_close_brace, is_word_of}
-use Rattle.aa_faults.specs.declared.fault.GrammarRefusal.TheVariants.{NestedChild}
-use Rattle.aa_rules.specs.RuleNumbers.{has_known_numbers as is_known}
-use Rattle.aa_rules.specs.Rules.{Kept, OnCapabilities, OnFile, OnNetwork, Rule as WrittenRule, rule}
-use Rattle.aa_grammar.specs.Blocks.{OfChild, OfRule, Child as WrittenChild, Member, Profile as WrittenProfile, child, child_block, child_rule, member, next_member, next_profile, next_rule, profile_block}
-use Rattle.aa_grammar.specs.Files.{File, file}
-use Rattle.aa_grammar.specs.Heads.{begins_child}
-use Rattle.aa_grammar.specs.Preamble.{behind_version}
-use Rattle.aa_grammar.specs.Sequences.{skipped}
-use Rattle.aa_grammar.specs.declared.sequence.Next.{Next}
-use Rattle.aa_grammar.specs.declared.sequence.Next.TheVariants.{Item, End}
-use Rattle.aa_policy.specs.Numbers.{child_has_known_numbers, has_known_numbers, profile_has_known_numbers}
-use Rattle.aa_policy.specs.declared.profile.Rule.{Rule}
+use Rattle.aa_text_splicing.specs.Splicing.{Placed}
+use Rattle.aa_profile_parsing.specs.Parts.{Part, followed, refused}
+use Rattle.aa_profile_parsing.specs.Tokens.{is_close_brace, is_word_of}
+use Rattle.aa_profile_parsing.specs.declared.fault.GrammarRefusal.TheVariants.{NestedChild}
+use Rattle.aa_profile_rules.specs.RuleNumbers.{has_known_numbers as is_known}
+use Rattle.aa_profile_rules.specs.Rules.{Kept, OnCapabilities, OnFile, OnNetwork, Rule as WrittenRule, rule}
+use Rattle.aa_profile_grammar.specs.Blocks.{OfChild, OfRule, Child as WrittenChild, Member, Profile as WrittenProfile, child, child_block, child_rule, member, next_member, next_profile, next_rule, profile_block}
+use Rattle.aa_profile_grammar.specs.Files.{File, file}
+use Rattle.aa_profile_grammar.specs.Heads.{begins_child}
+use Rattle.aa_profile_grammar.specs.Preamble.{behind_version}
+use Rattle.aa_profile_grammar.specs.Sequences.{skipped}
+use Rattle.aa_profile_grammar.specs.declared.sequence.Next.{Next}
+use Rattle.aa_profile_grammar.specs.declared.sequence.Next.TheVariants.{Item, End}
+use Rattle.aa_profile_data.specs.Numbers.{child_has_known_numbers, has_known_numbers, profile_has_known_numbers}
+use Rattle.aa_profile_data.specs.declared.profile.Rule.{Rule}
 use Rattle.aa_profile.specs.Patterns.{patterns_at}
 use Rattle.aa_profile.specs.Profiles.{children_of, file_rule, profile_of, rules_of, rules_of_members, rules_of_rule}
-use Rattle.aa_variables.specs.Variables.{Variable}
+use Rattle.aa_text_variables.specs.Variables.{Variable}
 use Rattle.aa_profile.proofs.GrammarLemmas.{first-told, followed-ok, no-skipped, profiles-keep, row-keeps}
 use Rattle.aa_profile.proofs.NameLemmas.{all-push, child-parts, profile-parts}
 

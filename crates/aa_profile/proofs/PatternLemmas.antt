@@ -4,11 +4,11 @@ use Rattle.std.specs.Prelude.{nat_le, Result, Ok, Err, IfOk}
 use Rattle.std.proofs.lemmas.Bool.{cases_lt}
 use Rattle.std.proofs.lemmas.Bool.Decides.{nat_tests}
 use Rattle.std.proofs.lemmas.List.{length-take-le, take_all}
-use Rattle.aa_elements.specs.Reading.{longest}
-use Rattle.aa_parts.specs.Joining.{most_kept}
+use Rattle.aa_glob_syntax.specs.Reading.{longest}
+use Rattle.aa_text_expansion.specs.Joining.{most_kept}
 use Rattle.aa_profile.specs.Patterns.{collapsed, refusal_of_expansion, refusal_of_expansions}
-use Rattle.aa_refusals.specs.declared.profile_error.ProfileRefusal.{ProfileRefusal}
-use Rattle.aa_refusals.specs.declared.profile_error.ProfileRefusal.TheVariants.{TooLong}
+use Rattle.aa_profile_errors.specs.declared.profile_error.ProfileRefusal.{ProfileRefusal}
+use Rattle.aa_profile_errors.specs.declared.profile_error.ProfileRefusal.TheVariants.{TooLong}
 
 -- a text that is too long makes no pattern
 refusal-long : (text : List ℕ) → longest < length text → refusal_of_expansion text ≡ Some TooLong

@@ -2,16 +2,16 @@
 use Rattle.std.proofs.Common.{◌≡◌, ◌-◌, ◌≤◌, Bool, true, false, List, [], ◌∷◌, ◌++◌, append_assoc, arith, drop, get_or, length, map, take, Option, None, Some, refl, sym, ap, ◌∙◌}
 use Rattle.std.proofs.lemmas.List.{take_rest}
 use Rattle.std.specs.Prelude.{is_none}
-use Rattle.aa_text.specs.Splicing.{Placed}
-use Rattle.aa_variables.specs.Expansions.{expansion_refusal}
-use Rattle.aa_variables.specs.Variables.{Variable}
-use Rattle.aa_faults.specs.Tokens.{text_of}
-use Rattle.aa_rules.specs.code.SeenRules.{seen_rule}
-use Rattle.aa_rules.specs.declared.rules.Rule.{Rule}
+use Rattle.aa_text_splicing.specs.Splicing.{Placed}
+use Rattle.aa_text_variables.specs.Expansions.{expansion_refusal}
+use Rattle.aa_text_variables.specs.Variables.{Variable}
+use Rattle.aa_profile_parsing.specs.Tokens.{text_of}
+use Rattle.aa_profile_rules.specs.SeenRules.{seen_rule}
+use Rattle.aa_profile_rules.specs.declared.rules.Rule.{Rule}
 use Rattle.aa_profile.specs.PatternTokens.{of_rule, of_rules}
 use Rattle.aa_profile.specs.Patterns.{first_bad, refusal_of_token}
 use Rattle.aa_profile.specs.code.FileReadingProgress.{have_expansions}
-use Rattle.aa_refusals.specs.declared.profile_error.ProfileError.{ProfileError}
+use Rattle.aa_profile_errors.specs.declared.profile_error.ProfileError.{ProfileError}
 
 -- where some tokens are fine, those behind them decide
 pub first_bad_behind : (variables : List Variable) (front rest : List Placed) → first_bad variables front ≡ None → first_bad variables (front ++ rest) ≡ first_bad variables rest

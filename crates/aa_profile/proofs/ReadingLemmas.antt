@@ -1,18 +1,18 @@
 -- The profiles that a file's reading gives.
 use Rattle.std.proofs.Common.{◌≡◌, subst, map, refl, Option, None, Some, Result, Ok, Err, Vec, List, ℕ}
 use Rattle.std.specs.Prelude.{IfOk}
-use Rattle.aa_files.specs.Files.{File as HandedIn}
-use Rattle.aa_grammar.specs.Files.{File, file}
-use Rattle.aa_faults.specs.declared.grammar_error.GrammarError.{GrammarError}
-use Rattle.aa_policy.specs.declared.profile.Profile.{Profile}
+use Rattle.aa_text_files.specs.Files.{File as HandedIn}
+use Rattle.aa_profile_grammar.specs.Files.{File, file}
+use Rattle.aa_profile_parsing.specs.declared.grammar_error.GrammarError.{GrammarError}
+use Rattle.aa_profile_data.specs.declared.profile.Profile.{Profile}
 use Rattle.aa_profile.specs.Assignments.{variables_of}
 use Rattle.aa_profile.specs.FileReading.{file_profiles, profiles_in, profiles_of, profiles_with, refusal_of_patterns}
 use Rattle.aa_profile.specs.PatternTokens.{of_profiles}
 use Rattle.aa_profile.specs.Profiles.{profile_of}
-use Rattle.aa_refusals.specs.declared.profile_error.ProfileError.{ProfileError}
-use Rattle.aa_refusals.specs.ProfileError.{error_of_grammar, refusal_of_text}
-use Rattle.aa_text.specs.Splicing.{Fault, Placed, spliced}
-use Rattle.aa_variables.specs.Variables.{Variable}
+use Rattle.aa_profile_errors.specs.declared.profile_error.ProfileError.{ProfileError}
+use Rattle.aa_profile_errors.specs.ProfileError.{error_of_grammar, refusal_of_text}
+use Rattle.aa_text_splicing.specs.Splicing.{Fault, Placed, spliced}
+use Rattle.aa_text_variables.specs.Variables.{Variable}
 
 -- what holds of the profiles that a file's tokens make, whatever its variables are, holds of those that its reading gives
 module _ (Fit : List Profile → Type 0) (fit : (variables : List Variable) (tokens : List Placed) (written : File) → file tokens ≡ Ok written → Fit (map (profile_of variables) written.profiles)) where

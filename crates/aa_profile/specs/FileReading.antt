@@ -1,17 +1,17 @@
 -- Reading a profile's file, in phases each of which goes over the whole file: its text, its grammar, its variables, how many patterns it
 -- makes, and these patterns (docs/policy.md, "Files"). The first phase that refuses decides.
 use Rattle.std.specs.Prelude.{ℕ, List, map, Option, None, Some, Result, Ok, Err}
-use Rattle.aa_files.specs.Files.{File as HandedIn}
-use Rattle.aa_grammar.specs.Files.{File, file}
-use Rattle.aa_text.specs.Splicing.{Placed, spliced}
-use Rattle.aa_variables.specs.Variables.{Variable}
-use Rattle.aa_policy.specs.declared.profile.Profile.{Profile}
+use Rattle.aa_text_files.specs.Files.{File as HandedIn}
+use Rattle.aa_profile_grammar.specs.Files.{File, file}
+use Rattle.aa_text_splicing.specs.Splicing.{Placed, spliced}
+use Rattle.aa_text_variables.specs.Variables.{Variable}
+use Rattle.aa_profile_data.specs.declared.profile.Profile.{Profile}
 use Rattle.aa_profile.specs.Assignments.{variables_of}
 use Rattle.aa_profile.specs.PatternTokens.{of_profiles}
 use Rattle.aa_profile.specs.Patterns.{first_bad, over_limit}
-use Rattle.aa_refusals.specs.ProfileError.{error_of_grammar, refusal_of_text}
+use Rattle.aa_profile_errors.specs.ProfileError.{error_of_grammar, refusal_of_text}
 use Rattle.aa_profile.specs.Profiles.{profile_of}
-use Rattle.aa_refusals.specs.declared.profile_error.ProfileError.{ProfileError}
+use Rattle.aa_profile_errors.specs.declared.profile_error.ProfileError.{ProfileError}
 
 -- the refusal of patterns: there are too many, or some are none
 abbrev pub refusal_of_patterns : List Variable → List Placed → Option ProfileError

@@ -1,4 +1,4 @@
--- The limit of a profile's file (docs/policy.md, "Limits").
+-- The limit of a profile's file (docs/commands.md, "Limits").
 use Rattle.std.specs.Prelude.{ℕ}
 
 -- how many rules a file may have

@@ -1,10 +1,10 @@
 -- The tokens of a file's patterns, in their order: attachments, names that are attachments, and the patterns of file rules.
 use Rattle.std.specs.Prelude.{List, [], ◌∷◌, ◌++◌, None, Some}
 use Rattle.std.specs.List.{flat_map}
-use Rattle.aa_grammar.specs.Blocks.{OfChild, OfRule, Child, Member, Profile}
-use Rattle.aa_grammar.specs.Heads.{Head}
-use Rattle.aa_rules.specs.Rules.{Kept, OnCapabilities, OnFile, OnNetwork, Rule}
-use Rattle.aa_text.specs.Splicing.{Placed}
+use Rattle.aa_profile_grammar.specs.Blocks.{OfChild, OfRule, Child, Member, Profile}
+use Rattle.aa_profile_grammar.specs.Heads.{Head}
+use Rattle.aa_profile_rules.specs.Rules.{Kept, OnCapabilities, OnFile, OnNetwork, Rule}
+use Rattle.aa_text_splicing.specs.Splicing.{Placed}
 
 abbrev pub of_rule : Rule → List Placed
 of_rule (OnFile qualifiers pattern access target) = pattern ∷ []

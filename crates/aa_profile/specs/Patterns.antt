@@ -3,16 +3,16 @@ use Rattle.std.specs.Option.{option_map}
 use Rattle.std.specs.Prelude.{ℕ, ◌+◌, ◌&&◌, ◌==◌, nat_le, if◌then◌else◌, List, [], ◌∷◌, length, map, Option, None, Some, Ok, Err}
 use Rattle.aa_bytes.specs.Bytes.{slash}
 use Rattle.aa_bytes.specs.Texts.{begins_with_byte}
-use Rattle.aa_elements.specs.Reading.{longest, reading}
-use Rattle.aa_faults.specs.Tokens.{place_of, text_of}
-use Rattle.aa_text.specs.Splicing.{Placed}
-use Rattle.aa_variables.specs.Expansions.{expansions}
-use Rattle.aa_variables.specs.Variables.{Variable}
+use Rattle.aa_glob_syntax.specs.Reading.{longest, reading}
+use Rattle.aa_profile_parsing.specs.Tokens.{place_of, text_of}
+use Rattle.aa_text_splicing.specs.Splicing.{Placed}
+use Rattle.aa_text_variables.specs.Expansions.{expansions}
+use Rattle.aa_text_variables.specs.Variables.{Variable}
 use Rattle.aa_profile.specs.Limits.{most_rules}
-use Rattle.aa_refusals.specs.ProfileError.{placed, refusal_of_pattern}
-use Rattle.aa_refusals.specs.declared.profile_error.ProfileError.{ProfileError}
-use Rattle.aa_refusals.specs.declared.profile_error.ProfileRefusal.{ProfileRefusal}
-use Rattle.aa_refusals.specs.declared.profile_error.ProfileRefusal.TheVariants.{TooLong, TooManyRules}
+use Rattle.aa_profile_errors.specs.ProfileError.{placed, refusal_of_pattern}
+use Rattle.aa_profile_errors.specs.declared.profile_error.ProfileError.{ProfileError}
+use Rattle.aa_profile_errors.specs.declared.profile_error.ProfileRefusal.{ProfileRefusal}
+use Rattle.aa_profile_errors.specs.declared.profile_error.ProfileRefusal.TheVariants.{TooLong, TooManyRules}
 
 -- The first pattern with which a file has too many, where so many come of the tokens before: a token makes one pattern for each of its
 -- expansions.

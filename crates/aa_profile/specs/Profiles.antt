@@ -4,23 +4,23 @@ use Rattle.std.specs.List.{flat_map}
 use Rattle.std.specs.Option.{option_map}
 use Rattle.aa_bytes.specs.Bytes.{quote, space}
 use Rattle.aa_bytes.specs.Texts.{is_empty}
-use Rattle.aa_grammar.specs.Blocks.{OfChild, OfRule, Child as WrittenChild, Member, Profile as WrittenProfile}
-use Rattle.aa_grammar.specs.Heads.{Head}
-use Rattle.aa_flags.specs.declared.flags.Flags.{Flags}
-use Rattle.aa_policy.specs.declared.profile.Child.{Child}
-use Rattle.aa_policy.specs.declared.profile.Mode.{Mode}
-use Rattle.aa_policy.specs.declared.profile.Mode.TheVariants.{Complain, Enforce}
-use Rattle.aa_policy.specs.declared.profile.Profile.{Profile}
-use Rattle.aa_policy.specs.declared.profile.Rule.{Rule}
-use Rattle.aa_policy.specs.declared.profile.Rule.TheVariants.{Cap, File as OfFile, Net, Other}
-use Rattle.aa_policy.specs.declared.profile.Transition.{Transition}
-use Rattle.aa_faults.specs.Tokens.{is_comma, is_quoted, text_of}
-use Rattle.aa_rules.specs.Rules.{Kept, OnCapabilities, OnFile, OnNetwork, Rule as WrittenRule}
-use Rattle.aa_rules.specs.declared.access.Access.{Access}
-use Rattle.aa_rules.specs.declared.networks.Sockets.{Sockets}
-use Rattle.aa_rules.specs.declared.qualifiers.Qualifiers.{Qualifiers}
-use Rattle.aa_text.specs.Splicing.{Placed}
-use Rattle.aa_variables.specs.Variables.{Variable}
+use Rattle.aa_profile_grammar.specs.Blocks.{OfChild, OfRule, Child as WrittenChild, Member, Profile as WrittenProfile}
+use Rattle.aa_profile_grammar.specs.Heads.{Head}
+use Rattle.aa_profile_flags.specs.declared.flags.Flags.{Flags}
+use Rattle.aa_profile_data.specs.declared.profile.Child.{Child}
+use Rattle.aa_profile_data.specs.declared.profile.Mode.{Mode}
+use Rattle.aa_profile_data.specs.declared.profile.Mode.TheVariants.{Complain, Enforce}
+use Rattle.aa_profile_data.specs.declared.profile.Profile.{Profile}
+use Rattle.aa_profile_data.specs.declared.profile.Rule.{Rule}
+use Rattle.aa_profile_data.specs.declared.profile.Rule.TheVariants.{Cap, File as OfFile, Net, Other}
+use Rattle.aa_profile_data.specs.declared.profile.Transition.{Transition}
+use Rattle.aa_profile_parsing.specs.Tokens.{is_comma, is_quoted, text_of}
+use Rattle.aa_profile_rules.specs.Rules.{Kept, OnCapabilities, OnFile, OnNetwork, Rule as WrittenRule}
+use Rattle.aa_profile_rules.specs.declared.access.Access.{Access}
+use Rattle.aa_profile_rules.specs.declared.networks.Sockets.{Sockets}
+use Rattle.aa_profile_rules.specs.declared.qualifiers.Qualifiers.{Qualifiers}
+use Rattle.aa_text_splicing.specs.Splicing.{Placed}
+use Rattle.aa_text_variables.specs.Variables.{Variable}
 use Rattle.aa_profile.specs.Patterns.{patterns_at}
 
 -- a token as it stands in its file

@@ -3,20 +3,22 @@
 ghost use Rattle.std.specs.Prelude.{◌≡◌, ◌≢◌, ◌<◌, [], Ok, Err, None, Some, IfOk, IfErr, OnOk, true, false, find, length, map};
 ghost use Rattle.std.specs.List.{list_any};
 ghost use Rattle.std.specs.Option.{option_map};
-ghost use Rattle.aa_variables.specs.Variables.{names_undefined};
-ghost use Rattle.aa_files.specs.declared.text_error.TextRefusal.TheVariants as text;
+ghost use Rattle.aa_text_variables.specs.Variables.{names_undefined};
+ghost use Rattle.aa_text_files.specs.declared.text_error.TextRefusal.TheVariants as text;
 ghost use Rattle.aa_profile.specs.Assignments.{all_assigned, assigned, cycle, first_of, first_undefined, naming, undefined_name, variables_of};
 ghost use Rattle.aa_profile.specs.code.FileReadingProgress.{IsRefusal, IsRefusalOf, first_undefined_value, has_no_value, have_expansions};
-ghost use Rattle.aa_grammar.specs.code.Seen.{seen_assignment};
-ghost use Rattle.aa_faults.specs.Tokens.{place_of, text_of};
-ghost use Rattle.aa_faults.specs.code.SeenTokens.{seen_tokens};
-ghost use Rattle.aa_refusals.specs.ProfileError.{plain};
-ghost use Rattle.aa_refusals.specs.declared.profile_error.ProfileRefusal.TheVariants.{Memory};
+ghost use Rattle.aa_profile_grammar.specs.SeenFiles.{seen_assignment};
+ghost use Rattle.aa_profile_parsing.specs.Tokens.{place_of, text_of};
+ghost use Rattle.aa_profile_parsing.specs.SeenTokens.{seen_tokens};
+ghost use Rattle.aa_profile_errors.specs.ProfileError.{plain};
+ghost use Rattle.aa_profile_errors.specs.declared.profile_error.ProfileRefusal.TheVariants.{Memory};
 
-use aa_faults::place_of;
-use aa_grammar::Assignment;
-use aa_refusals::{ProfileError, ProfileRefusal, placed};
-use aa_text::{Place, Spliced, TextError, Variables, what_a_text_leads_to};
+use aa_profile_errors::{ProfileError, ProfileRefusal, placed};
+use aa_profile_grammar::Assignment;
+use aa_profile_parsing::place_of;
+use aa_text_files::{Place, TextError};
+use aa_text_splicing::Spliced;
+use aa_text_variables::{Variables, what_a_text_leads_to};
 use std::alloc::{AllocError, Global};
 
 // The texts of tokens.

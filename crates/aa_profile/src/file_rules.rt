@@ -2,14 +2,14 @@
 
 ghost use Rattle.std.specs.Prelude.{◌≡◌, ◌++◌, IfOk, OnOk, map};
 ghost use Rattle.std.specs.Option.{option_map};
-ghost use Rattle.aa_text.specs.code.SplicingProgress.{seen_spliced};
+ghost use Rattle.aa_text_splicing.specs.SeenTokens.{seen_spliced};
 ghost use Rattle.aa_profile.specs.Profiles.{file_rule, link_of, text_of_target, transition_of};
 
 use aa_bytes::Sequence;
-use aa_grammar::{Access, Qualifiers};
-use aa_patterns::Pattern;
-use aa_policy::{FileRule, Rule, Transition};
-use aa_text::Spliced;
+use aa_glob_pattern::Pattern;
+use aa_profile_data::{FileRule, Rule, Transition};
+use aa_profile_grammar::{Access, Qualifiers};
+use aa_text_splicing::Spliced;
 use std::alloc::{AllocError, Global};
 
 // The text of a target, where there is one.

@@ -1,11 +1,12 @@
 //! The texts of rules that are kept.
 
 ghost use Rattle.std.specs.Prelude.{◌≡◌, ◌++◌, IfOk, OnOk};
-ghost use Rattle.aa_text.specs.code.SplicingProgress.{seen_spliced};
-ghost use Rattle.aa_faults.specs.code.SeenTokens.{seen_tokens};
+ghost use Rattle.aa_text_splicing.specs.SeenTokens.{seen_spliced};
+ghost use Rattle.aa_profile_parsing.specs.SeenTokens.{seen_tokens};
 ghost use Rattle.aa_profile.specs.Profiles.{kept_text, span_of, with_token};
 
-use aa_text::{Spliced, TokenKind};
+use aa_text_splicing::Spliced;
+use aa_text_tokens::TokenKind;
 use std::alloc::{AllocError, Global};
 
 // Puts a token, as it stands in its file, behind a text.

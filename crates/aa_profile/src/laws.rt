@@ -2,9 +2,9 @@
 
 ghost use Rattle.std.specs.Prelude.{◌≡◌, ℕ, List, IfOk, true};
 ghost use Rattle.std.specs.List.{list_all};
-ghost use Rattle.aa_files.specs.Files.{File};
-ghost use Rattle.aa_policy.specs.Numbers.{profile_has_known_numbers};
-ghost use Rattle.aa_policy.specs.Profile.{are_distinct};
+ghost use Rattle.aa_text_files.specs.Files.{File};
+ghost use Rattle.aa_profile_data.specs.Numbers.{profile_has_known_numbers};
+ghost use Rattle.aa_profile_data.specs.Profile.{are_distinct};
 ghost use Rattle.aa_profile.specs.FileReading.{file_profiles};
 ghost use Rattle.aa_profile.specs.ProfileNames.{has_distinct_children, is_named_well};
 
@@ -25,5 +25,5 @@ pub fn which_numbers_rules_have()
     ensures { (files : List File) (name : List ℕ)
         → IfOk (file_profiles files name) (λ profiles. list_all profile_has_known_numbers profiles ≡ true) }
 {
-    aa_rules::which_numbers_rules_have();
+    aa_profile_rules::which_numbers_rules_have();
 }

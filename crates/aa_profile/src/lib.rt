@@ -10,11 +10,11 @@ mod patterns;
 mod profiles;
 mod reading;
 
-pub use aa_access::{ExecWord, Perms};
-pub use aa_policy::{
+pub use aa_profile_access::{ExecWord, Perms};
+pub use aa_profile_data::{
     CapRule, Child, FileRule, Mode, NetRule, OtherRule, Profile, Rule, Transition,
 };
-pub use aa_refusals::{ProfileError, ProfileRefusal};
+pub use aa_profile_errors::{ProfileError, ProfileRefusal};
 pub use laws::{how_profiles_are_named, which_numbers_rules_have};
 pub use patterns::MOST_RULES;
 pub use reading::read_file;

@@ -1,13 +1,13 @@
 //! The tokens of a file's patterns, in their order.
 
 ghost use Rattle.std.specs.Prelude.{◌≡◌, ◌++◌, IfOk, OnOk, map};
-ghost use Rattle.aa_grammar.specs.code.Seen.{seen_child, seen_head, seen_member, seen_profile};
-ghost use Rattle.aa_faults.specs.code.SeenTokens.{seen_tokens};
-ghost use Rattle.aa_rules.specs.code.SeenRules.{seen_rule};
+ghost use Rattle.aa_profile_grammar.specs.SeenFiles.{seen_child, seen_head, seen_member, seen_profile};
+ghost use Rattle.aa_profile_parsing.specs.SeenTokens.{seen_tokens};
+ghost use Rattle.aa_profile_rules.specs.SeenRules.{seen_rule};
 ghost use Rattle.aa_profile.specs.PatternTokens.{of_child, of_head, of_member, of_members, of_profile, of_profiles, of_rules};
 
-use aa_grammar::{Child, Head, Member, Profile, Rule};
-use aa_text::Spliced;
+use aa_profile_grammar::{Child, Head, Member, Profile, Rule};
+use aa_text_splicing::Spliced;
 use std::alloc::{AllocFailed, Global};
 
 // Puts the token of a head's attachment behind others.

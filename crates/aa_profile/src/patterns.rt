@@ -2,18 +2,20 @@
 
 ghost use Rattle.std.specs.Prelude.{◌≡◌, ◌≢◌, ◌∷◌, [], Ok, Err, None, Some, IfOk, IfErr, OnOk, true, map};
 ghost use Rattle.std.specs.Option.{option_map};
-ghost use Rattle.aa_text.specs.code.SplicingProgress.{seen_spliced};
-ghost use Rattle.aa_faults.specs.code.SeenTokens.{seen_tokens};
+ghost use Rattle.aa_text_splicing.specs.SeenTokens.{seen_spliced};
+ghost use Rattle.aa_profile_parsing.specs.SeenTokens.{seen_tokens};
 ghost use Rattle.aa_profile.specs.Patterns.{collapsed, over_limit, patterns_at, refusal_of_expansion, refusal_of_expansions, refusal_of_token};
 ghost use Rattle.aa_profile.specs.code.FileReadingProgress.{IsRefusal, have_expansions};
-ghost use Rattle.aa_refusals.specs.ProfileError.{placed, plain};
-ghost use Rattle.aa_refusals.specs.declared.profile_error.ProfileRefusal.TheVariants.{Memory};
+ghost use Rattle.aa_profile_errors.specs.ProfileError.{placed, plain};
+ghost use Rattle.aa_profile_errors.specs.declared.profile_error.ProfileRefusal.TheVariants.{Memory};
 
 use aa_bytes::begins_with_byte;
-use aa_faults::place_of;
-use aa_patterns::{LONGEST_PATTERN, Pattern};
-use aa_refusals::{ProfileError, ProfileRefusal, placed};
-use aa_text::{ExpansionTable, Place, Spliced};
+use aa_glob_pattern::{LONGEST_PATTERN, Pattern};
+use aa_profile_errors::{ProfileError, ProfileRefusal, placed};
+use aa_profile_parsing::place_of;
+use aa_text_files::Place;
+use aa_text_splicing::Spliced;
+use aa_text_variables::ExpansionTable;
 use std::alloc::{AllocError, Global};
 
 /// How many patterns a file may have.

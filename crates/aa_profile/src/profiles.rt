@@ -3,29 +3,30 @@
 //! Each function here goes over its part once, and tells the refusal of the first token of it that makes no pattern.
 
 ghost use Rattle.std.specs.Prelude.{◌≡◌, ◌≢◌, ◌++◌, ◌∷◌, [], None, Some, IfOk, IfErr, OnOk, true, map};
-ghost use Rattle.aa_text.specs.code.SplicingProgress.{seen_spliced};
-ghost use Rattle.aa_grammar.specs.code.Seen.{seen_child, seen_head, seen_member, seen_profile};
-ghost use Rattle.aa_faults.specs.code.SeenTokens.{seen_tokens};
-ghost use Rattle.aa_rules.specs.code.SeenRules.{seen_rule};
+ghost use Rattle.aa_text_splicing.specs.SeenTokens.{seen_spliced};
+ghost use Rattle.aa_profile_grammar.specs.SeenFiles.{seen_child, seen_head, seen_member, seen_profile};
+ghost use Rattle.aa_profile_parsing.specs.SeenTokens.{seen_tokens};
+ghost use Rattle.aa_profile_rules.specs.SeenRules.{seen_rule};
 ghost use Rattle.aa_profile.specs.PatternTokens.{of_child, of_head, of_member, of_members, of_profile, of_profiles, of_rule, of_rules};
 ghost use Rattle.aa_profile.specs.Patterns.{first_bad};
 ghost use Rattle.aa_profile.specs.Profiles.{attachments_of, cap_rule, child_of, children_of, children_of_member, mode_of, net_rule, other_rule, profile_of, rules_of, rules_of_member, rules_of_members, rules_of_rule};
 ghost use Rattle.aa_profile.specs.code.FileReadingProgress.{IsRefusal, have_expansions};
-ghost use Rattle.aa_refusals.specs.ProfileError.{plain};
-ghost use Rattle.aa_refusals.specs.declared.profile_error.ProfileRefusal.TheVariants.{Memory};
+ghost use Rattle.aa_profile_errors.specs.ProfileError.{plain};
+ghost use Rattle.aa_profile_errors.specs.declared.profile_error.ProfileRefusal.TheVariants.{Memory};
 
 use crate::file_rules::push_file_rules;
 use crate::kept_rules::kept_text;
 use crate::patterns::read_patterns;
 use aa_bytes::Sequence;
-use aa_grammar::{
+use aa_glob_pattern::Pattern;
+use aa_profile_data::{CapRule, Child, Mode, NetRule, OtherRule, Profile, Rule};
+use aa_profile_errors::ProfileError;
+use aa_profile_grammar::{
     Child as WrittenChild, Flags, Head, Member, Profile as WrittenProfile, Qualifiers,
     Rule as WrittenRule, Sockets,
 };
-use aa_patterns::Pattern;
-use aa_policy::{CapRule, Child, Mode, NetRule, OtherRule, Profile, Rule};
-use aa_refusals::ProfileError;
-use aa_text::{ExpansionTable, Spliced};
+use aa_text_splicing::Spliced;
+use aa_text_variables::ExpansionTable;
 use std::alloc::{AllocError, Global};
 
 // A rule on capabilities.

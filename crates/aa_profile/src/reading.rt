@@ -2,26 +2,28 @@
 
 ghost use Rattle.std.specs.Prelude.{◌≡◌, ◌≢◌, Ok, Err, IfOk, IfErr, false, true, map};
 ghost use Rattle.std.specs.List.{list_all, list_any};
-ghost use Rattle.aa_grammar.specs.code.Seen.{seen_assignment, seen_file, seen_profile};
-ghost use Rattle.aa_faults.specs.code.SeenTokens.{seen_tokens};
-ghost use Rattle.aa_policy.specs.Numbers.{profile_has_known_numbers};
-ghost use Rattle.aa_policy.specs.Profile.{are_distinct};
+ghost use Rattle.aa_profile_grammar.specs.SeenFiles.{seen_assignment, seen_file, seen_profile};
+ghost use Rattle.aa_profile_parsing.specs.SeenTokens.{seen_tokens};
+ghost use Rattle.aa_profile_data.specs.Numbers.{profile_has_known_numbers};
+ghost use Rattle.aa_profile_data.specs.Profile.{are_distinct};
 ghost use Rattle.aa_profile.specs.FileReading.{file_profiles, profiles_in, profiles_with};
 ghost use Rattle.aa_profile.specs.code.FileReadingProgress.{IsRefusalOf, has_no_value, have_expansions};
 ghost use Rattle.aa_profile.specs.PatternTokens.{of_profiles};
-ghost use Rattle.aa_refusals.specs.ProfileError.{plain};
+ghost use Rattle.aa_profile_errors.specs.ProfileError.{plain};
 ghost use Rattle.aa_profile.specs.ProfileNames.{has_distinct_children, is_named_well};
-ghost use Rattle.aa_refusals.specs.declared.profile_error.ProfileRefusal.TheVariants.{Memory};
+ghost use Rattle.aa_profile_errors.specs.declared.profile_error.ProfileRefusal.TheVariants.{Memory};
 
 use crate::assignments::read_variables;
 use crate::pattern_tokens::pattern_tokens;
 use crate::patterns::check_limit;
 use crate::profiles::read_profiles;
-use aa_grammar::File;
-use aa_policy::Profile;
-use aa_refusals::ProfileError;
-use aa_rules::which_numbers_rules_have;
-use aa_text::{ExpansionTable, Files, Spliced, Variables, spliced};
+use aa_profile_data::Profile;
+use aa_profile_errors::ProfileError;
+use aa_profile_grammar::File;
+use aa_profile_rules::which_numbers_rules_have;
+use aa_text_files::Files;
+use aa_text_splicing::{Spliced, spliced};
+use aa_text_variables::{ExpansionTable, Variables};
 use std::alloc::Global;
 
 // The profiles of a file as it is written, with its variables and the tokens of its patterns.
@@ -58,8 +60,8 @@ fn read_written(alloc: Global, file: &File<'_>) -> Result<Vec<Profile>, ProfileE
 /// # Errors
 ///
 /// Each phase goes over the whole file, and the first that refuses decides.
-/// - As `aa_text::spliced` refuses the file's text and its includes, at the same place.
-/// - As `aa_grammar::read_file` refuses its tokens, at the first token at which nothing that could follow would be accepted.
+/// - As `aa_text_splicing::spliced` refuses the file's text and its includes, at the same place.
+/// - As `aa_profile_grammar::read_file` refuses its tokens, at the first token at which nothing that could follow would be accepted.
 /// - `Redefined` and `AppendUndefined`, at the first assignment that is refused so; then `Undefined`, at the first value, attachment or
 ///   pattern that names a variable that isn't defined, or doesn't close a name; then `Cycle`, at the first assignment of the first variable
 ///   that leads to itself or to one that does.
@@ -77,6 +79,6 @@ pub fn read_file(alloc: Global, files: &Files, name: &[u8]) -> Result<Vec<Profil
 {
     which_numbers_rules_have();
     let tokens = spliced(alloc, files, name)?;
-    let file = aa_grammar::read_file(alloc, &tokens)?;
+    let file = aa_profile_grammar::read_file(alloc, &tokens)?;
     read_written(alloc, &file)
 }

@@ -3,21 +3,21 @@ use Rattle.std.proofs.Common.{◌≡◌, ℕ, ◌+◌, Bool, true, false, not, c
 use Rattle.std.proofs.lemmas.Bool.{cond-false, cond-true, le-leb, true≢false}
 use Rattle.aa_history.specs.Machine.{all_sets, can_go_back, can_go_on, gone_back, gone_on}
 use Rattle.aa_history.specs.MachineLaws.{BackAfterOn, BackFromNewSets, BackKeepsSets, CanGoBackInParts, CanGoOnInParts, GoesBackInParts, GoesOnInParts, LengthsAfterBack, LengthsAfterOn, OnAfterBack, OnKeepsSets}
-use Rattle.aa_commands.specs.Command.{Ask, Listed, Make, Order, Redo, Show, Undo}
-use Rattle.aa_commands.specs.Refusal.{plain}
-use Rattle.aa_commands.specs.declared.refusal.Refusal.{Refusal}
-use Rattle.aa_commands.specs.declared.refusal.RefusalKind.TheVariants.{LineTooLong, Memory, NothingToRedo, NothingToUndo}
-use Rattle.aa_answers.specs.Answers.{reply_lines, shown}
-use Rattle.aa_changes.specs.ChangeLaws.{ChangesKeepNamesApart}
-use Rattle.aa_changes.specs.Changes.{changed as change_of_set}
+use Rattle.aa_set_commands.specs.Command.{Ask, Listed, Make, Order, Redo, Show, Undo}
+use Rattle.aa_set_commands.specs.Refusal.{plain}
+use Rattle.aa_set_commands.specs.declared.refusal.Refusal.{Refusal}
+use Rattle.aa_set_commands.specs.declared.refusal.RefusalKind.TheVariants.{LineTooLong, Memory, NothingToRedo, NothingToUndo}
+use Rattle.aa_set_answers.specs.Answers.{reply_lines, shown}
+use Rattle.aa_set_changes.specs.ChangeLaws.{ChangesKeepNamesApart}
+use Rattle.aa_set_changes.specs.Changes.{changed as change_of_set}
 use Rattle.aa_decide.specs.Named.{have_distinct_names}
-use Rattle.aa_lines.specs.Limits.{longest_line}
-use Rattle.aa_listing.specs.List.{list_lines}
+use Rattle.aa_set_lines.specs.Limits.{longest_line}
+use Rattle.aa_set_listing.specs.List.{list_lines}
 use Rattle.aa_set.specs.Laws.{AreDistinct, GivesBack, NoneGoes, StepsAdd, StepsReturn, changes, goes, is_change, order_in}
 use Rattle.aa_set.specs.Manager.{Managed, after_change, new_manager, next, redone, undone}
 use Rattle.aa_set.specs.Reply.{is_refusal}
 use Rattle.aa_set.specs.Run.{Outcome, after_lines, changed, line_outcome, obeyed, order_outcome, refused, takes_memory, told}
-use Rattle.aa_verdicts.specs.Entries.{Loaded}
+use Rattle.aa_decide_verdict.specs.Entries.{Loaded}
 use Rattle.aa_set.specs.declared.reply.Reply.{Reply}
 use Rattle.aa_set.specs.declared.reply.Reply.TheVariants.{Refused, Silent, Told}
 

@@ -3,17 +3,17 @@ use Rattle.std.proofs.Common.{◌≡◌, ◌≢◌, ◌⊎◌, ℕ, zero, suc, [
 use Rattle.std.specs.Prelude.{slice_get}
 use Rattle.std.specs.Option.{option_map}
 use Rattle.std.specs.Result.{IfOk, IfErr, OnOk, OnErr, MatchResult}
-use Rattle.aa_changes.specs.Changes.{change_takes_memory, is_disabled, is_loaded}
-use Rattle.aa_commands.specs.Command.{Change, Make, Order}
+use Rattle.aa_set_changes.specs.Changes.{change_takes_memory, is_disabled, is_loaded}
+use Rattle.aa_set_commands.specs.Command.{Change, Make, Order}
 use Rattle.aa_set.specs.Manager.{Managed, made}
-use Rattle.aa_verdicts.specs.Entries.{Loaded}
-use Rattle.aa_commands.specs.Refusal.{plain}
+use Rattle.aa_decide_verdict.specs.Entries.{Loaded}
+use Rattle.aa_set_commands.specs.Refusal.{plain}
 use Rattle.aa_set.specs.Run.{obeyed, obeyed_flagged, takes_memory, told}
-use Rattle.aa_files.specs.Files.{File, name_at}
-use Rattle.aa_files.specs.declared.text_error.Place.{Place}
-use Rattle.aa_commands.specs.declared.refusal.Refusal.{Refusal}
-use Rattle.aa_commands.specs.declared.refusal.RefusalKind.{RefusalKind}
-use Rattle.aa_commands.specs.declared.refusal.RefusalKind.TheVariants.{Memory}
+use Rattle.aa_text_files.specs.Files.{File, name_at}
+use Rattle.aa_text_files.specs.declared.text_error.Place.{Place}
+use Rattle.aa_set_commands.specs.declared.refusal.Refusal.{Refusal}
+use Rattle.aa_set_commands.specs.declared.refusal.RefusalKind.{RefusalKind}
+use Rattle.aa_set_commands.specs.declared.refusal.RefusalKind.TheVariants.{Memory}
 use Rattle.aa_set.specs.declared.reply.Reply.{Reply}
 use Rattle.aa_set.specs.declared.reply.Reply.TheVariants.{Done, Refused, Told}
 

@@ -8,13 +8,13 @@ use Rattle.std.proofs.lemmas.List.Sums.{sum_by-append}
 use Rattle.std.specs.Io.KnownBytes.{Appends}
 use Rattle.aa_bytes.specs.Texts.{is_empty}
 use Rattle.aa_set.specs.Manager.{Managed, new_manager}
-use Rattle.aa_lines.specs.Lines.{is_line_feed, lines, without_empty_last}
+use Rattle.aa_set_lines.specs.Lines.{is_line_feed, lines, without_empty_last}
 use Rattle.aa_set.specs.Reply.{reply_text, is_refusal, is_acceptance}
 use Rattle.aa_set.specs.Run.{Outcome, line_outcome, replies_to, after_lines, flagged, replies, IsAnswered}
 use Rattle.aa_set.specs.code.Session.{IsAfter, IsCut, Follows}
-use Rattle.aa_lines.specs.Streams.{Tells}
+use Rattle.aa_set_lines.specs.Streams.{Tells}
 use Rattle.aa_set.specs.declared.reply.Reply.{Reply}
-use Rattle.aa_lines.specs.Limits.{longest_line}
+use Rattle.aa_set_lines.specs.Limits.{longest_line}
 use Rattle.aa_set.specs.declared.session.Session.{Session}
 use Rattle.aa_set.specs.declared.session.Summary.{Summary}
 use Rattle.aa_set.proofs.StreamLemmas.{Tells-same, Tells-trans, Tells-flushed}

@@ -1,13 +1,13 @@
 -- What a line leaves as it was, and what decides its reply.
 use Rattle.std.proofs.Common.{◌≡◌, ℕ, Bool, true, false, not, cond, leb, ◌&&◌, List, length, Option, None, Some, Result, Ok, Err, refl, ap}
-use Rattle.aa_commands.specs.Command.{Ask, Listed, Make, Order, Redo, Show, Undo}
-use Rattle.aa_commands.specs.Refusal.{plain}
-use Rattle.aa_commands.specs.declared.refusal.Refusal.{Refusal}
-use Rattle.aa_commands.specs.declared.refusal.RefusalKind.TheVariants.{LineTooLong, Memory}
-use Rattle.aa_files.specs.Files.{File}
-use Rattle.aa_lines.specs.Limits.{longest_line}
-use Rattle.aa_answers.specs.Answers.{asks_absent, reply_lines, shown, shows_absent}
-use Rattle.aa_listing.specs.List.{list_lines}
+use Rattle.aa_set_commands.specs.Command.{Ask, Listed, Make, Order, Redo, Show, Undo}
+use Rattle.aa_set_commands.specs.Refusal.{plain}
+use Rattle.aa_set_commands.specs.declared.refusal.Refusal.{Refusal}
+use Rattle.aa_set_commands.specs.declared.refusal.RefusalKind.TheVariants.{LineTooLong, Memory}
+use Rattle.aa_text_files.specs.Files.{File}
+use Rattle.aa_set_lines.specs.Limits.{longest_line}
+use Rattle.aa_set_answers.specs.Answers.{asks_absent, reply_lines, shown, shows_absent}
+use Rattle.aa_set_listing.specs.List.{list_lines}
 use Rattle.aa_set.specs.Laws.{OtherLineLeavesAll, RefusedLineLeavesAll, SetDecidesAnswer, goes, is_change, is_question, order_in}
 use Rattle.aa_set.specs.Manager.{Managed, made, redone, undone}
 use Rattle.aa_set.specs.Reply.{is_refusal}

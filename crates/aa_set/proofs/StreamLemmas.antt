@@ -2,7 +2,7 @@
 use Rattle.std.proofs.Common.{◌≡◌, ℕ, List, [], ◌++◌, Option, sym, ap, ◌∙◌, append_assoc, append-nil, subst}
 use Rattle.std.proofs.KnownBytes.{Appends-nil, Appends-trans}
 use Rattle.std.specs.Io.KnownBytes.{Appends}
-use Rattle.aa_lines.specs.Streams.{Tells}
+use Rattle.aa_set_lines.specs.Streams.{Tells}
 
 -- no bytes were told
 pub Tells-nil : (a : Option (List ℕ)) (waits : List ℕ) → Tells a a waits waits []

@@ -1,15 +1,15 @@
 -- The laws of the machine, and what they speak of: which lines change the policy set, and which ones go back or on.
 use Rattle.std.specs.Prelude.{◌≡◌, ℕ, ◌+◌, Bool, true, false, not, ◌&&◌, if◌then◌else◌, List, ◌∷◌, [], IfOk, Option, Some, Result, Ok, Err}
-use Rattle.aa_files.specs.Files.{File}
+use Rattle.aa_text_files.specs.Files.{File}
 use Rattle.aa_history.specs.Machine.{all_sets}
-use Rattle.aa_commands.specs.Command.{Ask, Listed, Make, Order, Redo, Show, Undo, line_order}
-use Rattle.aa_commands.specs.declared.refusal.Refusal.{Refusal}
+use Rattle.aa_set_commands.specs.Command.{Ask, Listed, Make, Order, Redo, Show, Undo, line_order}
+use Rattle.aa_set_commands.specs.declared.refusal.Refusal.{Refusal}
 use Rattle.aa_decide.specs.Named.{have_distinct_names}
-use Rattle.aa_lines.specs.Words.{words_of}
+use Rattle.aa_set_lines.specs.Words.{words_of}
 use Rattle.aa_set.specs.Manager.{Managed, new_manager, next, redone, undone}
 use Rattle.aa_set.specs.Reply.{is_refusal}
 use Rattle.aa_set.specs.Run.{after_lines, line_outcome}
-use Rattle.aa_verdicts.specs.Entries.{Loaded}
+use Rattle.aa_decide_verdict.specs.Entries.{Loaded}
 
 -- the command in a line
 abbrev pub order_in : List ℕ → Result (Option Order) Refusal

@@ -1,14 +1,14 @@
 -- The manager: the machine over policy sets, and what each command makes of it (docs/commands.md).
 use Rattle.std.specs.Prelude.{ℕ, Bool, if◌then◌else◌, List, [], Result, Ok, Err}
-use Rattle.aa_files.specs.Files.{File}
+use Rattle.aa_text_files.specs.Files.{File}
 use Rattle.aa_history.specs.Machine.{Machine, accepted, can_go_back, can_go_on, gone_back, gone_on, started}
-use Rattle.aa_policy.specs.declared.profile.Mode.{Mode}
-use Rattle.aa_verdicts.specs.Entries.{Loaded}
-use Rattle.aa_commands.specs.Command.{Change}
-use Rattle.aa_commands.specs.Refusal.{plain}
-use Rattle.aa_commands.specs.declared.refusal.Refusal.{Refusal}
-use Rattle.aa_commands.specs.declared.refusal.RefusalKind.TheVariants.{NothingToRedo, NothingToUndo}
-use Rattle.aa_changes.specs.Changes.{changed, with_disabled, with_mode}
+use Rattle.aa_profile_data.specs.declared.profile.Mode.{Mode}
+use Rattle.aa_decide_verdict.specs.Entries.{Loaded}
+use Rattle.aa_set_commands.specs.Command.{Change}
+use Rattle.aa_set_commands.specs.Refusal.{plain}
+use Rattle.aa_set_commands.specs.declared.refusal.Refusal.{Refusal}
+use Rattle.aa_set_commands.specs.declared.refusal.RefusalKind.TheVariants.{NothingToRedo, NothingToUndo}
+use Rattle.aa_set_changes.specs.Changes.{changed, with_disabled, with_mode}
 
 -- a manager, as contracts see it: whether profiles are loaded in complain mode, and the machine
 pub record Managed : Type 0 where

@@ -1,12 +1,12 @@
 -- The texts of replies (docs/commands.md, "Replies").
 use Rattle.std.specs.Prelude.{ℕ, Bool, true, false, Option, None, Some, List, [], ◌++◌, codes}
 use Rattle.std.specs.Fmt.{decimal}
-use Rattle.aa_answers.specs.Answers.{line_with}
-use Rattle.aa_texts.specs.Texts.{told_text}
-use Rattle.aa_files.specs.Files.{File, name_at}
-use Rattle.aa_files.specs.declared.text_error.Place.{Place}
-use Rattle.aa_commands.specs.Refusal.{number_of, name_of}
-use Rattle.aa_commands.specs.declared.refusal.Refusal.{Refusal}
+use Rattle.aa_set_answers.specs.Answers.{line_with}
+use Rattle.aa_quoting.specs.Texts.{told_text}
+use Rattle.aa_text_files.specs.Files.{File, name_at}
+use Rattle.aa_text_files.specs.declared.text_error.Place.{Place}
+use Rattle.aa_set_commands.specs.Refusal.{number_of, name_of}
+use Rattle.aa_set_commands.specs.declared.refusal.Refusal.{Refusal}
 use Rattle.aa_set.specs.declared.reply.Reply.{Reply}
 use Rattle.aa_set.specs.declared.reply.Reply.TheVariants.{Silent, Done, Refused, Told}
 

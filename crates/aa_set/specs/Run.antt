@@ -3,22 +3,22 @@
 use Rattle.std.specs.Prelude.{ℕ, Bool, true, false, ◌&&◌, not, nat_le, if◌then◌else◌, List, [], ◌∷◌, length, Option, None, Some, IfSome, Result, Ok, Err, ◌≡◌, ◌≤◌, count_by}
 use Rattle.std.specs.List.{flat_map}
 use Rattle.std.specs.Io.KnownBytes.{Appends, Consumes}
-use Rattle.aa_answers.specs.Answers.{asks_absent, reply_lines, shown, shows_absent}
-use Rattle.aa_changes.specs.Changes.{change_takes_memory}
-use Rattle.aa_listing.specs.List.{list_lines}
-use Rattle.aa_files.specs.Files.{File}
-use Rattle.aa_commands.specs.Command.{Order, Make, Undo, Redo, Ask, Listed, Show, line_order}
+use Rattle.aa_set_answers.specs.Answers.{asks_absent, reply_lines, shown, shows_absent}
+use Rattle.aa_set_changes.specs.Changes.{change_takes_memory}
+use Rattle.aa_set_listing.specs.List.{list_lines}
+use Rattle.aa_text_files.specs.Files.{File}
+use Rattle.aa_set_commands.specs.Command.{Order, Make, Undo, Redo, Ask, Listed, Show, line_order}
 use Rattle.aa_set.specs.Manager.{Managed, new_manager, made, redone, undone}
-use Rattle.aa_lines.specs.Lines.{lines}
+use Rattle.aa_set_lines.specs.Lines.{lines}
 use Rattle.aa_set.specs.Reply.{reply_text, is_refusal, is_acceptance}
-use Rattle.aa_lines.specs.Words.{words_of}
+use Rattle.aa_set_lines.specs.Words.{words_of}
 use Rattle.aa_set.specs.declared.session.Summary.{Summary}
 use Rattle.aa_set.specs.declared.reply.Reply.{Reply}
 use Rattle.aa_set.specs.declared.reply.Reply.TheVariants.{Silent, Done, Refused, Told}
-use Rattle.aa_commands.specs.Refusal.{plain}
-use Rattle.aa_commands.specs.declared.refusal.Refusal.{Refusal}
-use Rattle.aa_commands.specs.declared.refusal.RefusalKind.TheVariants.{LineTooLong, Memory}
-use Rattle.aa_lines.specs.Limits.{longest_line}
+use Rattle.aa_set_commands.specs.Refusal.{plain}
+use Rattle.aa_set_commands.specs.declared.refusal.Refusal.{Refusal}
+use Rattle.aa_set_commands.specs.declared.refusal.RefusalKind.TheVariants.{LineTooLong, Memory}
+use Rattle.aa_set_lines.specs.Limits.{longest_line}
 
 -- the reply to a line, and the manager after it
 pub record Outcome : Type 0 where

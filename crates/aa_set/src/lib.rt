@@ -7,10 +7,10 @@ mod reply;
 mod session;
 mod telling;
 
-pub use aa_access::Perms;
-pub use aa_changes::PolicySet;
-pub use aa_commands::{Question, Refusal, RefusalKind};
-pub use aa_lines::{Failed, FromRead, Sink, Source, ToWrite};
+pub use aa_profile_access::Perms;
+pub use aa_set_changes::PolicySet;
+pub use aa_set_commands::{Question, Refusal, RefusalKind};
+pub use aa_set_lines::{Failed, FromRead, Sink, Source, ToWrite};
 pub use laws::the_way_back;
 pub use manager::Manager;
 pub use session::{RunFault, Summary, run};

@@ -1,24 +1,24 @@
 //! The manager: a policy set with its history.
 
 ghost use Rattle.std.specs.Prelude.{◌≡◌, ◌≢◌, Ok, Err, IfOk, IfErr, OnOk, OnErr, false, true};
-ghost use Rattle.aa_answers.specs.Answers.{asks_absent, reply_lines, shown, shows_absent};
-ghost use Rattle.aa_changes.specs.Changes.{is_disabled, is_loaded};
-ghost use Rattle.aa_commands.specs.Command.{Add, Remove, Replace};
-ghost use Rattle.aa_commands.specs.Question.{IsWellFormed, asked};
-ghost use Rattle.aa_commands.specs.Refusal.{plain};
-ghost use Rattle.aa_commands.specs.declared.refusal.RefusalKind.TheVariants.{Memory};
-ghost use Rattle.aa_listing.specs.List.{list_lines};
-ghost use Rattle.aa_policy.specs.declared.profile.Mode.TheVariants.{Complain, Enforce};
+ghost use Rattle.aa_set_answers.specs.Answers.{asks_absent, reply_lines, shown, shows_absent};
+ghost use Rattle.aa_set_changes.specs.Changes.{is_disabled, is_loaded};
+ghost use Rattle.aa_set_commands.specs.Command.{Add, Remove, Replace};
+ghost use Rattle.aa_set_commands.specs.Question.{IsWellFormed, asked};
+ghost use Rattle.aa_set_commands.specs.Refusal.{plain};
+ghost use Rattle.aa_set_commands.specs.declared.refusal.RefusalKind.TheVariants.{Memory};
+ghost use Rattle.aa_set_listing.specs.List.{list_lines};
+ghost use Rattle.aa_profile_data.specs.declared.profile.Mode.TheVariants.{Complain, Enforce};
 
-use aa_answers::{access_lines, exec_lines, shown_lines};
-use aa_changes::{Exchange, PolicySet};
-use aa_commands::{Question, Refusal, RefusalKind, plain};
 use aa_decide::Request;
-use aa_files::Files;
 use aa_history::Journal;
-use aa_listing::list_lines;
-use aa_policy::Mode;
 use aa_profile::read_file;
+use aa_profile_data::Mode;
+use aa_set_answers::{access_lines, exec_lines, shown_lines};
+use aa_set_changes::{Exchange, PolicySet};
+use aa_set_commands::{Question, Refusal, RefusalKind, plain};
+use aa_set_listing::list_lines;
+use aa_text_files::Files;
 use std::alloc::{AllocError, Global};
 use std::marker::Model;
 

@@ -1,15 +1,15 @@
 //! Replies: what a line is answered.
 
 ghost use Rattle.std.specs.Prelude.{◌≡◌, Bool, MatchResult};
-ghost use Rattle.aa_commands.specs.Command.{AsksWell, Make, meant, ordered};
+ghost use Rattle.aa_set_commands.specs.Command.{AsksWell, Make, meant, ordered};
 ghost use Rattle.aa_set.specs.Run.{line_outcome, obeyed_flagged};
 ghost use Rattle.aa_set.specs.declared.reply.Reply.TheVariants.{Done, Refused, Told};
 
 use crate::manager::Manager;
 use aa_bytes::Sequence;
-use aa_commands::{Command, PolicyChange, Refusal, RefusalKind, plain, read};
-use aa_files::Files;
-use aa_lines::LONGEST_LINE;
+use aa_set_commands::{Command, PolicyChange, Refusal, RefusalKind, plain, read};
+use aa_set_lines::LONGEST_LINE;
+use aa_text_files::Files;
 
 /// What a line is answered.
 #[derive(Debug, Drop)]

@@ -3,7 +3,7 @@
 ghost use Rattle.std.specs.Prelude.{◌≡◌, ◌+◌, ◌^◌, ◌<◌, ◌≤◌, ◌∷◌, [], length, vec_len, count_by, false, true, OnOk, OnErr, IfOk, IsErrOf, ◌⊎◌};
 ghost use Rattle.std.specs.List.{list_any};
 ghost use Rattle.std.specs.Io.KnownBytes.{IsAtEnd};
-ghost use Rattle.aa_lines.specs.Lines.{is_line_feed};
+ghost use Rattle.aa_set_lines.specs.Lines.{is_line_feed};
 ghost use Rattle.aa_set.specs.Reply.{is_acceptance, is_refusal};
 ghost use Rattle.aa_set.specs.Limits.{most_reads};
 ghost use Rattle.aa_set.specs.Run.{HasGiven, IsLeftAnswered};
@@ -12,8 +12,8 @@ ghost use Rattle.aa_set.specs.code.Session.{AnswersLine, EndsInput, EndsLine, Fe
 use crate::manager::Manager;
 use crate::reply::{Reply, reply_to};
 use crate::telling::tell_reply;
-use aa_files::Files;
-use aa_lines::{Failed, LineBuffer, Sink, Source, first_line, flush};
+use aa_set_lines::{Failed, LineBuffer, Sink, Source, first_line, flush};
+use aa_text_files::Files;
 use std::alloc::{AllocError, Global};
 use thiserror::Error;
 

@@ -2,16 +2,16 @@
 
 ghost use Rattle.std.specs.Prelude.{◌≡◌, true, OnOk, OnErr};
 ghost use Rattle.std.specs.Fmt.{decimal};
-ghost use Rattle.aa_files.specs.Files.{name_at};
-ghost use Rattle.aa_lines.specs.Streams.{Tells};
+ghost use Rattle.aa_text_files.specs.Files.{name_at};
+ghost use Rattle.aa_set_lines.specs.Streams.{Tells};
 ghost use Rattle.aa_set.specs.Reply.{place_text, refusal_text, reply_text};
-ghost use Rattle.aa_texts.specs.Texts.{hexadecimal, told_text};
+ghost use Rattle.aa_quoting.specs.Texts.{hexadecimal, told_text};
 
 use crate::reply::Reply;
-use aa_commands::Refusal;
-use aa_files::{Files, Place};
-use aa_lines::{Failed, Sink, tell};
-use aa_texts::{are_shown, two_digits};
+use aa_quoting::{are_shown, two_digits};
+use aa_set_commands::Refusal;
+use aa_set_lines::{Failed, Sink, tell};
+use aa_text_files::{Files, Place};
 use itoa::Buffer;
 
 /// Tells a reply to a writer, behind what waits to be written. It takes no memory. The places of refusals are those of these files.

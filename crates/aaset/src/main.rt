@@ -3,11 +3,11 @@
 #![tactic(auto)]
 
 ghost use Rattle.std.specs.Prelude.{◌≡◌};
-ghost use Rattle.aa_exit.specs.Fault.{status_of};
+ghost use Rattle.aaset_exit.specs.Fault.{status_of};
 
-use aa_exit::{Fault, Stop};
-use aa_files::Files;
 use aa_set::{FromRead, ToWrite};
+use aa_text_files::Files;
+use aaset_exit::{Fault, Stop};
 use std::process::ExitCode;
 use std::rt::Env;
 use std::{env, io, rt};
@@ -16,7 +16,7 @@ use std::{env, io, rt};
 fn words_of_start<R: Env + AllocGlobal>(rt: &R) -> Result<Vec<String>, Stop> {
     match env::args(rt) {
         Ok(words) => Ok(words.collect(rt.alloc())?),
-        Err(error) => Err(Stop::Failed(aa_exit::fault_of_words(&error))),
+        Err(error) => Err(Stop::Failed(aaset_exit::fault_of_words(&error))),
     }
 }
 
@@ -30,8 +30,8 @@ struct Ready {
 fn prepare<R: rt::Files + Env + AllocGlobal>(rt: &R) -> Result<Ready, Stop> {
     let alloc = rt.alloc();
     let all = words_of_start(rt)?;
-    let plan = aa_arguments::plan(alloc, all.as_slice())?;
-    let files = aa_gather::gather(rt, alloc, plan.base.as_str(), plan.names.as_slice())?;
+    let plan = aaset_arguments::plan(alloc, all.as_slice())?;
+    let files = aaset_gather::gather(rt, alloc, plan.base.as_str(), plan.names.as_slice())?;
     Ok(Ready {
         files,
         force_complain: plan.force_complain,
@@ -42,9 +42,9 @@ fn prepare<R: rt::Files + Env + AllocGlobal>(rt: &R) -> Result<Ready, Stop> {
 fn tell<R: Eprint>(rt: &R, fault: &Fault) -> u8
     ensures { result ≡ status_of fault.now }
 {
-    let text = aa_exit::fault_text(fault);
+    let text = aaset_exit::fault_text(fault);
     let _ = eprintln!(rt; "{}{}", text.words, text.name);
-    aa_exit::fault_status(fault)
+    aaset_exit::fault_status(fault)
 }
 
 // Shows a text that was asked for.
@@ -70,7 +70,7 @@ fn answer<R: Input + Print + Eprint + AllocGlobal>(rt: &R, ready: &Ready) -> u8 
     if let Err(fault) = &outcome {
         tell(rt, &Fault::from(*fault));
     }
-    aa_exit::status(&outcome)
+    aaset_exit::status(&outcome)
 }
 
 fn main(rt: HostRuntime) -> ExitCode {

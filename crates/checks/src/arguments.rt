@@ -1,6 +1,6 @@
 //! What the words of the program's start ask for.
 
-use aa_arguments::{ArgFault, Plan, plan};
+use aaset_arguments::{ArgFault, Plan, plan};
 use std::alloc::{AllocError, Global};
 
 // The program's own name, and then these arguments.

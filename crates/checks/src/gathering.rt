@@ -1,8 +1,8 @@
 //! Files that are gathered from a disk.
 
 use crate::disk::Disk;
-use aa_files::Files;
-use aa_gather::{GatherFault, gather};
+use aa_text_files::Files;
+use aaset_gather::{GatherFault, gather};
 use std::alloc::{AllocError, Global};
 use std::test::Fail;
 
@@ -47,12 +47,6 @@ fn takes_files(alloc: Global) -> Result<bool, AllocError> {
     }
 }
 
-#[test]
-fn files_are_taken_in_order(rt: HostRuntime) -> Result<(), Fail> {
-    assert!(rt; takes_files(rt.alloc())?);
-    Ok(())
-}
-
 // Whether the fault of gathering these names names this one.
 fn is_untaken(alloc: Global, names: &[&str], want: &str) -> Result<bool, AllocError> {
     let given = owned(alloc, names)?;
@@ -70,12 +64,6 @@ fn names_the_first(alloc: Global) -> Result<bool, AllocError> {
             && is_untaken(alloc, &[""], "")?
             && is_untaken(alloc, &["a\nb/"], "a\nb/")?,
     )
-}
-
-#[test]
-fn the_first_name_that_cannot_be_taken_is_named(rt: HostRuntime) -> Result<(), Fail> {
-    assert!(rt; names_the_first(rt.alloc())?);
-    Ok(())
 }
 
 // Whether of a file of a text and so many zeros, which gives at most so many bytes a read and may fail at its end, so many bytes are
@@ -112,8 +100,13 @@ fn reads_whole(alloc: Global) -> Result<bool, AllocError> {
     Ok(true)
 }
 
+// Whether files are taken whole and in order, up to the first that can't be, which is named.
+fn gathers(alloc: Global) -> Result<bool, AllocError> {
+    Ok(takes_files(alloc)? && names_the_first(alloc)? && reads_whole(alloc)?)
+}
+
 #[test]
-fn files_are_read_whole(rt: HostRuntime) -> Result<(), Fail> {
-    assert!(rt; reads_whole(rt.alloc())?);
+fn files_are_gathered(rt: HostRuntime) -> Result<(), Fail> {
+    assert!(rt; gathers(rt.alloc())?);
     Ok(())
 }

@@ -30,28 +30,10 @@ fn matches_the_longest(alloc: Global, part: &[u8], want: bool) -> Result<bool, A
     Ok(answers(alloc, &pattern, &text, want))
 }
 
-#[test]
-fn the_longest_pattern_refuses_a_long_text(rt: HostRuntime) -> Result<(), Fail> {
-    assert!(rt; matches_the_longest(rt.alloc(), b"/a", false)?);
-    Ok(())
-}
-
 // Patterns against a text of four million bytes.
 fn matches_millions(alloc: Global, pattern: &[u8], want: bool) -> Result<bool, AllocError> {
     let text = repeated(alloc, b"/a", 2_000_000)?;
     Ok(answers(alloc, pattern, &text, want))
-}
-
-#[test]
-fn two_stars_match_millions_of_bytes(rt: HostRuntime) -> Result<(), Fail> {
-    assert!(rt; matches_millions(rt.alloc(), b"/**", true)?);
-    Ok(())
-}
-
-#[test]
-fn stars_between_others_refuse_millions_of_bytes(rt: HostRuntime) -> Result<(), Fail> {
-    assert!(rt; matches_millions(rt.alloc(), b"/**/a/**/a/**/b", false)?);
-    Ok(())
 }
 
 // A text of many words.
@@ -63,12 +45,6 @@ fn cuts_millions(alloc: Global) -> Result<bool, AllocError> {
     }
 }
 
-#[test]
-fn a_million_words_are_cut(rt: HostRuntime) -> Result<(), Fail> {
-    assert!(rt; cuts_millions(rt.alloc())?);
-    Ok(())
-}
-
 // A text that is one word.
 fn cuts_a_long_word(alloc: Global) -> Result<bool, AllocError> {
     let text = repeated(alloc, b"/{a}", 1_000_000)?;
@@ -76,12 +52,6 @@ fn cuts_a_long_word(alloc: Global) -> Result<bool, AllocError> {
         Ok(found) => Ok(found.len() == 1),
         Err(_) => Ok(false),
     }
-}
-
-#[test]
-fn a_word_of_millions_of_bytes_is_cut(rt: HostRuntime) -> Result<(), Fail> {
-    assert!(rt; cuts_a_long_word(rt.alloc())?);
-    Ok(())
 }
 
 // A line of many bytes is refused once.
@@ -106,8 +76,28 @@ fn refuses_a_line(alloc: Global) -> Result<bool, AllocError> {
     )
 }
 
+// Whether patterns answer on paths of many bytes.
+fn matches_long_paths(alloc: Global) -> Result<bool, AllocError> {
+    Ok(
+        matches_the_longest(alloc, b"/a", false)?
+            && matches_millions(alloc, b"/**", true)?
+            && matches_millions(alloc, b"/**/a/**/a/**/b", false)?,
+    )
+}
+
 #[test]
-fn a_line_of_millions_of_bytes_is_refused_once(rt: HostRuntime) -> Result<(), Fail> {
-    assert!(rt; refuses_a_line(rt.alloc())?);
+fn patterns_answer_on_paths_of_millions_of_bytes(rt: HostRuntime) -> Result<(), Fail> {
+    assert!(rt; matches_long_paths(rt.alloc())?);
+    Ok(())
+}
+
+// Whether texts of many bytes are cut, and a line of many refused.
+fn reads_long_texts(alloc: Global) -> Result<bool, AllocError> {
+    Ok(cuts_millions(alloc)? && cuts_a_long_word(alloc)? && refuses_a_line(alloc)?)
+}
+
+#[test]
+fn texts_of_millions_of_bytes_are_cut(rt: HostRuntime) -> Result<(), Fail> {
+    assert!(rt; reads_long_texts(rt.alloc())?);
     Ok(())
 }

@@ -1,11 +1,9 @@
 //! Runs over readers and writers of few bytes a call, and over some that fail.
 
-use crate::calls::one_file;
 use crate::fakes::{Slow, Small, Undoing};
 use aa_set::{FromRead, RunFault, Sink, Source, Summary, ToWrite, run};
 use aa_text::Files;
 use std::alloc::Global;
-use std::test::Fail;
 
 // The reply to each line: nothing was changed.
 const REPLY: &[u8] = b"refused 63 NothingToUndo\n";
@@ -32,11 +30,6 @@ fn answers_bytes(alloc: Global, count: usize, lines: u64, reads: u64) -> bool {
     outcome == Ok(want) && reader.reads() == reads
 }
 
-#[test]
-fn seventy_thousand_reads_of_a_byte_are_answered(rt: HostRuntime) {
-    assert!(rt; answers_bytes(rt.alloc(), 70_000, 14_000, 70_001));
-}
-
 // The replies that are written where a reader fails behind so many bytes.
 fn answers_until_the_fault(alloc: Global, count: usize, lines: usize) -> bool {
     let files = Files::new(alloc);
@@ -52,16 +45,6 @@ fn answers_until_the_fault(alloc: Global, count: usize, lines: usize) -> bool {
         && are_replies(writer.into_inner().as_slice(), lines)
 }
 
-#[test]
-fn whole_lines_before_a_fault_are_answered(rt: HostRuntime) {
-    assert!(rt; answers_until_the_fault(rt.alloc(), 69_999, 13_999));
-}
-
-#[test]
-fn nothing_is_answered_where_the_first_read_fails(rt: HostRuntime) {
-    assert!(rt; answers_until_the_fault(rt.alloc(), 0, 0));
-}
-
 // A slice as a writer has room for five bytes: the front that fits is written.
 fn fills_a_slice(alloc: Global) -> bool {
     let files = Files::new(alloc);
@@ -70,11 +53,6 @@ fn fills_a_slice(alloc: Global) -> bool {
     let mut reader = FromRead::new(b"undo\nundo\n".as_slice());
     let outcome = run(alloc, &files, false, &mut reader, &mut writer);
     outcome == Err(RunFault::Write) && writer.failed() && reader.reads() == 1 && room == *b"refus"
-}
-
-#[test]
-fn a_slice_is_filled(rt: HostRuntime) {
-    assert!(rt; fills_a_slice(rt.alloc()));
 }
 
 // A sink that takes a byte a call, and then fails.
@@ -86,11 +64,6 @@ fn fills_a_slow_sink(alloc: Global) -> bool {
     outcome == Err(RunFault::Write) && writer.failed() && writer.taken == *b"refused "
 }
 
-#[test]
-fn a_slow_sink_is_filled(rt: HostRuntime) {
-    assert!(rt; fills_a_slow_sink(rt.alloc()));
-}
-
 // A writer that takes a byte a write, and then fails or takes nothing.
 fn fills_a_small_writer(alloc: Global, fails: bool) -> bool {
     let files = Files::new(alloc);
@@ -100,34 +73,27 @@ fn fills_a_small_writer(alloc: Global, fails: bool) -> bool {
     outcome == Err(RunFault::Write) && writer.into_inner().taken == *b"refused "
 }
 
-#[test]
-fn a_writer_that_fails_is_filled(rt: HostRuntime) {
-    assert!(rt; fills_a_small_writer(rt.alloc(), true));
+// Whether each reader is answered: whole lines alone, up to a fault.
+fn answers_readers(alloc: Global) -> bool {
+    answers_bytes(alloc, 70_000, 14_000, 70_001)
+        && answers_until_the_fault(alloc, 69_999, 13_999)
+        && answers_until_the_fault(alloc, 0, 0)
 }
 
 #[test]
-fn a_writer_that_takes_nothing_is_filled(rt: HostRuntime) {
-    assert!(rt; fills_a_small_writer(rt.alloc(), false));
+fn readers_of_a_byte_a_call_are_answered(rt: HostRuntime) {
+    assert!(rt; answers_readers(rt.alloc()));
 }
 
-// With the option `-C` a run loads profiles in complain mode.
-fn loads_in_complain_mode(alloc: Global) -> Result<bool, Fail> {
-    let files = one_file(alloc)?;
-    let mut reader = FromRead::new(b"add first\nlist\n".as_slice());
-    let mut writer = ToWrite::new(Vec::new(alloc));
-    let outcome = run(alloc, &files, true, &mut reader, &mut writer);
-    let want = Summary {
-        accepted: 2,
-        refused: 0,
-    };
-    Ok(
-        outcome == Ok(want)
-            && writer.into_inner().as_slice() == b"ok\nprofiles 1\n\"first\" complain\n".as_slice(),
-    )
+// Whether each writer is filled as far as it has room.
+fn fills_writers(alloc: Global) -> bool {
+    fills_a_slice(alloc)
+        && fills_a_slow_sink(alloc)
+        && fills_a_small_writer(alloc, true)
+        && fills_a_small_writer(alloc, false)
 }
 
 #[test]
-fn a_run_loads_in_complain_mode(rt: HostRuntime) -> Result<(), Fail> {
-    assert!(rt; loads_in_complain_mode(rt.alloc())?);
-    Ok(())
+fn writers_without_room_are_filled(rt: HostRuntime) {
+    assert!(rt; fills_writers(rt.alloc()));
 }

@@ -4,8 +4,7 @@ ghost use Rattle.std.specs.Prelude.{◌≡◌, ◌+◌, ◌<◌};
 
 use crate::fakes::{Small, Undoing};
 use aa_set::{Failed, FromRead, Sink, Source, ToWrite};
-use std::alloc::{AllocError, Global};
-use std::test::Fail;
+use std::alloc::Global;
 
 // Whether a read gives these bytes.
 fn gives<S: Source>(source: &mut S, want: &[u8]) -> bool
@@ -19,6 +18,7 @@ fn gives<S: Source>(source: &mut S, want: &[u8]) -> bool
     }
 }
 
+// A source gives pieces to the end.
 fn reads_pieces() -> bool {
     let mut source = FromRead::new(b"three".as_slice());
     let first = gives(&mut source, b"thre");
@@ -27,11 +27,7 @@ fn reads_pieces() -> bool {
     first && second && last && source.reads() == 3 && !source.failed()
 }
 
-#[test]
-fn a_source_gives_pieces_to_the_end(rt: HostRuntime) {
-    assert!(rt; reads_pieces());
-}
-
+// A read that fails counts.
 fn counts_failed_reads() -> bool {
     let reader = Undoing {
         at: 0,
@@ -45,21 +41,14 @@ fn counts_failed_reads() -> bool {
     first && second && source.reads() == 2 && source.failed()
 }
 
-#[test]
-fn a_read_that_fails_counts(rt: HostRuntime) {
-    assert!(rt; counts_failed_reads());
-}
-
-fn writes_behind(alloc: Global) -> Result<bool, AllocError> {
-    let mut sink = ToWrite::new(vec![in alloc; b'a']?);
+// A sink writes behind what the writer holds.
+fn writes_behind(alloc: Global) -> bool {
+    let Ok(held) = Vec::from_slice(alloc, b"a") else {
+        return false;
+    };
+    let mut sink = ToWrite::new(held);
     let taken = sink.write(b"bc") == Ok(2) && !sink.failed();
-    Ok(taken && sink.into_inner().as_slice() == b"abc".as_slice())
-}
-
-#[test]
-fn a_sink_writes_behind_what_the_writer_holds(rt: HostRuntime) -> Result<(), Fail> {
-    assert!(rt; writes_behind(rt.alloc())?);
-    Ok(())
+    taken && sink.into_inner().as_slice() == b"abc".as_slice()
 }
 
 // A slice as a writer takes no byte where it has no room.
@@ -68,11 +57,6 @@ fn fails_without_room() -> bool {
     let mut sink = ToWrite::new(room.as_mut_slice());
     let first = sink.write(b"ab") == Ok(1);
     first && sink.write(b"b") == Err(Failed) && sink.failed()
-}
-
-#[test]
-fn a_write_that_takes_nothing_is_a_fault(rt: HostRuntime) {
-    assert!(rt; fails_without_room());
 }
 
 // The ninth byte of a writer that has room for eight.
@@ -86,22 +70,27 @@ fn fails_at_the_ninth(fails: bool) -> bool {
     sink.write(b"ab") == Err(Failed) && sink.failed()
 }
 
-#[test]
-fn a_write_that_fails_is_a_fault(rt: HostRuntime) {
-    assert!(rt; fails_at_the_ninth(true));
-}
-
-#[test]
-fn a_later_write_that_takes_nothing_is_a_fault(rt: HostRuntime) {
-    assert!(rt; fails_at_the_ninth(false));
-}
-
-fn takes_no_bytes() -> bool {
+// A write of one byte is no fault.
+fn takes_one_byte() -> bool {
     let mut sink = ToWrite::new(Small::new(true));
     sink.write(b"ab") == Ok(1) && !sink.failed() && sink.into_inner().taken == *b"a......."
 }
 
 #[test]
-fn a_write_of_one_byte_is_no_fault(rt: HostRuntime) {
-    assert!(rt; takes_no_bytes());
+fn sources_give_to_the_end_or_fail(rt: HostRuntime) {
+    assert!(rt; reads_pieces() && counts_failed_reads());
+}
+
+// Whether sinks take what there is room for, and fail then.
+fn takes_while_there_is_room(alloc: Global) -> bool {
+    writes_behind(alloc)
+        && fails_without_room()
+        && fails_at_the_ninth(true)
+        && fails_at_the_ninth(false)
+        && takes_one_byte()
+}
+
+#[test]
+fn sinks_take_what_there_is_room_for(rt: HostRuntime) {
+    assert!(rt; takes_while_there_is_room(rt.alloc()));
 }

@@ -3,7 +3,7 @@
 use crate::bytes::put_text;
 use crate::row_error::RowError;
 use crate::words::{put_words, word_bytes};
-use aa_files::Files;
+use aa_text_files::Files;
 use std::alloc::Global;
 
 /// A line of a paragraph, with the bytes that stand below it behind `|` and `.`.

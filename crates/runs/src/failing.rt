@@ -22,7 +22,13 @@ pub fn ask_pieces(
 ) -> Result<(), RowError> {
     let mut writer = ToWrite::new(Vec::new(tally.alloc()));
     let mut reader = Pieces::new(wanted.input, calls.size, calls.failing as u64);
-    let outcome = run(tally.alloc(), files, false, &mut reader, &mut writer);
+    let outcome = run(
+        tally.alloc(),
+        files,
+        wanted.force_complain,
+        &mut reader,
+        &mut writer,
+    );
     compare(tally, wanted, outcome, &writer.into_inner())
 }
 
@@ -35,7 +41,13 @@ fn ask_takes(
 ) -> Result<(), RowError> {
     let mut writer = Takes::new(Vec::new(tally.alloc()), calls.size, calls.failing as u64);
     let mut reader = FromRead::new(wanted.input);
-    let outcome = run(tally.alloc(), files, false, &mut reader, &mut writer);
+    let outcome = run(
+        tally.alloc(),
+        files,
+        wanted.force_complain,
+        &mut reader,
+        &mut writer,
+    );
     compare(tally, wanted, outcome, writer.written())
 }
 
@@ -67,6 +79,7 @@ pub fn ask_failing(
     let (stream, calls) = split_at(calls, " ")?;
     let calls = read_calls(calls)?;
     let wanted = Wanted {
+        force_complain: whole.force_complain,
         input: whole.input,
         output: front(whole.output, count)?,
         end: stream,

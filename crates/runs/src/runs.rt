@@ -10,7 +10,13 @@ use row_texts::{Part, RowError, Tally, take_files};
 fn ask_whole(tally: &mut Tally, files: &Files, wanted: Wanted<'_>) -> Result<(), RowError> {
     let mut writer = ToWrite::new(Vec::new(tally.alloc()));
     let mut reader = FromRead::new(wanted.input);
-    let outcome = run(tally.alloc(), files, false, &mut reader, &mut writer);
+    let outcome = run(
+        tally.alloc(),
+        files,
+        wanted.force_complain,
+        &mut reader,
+        &mut writer,
+    );
     compare(tally, wanted, outcome, &writer.into_inner())
 }
 

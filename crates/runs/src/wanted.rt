@@ -6,6 +6,8 @@ use row_texts::{Part, RowError, Tally, find, put_number};
 /// What a run reads, what it is to write, and how it is to end: its counts, or its fault.
 #[derive(Clone, Copy, Drop)]
 pub struct Wanted<'a> {
+    /// Whether profiles are loaded in complain mode.
+    pub force_complain: bool,
     pub input: &'a [u8],
     pub output: &'a [u8],
     pub end: &'a str,
@@ -16,7 +18,13 @@ pub fn read_wanted<'a>(parts: &'a [Part<'_>]) -> Result<Wanted<'a>, RowError> {
     let (_, input) = find(parts, "input")?;
     let (_, output) = find(parts, "output")?;
     let (end, _) = find(parts, "end ")?;
-    Ok(Wanted { input, output, end })
+    let force_complain = parts.iter().any(|part| part.head == "option -C");
+    Ok(Wanted {
+        force_complain,
+        input,
+        output,
+        end,
+    })
 }
 
 // Puts a count behind bytes.

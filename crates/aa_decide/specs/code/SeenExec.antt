@@ -1,15 +1,14 @@
 -- Who asks to start a program, and what is answered, as the definitions see it: slots stand for the entries in them.
-use Rattle.std.specs.Prelude.{◌≡◌, ℕ, List, Option, None, Some}
+use Rattle.std.specs.Prelude.{◌≡◌, ℕ, List, Option, Some}
 use Rattle.std.specs.Option.{option_map}
-use Rattle.aa_verdicts.specs.Entries.{Loaded}
-use Rattle.aa_decide.specs.Exec.{Asker, ExecAnswer, Nowhere, Null, Started, Unconfined, Under}
-use Rattle.aa_decide.specs.Slots.{entry_at}
+use Rattle.aa_decide_verdict.specs.Entries.{Loaded}
+use Rattle.aa_decide.specs.Exec.{Asker, ExecAnswer, Started}
+use Rattle.aa_decide_verdict.specs.Slots.{entry_at}
 use Rattle.aa_decide.specs.declared.execution.Asker.{Asker as FoundAsker}
-use Rattle.aa_decide.specs.declared.execution.ExecTo.{ExecTo}
-use Rattle.aa_decide.specs.declared.execution.ExecTo.TheVariants as to
-use Rattle.aa_decide.specs.declared.execution.ExecVerdict.{ExecVerdict}
-use Rattle.aa_decide.specs.declared.slots.Who.{Who}
+use Rattle.aa_decide_audit.specs.declared.exec_verdict.ExecTo.{ExecTo}
+use Rattle.aa_decide_audit.specs.declared.exec_verdict.ExecVerdict.{ExecVerdict}
 use Rattle.aa_decide.specs.declared.slots.Who.TheVariants as who
+use Rattle.aa_decide.specs.SeenExec.{seen_to, IsAnswer}
 
 -- who asks, as the code found
 abbrev pub seen_asker : FoundAsker → Asker
@@ -19,18 +18,6 @@ seen_asker asker = record { entry = asker.loaded.now; child = asker.child }
 abbrev pub IsIn : List (Option Loaded) → FoundAsker → Type 0
 IsIn slots asker = entry_at slots asker.slot ≡ Some asker.loaded.now
 
--- who asks by a loaded profile: one whose slot isn't filled is no one in particular
-abbrev pub asker_in : List (Option Loaded) → Who → Option Asker
-asker_in slots who.Unconfined = None
-asker_in slots (who.Entry slot child) = option_map (λ entry. record { entry = entry; child = child }) (entry_at slots slot)
-
--- under what the program runs, if the slot is filled
-abbrev pub seen_to : List (Option Loaded) → ExecTo → Option Started
-seen_to slots (to.Profile slot child) = option_map (λ entry. Under entry child) (entry_at slots slot)
-seen_to slots to.Unconfined = Some Unconfined
-seen_to slots to.Null = Some Null
-seen_to slots to.Nowhere = Some Nowhere
-
 -- what the code found is where the definitions lead, if they lead anywhere
 abbrev pub IsDestination : List (Option Loaded) → Option ExecTo → Option Started → Type 0
 IsDestination slots found started = option_map (seen_to slots) found ≡ option_map (λ started. Some started) started
@@ -38,14 +25,6 @@ IsDestination slots found started = option_map (seen_to slots) found ≡ option_
 -- the same, whatever the slots hold but for this entry
 abbrev pub IsDestinationFrom : ℕ → Loaded → Option ExecTo → Option Started → Type 0
 IsDestinationFrom slot entry found started = (slots : List (Option Loaded)) → entry_at slots slot ≡ Some entry → IsDestination slots found started
-
--- the answer of the code, if the slot is filled
-abbrev pub seen_answer : List (Option Loaded) → ExecVerdict → Option ExecAnswer
-seen_answer slots found = option_map (λ to. record { verdict = found.verdict; to = to; scrub = found.scrub }) (seen_to slots found.to)
-
--- the code's answer is that of the definitions
-abbrev pub IsAnswer : List (Option Loaded) → ExecVerdict → ExecAnswer → Type 0
-IsAnswer slots found answer = seen_answer slots found ≡ Some answer
 
 -- the same, whatever the slots hold
 abbrev pub IsAnswerAnywhere : ExecVerdict → ExecAnswer → Type 0

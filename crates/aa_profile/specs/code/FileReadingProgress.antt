@@ -2,16 +2,16 @@
 use Rattle.std.specs.Prelude.{◌≡◌, ◌≢◌, Bool, List, [], ◌∷◌, is_none, Option, None, Some, Result, Err, IfErr}
 use Rattle.std.specs.List.{list_all}
 use Rattle.aa_bytes.specs.Texts.{is_empty}
-use Rattle.aa_variables.specs.Expansions.{expansion_refusal}
-use Rattle.aa_text.specs.Splicing.{Placed}
-use Rattle.aa_variables.specs.Variables.{Variable}
-use Rattle.aa_files.specs.declared.text_error.Place.{Place}
+use Rattle.aa_text_variables.specs.Expansions.{expansion_refusal}
+use Rattle.aa_text_splicing.specs.Splicing.{Placed}
+use Rattle.aa_text_variables.specs.Variables.{Variable}
+use Rattle.aa_text_files.specs.declared.text_error.Place.{Place}
 use Rattle.aa_profile.specs.Assignments.{first_undefined}
-use Rattle.aa_refusals.specs.ProfileError.{plain}
-use Rattle.aa_refusals.specs.declared.profile_error.ProfileError.{ProfileError}
-use Rattle.aa_refusals.specs.declared.profile_error.ProfileRefusal.TheVariants.{Memory}
-use Rattle.aa_grammar.specs.Preamble.{Assignment}
-use Rattle.aa_faults.specs.Tokens.{place_of, text_of}
+use Rattle.aa_profile_errors.specs.ProfileError.{plain}
+use Rattle.aa_profile_errors.specs.declared.profile_error.ProfileError.{ProfileError}
+use Rattle.aa_profile_errors.specs.declared.profile_error.ProfileRefusal.TheVariants.{Memory}
+use Rattle.aa_profile_grammar.specs.Preamble.{Assignment}
+use Rattle.aa_profile_parsing.specs.Tokens.{place_of, text_of}
 
 -- none of the tokens leads to a name that isn't defined, or to a cycle
 abbrev pub have_expansions : List Variable → List Placed → Bool

@@ -2,14 +2,14 @@
 -- last line. What `run` promises is in `Run`.
 use Rattle.std.specs.Prelude.{◌≡◌, ℕ, ◌+◌, Bool, List, [], ◌∷◌, ◌++◌, map, take, Option}
 use Rattle.std.specs.List.{flat_map, slice_split}
-use Rattle.aa_files.specs.Files.{File}
+use Rattle.aa_text_files.specs.Files.{File}
 use Rattle.aa_set.specs.Manager.{new_manager}
-use Rattle.aa_lines.specs.Lines.{is_line_feed}
+use Rattle.aa_set_lines.specs.Lines.{is_line_feed}
 use Rattle.aa_set.specs.Reply.{reply_text}
-use Rattle.aa_answers.specs.Answers.{line_with}
+use Rattle.aa_set_answers.specs.Answers.{line_with}
 use Rattle.aa_set.specs.Run.{IsAnswered, IsLeftAnswered, replies_to, after_lines, SumsUp}
-use Rattle.aa_lines.specs.Streams.{Tells}
-use Rattle.aa_lines.specs.Limits.{longest_line}
+use Rattle.aa_set_lines.specs.Streams.{Tells}
+use Rattle.aa_set_lines.specs.Limits.{longest_line}
 use Rattle.aa_set.specs.declared.session.Session.{Session}
 use Rattle.aa_set.specs.declared.session.Summary.{Summary}
 

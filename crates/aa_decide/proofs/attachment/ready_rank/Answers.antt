@@ -1,6 +1,6 @@
 use Rattle.std.proofs.Common.{◌∙◌, ap}
-use Rattle.aa_attach.specs.Ranks.{best_rank}
-use Rattle.aa_automata.specs.Automata.{AreMatching}
+use Rattle.aa_decide_attachment.specs.Ranks.{best_rank}
+use Rattle.aa_glob_syntax.specs.Patterns.{AreMatching}
 use Rattle.aa_decide.proofs.attachment.ready_rank.Goals as goal
 
 pub returns : goal.returns

@@ -1,9 +1,9 @@
 use Rattle.std.proofs.Common.{◌∙◌, ap}
 use Rattle.std.specs.List.Sorted.{IsStrictlyIncreasing}
 use Rattle.std.proofs.lemmas.Result.{IfOk-weaker}
-use Rattle.aa_exec.specs.Choices.{choice}
-use Rattle.aa_verdicts.specs.Matching.{AreMatchingRules}
-use Rattle.aa_verdicts.specs.Ready.{audits}
+use Rattle.aa_decide_exec_rules.specs.Choices.{choice}
+use Rattle.aa_profile_data.specs.Matching.{AreMatchingRules}
+use Rattle.aa_decide_verdict.specs.Ready.{audits}
 use Rattle.aa_decide.proofs.execution.choice_at.Goals as goal
 
 pub returns : goal.returns

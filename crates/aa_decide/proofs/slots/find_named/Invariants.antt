@@ -1,6 +1,6 @@
 use Rattle.std.proofs.Common.{◌≡◌, drop}
 use Rattle.aa_decide.specs.Named.{entry_named}
-use Rattle.aa_decide.specs.Slots.{filled}
+use Rattle.aa_decide_verdict.specs.Slots.{filled}
 use Rattle.aa_decide.proofs.slots.find_named.Given as goal
 
 -- the profile is in none of the slots so far

@@ -1,5 +1,5 @@
 use Rattle.std.proofs.Common.{sym, map, ◌∙◌}
-use Rattle.aa_grammar.specs.code.Seen.{seen_assignment}
+use Rattle.aa_profile_grammar.specs.SeenFiles.{seen_assignment}
 use Rattle.aa_profile.proofs.AssignmentLemmas.{cycle-named, cycle-none, cycle-unnamed}
 use Rattle.aa_profile.proofs.assignments.check_cycles.Goals as goal
 

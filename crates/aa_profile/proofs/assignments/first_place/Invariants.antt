@@ -1,6 +1,6 @@
 use Rattle.std.proofs.Common.{◌≡◌, drop, map}
 use Rattle.aa_profile.specs.Assignments.{first_of}
-use Rattle.aa_grammar.specs.code.Seen.{seen_assignment}
+use Rattle.aa_profile_grammar.specs.SeenFiles.{seen_assignment}
 use Rattle.aa_profile.proofs.assignments.first_place.Given as goal
 
 -- the first is none of the assignments so far

@@ -1,6 +1,6 @@
 use Rattle.std.proofs.Common.{◌≡◌, drop}
 use Rattle.aa_profile.specs.Assignments.{first_undefined}
-use Rattle.aa_faults.specs.code.SeenTokens.{seen_tokens}
+use Rattle.aa_profile_parsing.specs.SeenTokens.{seen_tokens}
 use Rattle.aa_profile.proofs.assignments.first_undefined.Given as goal
 
 -- the first is none of the tokens so far

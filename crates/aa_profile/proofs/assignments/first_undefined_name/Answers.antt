@@ -1,8 +1,8 @@
 use Rattle.std.proofs.Common.{sym, ap, map, ◌∙◌}
 use Rattle.std.specs.Option.{option_map}
-use Rattle.aa_grammar.specs.code.Seen.{seen_assignment}
-use Rattle.aa_faults.specs.Tokens.{place_of}
-use Rattle.aa_faults.specs.code.SeenTokens.{seen_tokens}
+use Rattle.aa_profile_grammar.specs.SeenFiles.{seen_assignment}
+use Rattle.aa_profile_parsing.specs.Tokens.{place_of}
+use Rattle.aa_profile_parsing.specs.SeenTokens.{seen_tokens}
 use Rattle.aa_profile.proofs.AssignmentLemmas.{first_undefined-pattern, first_undefined-value}
 use Rattle.aa_profile.proofs.assignments.first_undefined_name.Goals as goal
 

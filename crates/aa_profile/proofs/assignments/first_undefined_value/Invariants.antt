@@ -1,6 +1,6 @@
 use Rattle.std.proofs.Common.{◌≡◌, drop, map}
 use Rattle.aa_profile.specs.code.FileReadingProgress.{first_undefined_value}
-use Rattle.aa_grammar.specs.code.Seen.{seen_assignment}
+use Rattle.aa_profile_grammar.specs.SeenFiles.{seen_assignment}
 use Rattle.aa_profile.proofs.assignments.first_undefined_value.Given as goal
 
 -- the first is no value of the assignments so far

@@ -1,6 +1,6 @@
 use Rattle.std.proofs.Common.{map}
-use Rattle.aa_grammar.specs.code.Seen.{seen_assignment}
-use Rattle.aa_faults.specs.code.SeenTokens.{seen_tokens}
+use Rattle.aa_profile_grammar.specs.SeenFiles.{seen_assignment}
+use Rattle.aa_profile_parsing.specs.SeenTokens.{seen_tokens}
 use Rattle.aa_profile.proofs.AssignmentLemmas.{file-expands}
 use Rattle.aa_profile.proofs.assignments.read_variables.Goals as goal
 

@@ -1,6 +1,6 @@
 use Rattle.std.proofs.Common.{◌≡◌, map, take}
-use Rattle.aa_faults.specs.Tokens.{text_of}
-use Rattle.aa_faults.specs.code.SeenTokens.{seen_tokens}
+use Rattle.aa_profile_parsing.specs.Tokens.{text_of}
+use Rattle.aa_profile_parsing.specs.SeenTokens.{seen_tokens}
 use Rattle.aa_profile.proofs.assignments.texts.Given as goal
 
 -- the texts of the tokens so far

@@ -1,6 +1,6 @@
 use Rattle.std.proofs.Common.{◌≡◌, ◌++◌, map}
 use Rattle.std.specs.Option.{option_map}
-use Rattle.aa_text.specs.code.SplicingProgress.{seen_spliced}
+use Rattle.aa_text_splicing.specs.SeenTokens.{seen_spliced}
 use Rattle.aa_profile.specs.Profiles.{file_rule}
 use Rattle.aa_profile.proofs.file_rules.push_file_rules.Given as goal
 

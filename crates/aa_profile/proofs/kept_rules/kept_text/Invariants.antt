@@ -1,6 +1,6 @@
 use Rattle.std.proofs.Common.{◌≡◌, [], length}
 use Rattle.std.specs.Prelude.{fold}
-use Rattle.aa_faults.specs.code.SeenTokens.{seen_tokens}
+use Rattle.aa_profile_parsing.specs.SeenTokens.{seen_tokens}
 use Rattle.aa_profile.specs.Profiles.{with_token}
 use Rattle.aa_profile.proofs.kept_rules.kept_text.Given as goal
 

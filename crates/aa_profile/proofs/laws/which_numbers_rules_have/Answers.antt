@@ -1,6 +1,6 @@
 use Rattle.std.proofs.Common.{◌≡◌, true}
 use Rattle.std.specs.List.{list_all}
-use Rattle.aa_policy.specs.Numbers.{profile_has_known_numbers}
+use Rattle.aa_profile_data.specs.Numbers.{profile_has_known_numbers}
 use Rattle.aa_profile.proofs.NumberLemmas.{profiles-known}
 use Rattle.aa_profile.proofs.ReadingLemmas.{file-fits}
 use Rattle.aa_profile.proofs.laws.which_numbers_rules_have.Goals as goal

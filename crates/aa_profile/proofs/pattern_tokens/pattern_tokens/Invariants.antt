@@ -1,6 +1,6 @@
 use Rattle.std.proofs.Common.{◌≡◌, ◌++◌, length, map}
-use Rattle.aa_grammar.specs.code.Seen.{seen_profile}
-use Rattle.aa_faults.specs.code.SeenTokens.{seen_tokens}
+use Rattle.aa_profile_grammar.specs.SeenFiles.{seen_profile}
+use Rattle.aa_profile_parsing.specs.SeenTokens.{seen_tokens}
 use Rattle.aa_profile.specs.PatternTokens.{of_profiles}
 use Rattle.aa_profile.proofs.pattern_tokens.pattern_tokens.Given as goal
 

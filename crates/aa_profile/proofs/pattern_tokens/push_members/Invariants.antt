@@ -1,6 +1,6 @@
 use Rattle.std.proofs.Common.{◌≡◌, ◌++◌, length, map}
-use Rattle.aa_grammar.specs.code.Seen.{seen_member}
-use Rattle.aa_faults.specs.code.SeenTokens.{seen_tokens}
+use Rattle.aa_profile_grammar.specs.SeenFiles.{seen_member}
+use Rattle.aa_profile_parsing.specs.SeenTokens.{seen_tokens}
 use Rattle.aa_profile.specs.PatternTokens.{of_members}
 use Rattle.aa_profile.proofs.pattern_tokens.push_members.Given as goal
 

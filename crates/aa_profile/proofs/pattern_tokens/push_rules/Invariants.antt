@@ -1,6 +1,6 @@
 use Rattle.std.proofs.Common.{◌≡◌, ◌++◌, length, map}
-use Rattle.aa_faults.specs.code.SeenTokens.{seen_tokens}
-use Rattle.aa_rules.specs.code.SeenRules.{seen_rule}
+use Rattle.aa_profile_parsing.specs.SeenTokens.{seen_tokens}
+use Rattle.aa_profile_rules.specs.SeenRules.{seen_rule}
 use Rattle.aa_profile.specs.PatternTokens.{of_rules}
 use Rattle.aa_profile.proofs.pattern_tokens.push_rules.Given as goal
 

@@ -1,5 +1,5 @@
 use Rattle.std.proofs.Common.{◌≡◌, ◌≤◌, drop, true}
-use Rattle.aa_faults.specs.code.SeenTokens.{seen_tokens}
+use Rattle.aa_profile_parsing.specs.SeenTokens.{seen_tokens}
 use Rattle.aa_profile.specs.Patterns.{too_many}
 use Rattle.aa_profile.specs.code.FileReadingProgress.{have_expansions}
 use Rattle.aa_profile.specs.Limits.{most_rules}

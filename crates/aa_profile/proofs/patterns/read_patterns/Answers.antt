@@ -1,12 +1,12 @@
 use Rattle.std.proofs.Common.{◌≡◌, ◌∙◌, sym, ap, map, take}
 use Rattle.std.specs.Option.{option_map}
 use Rattle.std.proofs.lemmas.Result.{IfErr-weaker, IfOk-weaker}
-use Rattle.aa_text.specs.code.SplicingProgress.{seen_spliced}
-use Rattle.aa_faults.specs.Tokens.{place_of, text_of}
-use Rattle.aa_parts.specs.Joining.{most_kept}
-use Rattle.aa_variables.specs.Expansions.{expansions}
+use Rattle.aa_text_splicing.specs.SeenTokens.{seen_spliced}
+use Rattle.aa_profile_parsing.specs.Tokens.{place_of, text_of}
+use Rattle.aa_text_expansion.specs.Joining.{most_kept}
+use Rattle.aa_text_variables.specs.Expansions.{expansions}
 use Rattle.aa_profile.specs.Patterns.{collapsed, refusal_of_expansions}
-use Rattle.aa_refusals.specs.ProfileError.{placed}
+use Rattle.aa_profile_errors.specs.ProfileError.{placed}
 use Rattle.aa_profile.proofs.PatternLemmas.{both, patterns_told, refusals_told}
 use Rattle.aa_profile.proofs.patterns.read_patterns.Goals as goal
 

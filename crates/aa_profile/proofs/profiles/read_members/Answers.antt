@@ -1,6 +1,6 @@
 use Rattle.std.proofs.Common.{◌∙◌, ◌++◌, ◌-◌, sym, ap, map, take, drop, length, Some}
 use Rattle.std.proofs.lemmas.Result.{err_from_is_err_and}
-use Rattle.aa_grammar.specs.code.Seen.{seen_member}
+use Rattle.aa_profile_grammar.specs.SeenFiles.{seen_member}
 use Rattle.aa_profile.specs.PatternTokens.{of_member, of_members}
 use Rattle.aa_profile.specs.Patterns.{first_bad}
 use Rattle.aa_profile.specs.Profiles.{children_of, children_of_member, rules_of_member, rules_of_members}

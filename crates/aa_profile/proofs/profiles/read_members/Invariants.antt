@@ -1,5 +1,5 @@
 use Rattle.std.proofs.Common.{◌≡◌, ◌++◌, length, map, true}
-use Rattle.aa_grammar.specs.code.Seen.{seen_member}
+use Rattle.aa_profile_grammar.specs.SeenFiles.{seen_member}
 use Rattle.aa_profile.specs.PatternTokens.{of_members}
 use Rattle.aa_profile.specs.Profiles.{children_of, rules_of_members}
 use Rattle.aa_profile.specs.Patterns.{first_bad}

@@ -1,14 +1,14 @@
 use Rattle.std.proofs.Common.{◌≡◌, ◌∙◌, ℕ, List, sym, ap, map, refl, rules, Some}
 use Rattle.std.proofs.lemmas.Result.{err_from_is_err_and}
-use Rattle.aa_grammar.specs.Blocks.{Profile as WrittenProfile}
-use Rattle.aa_grammar.specs.code.Seen.{seen_head, seen_member, seen_profile}
-use Rattle.aa_policy.specs.declared.profile.Child.{Child}
-use Rattle.aa_policy.specs.declared.profile.Mode.{Mode}
-use Rattle.aa_policy.specs.declared.profile.Rule.{Rule}
+use Rattle.aa_profile_grammar.specs.Blocks.{Profile as WrittenProfile}
+use Rattle.aa_profile_grammar.specs.SeenFiles.{seen_head, seen_member, seen_profile}
+use Rattle.aa_profile_data.specs.declared.profile.Child.{Child}
+use Rattle.aa_profile_data.specs.declared.profile.Mode.{Mode}
+use Rattle.aa_profile_data.specs.declared.profile.Rule.{Rule}
 use Rattle.aa_profile.specs.PatternTokens.{of_head, of_members}
 use Rattle.aa_profile.specs.Profiles.{attachments_of, children_of, mode_of, profile_of, rules_of_members}
 use Rattle.aa_profile.proofs.ProfileLemmas.{first_bad_front}
-use Rattle.aa_variables.specs.Variables.{Variable}
+use Rattle.aa_text_variables.specs.Variables.{Variable}
 use Rattle.aa_profile.proofs.profiles.read_profile.Goals as goal
 
 -- a profile, from its parts

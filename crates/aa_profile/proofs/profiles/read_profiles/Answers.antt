@@ -1,6 +1,6 @@
 use Rattle.std.proofs.Common.{◌∙◌, ◌++◌, ◌∷◌, ◌-◌, [], sym, ap, map, take, drop, length, Some}
 use Rattle.std.proofs.lemmas.Result.{err_from_is_err_and}
-use Rattle.aa_grammar.specs.code.Seen.{seen_profile}
+use Rattle.aa_profile_grammar.specs.SeenFiles.{seen_profile}
 use Rattle.aa_profile.specs.PatternTokens.{of_profile, of_profiles}
 use Rattle.aa_profile.specs.Patterns.{first_bad}
 use Rattle.aa_profile.specs.Profiles.{profile_of}

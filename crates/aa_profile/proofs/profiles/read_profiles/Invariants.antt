@@ -1,5 +1,5 @@
 use Rattle.std.proofs.Common.{◌≡◌, ◌++◌, length, map, true}
-use Rattle.aa_grammar.specs.code.Seen.{seen_profile}
+use Rattle.aa_profile_grammar.specs.SeenFiles.{seen_profile}
 use Rattle.aa_profile.specs.PatternTokens.{of_profiles}
 use Rattle.aa_profile.specs.Profiles.{profile_of}
 use Rattle.aa_profile.specs.Patterns.{first_bad}

@@ -1,5 +1,5 @@
 use Rattle.std.proofs.Common.{◌≡◌, ◌++◌, length, map, true}
-use Rattle.aa_rules.specs.code.SeenRules.{seen_rule}
+use Rattle.aa_profile_rules.specs.SeenRules.{seen_rule}
 use Rattle.aa_profile.specs.PatternTokens.{of_rules}
 use Rattle.aa_profile.specs.Profiles.{rules_of}
 use Rattle.aa_profile.specs.Patterns.{first_bad}

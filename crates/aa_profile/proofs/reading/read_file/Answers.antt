@@ -1,9 +1,9 @@
 use Rattle.std.proofs.Common.{◌≡◌, true}
 use Rattle.std.specs.List.{list_all}
 use Rattle.std.proofs.lemmas.Result.{IfOk-weaker}
-use Rattle.aa_grammar.specs.code.Seen.{seen_file}
-use Rattle.aa_faults.specs.code.SeenTokens.{seen_tokens}
-use Rattle.aa_policy.specs.Numbers.{profile_has_known_numbers}
+use Rattle.aa_profile_grammar.specs.SeenFiles.{seen_file}
+use Rattle.aa_profile_parsing.specs.SeenTokens.{seen_tokens}
+use Rattle.aa_profile_data.specs.Numbers.{profile_has_known_numbers}
 use Rattle.aa_profile.proofs.GrammarLemmas.{assignments-valued}
 use Rattle.aa_profile.proofs.NameLemmas.{ProfilesFit, profiles-fit}
 use Rattle.aa_profile.proofs.NumberLemmas.{profiles-known}

@@ -1,5 +1,5 @@
 use Rattle.std.proofs.Common.{refl}
-use Rattle.aa_commands.specs.Command.{Add, Remove, Replace}
+use Rattle.aa_set_commands.specs.Command.{Add, Remove, Replace}
 use Rattle.aa_set.proofs.ReplyLemmas.{obeyed-made, of-each}
 use Rattle.aa_set.proofs.reply.make.Goals as goal
 

@@ -1,7 +1,7 @@
 use Rattle.std.proofs.Common.{ap, not, refl}
-use Rattle.aa_answers.specs.Answers.{reply_lines}
-use Rattle.aa_commands.specs.Command.{Ask}
-use Rattle.aa_commands.specs.Question.{asked}
+use Rattle.aa_set_answers.specs.Answers.{reply_lines}
+use Rattle.aa_set_commands.specs.Command.{Ask}
+use Rattle.aa_set_commands.specs.Question.{asked}
 use Rattle.aa_set.proofs.ReplyLemmas.{obeyed-told, of-that}
 use Rattle.aa_set.proofs.reply.obey.Goals as goal
 

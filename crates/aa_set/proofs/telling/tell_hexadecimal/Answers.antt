@@ -1,7 +1,7 @@
 use Rattle.std.proofs.Common.{get_or, ◌∙◌, refl, append-nil}
 use Rattle.std.proofs.lemmas.Grind.{flat_map-append}
 use Rattle.std.proofs.lemmas.List.{take_more}
-use Rattle.aa_texts.specs.Texts.{digits_of}
+use Rattle.aa_quoting.specs.Texts.{digits_of}
 use Rattle.aa_set.proofs.StreamLemmas.{Tells-nil, Tells-same, Tells-trans}
 use Rattle.aa_set.proofs.telling.tell_hexadecimal.Goals as goal
 

@@ -1,6 +1,6 @@
 use Rattle.std.proofs.Common.{◌≡◌, take}
-use Rattle.aa_texts.specs.Texts.{hexadecimal}
-use Rattle.aa_lines.specs.Streams.{Tells}
+use Rattle.aa_quoting.specs.Texts.{hexadecimal}
+use Rattle.aa_set_lines.specs.Streams.{Tells}
 use Rattle.aa_set.proofs.telling.tell_hexadecimal.Given as goal
 
 -- the bytes so far are told

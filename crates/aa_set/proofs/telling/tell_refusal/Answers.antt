@@ -1,7 +1,7 @@
 use Rattle.std.proofs.Common.{ℕ, List, [], ◌∷◌, ◌++◌, codes, ap, ◌∙◌}
 use Rattle.std.proofs.lemmas.Result.{on_ok_weaker}
 use Rattle.std.specs.Fmt.{decimal}
-use Rattle.aa_commands.specs.Refusal.{number_of}
+use Rattle.aa_set_commands.specs.Refusal.{number_of}
 use Rattle.aa_set.specs.Reply.{place_text}
 use Rattle.aa_set.proofs.StreamLemmas.{Tells-same, Tells-trans}
 use Rattle.aa_set.proofs.telling.tell_refusal.Goals as goal

@@ -1,7 +1,7 @@
 use Rattle.std.proofs.Common.{◌≡◌, true, sym, refl}
 use Rattle.std.proofs.lemmas.Result.{on_ok_weaker}
 use Rattle.std.specs.List.{list_all}
-use Rattle.aa_texts.specs.Texts.{is_shown}
+use Rattle.aa_quoting.specs.Texts.{is_shown}
 use Rattle.aa_set.proofs.StreamLemmas.{Tells-same, Tells-trans}
 use Rattle.aa_set.proofs.telling.tell_text.Goals as goal
 

@@ -1,5 +1,0 @@
-use Rattle.aa_attach.proofs.RankLemmas.{stands_out-from, stands_out-told}
-use Rattle.aa_attach.proofs.laws.which_rank_stands_out.Goals as goal
-
-pub returns : goal.returns
-returns c ranks place = (stands_out-told ranks place, stands_out-from ranks place)

@@ -1,6 +1,0 @@
-pub mod Automata
-pub mod code
-pub mod Grown
-pub mod Numbers
-pub mod Walks
-pub mod Ways

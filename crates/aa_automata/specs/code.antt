@@ -1,5 +1,0 @@
--- What the code's own forms mean. No public contract names these.
-pub mod Built
-pub mod Followed
-pub mod Growths
-pub mod SeenGroups

@@ -1,5 +1,0 @@
-use Rattle.aa_changes.proofs.NameLemmas.{changes-keep}
-use Rattle.aa_changes.proofs.laws.what_changes_keep.Goals as goal
-
-pub returns : goal.returns
-returns c = changes-keep c.how_profiles_are_named.ensures.distinct

@@ -1,0 +1,31 @@
+-- Who asks to start a program, and what is answered, as the definitions see it: slots stand for the entries in them.
+use Rattle.std.specs.Prelude.{◌≡◌, List, Option, None, Some}
+use Rattle.std.specs.Option.{option_map}
+use Rattle.aa_decide_verdict.specs.Entries.{Loaded}
+use Rattle.aa_decide.specs.Exec.{Asker, ExecAnswer, Nowhere, Null, Started, Unconfined, Under}
+use Rattle.aa_decide_verdict.specs.Slots.{entry_at}
+use Rattle.aa_decide_audit.specs.declared.exec_verdict.ExecTo.{ExecTo}
+use Rattle.aa_decide_audit.specs.declared.exec_verdict.ExecTo.TheVariants as to
+use Rattle.aa_decide_audit.specs.declared.exec_verdict.ExecVerdict.{ExecVerdict}
+use Rattle.aa_decide.specs.declared.slots.Who.{Who}
+use Rattle.aa_decide.specs.declared.slots.Who.TheVariants as who
+
+-- who asks by a loaded profile: one whose slot isn't filled is no one in particular
+abbrev pub asker_in : List (Option Loaded) → Who → Option Asker
+asker_in slots who.Unconfined = None
+asker_in slots (who.Entry slot child) = option_map (λ entry. record { entry = entry; child = child }) (entry_at slots slot)
+
+-- under what the program runs, if the slot is filled
+abbrev pub seen_to : List (Option Loaded) → ExecTo → Option Started
+seen_to slots (to.Profile slot child) = option_map (λ entry. Under entry child) (entry_at slots slot)
+seen_to slots to.Unconfined = Some Unconfined
+seen_to slots to.Null = Some Null
+seen_to slots to.Nowhere = Some Nowhere
+
+-- the answer of the code, if the slot is filled
+abbrev pub seen_answer : List (Option Loaded) → ExecVerdict → Option ExecAnswer
+seen_answer slots found = option_map (λ to. record { verdict = found.verdict; to = to; scrub = found.scrub }) (seen_to slots found.to)
+
+-- the code's answer is that of the definitions
+abbrev pub IsAnswer : List (Option Loaded) → ExecVerdict → ExecAnswer → Type 0
+IsAnswer slots found answer = seen_answer slots found ≡ Some answer

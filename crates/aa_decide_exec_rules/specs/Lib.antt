@@ -1,0 +1,4 @@
+pub mod Choices
+pub mod ExecRules
+pub mod SeenChoices
+pub mod code

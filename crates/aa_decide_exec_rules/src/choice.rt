@@ -1,0 +1,249 @@
+//! Where the rules of a profile lead a program that is started.
+
+ghost use Rattle.std.specs.Prelude.{◌≡◌, IfOk};
+ghost use Rattle.std.specs.List.{list_any};
+ghost use Rattle.std.specs.Option.{option_map};
+ghost use Rattle.aa_decide_exec_rules.specs.Choices.{IsChoiceFor, chosen, choice_of, denies, denies_aloud, dominates, first_lead, is_exact_lead, leads_aloud, leads_elsewhere, same_target, same_transition};
+ghost use Rattle.aa_decide_exec_rules.specs.SeenChoices.{seen_choice};
+ghost use Rattle.aa_decide_exec_rules.specs.code.SeenRules.{seen_rule, seen_rules};
+
+use crate::exec_rules::{ExecRule, exec_rules};
+use aa_bytes::Sequence;
+use aa_profile_data::{Rule, Transition, which_rules_match};
+use std::alloc::{AllocError, Global};
+
+/// What rules say together of a program that is started.
+#[derive(Clone, Copy, Debug)]
+pub enum ExecChoice<'a> {
+    /// A rule denies it.
+    Denied {
+        /// Whether that is logged: one of these rules is audited.
+        audited: bool,
+    },
+    /// No rule speaks of it.
+    Missing,
+    /// The rules that dominate lead to different places.
+    Clashing,
+    /// It leads somewhere.
+    Leading {
+        /// Where it leads.
+        transition: &'a Transition,
+        /// Whether it is logged: one of the rules that dominate is audited.
+        audited: bool,
+    },
+}
+
+// Whether two transitions name the same target, or both none.
+fn same_target(one: &Option<Sequence<u8>>, other: &Option<Sequence<u8>>) -> bool
+    ensures { result ≡ same_target one.now other.now }
+{
+    match (one, other) {
+        (None, None) => true,
+        (Some(one), Some(other)) => one.as_slice() == other.as_slice(),
+        _ => false,
+    }
+}
+
+// Whether two transitions have the same exec word and target.
+fn same_transition(one: &Transition, other: &Transition) -> bool
+    ensures { result ≡ same_transition one.now other.now }
+{
+    one.word.is_same(other.word) && same_target(&one.target, &other.target)
+}
+
+impl ExecRule<'_> {
+    fn denies(self) -> bool
+        ensures { result ≡ denies (seen_rule self.entry) }
+    {
+        match self {
+            ExecRule::Denying { .. } => true,
+            ExecRule::Leading { .. } => false,
+        }
+    }
+
+    fn denies_aloud(self) -> bool
+        ensures { result ≡ denies_aloud (seen_rule self.entry) }
+    {
+        match self {
+            ExecRule::Denying { audited } => audited,
+            ExecRule::Leading { .. } => false,
+        }
+    }
+
+    fn is_exact_lead(self) -> bool
+        ensures { result ≡ is_exact_lead (seen_rule self.entry) }
+    {
+        match self {
+            ExecRule::Denying { .. } => false,
+            ExecRule::Leading { exact, .. } => exact,
+        }
+    }
+
+    // Whether a rule is one of those that decide where to go.
+    fn dominates(self, some_exact: bool) -> bool
+        ensures { result ≡ dominates some_exact (seen_rule self.entry) }
+    {
+        match self {
+            ExecRule::Denying { .. } => false,
+            ExecRule::Leading { exact, .. } => exact || !some_exact,
+        }
+    }
+
+    fn leads_aloud(self, some_exact: bool) -> bool
+        ensures { result ≡ leads_aloud some_exact (seen_rule self.entry) }
+    {
+        match self {
+            ExecRule::Denying { .. } => false,
+            ExecRule::Leading { audited, .. } => audited && self.dominates(some_exact),
+        }
+    }
+
+    // Whether a rule that dominates leads to another place than a transition.
+    fn leads_elsewhere(self, some_exact: bool, first: &Transition) -> bool
+        ensures { result ≡ leads_elsewhere some_exact first.now (seen_rule self.entry) }
+    {
+        match self {
+            ExecRule::Denying { .. } => false,
+            ExecRule::Leading { transition, .. } => {
+                self.dominates(some_exact) && !same_transition(first, transition)
+            }
+        }
+    }
+}
+
+// Whether some rule denies.
+fn some_denies(rules: &[ExecRule<'_>]) -> bool
+    ensures { result ≡ list_any denies (seen_rules rules.now) }
+{
+    let mut rest = rules;
+    while let [rule, behind @ ..] = rest {
+        if rule.denies() {
+            return true;
+        }
+        rest = behind;
+    }
+    false
+}
+
+fn some_denies_aloud(rules: &[ExecRule<'_>]) -> bool
+    ensures { result ≡ list_any denies_aloud (seen_rules rules.now) }
+{
+    let mut rest = rules;
+    while let [rule, behind @ ..] = rest {
+        if rule.denies_aloud() {
+            return true;
+        }
+        rest = behind;
+    }
+    false
+}
+
+fn some_is_exact(rules: &[ExecRule<'_>]) -> bool
+    ensures { result ≡ list_any is_exact_lead (seen_rules rules.now) }
+{
+    let mut rest = rules;
+    while let [rule, behind @ ..] = rest {
+        if rule.is_exact_lead() {
+            return true;
+        }
+        rest = behind;
+    }
+    false
+}
+
+fn some_leads_aloud(some_exact: bool, rules: &[ExecRule<'_>]) -> bool
+    ensures { result ≡ list_any (leads_aloud some_exact) (seen_rules rules.now) }
+{
+    let mut rest = rules;
+    while let [rule, behind @ ..] = rest {
+        if rule.leads_aloud(some_exact) {
+            return true;
+        }
+        rest = behind;
+    }
+    false
+}
+
+fn some_leads_elsewhere(some_exact: bool, first: &Transition, rules: &[ExecRule<'_>]) -> bool
+    ensures { result ≡ list_any (leads_elsewhere some_exact first.now) (seen_rules rules.now) }
+{
+    let mut rest = rules;
+    while let [rule, behind @ ..] = rest {
+        if rule.leads_elsewhere(some_exact, first) {
+            return true;
+        }
+        rest = behind;
+    }
+    false
+}
+
+// Where the first rule that dominates leads.
+fn first_lead<'a>(some_exact: bool, rules: &[ExecRule<'a>]) -> Option<&'a Transition>
+    ensures { option_map (λ transition. transition.now) result ≡ first_lead some_exact (seen_rules rules.now) }
+{
+    let mut rest = rules;
+    while let [rule, behind @ ..] = rest {
+        if let ExecRule::Leading { transition, .. } = rule {
+            if rule.dominates(some_exact) {
+                return Some(*transition);
+            }
+        }
+        rest = behind;
+    }
+    None
+}
+
+// Where rules lead of which none denies.
+fn chosen<'a>(some_exact: bool, rules: &[ExecRule<'a>]) -> ExecChoice<'a>
+    ensures { seen_choice result ≡ chosen some_exact (seen_rules rules.now) }
+{
+    let Some(transition) = first_lead(some_exact, rules) else {
+        return ExecChoice::Missing;
+    };
+    if some_leads_elsewhere(some_exact, transition, rules) {
+        return ExecChoice::Clashing;
+    }
+    ExecChoice::Leading {
+        transition,
+        audited: some_leads_aloud(some_exact, rules),
+    }
+}
+
+// What rules say together.
+fn choice_of<'a>(rules: &[ExecRule<'a>]) -> ExecChoice<'a>
+    ensures { seen_choice result ≡ choice_of (seen_rules rules.now) }
+{
+    if some_denies(rules) {
+        ExecChoice::Denied {
+            audited: some_denies_aloud(rules),
+        }
+    } else {
+        chosen(some_is_exact(rules), rules)
+    }
+}
+
+/// What rules say together of the start of the program of a path (docs/policy.md, "Exec and attachment"): that it is denied, as soon as one deny rule
+/// with `x` applies; that no rule speaks of it; or where it leads. Of the rules that lead somewhere those with an exact pattern dominate the
+/// others, and they have to agree in exec word and target. `flag` says whether each of the rules is audited, whatever its own words are: that
+/// is the flag of their profile. `owned` says whether the task's user owns the file. `places` are the places of the rules on files whose pattern
+/// matches the path, in rising order; it goes over these alone.
+///
+/// # Errors
+///
+/// Where memory runs out.
+pub fn exec_choice<'a>(
+    alloc: Global,
+    flag: bool,
+    rules: &'a [Rule],
+    places: &[usize],
+    owned: bool,
+) -> Result<ExecChoice<'a>, AllocError>
+    ensures { IfOk result (λ found. IsChoiceFor flag owned rules.now places.now (seen_choice found)) }
+{
+    which_rules_match();
+    let said = match exec_rules(alloc, flag, rules, places, owned) {
+        Ok(said) => said,
+        Err(_) => return Err(AllocError),
+    };
+    Ok(choice_of(&said))
+}

@@ -1,0 +1,103 @@
+//! Loaded profiles with their states.
+
+ghost use Rattle.std.specs.Prelude.{◌≡◌, IfOk, true};
+ghost use Rattle.aa_decide_verdict.specs.Entries.{fits, is_in_force};
+
+use crate::ready::Ready;
+use aa_bytes::Sequence;
+use aa_profile_data::{Mode, Profile};
+use std::alloc::{AllocError, Global};
+use std::marker::Model;
+
+/// The state of a loaded profile.
+#[derive(Debug, Drop)]
+pub enum State {
+    /// The profile and its children are out of force.
+    Disabled,
+    /// They are in force: in the first mode the profile, and in one each its children and hats, in their order.
+    Modes(Sequence<Mode>),
+}
+
+/// A loaded profile with its state, which has a mode for the profile and for each of its children and hats.
+#[derive(Debug, Drop)]
+pub struct Entry {
+    ready: Ready,
+    state: State,
+}
+
+impl Model for Entry {
+    ghost use Rattle.std.specs.Prelude.{IsTrue};
+    ghost use Rattle.aa_decide_verdict.specs.Entries.{Loaded, fits};
+
+    ghost Value = { Loaded };
+
+    ghost view = { λ e. record { profile = e.ready; state = e.state } };
+
+    ghost invariant = { λ e. IsTrue (fits e.ready e.state) };
+}
+
+impl State {
+    /// Whether it is a state in force. It takes no memory.
+    pub fn is_in_force(&self) -> bool
+        ensures { result ≡ is_in_force self.now }
+    {
+        match self {
+            State::Disabled => false,
+            State::Modes(_) => true,
+        }
+    }
+
+    // An equal state.
+    fn try_copy(&self, alloc: Global) -> Result<State, AllocError>
+        ensures { IfOk result (λ copy. copy ≡ self.now) }
+    {
+        match self {
+            State::Disabled => Ok(State::Disabled),
+            State::Modes(modes) => Ok(State::Modes(Sequence::from_slice(alloc, modes.as_slice())?)),
+        }
+    }
+}
+
+impl Entry {
+    /// A profile in a state that fits it. It takes no memory.
+    pub fn new(ready: Ready, state: State) -> Entry
+        requires { fits ready state ≡ true }
+        ensures { result ≡ record { profile = ready; state = state } }
+    {
+        Entry { ready, state }
+    }
+
+    /// The profile.
+    pub fn profile(&self) -> &Profile
+        ensures { result.now ≡ self.now.profile }
+    {
+        &self.ready.profile
+    }
+
+    /// The profile, ready for requests.
+    pub fn ready(&self) -> &Ready
+        ensures { result.now ≡ self.now.profile }
+    {
+        &self.ready
+    }
+
+    /// The state.
+    pub fn state(&self) -> &State
+        ensures { result.now ≡ self.now.state }
+    {
+        &self.state
+    }
+
+    /// An equal entry.
+    ///
+    /// # Errors
+    ///
+    /// Where memory runs out.
+    pub fn try_copy(&self, alloc: Global) -> Result<Entry, AllocError>
+        ensures { IfOk result (λ copy. copy ≡ self.now) }
+    {
+        let ready = self.ready.try_copy(alloc)?;
+        let state = self.state.try_copy(alloc)?;
+        Ok(Entry { ready, state })
+    }
+}

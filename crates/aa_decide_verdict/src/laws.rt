@@ -1,0 +1,33 @@
+//! What holds of verdicts, as laws over the definitions that `decide` is proved to follow.
+
+ghost use Rattle.std.specs.Prelude.{◌≡◌, ℕ, Bool, List, true, false, ◌∷◌};
+ghost use Rattle.aa_profile_access.specs.Request.{Request};
+ghost use Rattle.aa_profile_data.specs.declared.profile.Mode.{Mode};
+ghost use Rattle.aa_profile_data.specs.declared.profile.Mode.TheVariants.{Complain, Enforce};
+ghost use Rattle.aa_profile_data.specs.declared.profile.Rule.{Rule};
+ghost use Rattle.aa_decide_audit.specs.LogLines.{log_line};
+ghost use Rattle.aa_decide_verdict.specs.Verdict.{denies, verdict};
+ghost use Rattle.aa_decide_verdict.specs.VerdictLaws.{HaveSameRules, in_complain};
+ghost use Rattle.aa_decide_audit.specs.declared.verdict.Answer.TheVariants.{Allow};
+
+/// In complain mode what enforce mode refuses is let through and logged with the same needs, and nothing else changes: what is denied is denied
+/// there too. The order of the rules changes no answer, no tag, no mask and no line, nor does a rule that is written twice. One allow rule more leaves
+/// what is allowed. One deny rule more allows nothing that wasn't.
+pub fn what_rules_decide()
+    ensures complain { (audit : Bool) (rules : List Rule) (request : Request)
+        → verdict Complain audit rules request ≡ in_complain (verdict Enforce audit rules request) }
+    ensures order { (mode : Mode) (audit : Bool) (rules others : List Rule) (request : Request)
+        → HaveSameRules rules others
+        → verdict mode audit rules request ≡ verdict mode audit others request }
+    ensures line { (asker : List ℕ) (mode : Mode) (audit : Bool) (rules others : List Rule) (request : Request)
+        → HaveSameRules rules others
+        → log_line asker request (verdict mode audit rules request) ≡ log_line asker request (verdict mode audit others request) }
+    ensures allow { (mode : Mode) (audit : Bool) (rule : Rule) (rules : List Rule) (request : Request)
+        → denies rule ≡ false
+        → (verdict mode audit rules request).answer ≡ Allow
+        → (verdict mode audit (rule ∷ rules) request).answer ≡ Allow }
+    ensures deny { (mode : Mode) (audit : Bool) (rule : Rule) (rules : List Rule) (request : Request)
+        → denies rule ≡ true
+        → (verdict mode audit (rule ∷ rules) request).answer ≡ Allow
+        → (verdict mode audit rules request).answer ≡ Allow }
+{}

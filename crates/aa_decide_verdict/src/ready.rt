@@ -1,0 +1,223 @@
+//! Profiles that requests are decided by.
+
+ghost use Rattle.std.specs.Prelude.{◌≡◌, IfOk, MatchOption};
+ghost use Rattle.std.specs.List.Sorted.{IsStrictlyIncreasing};
+ghost use Rattle.aa_glob_syntax.specs.Patterns.{AreMatching};
+ghost use Rattle.aa_glob_prefixes.specs.Beginnings.{HasStates};
+ghost use Rattle.aa_decide_verdict.specs.Visits.{AreFewStates, AreStepsOf, AreVisitsOf, attachments_at};
+ghost use Rattle.aa_profile_data.specs.FileRules.{file_patterns};
+ghost use Rattle.aa_profile_data.specs.Matching.{AreMatchingRules};
+ghost use Rattle.aa_decide_verdict.specs.Ready.{audits, decided, rules_at};
+ghost use Rattle.aa_decide_verdict.specs.code.Parts.{HasNothingAt, IsPartOf};
+ghost use Rattle.aa_profile_access.specs.SeenRequests.{request_of};
+
+use crate::part::{Part, copied_parts, parts_of};
+use crate::verdict::{found_verdict, rules_verdict};
+use aa_bytes::Sequence;
+use aa_decide_audit::Verdict;
+use aa_glob_pattern::Pattern;
+use aa_glob_prefixes::how_many_states_there_are;
+use aa_glob_run::Steps;
+use aa_profile_access::Request;
+use aa_profile_data::{Mode, Profile, Rule, which_rules_match};
+use std::alloc::{AllocError, Global};
+use std::marker::Model;
+
+/// A profile that requests are decided by. Contracts see the profile alone.
+#[derive(Debug, Drop)]
+pub struct Ready {
+    /// The profile.
+    pub profile: Profile,
+    // What was made of its own rules and attachments.
+    own: Part,
+    // What was made of those of each child and hat.
+    parts: Sequence<Part>,
+}
+
+impl Model for Ready {
+    ghost use Rattle.aa_profile_data.specs.declared.profile.Profile.{Profile};
+
+    ghost Value = { Profile };
+
+    ghost view = { λ r. r.profile };
+
+    ghost use Rattle.aa_decide_verdict.specs.code.Parts.{ArePartsOf, IsPartOf};
+
+    ghost invariant = { λ r. IsPartOf r.own r.profile.rules r.profile.attachments × ArePartsOf r.parts r.profile.children };
+}
+
+impl Ready {
+    /// A profile, made ready: an automaton is made of the patterns of its file rules, one of its attachments, and such of each child and hat.
+    ///
+    /// # Errors
+    ///
+    /// Where memory runs out. The profile is dropped then.
+    pub fn build(alloc: Global, profile: Profile) -> Result<Ready, AllocError>
+        ensures { IfOk result (λ ready. ready ≡ profile) }
+    {
+        let own = Part::build(
+            alloc,
+            profile.rules.as_slice(),
+            profile.attachments.as_slice(),
+        )?;
+        let parts = parts_of(alloc, profile.children.as_slice())?;
+        Ok(Ready {
+            profile,
+            own,
+            parts: Sequence::from_vec(parts),
+        })
+    }
+
+    /// An equal one, whose automata are copied.
+    ///
+    /// # Errors
+    ///
+    /// Where memory runs out.
+    pub fn try_copy(&self, alloc: Global) -> Result<Ready, AllocError>
+        ensures { IfOk result (λ copy. copy ≡ self.now) }
+    {
+        let profile = self.profile.try_copy(alloc)?;
+        let own = self.own.try_copy(alloc)?;
+        let parts = copied_parts(alloc, self.parts.as_slice())?;
+        Ok(Ready {
+            profile,
+            own,
+            parts: Sequence::from_vec(parts),
+        })
+    }
+
+    /// The rules by which the profile decides, or its child or hat at a place; one that isn't there has none.
+    pub fn rules_at(&self, child: Option<usize>) -> &[Rule]
+        ensures { result.now ≡ rules_at self.now child }
+    {
+        match child {
+            None => self.profile.rules.as_slice(),
+            Some(place) => match self.profile.children.as_slice().get(place) {
+                None => &[],
+                Some(child) => child.rules.as_slice(),
+            },
+        }
+    }
+
+    /// Whether the flag of the profile audits each of these rules, or that of its child or hat.
+    pub fn audits(&self, child: Option<usize>) -> bool
+        ensures { result ≡ audits self.now child }
+    {
+        match child {
+            None => self.profile.audit,
+            Some(place) => match self.profile.children.as_slice().get(place) {
+                None => false,
+                Some(child) => child.audit,
+            },
+        }
+    }
+
+    /// The patterns of the attachments of the profile, or of its child or hat at a place; one that isn't there has none.
+    pub fn attachments_at(&self, child: Option<usize>) -> &[Pattern]
+        ensures { result.now ≡ attachments_at self.now child }
+    {
+        match child {
+            None => self.profile.attachments.as_slice(),
+            Some(place) => match self.profile.children.as_slice().get(place) {
+                None => &[],
+                Some(child) => child.attachments.as_slice(),
+            },
+        }
+    }
+
+    // What was made of the rules and attachments of the profile, or of its child or hat at a place.
+    fn part_at(&self, child: Option<usize>) -> Option<&Part>
+        ensures { MatchOption result (HasNothingAt self.now child) (λ part. IsPartOf part.now (rules_at self.now child) (attachments_at self.now child)) }
+    {
+        match child {
+            None => Some(&self.own),
+            Some(place) => self.parts.as_slice().get(place),
+        }
+    }
+
+    /// How many states the automaton has that a request for a file asks (docs/policy.md, "Decisions"). It takes no memory.
+    pub fn states(&self, child: Option<usize>) -> usize
+        ensures states { HasStates (file_patterns (rules_at self.now child)) result }
+        ensures few { AreFewStates (rules_at self.now child) result }
+    {
+        how_many_states_there_are();
+        match self.part_at(child) {
+            None => 0,
+            Some(part) => part.states(),
+        }
+    }
+
+    /// The places of the rules on files whose pattern matches a path, in rising order. One automaton finds them.
+    ///
+    /// # Errors
+    ///
+    /// Where memory runs out.
+    pub fn matching_rules(
+        &self,
+        alloc: Global,
+        child: Option<usize>,
+        path: &[u8],
+        steps: &mut Steps,
+    ) -> Result<Vec<usize>, AllocError>
+        ensures found { IfOk result (λ places. AreMatchingRules (rules_at self.now child) path.now places.items) }
+        ensures rise { IfOk result (λ places. IsStrictlyIncreasing places.items) }
+        ensures steps { AreVisitsOf (file_patterns (rules_at self.now child)) path.now steps.old steps.new }
+    {
+        match self.part_at(child) {
+            None => Ok(Vec::new(alloc)),
+            Some(part) => part.matching_rules(alloc, path, steps),
+        }
+    }
+
+    /// The places of the attachments that match a path, in rising order. One automaton finds them.
+    ///
+    /// # Errors
+    ///
+    /// Where memory runs out.
+    pub fn matching_attachments(
+        &self,
+        alloc: Global,
+        child: Option<usize>,
+        path: &[u8],
+        steps: &mut Steps,
+    ) -> Result<Vec<usize>, AllocError>
+        ensures found { IfOk result (λ places. AreMatching (attachments_at self.now child) path.now places.items) }
+        ensures rise { IfOk result (λ places. IsStrictlyIncreasing places.items) }
+        ensures steps { AreVisitsOf (attachments_at self.now child) path.now steps.old steps.new }
+    {
+        match self.part_at(child) {
+            None => Ok(Vec::new(alloc)),
+            Some(part) => part.matching_attachments(alloc, path, steps),
+        }
+    }
+
+    /// What the profile says of a request in a mode, or its child or hat at a place among its children: by its own rules, whatever the others
+    /// say (apparmor.d(5); docs/policy.md, "Decisions"). One that isn't there allows nothing. A request for a file is asked of one automaton,
+    /// whose visits are counted; any other goes over the rules, and takes neither visits nor memory.
+    ///
+    /// # Errors
+    ///
+    /// Where memory runs out.
+    pub fn decide(
+        &self,
+        alloc: Global,
+        child: Option<usize>,
+        mode: Mode,
+        request: &Request<'_>,
+        steps: &mut Steps,
+    ) -> Result<Verdict, AllocError>
+        ensures verdict { IfOk result (λ verdict. verdict ≡ decided self.now child mode (request_of request.entry.now)) }
+        ensures steps { AreStepsOf (rules_at self.now child) (request_of request.entry.now) steps.old steps.new }
+    {
+        which_rules_match();
+        let (audit, rules) = (self.audits(child), self.rules_at(child));
+        match request {
+            Request::File { path, owned, .. } => {
+                let places = self.matching_rules(alloc, child, path, steps)?;
+                Ok(found_verdict(mode, audit, rules, places.as_slice(), request, *owned))
+            }
+            Request::Cap(_) => Ok(rules_verdict(mode, audit, rules, request)),
+            Request::Net { .. } => Ok(rules_verdict(mode, audit, rules, request)),
+        }
+    }
+}

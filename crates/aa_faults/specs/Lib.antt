@@ -1,4 +1,0 @@
-pub mod GrammarError
-pub mod Parts
-pub mod Tokens
-pub mod code

@@ -1,9 +1,0 @@
--- What the code's tokens are as the definitions see them.
-use Rattle.std.specs.Prelude.{List, map}
-use Rattle.aa_text.specs.Splicing.{Placed}
-use Rattle.aa_text.specs.code.SplicingProgress.{seen_spliced}
-use Rattle.aa_text.specs.declared.spliced_token.Spliced.{Spliced}
-
--- tokens of the code
-abbrev pub seen_tokens : List Spliced → List Placed
-seen_tokens tokens = map seen_spliced tokens

@@ -1,5 +1,0 @@
-use Rattle.std.proofs.Common.{refl}
-use Rattle.aa_files.proofs.files.FilesError.number.Goals as goal
-
-pub returns-in-Twice : goal.returns-in-Twice
-returns-in-Twice c = rw c.in-Twice.is refl

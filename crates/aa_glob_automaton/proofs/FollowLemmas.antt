@@ -1,0 +1,60 @@
+-- The text of one more pattern, from its first element to its last.
+use Rattle.std.proofs.Common.{◌≡◌, ℕ, List, [], ◌∷◌, ◌++◌, reverse, append_assoc, sym, ap, ◌∙◌, subst}
+use Rattle.std.proofs.lemmas.List.{append-nil, reverse-append}
+use Rattle.aa_glob_automaton.specs.Walks.{Standing, standing_at}
+use Rattle.aa_glob_automaton.specs.code.Followed.{Between, EndsWhole, IsFollowing}
+use Rattle.aa_glob_automaton.specs.code.Growths.{Follows, GoesOver}
+use Rattle.aa_glob_automaton.specs.declared.growing.Growing.{Growing}
+use Rattle.aa_glob_automaton.proofs.StandLemmas.{stands_start}
+use Rattle.aa_glob_syntax.specs.Elements.{Element}
+use Rattle.aa_glob_syntax.specs.declared.context.Context.{Context}
+use Rattle.aa_glob_syntax.specs.declared.context.Context.TheVariants.{Elsewhere}
+use Rattle.aa_glob_prefixes.specs.Elements.{EachMayStand, elements_left, elements_of}
+use Rattle.aa_glob_prefixes.specs.Laws.{WholeTrailsAreElements}
+use Rattle.aa_glob_prefixes.specs.Trails.{Trail, depth_behind, trail_of}
+
+-- a walk begins where no text was followed yet
+pub follows-start : (patterns : List (List ℕ)) (g : Growing) (walk : Standing) → walk ≡ standing_at 0 [] → Between patterns g → Follows patterns [] g walk
+follows-start patterns g walk is between = record {
+  trails = between.0;
+  growing = between.1;
+  stands = rw is (stands_start between.0 between.1.drawn.begins between.1.drawn.start);
+}
+
+pub following-start : WholeTrailsAreElements → (g : Growing) (text : List ℕ) (walk : Standing) → walk ≡ standing_at 0 [] → EachMayStand 0 (elements_of text)
+    → IsFollowing g text g walk 0 Elsewhere text
+following-start law g text walk is stands = record {
+  trail = [];
+  whole = append-nil (reverse (elements_of text)) ∙ sym (law text);
+  stands = stands;
+  each = λ patterns between. follows-start patterns g walk is between;
+}
+
+-- the last of what is left, before a trail
+front : (e : Element) (es : List Element) (trail : Trail) → reverse (e ∷ es) ++ trail ≡ reverse es ++ e ∷ trail
+front e es trail = ap (λ l. l ++ trail) (reverse-append (e ∷ []) es) ∙ append_assoc (reverse es) (e ∷ []) trail
+
+pub following-more : (old before after : Growing) (text : List ℕ) (walk on : Standing) (depth deep : ℕ) (context later : Context) (rest behind : List ℕ) (e : Element)
+    → elements_left depth context rest ≡ e ∷ elements_left (depth_behind depth e) later behind → EachMayStand (depth_behind depth e) (elements_left (depth_behind depth e) later behind)
+    → deep ≡ depth_behind depth e → GoesOver before walk e after on → IsFollowing old text before walk depth context rest → IsFollowing old text after on deep later behind
+following-more old before after text walk on depth deep context later rest behind e found stands is goes was =
+    subst (λ (d : ℕ). IsFollowing old text after on d later behind) (sym is) (record {
+      trail = e ∷ was.trail;
+      whole =
+          sym (front e (elements_left (depth_behind depth e) later behind) was.trail) ∙ ap (λ es. reverse es ++ was.trail) (sym found) ∙ was.whole;
+      stands = stands;
+      each = λ patterns between. goes patterns was.trail (was.each patterns between);
+    })
+
+pub following-end : (old g : Growing) (text : List ℕ) (walk : Standing) (depth : ℕ) (context : Context) (rest : List ℕ) (state : ℕ)
+    → elements_left depth context rest ≡ [] → state ≡ walk.state → IsFollowing old text g walk depth context rest
+    → (patterns : List (List ℕ)) → Between patterns old → EndsWhole patterns text g state
+following-end old g text walk depth context rest state none is was patterns between =
+    let all : was.trail ≡ trail_of text = ap (λ es. reverse es ++ was.trail) (sym none) ∙ was.whole in
+    let follows = subst (λ (t : Trail). Follows patterns t g walk) all (was.each patterns between) in
+    record {
+      trails = follows.trails;
+      growing = follows.growing;
+      there = rw is follows.stands.there;
+      is = rw is follows.stands.here;
+    }

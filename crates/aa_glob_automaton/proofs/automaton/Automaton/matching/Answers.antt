@@ -1,0 +1,25 @@
+use Rattle.std.proofs.Common.{◌≡◌, ◌≤◌, ◌*◌, ◌+◌, ◌∙◌, List, ℕ, subst, sym}
+use Rattle.std.specs.Prelude.{Option, Some, length}
+use Rattle.std.proofs.lemmas.Result.{IfOk-weaker}
+use Rattle.aa_glob_automaton.proofs.BuiltLemmas.{bytes-of, graph-states, matching-found}
+use Rattle.aa_glob_automaton.specs.Automata.{IsAutomatonOf, IsGraphOf}
+use Rattle.aa_glob_nfa.specs.Graphs.{Graph}
+use Rattle.aa_glob_automaton.proofs.automaton.Automaton.matching.Goals as goal
+
+graph_of : (seen : Option Graph) (g : Graph) (patterns : List (List ℕ)) → seen ≡ Some g → IsAutomatonOf seen patterns → IsGraphOf g patterns
+graph_of seen g patterns is automaton = subst (λ (s : Option Graph). IsAutomatonOf s patterns) is automaton
+
+pub returns-in-Some-clause-found : goal.returns-in-Some-clause-found
+returns-in-Some-clause-found c =
+    IfOk-weaker c.ends_reached.result _ _ (
+    λ found told patterns automaton.
+    matching-found c.what_reaches_a_state.ensures.matching c.in-Some.states patterns c.args.path.now found.items (bytes-of c.args.path.now c.type_inv.path) told
+    (graph_of c.args.self.now c.in-Some.states patterns (sym c.self.view_is ∙ c.in-Some.is) automaton)
+    ) c.ends_reached.ensures.found
+
+pub returns-in-Some-clause-steps : goal.returns-in-Some-clause-steps
+returns-in-Some-clause-steps c patterns states automaton has =
+    let graph = graph_of c.args.self.now c.in-Some.states patterns (sym c.self.view_is ∙ c.in-Some.is) automaton in
+    let one : states ≡ length c.in-Some.states.entries = c.how_many_states_there_are.ensures.one patterns states (length c.in-Some.states.entries) has (graph-states c.in-Some.states patterns graph) in
+    let counted = c.ends_reached.ensures.steps in
+    (counted.0, counted.1, subst (λ (n : ℕ). counted.0 ≤ (length c.args.path.now + 1) * n) (sym one) counted.2, counted.3)

@@ -1,0 +1,7 @@
+pub mod Automata
+pub mod Built
+pub mod Grown
+pub mod Numbers
+pub mod Walks
+pub mod Ways
+pub mod code

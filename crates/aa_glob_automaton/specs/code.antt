@@ -1,0 +1,4 @@
+-- What the code's own forms mean. No public contract names these.
+pub mod Followed
+pub mod Growths
+pub mod SeenGroups

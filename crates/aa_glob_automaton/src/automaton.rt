@@ -1,0 +1,121 @@
+//! Automata of patterns.
+
+ghost use Rattle.std.specs.Prelude.{◌≡◌, ◌≤◌, ℕ, List, IfOk, None, Some};
+ghost use Rattle.std.specs.List.Sorted.{IsStrictlyIncreasing};
+ghost use Rattle.aa_glob_automaton.specs.Automata.{IsAutomatonOf, most_visits};
+ghost use Rattle.aa_glob_syntax.specs.Patterns.{AreMatching};
+ghost use Rattle.aa_glob_run.specs.Steps.{IsCounted};
+ghost use Rattle.aa_glob_prefixes.specs.Beginnings.{HasStates, most_states};
+
+use crate::builder::AutomatonBuilder;
+use aa_glob_nfa_laws::what_reaches_a_state;
+use aa_glob_pattern::Pattern;
+use aa_glob_prefixes::how_many_states_there_are;
+use aa_glob_run::{States, Steps};
+use std::alloc::{AllocError, Global};
+use std::marker::Model;
+
+/// An automaton of some patterns, which finds all of them that match a path in one run over it. Contracts see of which patterns it was made
+/// (`IsAutomatonOf`).
+#[derive(Debug, Drop)]
+pub struct Automaton {
+    // None where there are no patterns.
+    states: Option<States>,
+}
+
+impl Model for Automaton {
+    ghost use Rattle.std.specs.Prelude.{Option};
+    ghost use Rattle.aa_glob_nfa.specs.Graphs.{Graph};
+
+    ghost Value = { Option Graph };
+
+    ghost view = { λ a. a.states };
+}
+
+impl Automaton {
+    // That of no patterns.
+    pub(crate) fn none() -> Automaton
+        ensures { result ≡ None }
+    {
+        Automaton { states: None }
+    }
+
+    // That of these states.
+    pub(crate) fn of(states: States) -> Automaton
+        ensures { result ≡ Some states }
+    {
+        Automaton {
+            states: Some(states),
+        }
+    }
+
+    /// The automaton of some patterns, each of which has its place among them.
+    ///
+    /// # Errors
+    ///
+    /// Where memory runs out, and where there are more than 4,294,967,295 patterns or states.
+    pub fn build(alloc: Global, patterns: &[Pattern]) -> Result<Automaton, AllocError>
+        ensures { IfOk result (λ automaton. IsAutomatonOf automaton patterns.now) }
+    {
+        let mut builder = AutomatonBuilder::new(alloc)?;
+        for pattern in patterns {
+            builder = builder.add(alloc, pattern)?;
+        }
+        Ok(builder.finish())
+    }
+
+    /// An equal automaton.
+    ///
+    /// # Errors
+    ///
+    /// Where memory runs out.
+    pub fn try_copy(&self, alloc: Global) -> Result<Automaton, AllocError>
+        ensures { IfOk result (λ copy. copy ≡ self.now) }
+    {
+        match &self.states {
+            None => Ok(Automaton::none()),
+            Some(states) => Ok(Automaton::of(states.try_copy(alloc)?)),
+        }
+    }
+
+    /// How many states there are: one for each different beginning of the patterns, and so at most two for each byte of their texts and two for each
+    /// pattern; none where there is no pattern. It takes no memory.
+    pub fn states(&self) -> usize
+        ensures states { (patterns : List (List ℕ)) → IsAutomatonOf self.now patterns → HasStates patterns result }
+        ensures few { (patterns : List (List ℕ)) → IsAutomatonOf self.now patterns → result ≤ most_states patterns }
+    {
+        how_many_states_there_are();
+        match &self.states {
+            None => 0,
+            Some(states) => states.states(),
+        }
+    }
+
+    /// The places of the patterns that match a path, of any bytes, in rising order. A directory's path has to end with `/`, which the caller writes.
+    ///
+    /// Steps are counted: one for each visit of a state at a place of the path, which are its bytes and its end. Each state is visited once at
+    /// most at each place, so that there are at most `(n + 1) * s` for a path of n bytes and s states; it ends at the first byte behind which no
+    /// pattern can match.
+    ///
+    /// # Errors
+    ///
+    /// Where memory runs out. The steps at the places before are counted.
+    pub fn matching(
+        &self,
+        alloc: Global,
+        path: &[u8],
+        steps: &mut Steps,
+    ) -> Result<Vec<usize>, AllocError>
+        ensures found { IfOk result (λ found. (patterns : List (List ℕ)) → IsAutomatonOf self.now patterns → AreMatching patterns path.now found.items) }
+        ensures rise { IfOk result (λ found. IsStrictlyIncreasing found.items) }
+        ensures steps { (patterns : List (List ℕ)) (states : ℕ) → IsAutomatonOf self.now patterns → HasStates patterns states
+            → IsCounted 0 (most_visits path.now states) steps.old steps.new }
+    {
+        how_many_states_there_are();
+        what_reaches_a_state();
+        match &self.states {
+            None => Ok(Vec::new(alloc)),
+            Some(states) => states.ends_reached(alloc, path, steps),
+        }
+    }
+}

@@ -1,0 +1,97 @@
+//! Automata while they are made.
+
+ghost use Rattle.std.specs.Prelude.{◌≡◌, ◌+◌, ◌++◌, ◌∷◌, [], ℕ, List, length, IfOk, Ok};
+ghost use Rattle.aa_glob_automaton.specs.Automata.{IsAutomatonOf};
+ghost use Rattle.aa_glob_automaton.specs.Built.{IsBuilt};
+ghost use Rattle.aa_glob_automaton.specs.code.Followed.{LeadsToEnd};
+ghost use Rattle.aa_glob_syntax.specs.Reading.{items_of, reading};
+
+use crate::automaton::Automaton;
+use crate::growing::Growing;
+use crate::numbers::Numbers;
+use aa_glob_nfa_laws::how_graphs_are_drawn;
+use aa_glob_pattern::Pattern;
+use aa_glob_prefixes::how_beginnings_are_gathered;
+use aa_glob_run::Drawing;
+use aa_glob_trie::Tree;
+use std::alloc::{AllocError, Global};
+use std::marker::Model;
+
+/// An automaton while it is made, pattern by pattern. Contracts see of which patterns it is made so far (`IsBuilt`).
+#[derive(Drop)]
+pub struct AutomatonBuilder {
+    growing: Growing,
+    patterns: u32,
+}
+
+impl Model for AutomatonBuilder {
+    ghost use Rattle.std.specs.Prelude.{ℕ};
+    ghost use Rattle.aa_glob_automaton.specs.Built.{IsOfSome};
+    ghost use Rattle.aa_glob_automaton.specs.declared.growing.Growing.{Growing};
+
+    ghost Value = { Growing × ℕ };
+
+    ghost view = { λ b. (b.growing, b.patterns) };
+
+    ghost invariant = { λ b. IsOfSome b.growing b.patterns };
+}
+
+impl AutomatonBuilder {
+    /// No pattern yet.
+    ///
+    /// # Errors
+    ///
+    /// Where memory runs out.
+    pub fn new(alloc: Global) -> Result<AutomatonBuilder, AllocError>
+        ensures { IfOk result (λ builder. IsBuilt builder []) }
+    {
+        how_graphs_are_drawn();
+        how_beginnings_are_gathered();
+        let growing = Growing {
+            drawing: Drawing::new(alloc)?,
+            tree: Tree::new(alloc)?,
+            numbers: Numbers::new(alloc),
+        };
+        Ok(AutomatonBuilder {
+            growing,
+            patterns: 0,
+        })
+    }
+
+    /// The same with a pattern more, which has its place behind the others.
+    ///
+    /// # Errors
+    ///
+    /// Where memory runs out, and where there are 4,294,967,295 patterns or states already. What was made is dropped then.
+    pub fn add(self, alloc: Global, pattern: &Pattern) -> Result<AutomatonBuilder, AllocError>
+        ensures { IfOk result (λ added. (patterns : List (List ℕ)) → IsBuilt self patterns → IsBuilt added (patterns ++ pattern.now ∷ [])) }
+    {
+        how_graphs_are_drawn();
+        how_beginnings_are_gathered();
+        let AutomatonBuilder {
+            mut growing,
+            patterns,
+        } = self;
+        if patterns == u32::MAX {
+            return Err(AllocError);
+        }
+        let state = growing.follow(alloc, pattern.text())?;
+        growing.drawing.end(state, patterns)?;
+        Ok(AutomatonBuilder {
+            growing,
+            patterns: patterns + 1,
+        })
+    }
+
+    /// The automaton of these patterns. It takes no memory.
+    pub fn finish(self) -> Automaton
+        ensures { (patterns : List (List ℕ)) → IsBuilt self patterns → IsAutomatonOf result patterns }
+    {
+        how_graphs_are_drawn();
+        if self.patterns == 0 {
+            Automaton::none()
+        } else {
+            Automaton::of(self.growing.drawing.finish())
+        }
+    }
+}

@@ -1,0 +1,15 @@
+//! Automata of patterns: one for many patterns, whose states are the different beginnings of these.
+#![tactic(auto)]
+
+mod automaton;
+mod builder;
+mod element;
+mod following;
+mod growing;
+mod numbers;
+mod walk;
+mod ways;
+
+pub use aa_glob_run::Steps;
+pub use automaton::Automaton;
+pub use builder::AutomatonBuilder;

@@ -1,0 +1,96 @@
+//! Numbers of the elements of patterns, by which the way behind a beginning is found.
+
+ghost use Rattle.std.specs.Prelude.{◌≡◌, ◌<◌, ◌+◌, ◌++◌, ◌∷◌, [], Some, IfOk, OnOk};
+ghost use Rattle.aa_glob_automaton.specs.Numbers.{AreKept, ends_of, first_set, key_of, most_number, number_of_set};
+
+use aa_bytes::{ByteRange, ByteSet};
+use indexmap::IndexSet;
+use std::alloc::{AllocError, Global};
+use std::marker::Model;
+
+// The number of the class that came first.
+const FIRST_CLASS: u32 = 261;
+
+/// The classes that have come, each of which has a number of its own.
+///
+/// Contracts see their keys, in the order in which they came.
+#[derive(Drop)]
+pub struct Numbers {
+    keys: IndexSet<Vec<u8>>,
+}
+
+impl Model for Numbers {
+    ghost use Rattle.std.specs.Prelude.{ℕ, List};
+    ghost use Rattle.aa_glob_automaton.specs.Numbers.{as_keys};
+
+    ghost Value = { List (List ℕ) };
+
+    ghost view = { λ n. as_keys n.keys.keys };
+}
+
+impl Numbers {
+    /// No class has come yet. It takes no memory.
+    pub fn new(alloc: Global) -> Numbers
+        ensures { result ≡ [] }
+    {
+        Numbers {
+            keys: IndexSet::new(alloc),
+        }
+    }
+
+    /// The number of a set of bytes, which is one that came before or comes now: at least 261, and below 4,294,967,295. `AllocError` is answered where
+    /// memory ran out, or where no number is left.
+    pub fn of_set(&mut self, alloc: Global, set: &ByteSet) -> Result<u32, AllocError>
+        ensures number { IfOk result (λ number. number_of_set self.new set.now ≡ Some number) }
+        ensures within { IfOk result (λ number. number < most_number) }
+        ensures kept { OnOk result (AreKept self.old self.new) }
+    {
+        match u32::try_from(self.place_of(alloc, set)?) {
+            Ok(place) if place < u32::MAX - FIRST_CLASS => Ok(FIRST_CLASS + place),
+            _ => Err(AllocError),
+        }
+    }
+
+    // The place of a set of bytes among those that came.
+    fn place_of(&mut self, alloc: Global, set: &ByteSet) -> Result<usize, AllocError>
+        ensures number { IfOk result (λ place. number_of_set self.new set.now ≡ Some (first_set + place)) }
+        ensures kept { OnOk result (AreKept self.old self.new) }
+    {
+        let (place, _) = self.keys.insert_full(key_of(alloc, set)?)?;
+        Ok(place)
+    }
+}
+
+// Puts the first and the last byte of a range behind a key.
+fn put_range(key: &mut Vec<u8>, range: ByteRange) -> Result<(), AllocError>
+    ensures { OnOk result (key.new.items ≡ key.old.items ++ ends_of (range ∷ [])) }
+{
+    key.push(range.first)?;
+    key.push(range.last)?;
+    Ok(())
+}
+
+// Puts the first and the last byte of each range behind a key.
+fn put_ranges(key: &mut Vec<u8>, ranges: &[ByteRange]) -> Result<(), AllocError>
+    ensures { OnOk result (key.new.items ≡ key.old.items ++ ends_of ranges.now) }
+{
+    for range in ranges {
+        put_range(key, *range)?;
+    }
+    Ok(())
+}
+
+// The key of a set of bytes: nothing for those within a segment, and for a class whether it is negated, and then its ranges.
+fn key_of(alloc: Global, set: &ByteSet) -> Result<Vec<u8>, AllocError>
+    ensures { IfOk result (λ key. key.items ≡ key_of set.now) }
+{
+    let mut key = Vec::new(alloc);
+    match set {
+        ByteSet::Inside => {}
+        ByteSet::Class { negated, ranges } => {
+            key.push(if *negated { 1 } else { 0 })?;
+            put_ranges(&mut key, ranges.as_slice())?;
+        }
+    }
+    Ok(key)
+}

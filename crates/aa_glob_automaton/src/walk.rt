@@ -1,0 +1,154 @@
+//! The walk of a pattern through the states of its beginnings.
+
+ghost use Rattle.std.specs.Prelude.{◌≡◌, ◌==◌, ◌<◌, [], length, OnOk};
+ghost use Rattle.std.specs.List.{All};
+ghost use Rattle.aa_glob_automaton.specs.Walks.{close_sources, comma_sources, entered, source_states, standing_at, with_end_state};
+ghost use Rattle.aa_glob_automaton.specs.Ways.{AddsWays};
+
+use crate::ways::{draw_way, draw_ways};
+use aa_glob_run::Drawing;
+use std::alloc::{AllocError, Global};
+use std::marker::Model;
+
+/// What an element of a pattern does to the groups that are open.
+#[derive(Clone, Copy, Debug, PartialEq, Eq)]
+pub enum Kind {
+    /// Nothing: it is an item.
+    Single,
+    /// It begins one.
+    Open,
+    /// It ends an alternative of the innermost one.
+    Comma,
+    /// It ends the innermost one.
+    Close,
+}
+
+// A group that is open.
+#[derive(Drop)]
+struct Group {
+    // The state behind its brace.
+    beginning: u32,
+    // The states before its commas.
+    ends: Vec<u32>,
+}
+
+/// Where the walk of a pattern has come. Contracts see the state, and the groups that are open there, the innermost first.
+#[derive(Drop)]
+pub struct Walk {
+    state: u32,
+    groups: Vec<Group>,
+}
+
+impl Model for Walk {
+    ghost use Rattle.aa_glob_automaton.specs.Walks.{Standing};
+    ghost use Rattle.aa_glob_automaton.specs.code.SeenGroups.{seen_groups};
+
+    ghost Value = { Standing };
+
+    ghost view = { λ w. record { state = w.state; groups = seen_groups w.groups.items } };
+}
+
+impl Walk {
+    /// A walk that begins at the start. It takes no memory.
+    pub fn new(alloc: Global) -> Walk
+        ensures { result ≡ standing_at 0 [] }
+    {
+        Walk {
+            state: 0,
+            groups: Vec::new(alloc),
+        }
+    }
+
+    /// The state where it has come.
+    pub fn state(&self) -> u32
+        ensures { result ≡ self.now.state }
+    {
+        self.state
+    }
+
+    /// Whether no group is open where it has come.
+    pub fn is_outside(&self) -> bool
+        ensures { result ≡ (length self.now.groups == 0) }
+    {
+        self.groups.is_empty()
+    }
+
+    /// Goes on to a state, over an element of this kind.
+    ///
+    /// # Errors
+    ///
+    /// Where memory runs out.
+    pub fn enter(&mut self, alloc: Global, kind: Kind, state: u32) -> Result<(), AllocError>
+        ensures { OnOk result (self.new ≡ entered kind state self.old) }
+    {
+        match kind {
+            Kind::Single => {}
+            Kind::Open => self.groups.push(Group {
+                beginning: state,
+                ends: Vec::new(alloc),
+            })?,
+            Kind::Comma => self.end_alternative()?,
+            Kind::Close => {
+                self.groups.pop();
+            }
+        }
+        self.state = state;
+        Ok(())
+    }
+
+    // Ends an alternative of the innermost group before the state where the walk is.
+    fn end_alternative(&mut self) -> Result<(), AllocError>
+        ensures { OnOk result (self.new ≡ standing_at self.old.state (with_end_state self.old.state self.old.groups)) }
+    {
+        if let Some(mut group) = self.groups.pop() {
+            group.ends.push(self.state)?;
+            self.groups.push(group)?;
+        }
+        Ok(())
+    }
+
+    /// Draws the ways to a state from those from which an element of this kind is reached.
+    ///
+    /// # Errors
+    ///
+    /// Where memory runs out. Some of them may be drawn then.
+    pub fn draw_to(&self, kind: Kind, drawing: &mut Drawing, state: u32) -> Result<(), AllocError>
+        requires from { All (λ q. q < length drawing.old.entries) (source_states kind self.now) }
+        requires to { state < length drawing.old.entries }
+        ensures { OnOk result (AddsWays drawing.old drawing.new (source_states kind self.now) state) }
+    {
+        match kind {
+            Kind::Single | Kind::Open => draw_way(drawing, self.state, state),
+            Kind::Comma => self.draw_from_beginning(drawing, state),
+            Kind::Close => self.draw_from_ends(drawing, state),
+        }
+    }
+
+    // Draws the way from the beginning of the innermost group's alternatives.
+    fn draw_from_beginning(&self, drawing: &mut Drawing, state: u32) -> Result<(), AllocError>
+        requires from { All (λ q. q < length drawing.old.entries) (comma_sources self.now.state self.now.groups) }
+        requires to { state < length drawing.old.entries }
+        ensures { OnOk result (AddsWays drawing.old drawing.new (comma_sources self.now.state self.now.groups) state) }
+    {
+        match self.groups.last() {
+            None => draw_way(drawing, self.state, state),
+            Some(group) => draw_way(drawing, group.beginning, state),
+        }
+    }
+
+    // Draws the ways from the ends of the innermost group's alternatives, of which the last ends where the walk is.
+    fn draw_from_ends(&self, drawing: &mut Drawing, state: u32) -> Result<(), AllocError>
+        requires from { All (λ q. q < length drawing.old.entries) (close_sources self.now.state self.now.groups) }
+        requires to { state < length drawing.old.entries }
+        ensures { OnOk result (AddsWays drawing.old drawing.new (close_sources self.now.state self.now.groups) state) }
+    {
+        draw_way(drawing, self.state, state)?;
+        match self.groups.last() {
+            None => Ok(()),
+            Some(group) => {
+                draw_ways(drawing, &group.ends, state)?;
+                Ok(())
+            }
+        }
+    }
+}

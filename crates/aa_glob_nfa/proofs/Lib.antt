@@ -1,0 +1,6 @@
+pub mod BlockLemmas
+pub mod GrownLemmas
+pub mod ListLemmas
+pub mod RowLemmas
+pub mod SoundLemmas
+pub mod TableLemmas

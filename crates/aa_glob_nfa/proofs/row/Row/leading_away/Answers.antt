@@ -1,0 +1,7 @@
+use Rattle.std.proofs.Common.{refl}
+use Rattle.aa_glob_nfa.proofs.row.Row.leading_away.Goals as goal
+
+pub returns : goal.returns
+returns c =
+    let is = c.byte_with_bit.ensures in
+    rw (is 0, is 1, is 2, is 3) refl

@@ -1,0 +1,81 @@
+-- States, the ways between them, and the texts behind which they are reached.
+use Rattle.std.specs.Prelude.{◌≡◌, ◌↔◌, ◌⊎◌, ℕ, ◌<◌, true, List, [], ◌∷◌, ◌++◌, length, reverse, slice_index_or, Contains}
+use Rattle.aa_glob_nfa.specs.Entries.{is_free, takes_byte, stays_at}
+use Rattle.aa_glob_nfa.specs.declared.entry.Entry.{Entry}
+use Rattle.aa_glob_nfa.specs.declared.entry.Entry.TheVariants.{Free}
+
+-- A graph: what it takes to come into each state, in the order of their numbers; the ways, each from a state to a state; and the ends, each
+-- a state with the number of a pattern.
+pub record Graph : Type 0 where
+  pub entries : List Entry
+  pub ways : List (ℕ × ℕ)
+  pub ends : List (ℕ × ℕ)
+
+-- the number is a state's
+abbrev pub IsState : Graph → ℕ → Type 0
+IsState g r = r < length g.entries
+
+-- what it takes to come into a state
+abbrev pub entry_of : Graph → ℕ → Entry
+entry_of g r = slice_index_or g.entries r Free
+
+-- a way leads from a state to another, or to itself
+abbrev pub Leads : Graph → ℕ → ℕ → Type 0
+Leads g q r = Contains g.ways (q, r)
+
+-- no byte is taken to come into a state
+abbrev pub IsFree : Graph → ℕ → Type 0
+IsFree g r = is_free (entry_of g r) ≡ true
+
+-- a byte is taken to come into a state
+abbrev pub Takes : Graph → ℕ → ℕ → Type 0
+Takes g r c = takes_byte (entry_of g r) c ≡ true
+
+-- a byte leaves a state as it is
+abbrev pub Stays : Graph → ℕ → ℕ → Type 0
+Stays g r c = stays_at (entry_of g r) c ≡ true
+
+-- a state is an end of a pattern
+abbrev pub EndsAt : Graph → ℕ → ℕ → Type 0
+EndsAt g r p = Contains g.ends (r, p)
+
+-- A state is reached behind a text, which is written with its last byte first. State 0 is reached behind the empty text.
+pub data Reaches (g : Graph) : List ℕ → ℕ → Type 0 where
+  begins : Reaches g [] 0
+  comes : {past : List ℕ} {q r : ℕ} → Reaches g past q → Leads g q r → IsFree g r → Reaches g past r
+  takes : {past : List ℕ} {q r c : ℕ} → Reaches g past q → Leads g q r → Takes g r c → Reaches g (c ∷ past) r
+  stays : {past : List ℕ} {r c : ℕ} → Reaches g past r → Stays g r c → Reaches g (c ∷ past) r
+
+-- two graphs with the same entries, ways and ends, in whatever order ways and ends are told
+pub record SameGraph (g h : Graph) : Type 0 where
+  pub entries : g.entries ≡ h.entries
+  pub ways : (q r : ℕ) → Leads g q r ↔ Leads h q r
+  pub ends : (r p : ℕ) → EndsAt g r p ↔ EndsAt h r p
+
+-- a text reaches the same states in both
+abbrev pub SameRuns : Graph → Graph → Type 0
+SameRuns g h = (past : List ℕ) (r : ℕ) → Reaches g past r ↔ Reaches h past r
+
+-- the start alone, without ways or ends
+abbrev pub start_alone : Graph
+start_alone = record { entries = Free ∷ []; ways = []; ends = [] }
+
+-- one state more, with this entry, without ways or ends
+abbrev pub with_entry : Entry → Graph → Graph
+with_entry entry g = record g { entries = g.entries ++ entry ∷ [] }
+
+-- one way more
+pub record AddsWay (old new : Graph) (from to : ℕ) : Type 0 where
+  pub entries : new.entries ≡ old.entries
+  pub ways : (q r : ℕ) → Leads new q r ↔ (Leads old q r ⊎ ((q ≡ from) × (r ≡ to)))
+  pub ends : new.ends ≡ old.ends
+
+-- one end more
+pub record AddsEnd (old new : Graph) (state pattern : ℕ) : Type 0 where
+  pub entries : new.entries ≡ old.entries
+  pub ways : new.ways ≡ old.ways
+  pub ends : (r p : ℕ) → EndsAt new r p ↔ (EndsAt old r p ⊎ ((r ≡ state) × (p ≡ pattern)))
+
+-- these are the patterns of which an end is reached behind a text
+abbrev pub IsFound : Graph → List ℕ → List ℕ → Type 0
+IsFound g text patterns = (p : ℕ) → Contains patterns p ↔ ((r : ℕ) × EndsAt g r p × Reaches g (reverse text) r)

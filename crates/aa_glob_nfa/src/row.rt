@@ -1,0 +1,115 @@
+//! States in two bytes each.
+
+ghost use Rattle.std.specs.Prelude.{◌≡◌};
+ghost use Rattle.aa_glob_nfa.specs.code.Rows.{gate_numbered, state_of};
+ghost use Rattle.aa_glob_nfa.specs.Tables.{bare, ending, leading_away, leading_on};
+
+use crate::state::Gate;
+use aa_bytes::{byte_has_bit, byte_with_bit};
+
+// A state: the byte that leads into it, or its gate's number; and its flags, a bit for each.
+#[derive(Clone, Copy, Debug)]
+pub struct Row {
+    byte: u8,
+    flags: u8,
+}
+
+// The flags, by their bits: the byte leads into the state; a way leads on to the next state; there are ways in the table; it's an end.
+const BY_BYTE: u8 = 0;
+
+const LEADS_ON: u8 = 1;
+
+const LEADS_AWAY: u8 = 2;
+
+const ENDS: u8 = 3;
+
+impl Row {
+    // A state with this gate, without ways or ends.
+    pub fn bare(gate: Gate) -> Row
+        ensures { state_of result ≡ bare gate }
+    {
+        match gate {
+            Gate::Byte(byte) => Row { byte, flags: 1 },
+            Gate::Free => Row { byte: 0, flags: 0 },
+            Gate::Inside => Row { byte: 1, flags: 0 },
+            Gate::Class => Row { byte: 2, flags: 0 },
+            Gate::Star => Row { byte: 3, flags: 0 },
+            Gate::DoubleStar => Row { byte: 4, flags: 0 },
+        }
+    }
+
+    // Its gate.
+    pub fn gate(self) -> Gate
+        ensures { result ≡ (state_of self).gate }
+    {
+        if byte_has_bit(self.flags, BY_BYTE) {
+            Gate::Byte(self.byte)
+        } else {
+            gate_numbered(self.byte)
+        }
+    }
+
+    // Whether a way leads on.
+    pub fn leads_on(self) -> bool
+        ensures { result ≡ (state_of self).leads_on }
+    {
+        byte_has_bit(self.flags, LEADS_ON)
+    }
+
+    // Whether there are ways in the table.
+    pub fn leads_away(self) -> bool
+        ensures { result ≡ (state_of self).leads_away }
+    {
+        byte_has_bit(self.flags, LEADS_AWAY)
+    }
+
+    // Whether it's an end.
+    pub fn ends(self) -> bool
+        ensures { result ≡ (state_of self).ends }
+    {
+        byte_has_bit(self.flags, ENDS)
+    }
+
+    // The same with the flag that a way leads on.
+    pub fn leading_on(self) -> Row
+        ensures { state_of result ≡ leading_on (state_of self) }
+    {
+        Row {
+            flags: byte_with_bit(self.flags, LEADS_ON),
+            ..self
+        }
+    }
+
+    // The same with the flag that it's an end.
+    pub fn ending(self) -> Row
+        ensures { state_of result ≡ ending (state_of self) }
+    {
+        Row {
+            flags: byte_with_bit(self.flags, ENDS),
+            ..self
+        }
+    }
+
+    // The same with the flag that there are ways in the table.
+    pub fn leading_away(self) -> Row
+        ensures { state_of result ≡ leading_away (state_of self) }
+    {
+        Row {
+            flags: byte_with_bit(self.flags, LEADS_AWAY),
+            ..self
+        }
+    }
+}
+
+// The gate of a number.
+fn gate_numbered(number: u8) -> Gate
+    ensures { result ≡ gate_numbered number }
+{
+    match number {
+        0 => Gate::Free,
+        1 => Gate::Inside,
+        2 => Gate::Class,
+        3 => Gate::Star,
+        _ => Gate::DoubleStar,
+    }
+}

@@ -1,0 +1,127 @@
+//! The states of an automaton, by their numbers.
+
+ghost use Rattle.std.specs.Prelude.{◌≡◌, ◌++◌, ◌∷◌, ◌<◌, [], length, set, IfOk, OnErr, OnOk};
+ghost use Rattle.aa_glob_nfa.specs.Tables.{bare, ending, leading_away, leading_on, state_at};
+
+use crate::row::Row;
+use crate::state::Gate;
+use std::alloc::{AllocError, Global};
+use std::marker::Model;
+
+/// States, of which each says where there is more of it in the other tables.
+#[derive(Debug, Drop)]
+pub struct Rows {
+    rows: Vec<Row>,
+}
+
+impl Model for Rows {
+    ghost use Rattle.std.specs.Prelude.{List, map};
+    ghost use Rattle.aa_glob_nfa.specs.code.Rows.{state_of};
+    ghost use Rattle.aa_glob_nfa.specs.Tables.{State};
+
+    ghost Value = { List State };
+
+    ghost view = { λ r. map state_of r.rows.items };
+}
+
+impl Rows {
+    /// No states.
+    pub fn new(alloc: Global) -> Rows
+        ensures { result ≡ [] }
+    {
+        Rows {
+            rows: Vec::new(alloc),
+        }
+    }
+
+    /// Equal states, or `AllocError` where memory ran out.
+    pub fn try_copy(&self, alloc: Global) -> Result<Rows, AllocError>
+        ensures { IfOk result (λ copy. copy ≡ self.now) }
+    {
+        Ok(Rows {
+            rows: Vec::from_slice(alloc, self.rows.as_slice())?,
+        })
+    }
+
+    /// How many states there are.
+    pub fn len(&self) -> usize
+        ensures { result ≡ length self.now }
+    {
+        self.rows.len()
+    }
+
+    /// Adds a state with this gate, without ways or ends. Where memory runs out, there is none more.
+    pub fn push(&mut self, gate: Gate) -> Result<(), AllocError>
+        ensures added { OnOk result (self.new ≡ self.old ++ bare gate ∷ []) }
+        ensures err { OnErr result (self.new ≡ self.old) }
+    {
+        self.rows.push(Row::bare(gate))?;
+        Ok(())
+    }
+
+    /// Gives back what room there is beyond the states.
+    pub fn shrink(&mut self)
+        ensures { self.new ≡ self.old }
+    {
+        self.rows.shrink_to_fit();
+    }
+
+    /// The gate of a state.
+    pub fn gate(&self, number: u32) -> Gate
+        requires { number < length self.now }
+        ensures { result ≡ (state_at self.now number).gate }
+    {
+        self.rows[number as usize].gate()
+    }
+
+    /// Whether a way leads on from a state.
+    pub fn leads_on(&self, number: u32) -> bool
+        requires { number < length self.now }
+        ensures { result ≡ (state_at self.now number).leads_on }
+    {
+        self.rows[number as usize].leads_on()
+    }
+
+    /// Whether a state has ways in the table.
+    pub fn leads_away(&self, number: u32) -> bool
+        requires { number < length self.now }
+        ensures { result ≡ (state_at self.now number).leads_away }
+    {
+        self.rows[number as usize].leads_away()
+    }
+
+    /// Whether a state is an end.
+    pub fn ends(&self, number: u32) -> bool
+        requires { number < length self.now }
+        ensures { result ≡ (state_at self.now number).ends }
+    {
+        self.rows[number as usize].ends()
+    }
+
+    /// Notes that a way leads on from a state.
+    pub fn lead_on(&mut self, number: u32)
+        requires { number < length self.old }
+        ensures { self.new ≡ set self.old number (leading_on (state_at self.old number)) }
+    {
+        let row = self.rows[number as usize].leading_on();
+        self.rows[number as usize] = row;
+    }
+
+    /// Notes that a state has ways in the table.
+    pub fn lead_away(&mut self, number: u32)
+        requires { number < length self.old }
+        ensures { self.new ≡ set self.old number (leading_away (state_at self.old number)) }
+    {
+        let row = self.rows[number as usize].leading_away();
+        self.rows[number as usize] = row;
+    }
+
+    /// Notes that a state is an end.
+    pub fn end(&mut self, number: u32)
+        requires { number < length self.old }
+        ensures { self.new ≡ set self.old number (ending (state_at self.old number)) }
+    {
+        let row = self.rows[number as usize].ending();
+        self.rows[number as usize] = row;
+    }
+}

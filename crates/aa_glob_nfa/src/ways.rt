@@ -1,0 +1,93 @@
+//! The table of ways, and what is found in it.
+
+ghost use Rattle.std.specs.Prelude.{◌≡◌, ◌<◌, ◌≤◌, length, All, Contains};
+ghost use Rattle.std.specs.List.{AllWithin};
+ghost use Rattle.std.specs.List.Sorted.{IsNonDecreasingBy};
+ghost use Rattle.aa_glob_nfa.specs.code.Blocks.{AreFirsts, Begins, block_of, place_or, unknown};
+ghost use Rattle.aa_glob_nfa.specs.Tables.{IsAlong, no_byte, order_of};
+ghost use Rattle.aa_glob_nfa.specs.declared.state.Way.{Way};
+
+use crate::state::Way;
+use std::alloc::AllocError;
+
+// How many states a block has.
+const BLOCK: u32 = 8;
+
+/// Makes room for where the ways of a state's block begin, if the state is the block's first.
+pub fn begin_block(firsts: &mut Vec<u32>, state: u32) -> Result<(), AllocError> {
+    if state % BLOCK == 0 {
+        firsts.push(u32::MAX)?;
+    }
+    Ok(())
+}
+
+/// Finds for each block of states where its ways begin.
+pub fn find_firsts(ways: &[Way], firsts: &mut Vec<u32>)
+    requires sorted { IsNonDecreasingBy order_of ways.now }
+    requires each { All (λ w. w.by ≤ no_byte) ways.now }
+    ensures { AreFirsts ways.now firsts.new.items }
+{
+    for block in 0..firsts.len() {
+        firsts[block] = first_of_block(ways, block);
+    }
+}
+
+// Where the ways of this block of states begin, if a number of a place tells it.
+fn first_of_block(ways: &[Way], block: usize) -> u32
+    requires sorted { IsNonDecreasingBy order_of ways.now }
+    requires each { All (λ w. w.by ≤ no_byte) ways.now }
+    ensures { result < unknown → Begins ways.now block result }
+{
+    match u32::try_from(ways.partition_point(|way| ((way.from / BLOCK) as usize) < block)) {
+        Ok(first) => first,
+        Err(_) => u32::MAX,
+    }
+}
+
+/// The ways from the states of a state's block, by the places where those of blocks begin.
+pub fn ways_of_block<'a>(ways: &'a [Way], firsts: &[u32], from: u32) -> &'a [Way]
+    requires sorted { IsNonDecreasingBy order_of ways.now }
+    requires firsts { AreFirsts ways.now firsts.now }
+    ensures sorted { IsNonDecreasingBy order_of result.now }
+    ensures only { All (Contains ways.now) result.now }
+    ensures each { (way : Way) → Contains ways.now way → way.from ≡ from → Contains result.now way }
+{
+    let block = (from / BLOCK) as usize;
+    let start = place_or(firsts, block, 0);
+    let end = place_or(firsts, block + 1, ways.len());
+    &ways[start..end]
+}
+
+// The known place at an index or, where there is none, another.
+fn place_or(places: &[u32], at: usize, other: usize) -> usize
+    ensures { result ≡ place_or places.now at other }
+{
+    match places.get(at) {
+        Some(place) if *place < u32::MAX => *place as usize,
+        _ => other,
+    }
+}
+
+/// Those of some ways, in their order, that lead from a state by this number.
+pub fn ways_along(ways: &[Way], from: u32, by: u16) -> &[Way]
+    requires sorted { IsNonDecreasingBy order_of ways.now }
+    requires each { All (λ w. w.by ≤ no_byte) ways.now }
+    requires is_number { by ≤ no_byte }
+    ensures only { All (IsAlong ways.now from by) result.now }
+    ensures each { (way : Way) → IsAlong ways.now from by way → Contains result.now way }
+{
+    let order = from as u64 * 512 + by as u64;
+    let start = first_way(ways, order);
+    let end = first_way(ways, order + 1);
+    &ways[start..end]
+}
+
+// Where the ways from this place in their order on begin.
+fn first_way(ways: &[Way], order: u64) -> usize
+    requires { IsNonDecreasingBy order_of ways.now }
+    ensures within { result ≤ length ways.now }
+    ensures before { AllWithin (λ w. order_of w < order) ways.now 0 result }
+    ensures behind { AllWithin (λ w. order ≤ order_of w) ways.now result (length ways.now) }
+{
+    ways.partition_point(|way| way.order() < order)
+}

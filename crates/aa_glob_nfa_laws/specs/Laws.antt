@@ -1,0 +1,61 @@
+-- What holds of graphs that are drawn of trails.
+use Rattle.std.specs.Prelude.{◌≡◌, ◌↔◌, ℕ, ◌<◌, ◌^◌, true, Contains, List, [], ◌∷◌, ◌++◌, length, Ok, reverse}
+use Rattle.std.specs.List.{All}
+use Rattle.aa_glob_syntax.specs.Elements.{Element}
+use Rattle.aa_glob_syntax.specs.Matching.{matches}
+use Rattle.aa_glob_syntax.specs.Reading.{items_of, reading}
+use Rattle.aa_glob_nfa.specs.Graphs.{Graph, Leads, Reaches}
+use Rattle.aa_glob_nfa.specs.declared.entry.Entry.{Entry}
+use Rattle.aa_glob_nfa.specs.declared.entry.Entry.TheVariants.{Free}
+use Rattle.aa_glob_nfa_laws.specs.Drawn.{AddsState, AddsWay, HaveSources, IsDrawn, Suits, trail_at}
+use Rattle.aa_glob_prefixes.specs.Reads.{reads}
+use Rattle.aa_glob_prefixes.specs.Trails.{Trail, trail_of}
+
+-- each number of a text is a byte
+abbrev pub AreBytes : List ℕ → Type 0
+AreBytes text = All (λ c. c < 2 ^ 8) text
+
+-- a state is reached behind the texts that read its trail
+abbrev pub ReachingIsReading : Type 0
+ReachingIsReading =
+    (g : Graph) (trails : List Trail) → IsDrawn g trails
+    → (q : ℕ) (past : List ℕ) → q < length trails → AreBytes past
+    → (Reaches g past q ↔ (reads (trail_at trails q) past ≡ true))
+
+-- the state that has a pattern's trail is reached behind the texts that match the pattern
+abbrev pub ReachingTheEndIsMatching : Type 0
+ReachingTheEndIsMatching =
+    (g : Graph) (trails : List Trail) → IsDrawn g trails
+    → (text path : List ℕ) (q : ℕ) → reading text ≡ Ok (items_of text)
+    → q < length trails → trail_at trails q ≡ trail_of text → AreBytes path
+    → (Reaches g (reverse path) q ↔ (matches (items_of text) path ≡ true))
+
+-- the start alone, to which no way leads, is drawn of the empty trail
+abbrev pub StartIsDrawn : Type 0
+StartIsDrawn = (g : Graph) → g.entries ≡ Free ∷ [] → ((q r : ℕ) → Leads g q r → ⊥) → IsDrawn g ([] ∷ [])
+
+-- a state that is added with ways from those that have its sources is drawn too
+abbrev pub AddedIsDrawn : Type 0
+AddedIsDrawn =
+    (old new : Graph) (trails : List Trail) (e : Element) (trail : Trail) (entry : Entry) (from : List ℕ) → IsDrawn old trails
+    → (Contains trails (e ∷ trail) → ⊥) → Suits e entry
+    → HaveSources trails from (e ∷ trail) → AddsState old new entry from
+    → IsDrawn new (trails ++ (e ∷ trail) ∷ [])
+
+-- a state to which no way leads is added
+abbrev pub AddedAlone : Type 0
+AddedAlone =
+    (old new : Graph) (entry : Entry)
+    → new.entries ≡ old.entries ++ entry ∷ [] → ((q r : ℕ) → (Leads new q r ↔ Leads old q r)) → AddsState old new entry []
+
+-- a state is added, and then one more way to it at a time
+abbrev pub AddedByWays : Type 0
+AddedByWays =
+    (old with_ways new : Graph) (entry : Entry) (from : List ℕ) (q : ℕ)
+    → AddsState old with_ways entry from → AddsWay with_ways new q (length old.entries) → AddsState old new entry (from ++ q ∷ [])
+
+-- which ways and entries there are is all that counts
+abbrev pub SameIsDrawn : Type 0
+SameIsDrawn =
+    (g h : Graph) (trails : List Trail)
+    → g.entries ≡ h.entries → ((q r : ℕ) → (Leads g q r ↔ Leads h q r)) → IsDrawn g trails → IsDrawn h trails

@@ -1,0 +1,27 @@
+//! What holds of graphs that are drawn of trails, as laws over the definitions of both.
+
+ghost use Rattle.aa_glob_nfa_laws.specs.Laws.{AddedAlone, AddedByWays, AddedIsDrawn, ReachingIsReading, ReachingTheEndIsMatching, SameIsDrawn, StartIsDrawn};
+
+use aa_glob_prefixes::{how_trails_are_read, what_reads_to_the_end_matches};
+
+/// A state of a drawn graph is reached behind the texts that read its trail. So where that is a pattern's trail, they are those that
+/// match the pattern.
+pub fn what_reaches_a_state()
+    ensures reading { ReachingIsReading }
+    ensures matching { ReachingTheEndIsMatching }
+{
+    how_trails_are_read();
+    what_reads_to_the_end_matches();
+}
+
+/// The start alone is drawn of the empty trail. A graph stays drawn where a state with a new trail is put behind the others, and ways lead
+/// to it from the states that have the sources of its trail.
+pub fn how_graphs_are_drawn()
+    ensures start { StartIsDrawn }
+    ensures added { AddedIsDrawn }
+    ensures alone { AddedAlone }
+    ensures by_ways { AddedByWays }
+    ensures same { SameIsDrawn }
+{
+    how_trails_are_read();
+}

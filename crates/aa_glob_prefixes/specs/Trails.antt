@@ -1,0 +1,93 @@
+-- Trails: beginnings of patterns as lists of elements, the last element first. Patterns that begin alike have the same first trails.
+use Rattle.std.specs.Prelude.{ℕ, ◌+◌, ◌-◌, ◌==◌, if◌then◌else◌, List, [], ◌∷◌, reverse}
+use Rattle.aa_bytes.specs.Bytes.{comma}
+use Rattle.aa_glob_syntax.specs.Elements.{Element, Single, Open, Comma, Close, Fault, elements}
+use Rattle.aa_glob_syntax.specs.Items.{Byte}
+use Rattle.aa_glob_syntax.specs.Symbols.{symbols}
+use Rattle.aa_glob_syntax.specs.declared.context.Context.TheVariants.{Elsewhere}
+
+-- the elements of a beginning, the last one first
+abbrev pub Trail : Type 0
+Trail = List Element
+
+-- an element that stands in so many groups, where a comma outside groups stands for itself
+abbrev pub element_within : ℕ → Element → Element
+element_within depth (Single item) = Single item
+element_within depth Open = Open
+element_within depth Comma = if depth == 0 then Single (Byte comma) else Comma
+element_within depth Close = Close
+element_within depth (Fault error) = Fault error
+
+-- how many groups are open behind an element that stands in so many
+abbrev pub depth_behind : ℕ → Element → ℕ
+depth_behind depth (Single item) = depth
+depth_behind depth Open = depth + 1
+depth_behind depth Comma = depth
+depth_behind depth Close = depth - 1
+depth_behind depth (Fault error) = depth
+
+-- the elements of a text that stands in so many groups
+abbrev pub grouped : ℕ → List Element → List Element
+grouped depth [] = []
+grouped depth (e ∷ es) = element_within depth e ∷ grouped (depth_behind depth e) es
+
+-- the trail of a pattern's whole text
+abbrev pub trail_of : List ℕ → Trail
+trail_of text = reverse (grouped 0 (elements Elsewhere (symbols text)))
+
+-- the trail behind another one, in so many groups, when these elements are read too
+abbrev pub trail_behind : Trail → ℕ → List Element → Trail
+trail_behind trail depth [] = trail
+trail_behind trail depth (e ∷ es) = trail_behind (element_within depth e ∷ trail) (depth_behind depth e) es
+
+-- A group that is open behind a trail: the trail behind its brace, and those before its commas, the last one first.
+pub record OpenGroup : Type 0 where
+  pub beginning : Trail
+  pub ends : List Trail
+
+-- a trail stands before a comma of the innermost group
+abbrev pub with_end : Trail → List OpenGroup → List OpenGroup
+with_end trail [] = []
+with_end trail (g ∷ gs) = record { beginning = g.beginning; ends = trail ∷ g.ends } ∷ gs
+
+-- all groups but the innermost
+abbrev pub outer : List OpenGroup → List OpenGroup
+outer [] = []
+outer (g ∷ gs) = gs
+
+-- the groups that are open behind an element that stands behind a trail and within these groups
+abbrev pub groups_behind : Element → Trail → List OpenGroup → List OpenGroup
+groups_behind (Single item) trail gs = gs
+groups_behind Open trail gs = record { beginning = Open ∷ trail; ends = [] } ∷ gs
+groups_behind Comma trail gs = with_end trail gs
+groups_behind Close trail gs = outer gs
+groups_behind (Fault error) trail gs = gs
+
+-- the groups that are open behind a trail, the innermost first
+abbrev pub groups_of : Trail → List OpenGroup
+groups_of [] = []
+groups_of (e ∷ trail) = groups_behind e trail (groups_of trail)
+
+-- where a group's next alternative begins; outside groups, which is never met, the trail itself
+abbrev pub sources_of_comma : Trail → List OpenGroup → List Trail
+sources_of_comma trail [] = trail ∷ []
+sources_of_comma trail (g ∷ gs) = g.beginning ∷ []
+
+-- where a group's alternatives end; outside groups, which is never met, the trail itself
+abbrev pub sources_of_close : Trail → List OpenGroup → List Trail
+sources_of_close trail [] = trail ∷ []
+sources_of_close trail (g ∷ gs) = trail ∷ g.ends
+
+-- the beginnings that lead to an element that stands behind a trail and within these groups
+abbrev pub sources_behind : Element → Trail → List OpenGroup → List Trail
+sources_behind (Single item) trail gs = trail ∷ []
+sources_behind Open trail gs = trail ∷ []
+sources_behind Comma trail gs = sources_of_comma trail gs
+sources_behind Close trail gs = sources_of_close trail gs
+sources_behind (Fault error) trail gs = trail ∷ []
+
+-- The beginnings that lead to a trail: of a comma that of its group's alternatives, of a closing brace the ends of these, of any other
+-- element the trail before it.
+abbrev pub sources : Trail → List Trail
+sources [] = []
+sources (e ∷ trail) = sources_behind e trail (groups_of trail)

@@ -1,0 +1,59 @@
+//! What holds of trails, as laws over their definitions.
+
+ghost use Rattle.aa_glob_prefixes.specs.Laws.{ApartIsDistinct, BeginningsStandInGroups, DepthIsOfElements, DepthIsOfOpenGroups, FirstTextIsBegun, KnownTrailIsMet, MatchingIsBySplits, NewTrailIsAdded, NextTextIsBegun, SameTextsHaveSameStates, SomeAreReadAsOneIs, SourcesAreShorter, StatesAreFew, StatesHaveOneCount, TrailsAreReadBehindSources, TrailsGrowInFront, WholeTextIsThere, WholeTextsStand, WholeTrailsAreElements, WholeTrailsAreMatched, WholeTrailsGrowByElements, WholeTrailsStandInGroups};
+
+/// The test that contracts name says that the text can be cut into one text for each item.
+pub fn matching_is_by_splits()
+    ensures { MatchingIsBySplits }
+{}
+
+/// The texts that read a pattern's trail to its end are those that match the pattern.
+pub fn what_reads_to_the_end_matches()
+    ensures { WholeTrailsAreMatched }
+{
+    matching_is_by_splits();
+}
+
+/// A trail is read by what reads its last element behind what reads one of its sources, which are beginnings of it, and shorter.
+pub fn how_trails_are_read()
+    ensures behind_sources { TrailsAreReadBehindSources }
+    ensures some { SomeAreReadAsOneIs }
+    ensures shorter { SourcesAreShorter }
+{}
+
+/// A pattern's trail comes about element by element. As many groups are open behind it as were opened and not closed, and in a text that
+/// reads as a pattern each comma and each closing brace stands in one, but for the commas that stand for themselves.
+pub fn how_trails_grow()
+    ensures in_front { TrailsGrowInFront }
+    ensures whole { WholeTrailsGrowByElements }
+    ensures depth { DepthIsOfOpenGroups }
+    ensures groups { WholeTrailsStandInGroups }
+    ensures beginnings { BeginningsStandInGroups }
+{}
+
+/// In a text that reads as a pattern each element may stand in as many groups as are open before it, and the text's trail is its elements, the
+/// last one first. Behind each of them as many groups are open as its trail says.
+pub fn which_elements_stand()
+    ensures text { WholeTextsStand }
+    ensures trail { WholeTrailsAreElements }
+    ensures depth { DepthIsOfElements }
+{}
+
+/// The different beginnings of texts, which are the states of the automaton that reads them, have one count. It is at most two for each
+/// byte and two for each text. Neither the order of the texts nor one that comes twice changes it.
+pub fn how_many_states_there_are()
+    ensures one { StatesHaveOneCount }
+    ensures few { StatesAreFew }
+    ensures same { SameTextsHaveSameStates }
+    ensures distinct { ApartIsDistinct }
+{}
+
+/// The different beginnings of texts come about text by text and element by element: each element leads to a trail that is there already, or
+/// to a new one, which is added.
+pub fn how_beginnings_are_gathered()
+    ensures first { FirstTextIsBegun }
+    ensures next { NextTextIsBegun }
+    ensures known { KnownTrailIsMet }
+    ensures new { NewTrailIsAdded }
+    ensures whole { WholeTextIsThere }
+{}

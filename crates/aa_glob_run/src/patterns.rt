@@ -1,0 +1,83 @@
+//! The patterns of which ends were reached.
+
+ghost use Rattle.std.specs.Prelude.{◌≡◌, ◌<◌, ◌≤◌, ◌↔◌, ℕ, length, All, AllPairs, Contains, IfOk, OnOk};
+ghost use Rattle.std.specs.List.Sorted.{IsNonDecreasing};
+ghost use Rattle.aa_glob_nfa.specs.Graphs.{EndsAt};
+ghost use Rattle.aa_glob_run.specs.code.Ends.{AreEndsOf, Gets, is_new, with_new};
+ghost use Rattle.aa_glob_nfa.specs.OfTables.{AreSound, AreSorted, graph_of};
+
+use crate::front::Front;
+use aa_glob_nfa::Tables;
+use std::alloc::{AllocError, Global};
+
+// The patterns of which states are ends, each once, in rising order.
+pub fn patterns_of(alloc: Global, tables: &Tables, front: &Front) -> Result<Vec<usize>, AllocError>
+    requires sound { AreSound tables.now }
+    requires sorted { AreSorted tables.now }
+    requires room { front.now.room ≡ length tables.now.states }
+    ensures told { IfOk result (λ patterns. AreEndsOf (graph_of tables.now) front.now.states patterns.items) }
+    ensures rise { IfOk result (λ patterns. AllPairs (λ p q. p < q) patterns.items) }
+{
+    let mut told = told_by(alloc, tables, front)?;
+    told.sort_unstable();
+    rising(alloc, &told)
+}
+
+// The patterns of which states are ends, for each state by itself.
+fn told_by(alloc: Global, tables: &Tables, front: &Front) -> Result<Vec<u32>, AllocError>
+    requires sound { AreSound tables.now }
+    requires sorted { AreSorted tables.now }
+    requires room { front.now.room ≡ length tables.now.states }
+    ensures { IfOk result (λ told. AreEndsOf (graph_of tables.now) front.now.states told.items) }
+{
+    let mut told = Vec::new(alloc);
+    for at in 0..front.len() {
+        tell(tables, front.state(at), &mut told)?;
+    }
+    Ok(told)
+}
+
+// Puts the patterns of which a state is an end behind others.
+fn tell(tables: &Tables, state: u32, told: &mut Vec<u32>) -> Result<(), AllocError>
+    requires sound { AreSound tables.now }
+    requires sorted { AreSorted tables.now }
+    requires is_state { state < length tables.now.states }
+    ensures { OnOk result (Gets told.old.items told.new.items (EndsAt (graph_of tables.now) state)) }
+{
+    for end in tables.ends_of(state) {
+        told.push(end.pattern)?;
+    }
+    Ok(())
+}
+
+// Numbers in their order, each once.
+fn rising(alloc: Global, numbers: &[u32]) -> Result<Vec<usize>, AllocError>
+    requires { IsNonDecreasing numbers.now }
+    ensures same { IfOk result (λ each. (p : ℕ) → Contains each.items p ↔ Contains numbers.now p) }
+    ensures rise { IfOk result (λ each. AllPairs (λ p q. p < q) each.items) }
+{
+    let mut each = Vec::with_capacity(alloc, numbers.len())?;
+    for at in 0..numbers.len() {
+        put_new(numbers, at, &mut each)?;
+    }
+    Ok(each)
+}
+
+// Puts a number behind those that were before it, if it is none of them.
+fn put_new(numbers: &[u32], at: usize, each: &mut Vec<usize>) -> Result<(), AllocError>
+    requires { at < length numbers.now }
+    ensures { OnOk result (each.new.items ≡ with_new numbers.now at each.old.items) }
+{
+    if is_new(numbers, at) {
+        each.push(numbers[at] as usize)?;
+    }
+    Ok(())
+}
+
+// Whether a number differs from the one before it, or is the first.
+fn is_new(numbers: &[u32], at: usize) -> bool
+    requires { at < length numbers.now }
+    ensures { result ≡ is_new numbers.now at }
+{
+    at == 0 || numbers[at - 1] != numbers[at]
+}

@@ -1,0 +1,91 @@
+//! Finished automata.
+
+ghost use Rattle.std.specs.Prelude.{◌≡◌, length, IfOk, OnOk};
+ghost use Rattle.std.specs.List.Sorted.{IsStrictlyIncreasing};
+ghost use Rattle.aa_glob_nfa.specs.Graphs.{IsFound, SameGraph};
+ghost use Rattle.aa_glob_run.specs.Steps.{IsCounted, most_visits};
+ghost use Rattle.aa_glob_nfa.specs.OfTables.{AreSound, graph_of};
+
+use crate::front::Front;
+use crate::patterns::patterns_of;
+use crate::run::run;
+use crate::steps::Steps;
+use aa_glob_nfa::Tables;
+use std::alloc::{AllocError, Global};
+use std::marker::Model;
+
+/// A finished automaton, of the states, ways and ends that were drawn. Contracts see its graph.
+#[derive(Debug, Drop)]
+pub struct States {
+    tables: Tables,
+}
+
+impl Model for States {
+    ghost use Rattle.aa_glob_nfa.specs.Graphs.{Graph};
+    ghost use Rattle.aa_glob_nfa.specs.OfTables.{AreSound, AreSorted, graph_of};
+
+    ghost Value = { Graph };
+
+    ghost view = { λ s. graph_of s.tables };
+
+    ghost invariant = { λ s. AreSound s.tables × AreSorted s.tables };
+}
+
+impl States {
+    // The automaton of these tables, which are put in order.
+    pub(crate) fn of(tables: Tables) -> States
+        requires { AreSound tables }
+        ensures { SameGraph (graph_of tables) result }
+    {
+        let mut tables = tables;
+        tables.sort();
+        tables.shrink();
+        States { tables }
+    }
+
+    /// How many states there are. It takes no memory.
+    pub fn states(&self) -> usize
+        ensures { result ≡ length self.now.entries }
+    {
+        self.tables.states.len()
+    }
+
+    /// An equal automaton.
+    ///
+    /// # Errors
+    ///
+    /// Where memory runs out.
+    pub fn try_copy(&self, alloc: Global) -> Result<States, AllocError>
+        ensures { IfOk result (λ copy. copy ≡ self.now) }
+    {
+        Ok(States {
+            tables: self.tables.try_copy(alloc)?,
+        })
+    }
+
+    /// The patterns of which an end is reached behind a text, each once, in rising order.
+    ///
+    /// Steps are counted: one for each visit of a state at a place of the text, which are its bytes and its end. It ends at the first byte
+    /// behind which no state is reached.
+    ///
+    /// # Errors
+    ///
+    /// Where memory runs out. The steps at the places before are counted.
+    pub fn ends_reached(
+        &self,
+        alloc: Global,
+        text: &[u8],
+        steps: &mut Steps,
+    ) -> Result<Vec<usize>, AllocError>
+        ensures found { IfOk result (λ patterns. IsFound self.now text.now patterns.items) }
+        ensures rise { IfOk result (λ patterns. IsStrictlyIncreasing patterns.items) }
+        ensures steps { IsCounted 0 (most_visits self.now text.now) steps.old steps.new }
+        ensures visits { OnOk result (IsCounted 1 (most_visits self.now text.now) steps.old steps.new) }
+    {
+        let count = self.tables.states.len();
+        let mut here = Front::new(alloc, count)?;
+        let mut next = Front::new(alloc, count)?;
+        run(&self.tables, text, &mut here, &mut next, steps)?;
+        patterns_of(alloc, &self.tables, &here)
+    }
+}

@@ -1,0 +1,12 @@
+pub mod Classes
+pub mod Cursor
+pub mod Elements
+pub mod Exactness
+pub mod Faults
+pub mod Items
+pub mod Matching
+pub mod PatternError
+pub mod Patterns
+pub mod Reading
+pub mod Symbols
+pub mod code

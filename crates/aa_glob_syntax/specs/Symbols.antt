@@ -1,0 +1,27 @@
+-- The symbols of a pattern's text: its bytes, each with the backslash that stands before it (apparmor.d(5), "Globbing").
+use Rattle.std.specs.Prelude.{ℕ, Bool, true, false, ◌==◌, if◌then◌else◌, List, [], ◌∷◌}
+use Rattle.aa_bytes.specs.Bytes.{backslash, is_letter_or_digit}
+use Rattle.aa_glob_syntax.specs.declared.symbol.Symbol.{Symbol}
+use Rattle.aa_glob_syntax.specs.declared.symbol.Symbol.TheVariants.{Plain, Escaped, Broken}
+
+-- A backslash takes the byte behind it. Before a letter or a digit, or at the end, it is broken.
+abbrev pub symbols : List ℕ → List Symbol
+symbols [] = []
+symbols (b ∷ []) = (if b == backslash then Broken else Plain b) ∷ []
+symbols (b ∷ c ∷ bs) = if b == backslash then (if is_letter_or_digit c then Broken ∷ [] else Escaped c ∷ symbols bs) else Plain b ∷ symbols (c ∷ bs)
+
+-- a symbol is this byte, and no backslash stands before it
+abbrev pub is_plain : ℕ → Symbol → Bool
+is_plain b (Plain c) = c == b
+is_plain b l = false
+
+-- a symbol is a backslash before a letter, a digit or the end
+abbrev pub is_broken : Symbol → Bool
+is_broken Broken = true
+is_broken l = false
+
+-- the byte that a symbol stands for, if it isn't broken
+abbrev pub byte_of : Symbol → ℕ
+byte_of (Plain b) = b
+byte_of (Escaped b) = b
+byte_of Broken = 0

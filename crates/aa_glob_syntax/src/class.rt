@@ -1,0 +1,65 @@
+//! Classes, as `[a-c]` and `[^/]`, as they stand in a pattern's text.
+
+ghost use Rattle.std.specs.Prelude.{◌≡◌, ◌≢◌, ◌<◌, length, true, Ok, Err, IfOk, IfErr, is_ok};
+ghost use Rattle.aa_bytes.specs.ByteSets.{has};
+ghost use Rattle.aa_glob_syntax.specs.Classes.{class};
+ghost use Rattle.aa_glob_syntax.specs.Elements.{behind_class, elements};
+ghost use Rattle.aa_glob_syntax.specs.Symbols.{symbols};
+ghost use Rattle.aa_glob_syntax.specs.declared.context.Context.TheVariants.{Elsewhere};
+ghost use Rattle.aa_glob_syntax.specs.declared.pattern_error.PatternError.TheVariants.{Memory};
+
+use crate::members::{class_length, class_start, listed_ranges, lists_byte, pass_members};
+use crate::pattern_error::PatternError;
+use aa_bytes::{ByteSet, Sequence};
+use std::alloc::{AllocError, Global};
+
+/// A class as it stands in a pattern's text, which is no copy of it.
+#[derive(Clone, Copy, Debug)]
+pub struct Class<'a> {
+    text: &'a [u8],
+    ghost reads: { is_ok (class (symbols text.now)) ≡ true },
+}
+
+impl<'a> Class<'a> {
+    ghost use Rattle.aa_glob_syntax.specs.Cursor.{class_set, class_text};
+
+    /// Reads a class behind its `[`: the class, and what follows its `]`.
+    pub fn read(text: &'a [u8]) -> Result<(Class<'a>, &'a [u8]), PatternError>
+        ensures class { IfOk result (λ read. class (symbols text.now) ≡ Ok (class_set read.0)) }
+        ensures behind { IfOk result (λ read. behind_class (symbols text.now) ≡ elements Elsewhere (symbols read.1.now)) }
+        ensures shorter { IfOk result (λ read. length read.1.now < length text.now) }
+        ensures refused { IfErr result (λ error. class (symbols text.now) ≡ Err error) }
+        ensures memory { IfErr result (λ error. error ≢ Memory) }
+    {
+        let (_, listed) = class_start(text);
+        let rest = pass_members(listed)?;
+        let text = &text[..class_length(text)];
+        Ok((Class { text }, rest))
+    }
+
+    /// The class's text, from behind its `[` up to and with its `]`. Classes of one text are of one set.
+    pub fn text(self) -> &'a [u8]
+        ensures { result.now ≡ class_text self.entry }
+    {
+        self.text
+    }
+
+    /// Whether the byte is in the set of the class. It takes no memory, and reads the class's text again.
+    pub fn has(self, byte: u8) -> bool
+        ensures { result ≡ has (class_set self.entry) byte }
+    {
+        let (negated, listed) = class_start(self.text);
+        byte != 0 && negated != lists_byte(byte, listed)
+    }
+
+    /// The set of the class, or `AllocError` where memory ran out.
+    pub fn set(self, alloc: Global) -> Result<ByteSet, AllocError>
+        ensures { IfOk result (λ set. set ≡ class_set self.entry) }
+    {
+        let (negated, listed) = class_start(self.text);
+        Ok(ByteSet::Class {
+            negated,
+            ranges: Sequence::from_vec(listed_ranges(alloc, listed)?),
+        })
+    }
+}

@@ -1,0 +1,174 @@
+//! The elements of a pattern's text, read one after the other without memory.
+
+ghost use Rattle.std.specs.Prelude.{◌≡◌, ◌≢◌, ◌∷◌, ◌<◌, ◌≤◌, length, IfOk, IfErr, IfSome};
+ghost use Rattle.aa_bytes.specs.Bytes.{opening_bracket, star};
+ghost use Rattle.aa_glob_syntax.specs.Cursor.{BeginWithFault, context_behind, elements_from, left, meaning};
+ghost use Rattle.aa_glob_syntax.specs.Elements.{context_after, elements, stars};
+ghost use Rattle.aa_glob_syntax.specs.Symbols.{symbols};
+ghost use Rattle.aa_glob_syntax.specs.declared.context.Context.TheVariants.{AfterStar};
+ghost use Rattle.aa_glob_syntax.specs.declared.pattern_error.PatternError.TheVariants.{Memory};
+ghost use Rattle.aa_glob_syntax.specs.declared.symbol.Symbol.TheVariants.{Plain};
+
+use crate::class::Class;
+use crate::context::{Context, context_after};
+use crate::pattern_error::PatternError;
+use crate::star::{begins_plain, behind_stars, is_whole_segment};
+use crate::symbol::{Symbol, first_symbol};
+
+/// An element of a pattern's text.
+#[derive(Clone, Copy, Debug)]
+pub enum Element<'a> {
+    /// A byte that stands for itself.
+    Byte(u8),
+    /// One byte within a segment.
+    Inside,
+    /// One byte of a class.
+    Class(Class<'a>),
+    /// Any bytes within a segment.
+    Star,
+    /// Any bytes.
+    DoubleStar,
+    /// The brace that begins a group.
+    Open,
+    /// A comma. Outside groups it stands for itself.
+    Comma,
+    /// The brace that closes a group.
+    Close,
+}
+
+/// An element, and what is behind it.
+#[derive(Clone, Copy, Debug)]
+pub struct Next<'a> {
+    /// The element.
+    pub element: Element<'a>,
+    /// The context in which the rest stands.
+    pub context: Context,
+    /// What is left to read. It begins with the same star still, where a run of stars that is a whole segment has given the byte that
+    /// it has at least.
+    pub rest: &'a [u8],
+}
+
+/// Reads the next element of a text that stands in a context; at its end there is none. It takes no memory. Whether braces and commas
+/// are those of groups is the caller's to tell.
+///
+/// # Errors
+///
+/// The fault with which the text begins: `BadEscape`, or in a class `UnclosedClass`, `EmptyClass` or `BadRange`. Never `Memory`.
+pub fn next_element<'a>(context: Context, text: &'a [u8]) -> Result<Option<Next<'a>>, PatternError>
+    ensures ok { IfOk result (λ next. elements context (symbols text.now) ≡ elements_from next) }
+    ensures context { IfOk result (λ next. IfSome next (λ found. found.context ≡ context_behind found.element)) }
+    ensures shorter { IfOk result (λ next. IfSome next (λ found. left found.context found.rest.now < left context text.now)) }
+    ensures refused { IfErr result (λ error. BeginWithFault error (elements context (symbols text.now))) }
+    ensures memory { IfErr result (λ error. error ≢ Memory) }
+{
+    match context {
+        Context::AfterStar => next_outside(Context::Elsewhere, behind_stars(text)),
+        Context::AfterSlash | Context::Elsewhere => next_outside(context, text),
+    }
+}
+
+// The same where no run of stars goes on.
+fn next_outside<'a>(context: Context, text: &'a [u8]) -> Result<Option<Next<'a>>, PatternError>
+    requires { context ≢ AfterStar }
+    ensures ok { IfOk result (λ next. elements context (symbols text.now) ≡ elements_from next) }
+    ensures context { IfOk result (λ next. IfSome next (λ found. found.context ≡ context_behind found.element)) }
+    ensures shorter { IfOk result (λ next. IfSome next (λ found. left found.context found.rest.now < left context text.now)) }
+    ensures refused { IfErr result (λ error. BeginWithFault error (elements context (symbols text.now))) }
+    ensures memory { IfErr result (λ error. error ≢ Memory) }
+{
+    match first_symbol(text) {
+        None => Ok(None),
+        Some((Symbol::Broken, _)) => Err(PatternError::BadEscape),
+        Some((Symbol::Escaped(byte), rest)) => Ok(Some(next_byte(byte, rest))),
+        Some((Symbol::Plain(b'*'), rest)) => Ok(Some(next_star(context, text, rest))),
+        Some((Symbol::Plain(byte), rest)) => Ok(Some(next_plain(byte, rest)?)),
+    }
+}
+
+// A byte that stands for itself, and what is behind it.
+fn next_byte<'a>(byte: u8, rest: &'a [u8]) -> Next<'a>
+    ensures element { result.element ≡ Element.Byte byte }
+    ensures context { result.context ≡ context_after byte }
+    ensures rest { result.rest.now ≡ rest.now }
+{
+    Next {
+        element: Element::Byte(byte),
+        context: context_after(byte),
+        rest,
+    }
+}
+
+// The run of stars with which the text begins, where none goes on; behind its first star the rest is left.
+fn next_star<'a>(context: Context, text: &'a [u8], rest: &'a [u8]) -> Next<'a>
+    requires begins { symbols text.now ≡ Plain star ∷ symbols rest.now }
+    requires shorter { length rest.now < length text.now }
+    requires first { context ≢ AfterStar }
+    ensures ok { elements context (symbols text.now) ≡ elements_from (Some result) }
+    ensures context { result.context ≡ context_behind result.element }
+    ensures shorter { left result.context result.rest.now < left context text.now }
+{
+    if is_whole_segment(context, rest) {
+        return Next {
+            element: Element::Inside,
+            context: Context::Elsewhere,
+            rest: text,
+        };
+    }
+    Next {
+        element: run_element(rest),
+        context: Context::AfterStar,
+        rest,
+    }
+}
+
+// What a run of stars reads as, from what follows its first.
+fn run_element<'a>(rest: &'a [u8]) -> Element<'a>
+    ensures meaning { meaning result ≡ stars (symbols rest.now) }
+    ensures context { context_behind result ≡ AfterStar }
+{
+    if begins_plain(b'*', rest) {
+        Element::DoubleStar
+    } else {
+        Element::Star
+    }
+}
+
+// The element that begins with a byte without a backslash, which is no star and stands before the rest.
+fn next_plain<'a>(byte: u8, rest: &'a [u8]) -> Result<Next<'a>, PatternError>
+    requires { byte ≢ star }
+    ensures ok { IfOk result (λ next. (context : Context) → elements context (Plain byte ∷ symbols rest.now) ≡ elements_from (Some next)) }
+    ensures context { IfOk result (λ next. next.context ≡ context_behind next.element) }
+    ensures within { IfOk result (λ next. length next.rest.now ≤ length rest.now) }
+    ensures refused { IfErr result (λ error. (context : Context) → BeginWithFault error (elements context (Plain byte ∷ symbols rest.now))) }
+    ensures memory { IfErr result (λ error. error ≢ Memory) }
+{
+    let element = match byte {
+        b'[' => return next_class(rest),
+        b'?' => Element::Inside,
+        b'{' => Element::Open,
+        b',' => Element::Comma,
+        b'}' => Element::Close,
+        _ => return Ok(next_byte(byte, rest)),
+    };
+    Ok(Next {
+        element,
+        context: Context::Elsewhere,
+        rest,
+    })
+}
+
+// A class behind its `[`.
+fn next_class<'a>(text: &'a [u8]) -> Result<Next<'a>, PatternError>
+    ensures ok { IfOk result (λ next. (context : Context) → elements context (Plain opening_bracket ∷ symbols text.now) ≡ elements_from (Some next)) }
+    ensures context { IfOk result (λ next. next.context ≡ context_behind next.element) }
+    ensures within { IfOk result (λ next. length next.rest.now ≤ length text.now) }
+    ensures refused { IfErr result (λ error. (context : Context) → BeginWithFault error (elements context (Plain opening_bracket ∷ symbols text.now))) }
+    ensures memory { IfErr result (λ error. error ≢ Memory) }
+{
+    let (class, rest) = Class::read(text)?;
+    Ok(Next {
+        element: Element::Class(class),
+        context: Context::Elsewhere,
+        rest,
+    })
+}

@@ -1,7 +1,0 @@
-use Rattle.aa_grammar.proofs.NameLemmas.{profiles-named}
-use Rattle.aa_grammar.proofs.so_far.ProfilesSoFar.with.Goals as goal
-
-pub invariant_of-result : goal.invariant_of-result
-invariant_of-result c = record {
-  named = rw (c.in_ok-insert.ensures.keys, c.in_ok-push.ensures.items) (profiles-named c.args.self.names.keys c.args.self.items.items c.args.profile c.args.self.named);
-}

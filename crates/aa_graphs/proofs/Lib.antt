@@ -1,7 +1,0 @@
-pub mod BitLemmas
-pub mod BlockLemmas
-pub mod GrownLemmas
-pub mod ListLemmas
-pub mod RowLemmas
-pub mod SoundLemmas
-pub mod TableLemmas

@@ -1,8 +1,0 @@
--- Sets of bytes by a bit for each.
-use Rattle.std.specs.Prelude.{ℕ, Bool}
-use Rattle.aa_graphs.specs.Bits.{has_bit}
-use Rattle.aa_graphs.specs.declared.byte_map.ByteMap.{ByteMap}
-
--- a byte is in the set
-abbrev pub in_map : ByteMap → ℕ → Bool
-in_map map byte = has_bit map.words byte

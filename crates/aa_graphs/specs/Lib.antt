@@ -1,7 +1,0 @@
-pub mod Bits
-pub mod ByteMaps
-pub mod Entries
-pub mod Graphs
-pub mod OfTables
-pub mod Tables
-pub mod code

@@ -1,9 +1,0 @@
-use Rattle.aa_elements.specs.Reading.{HasNoFirstFault, items_of}
-use Rattle.aa_patterns.proofs.FirstFaultLemmas.{err_anyway, no_first_fault}
-use Rattle.aa_patterns.proofs.pattern.Pattern.read.Goals as goal
-
--- memory runs out only once the text was read
-pub returns-in_err-text-clause-memory : goal.returns-in_err-text-clause-memory
-returns-in_err-text-clause-memory c =
-    let text = c.args.text.now in
-    err_anyway c.from_residual-in_err-text.result (HasNoFirstFault text) (no_first_fault text (items_of text) c.in_ok-facts.ensures.reads)

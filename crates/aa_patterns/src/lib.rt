@@ -1,7 +1,0 @@
-//! AppArmor's path patterns: read exactly, refused exactly, matched exactly.
-#![tactic(auto)]
-
-mod pattern;
-
-pub use aa_elements::{LONGEST_PATTERN, PatternError};
-pub use pattern::Pattern;

@@ -1,5 +1,0 @@
-use Rattle.std.proofs.Common.{refl}
-use Rattle.aa_policy.proofs.profile.FileRule.try_copy.Goals as goal
-
-pub returns : goal.returns
-returns c = rw (c.in_ok-try_copy.ensures, c.in_ok-copied_transition.ensures, c.in_ok-copied_text.ensures) refl

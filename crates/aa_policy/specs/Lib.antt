@@ -1,3 +1,0 @@
-pub mod Cover
-pub mod Numbers
-pub mod Profile

@@ -1,0 +1,3 @@
+mod MatchingLemmas
+mod PickedLemmas
+mod PlaceLemmas

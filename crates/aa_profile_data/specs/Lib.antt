@@ -1,0 +1,6 @@
+pub mod Cover
+pub mod FileRules
+pub mod Matching
+pub mod Numbers
+pub mod Picked
+pub mod Profile

@@ -1,0 +1,53 @@
+//! What rules on capabilities and sockets cover.
+
+ghost use Rattle.std.specs.Prelude.{◌≡◌};
+ghost use Rattle.aa_profile_data.specs.Cover.{covers_capability, covers_domain, covers_kind, covers_socket, has_number};
+
+use crate::profile::{CapRule, NetRule};
+use aa_profile_tables::{has_protocols, is_protocol, type_of};
+
+// Whether a set has a number.
+fn has(set: u64, number: u8) -> bool
+    ensures { result ≡ has_number set number }
+{
+    number < 64 && (set >> number) & 1 == 1
+}
+
+impl CapRule {
+    /// Whether the rule covers the capability of a number (apparmor.d(5), "Capability Rules"). It takes no memory.
+    pub fn covers(&self, number: u8) -> bool
+        ensures { result ≡ covers_capability number self.now }
+    {
+        has(self.caps, number)
+    }
+}
+
+// Whether a rule's domain covers one: none covers all.
+fn covers_domain(own: Option<u8>, domain: u8) -> bool
+    ensures { result ≡ covers_domain own domain }
+{
+    match own {
+        None => true,
+        Some(own) => own == domain,
+    }
+}
+
+// Whether a rule's type or protocol covers a type in a domain: none covers all.
+fn covers_kind(own: Option<u8>, domain: u8, kind: u8) -> bool
+    ensures { result ≡ covers_kind own domain kind }
+{
+    match own {
+        None => true,
+        Some(own) => type_of(own) == kind && (!is_protocol(own) || has_protocols(domain)),
+    }
+}
+
+impl NetRule {
+    /// Whether the rule covers sockets of a type in a domain, by their numbers (apparmor.d(5), "Network Rules"): a missing domain stands
+    /// for all and a missing type too, and a protocol for its type in the domains that have protocols. It takes no memory.
+    pub fn covers(&self, domain: u8, kind: u8) -> bool
+        ensures { result ≡ covers_socket domain kind self.now }
+    {
+        covers_domain(self.domain, domain) && covers_kind(self.kind, domain, kind)
+    }
+}

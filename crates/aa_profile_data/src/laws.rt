@@ -1,0 +1,26 @@
+//! What holds of the rules that match a path, as a law over the definitions.
+
+ghost use Rattle.std.specs.Prelude.{◌≡◌, ℕ, List};
+ghost use Rattle.std.specs.List.{filter};
+ghost use Rattle.std.specs.List.Sorted.{IsStrictlyIncreasing};
+ghost use Rattle.aa_glob_syntax.specs.Patterns.{AreMatching};
+ghost use Rattle.aa_profile_data.specs.FileRules.{file_patterns, places_from};
+ghost use Rattle.aa_profile_data.specs.Matching.{AreMatchingRules, is_matching};
+ghost use Rattle.aa_profile_data.specs.Picked.{picked};
+ghost use Rattle.aa_profile_data.specs.declared.profile.Rule.{Rule};
+
+/// What stands at the places of the rules that match a path, in rising order, are those rules in their order. Where the places of the patterns of
+/// file rules are known that match a path, what stands at these among the places of the file rules are the places of the rules that match,
+/// and they rise as those do.
+pub fn which_rules_match()
+    ensures picked { (rules : List Rule) (path places : List ℕ)
+        → AreMatchingRules rules path places
+        → IsStrictlyIncreasing places
+        → picked rules places ≡ filter (is_matching path) rules }
+    ensures found { (rules : List Rule) (path found : List ℕ)
+        → AreMatching (file_patterns rules) path found
+        → AreMatchingRules rules path (picked (places_from 0 rules) found) }
+    ensures rise { (rules : List Rule) (found : List ℕ)
+        → IsStrictlyIncreasing found
+        → IsStrictlyIncreasing (picked (places_from 0 rules) found) }
+{}

@@ -1,0 +1,295 @@
+//! Profiles, their children and hats, and their rules, as plain data: names and texts are lists of bytes.
+
+ghost use Rattle.std.specs.Prelude.{◌≡◌, IfOk};
+ghost use Rattle.aa_profile_data.specs.Profile.{child_place};
+
+use aa_bytes::Sequence;
+use aa_glob_pattern::Pattern;
+use aa_profile_access::{ExecWord, Perms};
+use std::alloc::{AllocError, Global};
+
+/// Whether what the rules don't allow is refused, or let through and logged.
+#[derive(Clone, Copy, Debug, PartialEq, Eq)]
+pub enum Mode {
+    /// What the rules don't allow is refused.
+    Enforce,
+    /// What the rules don't allow is let through, unless a rule denies it.
+    Complain,
+}
+
+/// Under what a program runs that a rule lets be started.
+#[derive(Debug, Drop)]
+pub struct Transition {
+    /// The exec word.
+    pub word: ExecWord,
+    /// The name of the profile, child or hat that the rule names; none where it names none.
+    pub target: Option<Sequence<u8>>,
+}
+
+/// A rule on files.
+#[derive(Debug, Drop)]
+pub struct FileRule {
+    /// The pattern of the paths that it is about.
+    pub pattern: Pattern,
+    /// The access letters; the bare `x` of a deny rule is among them.
+    pub access: Perms,
+    /// Under what the programs run that it lets be started; none where it has no exec word.
+    pub exec: Option<Transition>,
+    /// The target of hard links that it names, which decides nothing.
+    pub link: Option<Sequence<u8>>,
+    /// Whether it applies only where the task's user owns the file.
+    pub owner: bool,
+    /// Whether it denies what it covers.
+    pub deny: bool,
+    /// Whether what it decides is logged.
+    pub audit: bool,
+}
+
+/// A rule on capabilities.
+#[derive(Clone, Copy, Debug, PartialEq, Eq)]
+pub struct CapRule {
+    /// The set of the capabilities that it is about: the bit of each number of `aa_profile_tables` tells whether that one is.
+    pub caps: u64,
+    /// Whether it denies what it covers.
+    pub deny: bool,
+    /// Whether what it decides is logged.
+    pub audit: bool,
+}
+
+/// A rule on sockets.
+#[derive(Clone, Copy, Debug, PartialEq, Eq)]
+pub struct NetRule {
+    /// The number of the domain that it is about; none where it is about all.
+    pub domain: Option<u8>,
+    /// The number of the type or the protocol that it is about; none where it is about all.
+    pub kind: Option<u8>,
+    /// Whether it denies what it covers.
+    pub deny: bool,
+    /// Whether what it decides is logged.
+    pub audit: bool,
+}
+
+/// A rule that decides nothing here, and is kept and shown as it is written.
+#[derive(Debug, Drop)]
+pub struct OtherRule {
+    /// Its text without the words before it and without the Comma at its end, one blank between two tokens but none before a comma.
+    pub text: Sequence<u8>,
+    /// Whether `owner` stands before it.
+    pub owner: bool,
+    /// Whether `deny` stands before it.
+    pub deny: bool,
+    /// Whether `audit` stands before it.
+    pub audit: bool,
+}
+
+/// A rule.
+#[derive(Debug, Drop)]
+pub enum Rule {
+    /// A rule on files.
+    File(FileRule),
+    /// A rule on capabilities.
+    Cap(CapRule),
+    /// A rule on sockets.
+    Net(NetRule),
+    /// A rule that decides nothing here.
+    Other(OtherRule),
+}
+
+/// A child of a profile, or a hat.
+#[derive(Debug, Drop)]
+pub struct Child {
+    /// The name, which no other child or hat of the profile has.
+    pub name: Sequence<u8>,
+    /// Whether it is a hat.
+    pub hat: bool,
+    /// The patterns of the programs that it is attached to; a hat has none.
+    pub attachments: Sequence<Pattern>,
+    /// Whether what each of its rules decides is logged.
+    pub audit: bool,
+    /// The mode that its own flags give.
+    pub mode: Mode,
+    /// The rules, in the order of the file.
+    pub rules: Sequence<Rule>,
+}
+
+/// A profile.
+#[derive(Debug, Drop)]
+pub struct Profile {
+    /// The name.
+    pub name: Sequence<u8>,
+    /// The patterns of the programs that it is attached to.
+    pub attachments: Sequence<Pattern>,
+    /// Whether what each of its rules decides is logged; this doesn't reach its children.
+    pub audit: bool,
+    /// The mode that its own flags give.
+    pub mode: Mode,
+    /// The rules, in the order of the file.
+    pub rules: Sequence<Rule>,
+    /// The children and hats, in the order of the file.
+    pub children: Sequence<Child>,
+}
+
+// An equal text, where there is one.
+fn copied_text(
+    alloc: Global,
+    text: &Option<Sequence<u8>>,
+) -> Result<Option<Sequence<u8>>, AllocError>
+    ensures { IfOk result (λ copy. copy ≡ text.now) }
+{
+    match text {
+        None => Ok(None),
+        Some(text) => Ok(Some(Sequence::from_slice(alloc, text.as_slice())?)),
+    }
+}
+
+impl Transition {
+    // An equal transition.
+    fn try_copy(&self, alloc: Global) -> Result<Transition, AllocError>
+        ensures { IfOk result (λ copy. copy ≡ self.now) }
+    {
+        Ok(Transition {
+            word: self.word,
+            target: copied_text(alloc, &self.target)?,
+        })
+    }
+}
+
+// An equal transition, where there is one.
+fn copied_transition(
+    alloc: Global,
+    exec: &Option<Transition>,
+) -> Result<Option<Transition>, AllocError>
+    ensures { IfOk result (λ copy. copy ≡ exec.now) }
+{
+    match exec {
+        None => Ok(None),
+        Some(transition) => Ok(Some(transition.try_copy(alloc)?)),
+    }
+}
+
+impl FileRule {
+    // An equal rule.
+    fn try_copy(&self, alloc: Global) -> Result<FileRule, AllocError>
+        ensures { IfOk result (λ copy. copy ≡ self.now) }
+    {
+        Ok(FileRule {
+            pattern: self.pattern.try_copy(alloc)?,
+            access: self.access,
+            exec: copied_transition(alloc, &self.exec)?,
+            link: copied_text(alloc, &self.link)?,
+            owner: self.owner,
+            deny: self.deny,
+            audit: self.audit,
+        })
+    }
+}
+
+impl OtherRule {
+    // An equal rule.
+    fn try_copy(&self, alloc: Global) -> Result<OtherRule, AllocError>
+        ensures { IfOk result (λ copy. copy ≡ self.now) }
+    {
+        Ok(OtherRule {
+            text: Sequence::from_slice(alloc, self.text.as_slice())?,
+            owner: self.owner,
+            deny: self.deny,
+            audit: self.audit,
+        })
+    }
+}
+
+impl Rule {
+    // An equal rule.
+    fn try_copy(&self, alloc: Global) -> Result<Rule, AllocError>
+        ensures { IfOk result (λ copy. copy ≡ self.now) }
+    {
+        match self {
+            Rule::File(rule) => Ok(Rule::File(rule.try_copy(alloc)?)),
+            Rule::Cap(rule) => Ok(Rule::Cap(*rule)),
+            Rule::Net(rule) => Ok(Rule::Net(*rule)),
+            Rule::Other(rule) => Ok(Rule::Other(rule.try_copy(alloc)?)),
+        }
+    }
+}
+
+impl Child {
+    // An equal child.
+    fn try_copy(&self, alloc: Global) -> Result<Child, AllocError>
+        ensures { IfOk result (λ copy. copy ≡ self.now) }
+    {
+        let name = Sequence::from_slice(alloc, self.name.as_slice())?;
+        let attachments = copied_patterns(alloc, self.attachments.as_slice())?;
+        let rules = copied_rules(alloc, self.rules.as_slice())?;
+        Ok(Child {
+            name,
+            hat: self.hat,
+            attachments: Sequence::from_vec(attachments),
+            audit: self.audit,
+            mode: self.mode,
+            rules: Sequence::from_vec(rules),
+        })
+    }
+}
+
+impl Profile {
+    /// An equal profile.
+    ///
+    /// # Errors
+    ///
+    /// Where memory runs out.
+    pub fn try_copy(&self, alloc: Global) -> Result<Profile, AllocError>
+        ensures { IfOk result (λ copy. copy ≡ self.now) }
+    {
+        let name = Sequence::from_slice(alloc, self.name.as_slice())?;
+        let attachments = copied_patterns(alloc, self.attachments.as_slice())?;
+        let rules = copied_rules(alloc, self.rules.as_slice())?;
+        let children = copied_children(alloc, self.children.as_slice())?;
+        Ok(Profile {
+            name,
+            attachments: Sequence::from_vec(attachments),
+            audit: self.audit,
+            mode: self.mode,
+            rules: Sequence::from_vec(rules),
+            children: Sequence::from_vec(children),
+        })
+    }
+}
+
+fn copied_patterns(alloc: Global, patterns: &[Pattern]) -> Result<Vec<Pattern>, AllocError>
+    ensures { IfOk result (λ copies. copies.items ≡ patterns.now) }
+{
+    let mut copies = Vec::with_capacity(alloc, patterns.len())?;
+    for pattern in patterns {
+        copies.push(pattern.try_copy(alloc)?)?;
+    }
+    Ok(copies)
+}
+
+fn copied_rules(alloc: Global, rules: &[Rule]) -> Result<Vec<Rule>, AllocError>
+    ensures { IfOk result (λ copies. copies.items ≡ rules.now) }
+{
+    let mut copies = Vec::with_capacity(alloc, rules.len())?;
+    for rule in rules {
+        copies.push(rule.try_copy(alloc)?)?;
+    }
+    Ok(copies)
+}
+
+fn copied_children(alloc: Global, children: &[Child]) -> Result<Vec<Child>, AllocError>
+    ensures { IfOk result (λ copies. copies.items ≡ children.now) }
+{
+    let mut copies = Vec::with_capacity(alloc, children.len())?;
+    for child in children {
+        copies.push(child.try_copy(alloc)?)?;
+    }
+    Ok(copies)
+}
+
+/// The place of the child or hat of a name among some, or none where none has it. It takes no memory.
+pub fn child_place(name: &[u8], children: &[Child]) -> Option<usize>
+    ensures { result ≡ child_place name.now children.now }
+{
+    children
+        .iter()
+        .position(|child| child.name.as_slice() == name)
+}

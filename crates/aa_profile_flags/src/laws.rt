@@ -1,0 +1,32 @@
+//! What holds of flags, as laws over the definitions that `read_flags` is proved to follow.
+
+ghost use Rattle.std.specs.Prelude.{◌≡◌, ◌++◌, ℕ, false, true, List, ◌∷◌};
+ghost use Rattle.std.specs.List.{list_all};
+ghost use Rattle.aa_bytes.specs.Bytes.{is_blank, opening_parenthesis};
+ghost use Rattle.aa_bytes.specs.Texts.{is_empty};
+ghost use Rattle.aa_text_splicing.specs.Splicing.{Placed};
+ghost use Rattle.aa_text_tokens.specs.declared.cut.TokenKind.TheVariants.{OpenBrace};
+ghost use Rattle.aa_profile_flags.specs.Flags.{flags, separates};
+ghost use Rattle.aa_profile_flags.specs.FlagText.{IsReadAs, flags_of, has_words, is_flag_token, said, spaced, with_keyword, words_of};
+
+/// FLAGS are read as the text of their Words and Commas says: nothing, or a list in parentheses, before which `flags =` may stand, with or
+/// without blanks, and changes nothing. Any blanks and commas stand between two words of a list. Lists with the same words say the same, in
+/// whatever order and however often these stand.
+pub fn what_flags_say()
+    ensures text { (tokens : List Placed) (brace : Placed) (rest : List Placed)
+        → list_all is_flag_token tokens ≡ true
+        → brace.token.kind ≡ OpenBrace
+        → IsReadAs (said (spaced tokens)) brace rest (flags (tokens ++ brace ∷ rest)) }
+    ensures keyword { (blanks more list : List ℕ)
+        → list_all is_blank blanks ≡ true
+        → list_all is_blank more ≡ true
+        → said (with_keyword blanks more (opening_parenthesis ∷ list)) ≡ said (opening_parenthesis ∷ list) }
+    ensures separators { (list separators more : List ℕ)
+        → list_all separates separators ≡ true
+        → is_empty separators ≡ false
+        → words_of (list ++ (separators ++ more)) ≡ words_of list ++ words_of more }
+    ensures order { (words others : List (List ℕ))
+        → has_words words others ≡ true
+        → has_words others words ≡ true
+        → flags_of words ≡ flags_of others }
+{}

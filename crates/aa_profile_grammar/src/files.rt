@@ -1,0 +1,56 @@
+//! Profile files, whole.
+
+ghost use Rattle.std.specs.Prelude.{◌≡◌, ◌≢◌, Ok, Err, None, IfOk, IfErr};
+ghost use Rattle.aa_profile_parsing.specs.SeenTokens.{seen_tokens};
+ghost use Rattle.aa_profile_parsing.specs.declared.fault.GrammarRefusal.TheVariants.{Memory};
+ghost use Rattle.aa_profile_grammar.specs.Files.{file};
+ghost use Rattle.aa_profile_grammar.specs.SeenFiles.{seen_file};
+
+use crate::blocks::{Profile, read_profiles};
+use crate::preamble::{Assignment, read_preamble};
+use aa_profile_parsing::{Fault, GrammarError, GrammarRefusal};
+use aa_text_splicing::Spliced;
+use std::alloc::Global;
+
+/// A profile's file as it is written.
+#[derive(Debug, Drop)]
+pub struct File<'a> {
+    /// The assignments before its profiles, in order.
+    pub assignments: Vec<Assignment<'a>>,
+    /// Its profiles, in order: at least one.
+    pub profiles: Vec<Profile<'a>>,
+}
+
+/// A profile's file as its tokens write it.
+///
+/// # Errors
+///
+/// The first fault from the left, at the first token at which nothing that could follow would be accepted (docs/policy.md, "Files").
+/// - `BadToken`: a token that can't stand there; without a place where the tokens run out outside of a block.
+/// - `OpenBlock`: the tokens run out in a block; at the innermost brace that isn't closed.
+/// - `BadFlag`, `BadAccess`, `TwoExec`, `ExecQualifier`, `WriteAppend`, `BadName`: the token that holds the flag, the access, the name or the
+///   target.
+/// - `TargetWithoutExec`: the word `->`.
+/// - `BadCapability`, `BadNetwork`: the word of the rule that is at fault.
+/// - `TwiceNamed`: the token of a name that another profile of the file has, or another child or hat of the profile.
+/// - `NestedChild`: the word that a child within a child begins with.
+/// - `LateAssignment`: an assignment behind a profile.
+/// - `NoProfile`, without a place: the file has no profile.
+/// - `Memory`, without a place: memory ran out.
+pub fn read_file<'a>(alloc: Global, tokens: &'a [Spliced<'a>]) -> Result<File<'a>, GrammarError>
+    ensures ok { IfOk result (λ read. file (seen_tokens tokens.now) ≡ Ok (seen_file read)) }
+    ensures refused { IfErr result (λ error. error ≢ record { refusal = Memory; place = None } → file (seen_tokens tokens.now) ≡ Err error) }
+{
+    let (assignments, behind) = read_preamble(alloc, tokens)?;
+    let (profiles, _) = read_profiles(alloc, behind)?;
+    if profiles.is_empty() {
+        return Err(GrammarError {
+            refusal: GrammarRefusal::NoProfile,
+            place: None,
+        });
+    }
+    Ok(File {
+        assignments,
+        profiles,
+    })
+}

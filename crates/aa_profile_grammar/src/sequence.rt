@@ -1,0 +1,21 @@
+//! Parts of one kind in a row.
+
+use aa_text_splicing::Spliced;
+
+/// Tokens that weren't read yet.
+#[derive(Clone, Copy, Debug)]
+pub struct Rest<'a> {
+    /// The tokens.
+    pub tokens: &'a [Spliced<'a>],
+}
+
+/// What comes next in a row.
+#[derive(Debug, Drop)]
+pub enum Next<T> {
+    /// An item of the row.
+    Item(T),
+    /// Something that isn't kept.
+    Nothing,
+    /// The end of the row.
+    End,
+}

@@ -1,0 +1,103 @@
+//! Parts of a file that were read so far, and their names, of which it is told without going through all parts whether one is there.
+
+ghost use Rattle.std.specs.Prelude.{◌≡◌, ◌++◌, ◌∷◌, [], IfOk, map};
+ghost use Rattle.std.specs.List.{list_any};
+ghost use Rattle.aa_profile_grammar.specs.Blocks.{is_child_of_name, is_of_name};
+ghost use Rattle.aa_profile_grammar.specs.code.Names.{AreNamesOf};
+ghost use Rattle.aa_profile_grammar.specs.SeenFiles.{seen_member, seen_profile};
+
+use crate::blocks::{Member, Profile};
+use indexmap::IndexSet;
+use std::alloc::{AllocError, Global};
+
+/// Profiles of a file.
+#[derive(Drop)]
+pub struct ProfilesSoFar<'a> {
+    /// The profiles, in order.
+    pub items: Vec<Profile<'a>>,
+    // Their names.
+    names: IndexSet<&'a [u8]>,
+    ghost named: { AreNamesOf names.keys (λ name. list_any (is_of_name name) (map seen_profile items.items)) },
+}
+
+impl<'a> ProfilesSoFar<'a> {
+    /// None.
+    pub fn new(alloc: Global) -> ProfilesSoFar<'a>
+        ensures { result.items.items ≡ [] }
+    {
+        ProfilesSoFar {
+            items: Vec::new(alloc),
+            names: IndexSet::new(alloc),
+        }
+    }
+
+    /// Whether one has this name.
+    pub fn has(&self, name: &[u8]) -> bool
+        ensures { result ≡ list_any (is_of_name name.now) (map seen_profile self.now.items.items) }
+    {
+        self.names.contains(name)
+    }
+
+    /// One more, behind the others.
+    pub fn with(self, profile: Profile<'a>) -> Result<ProfilesSoFar<'a>, AllocError>
+        ensures { IfOk result (λ more. more.items.items ≡ self.entry.items.items ++ profile.entry ∷ []) }
+    {
+        let ProfilesSoFar {
+            mut items,
+            mut names,
+        } = self;
+        names.insert(profile.head.name)?;
+        items.push(profile)?;
+        Ok(ProfilesSoFar { items, names })
+    }
+}
+
+/// Members of a profile's block.
+#[derive(Drop)]
+pub struct MembersSoFar<'a> {
+    /// The members, in order.
+    pub items: Vec<Member<'a>>,
+    // The names of the children and hats among them.
+    names: IndexSet<&'a [u8]>,
+    ghost named: { AreNamesOf names.keys (λ name. list_any (is_child_of_name name) (map seen_member items.items)) },
+}
+
+impl<'a> MembersSoFar<'a> {
+    /// None.
+    pub fn new(alloc: Global) -> MembersSoFar<'a>
+        ensures { result.items.items ≡ [] }
+    {
+        MembersSoFar {
+            items: Vec::new(alloc),
+            names: IndexSet::new(alloc),
+        }
+    }
+
+    /// Whether a child or a hat among them has this name.
+    pub fn has(&self, name: &[u8]) -> bool
+        ensures { result ≡ list_any (is_child_of_name name.now) (map seen_member self.now.items.items) }
+    {
+        self.names.contains(name)
+    }
+
+    /// One more, behind the others.
+    pub fn with(self, member: Member<'a>) -> Result<MembersSoFar<'a>, AllocError>
+        ensures { IfOk result (λ more. more.items.items ≡ self.entry.items.items ++ member.entry ∷ []) }
+    {
+        let MembersSoFar {
+            mut items,
+            mut names,
+        } = self;
+        match member {
+            Member::OfRule(rule) => {
+                items.push(Member::OfRule(rule))?;
+                Ok(MembersSoFar { items, names })
+            }
+            Member::OfChild(child) => {
+                names.insert(child.head.name)?;
+                items.push(Member::OfChild(child))?;
+                Ok(MembersSoFar { items, names })
+            }
+        }
+    }
+}

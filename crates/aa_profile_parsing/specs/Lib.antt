@@ -1,0 +1,5 @@
+pub mod GrammarError
+pub mod Parts
+pub mod Readings
+pub mod SeenTokens
+pub mod Tokens

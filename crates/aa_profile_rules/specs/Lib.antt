@@ -1,0 +1,9 @@
+pub mod Access
+pub mod Capabilities
+pub mod KeptRules
+pub mod Networks
+pub mod Qualifiers
+pub mod RuleNumbers
+pub mod Rules
+pub mod SeenRules
+pub mod Targets

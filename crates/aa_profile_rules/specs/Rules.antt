@@ -1,0 +1,106 @@
+-- Rules as they are written (apparmor.d(5), "FILE"; docs/policy.md, "Rules").
+use Rattle.std.specs.Prelude.{ℕ, Bool, ◌||◌, if◌then◌else◌, List, [], ◌∷◌, Option, None, Ok, Err, codes}
+use Rattle.aa_text_splicing.specs.Splicing.{Placed}
+use Rattle.aa_profile_parsing.specs.Parts.{Part, behind_comma, expected, followed, refused}
+use Rattle.aa_profile_parsing.specs.Tokens.{is_comma, is_pattern, is_word_of}
+use Rattle.aa_profile_parsing.specs.declared.fault.Fault.TheVariants.{RanOut}
+use Rattle.aa_profile_parsing.specs.declared.fault.GrammarRefusal.TheVariants.{BadToken}
+use Rattle.aa_profile_rules.specs.Access.{access, whole_access}
+use Rattle.aa_profile_rules.specs.Capabilities.{capabilities}
+use Rattle.aa_profile_rules.specs.KeptRules.{begins_kept, kept}
+use Rattle.aa_profile_rules.specs.Networks.{sockets}
+use Rattle.aa_profile_rules.specs.Qualifiers.{qualifiers, unqualified}
+use Rattle.aa_profile_rules.specs.Targets.{target}
+use Rattle.aa_profile_rules.specs.declared.access.Access.{Access}
+use Rattle.aa_profile_rules.specs.declared.networks.Sockets.{Sockets}
+use Rattle.aa_profile_rules.specs.declared.qualifiers.Qualifiers.{Qualifiers}
+
+-- A rule: on the files of a pattern, with its access and the target that it names, if it does; on a set of capabilities; on sockets; or one
+-- that is kept, with its tokens up to the Comma that ends it.
+pub data Rule : Type 0 where
+  OnFile : (qualifiers : Qualifiers) (pattern : Placed) (access : Access) (target : Option Placed) → Rule
+  OnCapabilities : (qualifiers : Qualifiers) (capabilities : ℕ) → Rule
+  OnNetwork : (qualifiers : Qualifiers) (sockets : Sockets) → Rule
+  Kept : (qualifiers : Qualifiers) (tokens : List Placed) → Rule
+
+-- a rule, where a Comma ends it
+abbrev pub ended : Rule → List Placed → Part Rule
+ended rule tokens = elim (behind_comma tokens) [ Err fault ↦ Err fault | Ok behind ↦ Ok (rule, behind) ]
+
+-- a file rule behind its pattern and its access: a target may follow
+abbrev pub targeted_rule : Qualifiers → Placed → Access → List Placed → Part Rule
+targeted_rule qualifiers pattern access tokens =
+    followed (target access tokens) (λ target behind. ended (OnFile qualifiers pattern access target) behind)
+
+-- a file rule behind its pattern
+abbrev pub pattern_first : Qualifiers → Placed → List Placed → Part Rule
+pattern_first qualifiers pattern tokens = followed (access qualifiers.deny tokens) (λ access behind. targeted_rule qualifiers pattern access behind)
+
+-- a file rule whose access stands before its pattern
+abbrev pub access_first : Qualifiers → List Placed → Part Rule
+access_first qualifiers tokens =
+    followed (access qualifiers.deny tokens) (λ access behind.
+    followed (expected is_pattern behind) (λ pattern rest. targeted_rule qualifiers pattern access rest))
+
+-- A file rule: a pattern and its access, in either order, and a target.
+abbrev pub file_rule : Qualifiers → List Placed → Part Rule
+file_rule qualifiers [] = Err RanOut
+file_rule qualifiers (token ∷ tokens) =
+    if is_pattern token then pattern_first qualifiers token tokens else access_first qualifiers (token ∷ tokens)
+
+-- the pattern of all files, in the place of a token
+abbrev pub all_files : Placed → Placed
+all_files word = record {
+  file = word.file;
+  token = record { kind = word.token.kind; text = codes "/{**,}"; start = word.token.start; end = word.token.end };
+}
+
+-- the rule of the word `file` alone: on all files
+abbrev pub whole_rule : Qualifiers → Placed → Rule
+whole_rule qualifiers word = OnFile qualifiers (all_files word) (whole_access qualifiers.deny) None
+
+-- A rule behind the word `file`: that of the word alone, where a Comma follows, and else a file rule.
+abbrev pub rule_behind_file : Qualifiers → Placed → List Placed → Part Rule
+rule_behind_file qualifiers word [] = Err RanOut
+rule_behind_file qualifiers word (token ∷ tokens) =
+    if is_comma token.token.kind then Ok (whole_rule qualifiers word, tokens) else file_rule qualifiers (token ∷ tokens)
+
+abbrev pub kept_rule : Qualifiers → List Placed → Part Rule
+kept_rule qualifiers tokens = followed (kept tokens) (λ kept behind. Ok (Kept qualifiers kept, behind))
+
+-- a rule on capabilities, behind its word
+abbrev pub capability_rule : Qualifiers → List Placed → Part Rule
+capability_rule qualifiers tokens = followed (capabilities tokens) (λ set behind. ended (OnCapabilities qualifiers set) behind)
+
+-- a rule on sockets, behind its word
+abbrev pub network_rule : Qualifiers → List Placed → Part Rule
+network_rule qualifiers tokens = followed (sockets tokens) (λ found behind. ended (OnNetwork qualifiers found) behind)
+
+-- the words of rules on what has no owner
+abbrev pub begins_unowned : Placed → Bool
+begins_unowned token = is_word_of (codes "capability") token || is_word_of (codes "network") token
+
+-- A rule on what has no owner, behind its word. Where `owner` stands before that word, nothing that follows would be accepted.
+abbrev pub unowned_rule : Qualifiers → Placed → List Placed → Part Rule
+unowned_rule qualifiers word tokens =
+    if qualifiers.owner then refused BadToken word else
+    if is_word_of (codes "capability") word then capability_rule qualifiers tokens else
+    network_rule qualifiers tokens
+
+-- a rule that isn't kept: on what has no owner, where it begins with such a word, and else on files
+abbrev pub plain_rule : Qualifiers → List Placed → Part Rule
+plain_rule qualifiers [] = Err RanOut
+plain_rule qualifiers (token ∷ tokens) =
+    if begins_unowned token then unowned_rule qualifiers token tokens else file_rule qualifiers (token ∷ tokens)
+
+-- a rule behind its qualifiers; the word `file` stands alone or before a file rule
+abbrev pub rule_behind : Qualifiers → List Placed → Part Rule
+rule_behind qualifiers [] = Err RanOut
+rule_behind qualifiers (token ∷ tokens) =
+    if is_word_of (codes "file") token then rule_behind_file qualifiers token tokens else
+    if begins_kept token then kept_rule qualifiers (token ∷ tokens) else
+    plain_rule qualifiers (token ∷ tokens)
+
+-- the rule that tokens begin with
+abbrev pub rule : List Placed → Part Rule
+rule tokens = followed (qualifiers unqualified tokens) rule_behind

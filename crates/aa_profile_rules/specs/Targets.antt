@@ -1,0 +1,53 @@
+-- Targets of file rules: what a rule names behind `->`, under which a program runs that it lets be started, or to which a hard link leads
+-- (apparmor.d(5), "Execute Rules" and "Link rules"; docs/policy.md, "Exec words").
+use Rattle.std.specs.Prelude.{ℕ, Bool, true, false, not, ◌&&◌, if◌then◌else◌, List, [], ◌∷◌, Option, None, Some, Ok, codes}
+use Rattle.aa_profile_access.specs.Access.{EXEC, LINK, has}
+use Rattle.aa_profile_access.specs.ExecWords.{row}
+use Rattle.aa_profile_access.specs.declared.exec_word.Destination.{Destination}
+use Rattle.aa_profile_access.specs.declared.exec_word.Destination.TheVariants as to
+use Rattle.aa_profile_names.specs.FullNames.{is_full_name}
+use Rattle.aa_profile_names.specs.Names.{is_top_name}
+use Rattle.aa_text_splicing.specs.Splicing.{Placed}
+use Rattle.aa_profile_parsing.specs.Parts.{Part, expected, followed, refused}
+use Rattle.aa_profile_parsing.specs.Tokens.{is_text, is_word_of, text_of}
+use Rattle.aa_profile_parsing.specs.declared.fault.GrammarRefusal.TheVariants.{BadName, TargetWithoutExec}
+use Rattle.aa_profile_rules.specs.declared.access.Access.{Access}
+
+-- where an exec word leads may have a name: that of a profile, or of a child or a hat
+abbrev pub is_nameable : Destination → Bool
+is_nameable to.Profile = true
+is_nameable to.Child = true
+is_nameable _ = false
+
+-- An access may have a target: that of an exec word which leads to a profile, a child or a hat, or that of a link, where there is no `x`.
+abbrev pub takes_target : Access → Bool
+takes_target access = elim access.word [
+  | Some word ↦ is_nameable (row word).destination
+  | None ↦ has access.letters.0 LINK && not (has access.letters.0 EXEC)
+]
+
+-- a text names what is there: a profile by its full name, a child or a hat by its own
+abbrev pub is_name_of : Destination → List ℕ → Bool
+is_name_of to.Profile text = is_full_name text
+is_name_of to.Child text = is_top_name text
+is_name_of _ text = false
+
+-- a text may be the target of an access that may have one; that of a link may be any
+abbrev pub is_target : Access → List ℕ → Bool
+is_target access text = elim access.word [
+  | Some word ↦ is_name_of (row word).destination text
+  | None ↦ true
+]
+
+-- the target of an access, behind `->`
+abbrev pub named_target : Access → List Placed → Part (Option Placed)
+named_target access tokens =
+    followed (expected is_text tokens) (λ target behind. if is_target access (text_of target) then Ok (Some target, behind) else refused BadName target)
+
+-- the target that tokens begin with, if they begin with `->`
+abbrev pub target : Access → List Placed → Part (Option Placed)
+target access [] = Ok (None, [])
+target access (token ∷ tokens) =
+    if is_word_of (codes "->") token
+    then if takes_target access then named_target access tokens else refused TargetWithoutExec token
+    else Ok (None, token ∷ tokens)

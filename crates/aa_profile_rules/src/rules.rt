@@ -1,0 +1,328 @@
+//! Rules as they are written.
+
+ghost use Rattle.std.specs.Prelude.{◌≡◌, ◌<◌, IfOk, IfErr, length};
+ghost use Rattle.aa_text_splicing.specs.SeenTokens.{seen_spliced};
+ghost use Rattle.aa_profile_parsing.specs.Readings.{IsFault, IsRead};
+ghost use Rattle.aa_profile_rules.specs.Rules.{access_first, all_files, file_rule, pattern_first, rule_behind_file, targeted_rule, whole_rule};
+ghost use Rattle.aa_profile_rules.specs.Rules.{begins_unowned, capability_rule, ended, kept_rule, network_rule, plain_rule, rule, rule_behind, unowned_rule};
+ghost use Rattle.aa_profile_rules.specs.SeenRules.{seen_rule};
+
+use crate::access::{Access, read_access, whole_access};
+use crate::capabilities::read_capabilities;
+use crate::kept_rules::{begins_kept, read_kept};
+use crate::networks::{Sockets, read_sockets};
+use crate::qualifiers::{Qualifiers, read_qualifiers};
+use crate::targets::read_target;
+use aa_profile_parsing::{
+    Fault, GrammarRefusal, is_pattern, is_word_of, read_comma, read_pattern, refusal_at,
+};
+use aa_text_splicing::Spliced;
+use aa_text_tokens::{Token, TokenKind};
+
+/// A rule as it is written.
+#[derive(Clone, Copy, Debug)]
+pub enum Rule<'a> {
+    /// A rule on the files of a pattern.
+    OnFile {
+        /// The words before it.
+        qualifiers: Qualifiers,
+        /// The token of its pattern; of the word `file` alone this word, with the pattern of all files as its text.
+        pattern: Spliced<'a>,
+        /// What it lets or denies.
+        access: Access,
+        /// The token of the target that it names: of its exec word, or of hard links where it has none.
+        target: Option<Spliced<'a>>,
+    },
+    /// A rule on capabilities.
+    OnCapabilities {
+        /// The words before it.
+        qualifiers: Qualifiers,
+        /// The set of its capabilities: the bit of each number of `aa_profile_tables` tells whether that one is in it.
+        capabilities: u64,
+    },
+    /// A rule on sockets.
+    OnNetwork {
+        /// The words before it.
+        qualifiers: Qualifiers,
+        /// The sockets that it is about.
+        sockets: Sockets,
+    },
+    /// A rule that decides nothing here.
+    Kept {
+        /// The words before it.
+        qualifiers: Qualifiers,
+        /// Its tokens, from its word up to the Comma that ends it.
+        tokens: &'a [Spliced<'a>],
+    },
+}
+
+// A rule, where a Comma ends it, and what stands behind that.
+fn read_end<'a>(
+    rule: Rule<'a>,
+    tokens: &'a [Spliced<'a>],
+) -> Result<(Rule<'a>, &'a [Spliced<'a>]), Fault>
+    ensures ok { IfOk result (IsRead seen_rule (ended (seen_rule rule.entry)) tokens.now) }
+    ensures refused { IfErr result (IsFault (ended (seen_rule rule.entry)) tokens.now) }
+    ensures shorter { IfOk result (λ read. length read.1.now < length tokens.now) }
+{
+    let behind = read_comma(tokens)?;
+    Ok((rule, behind))
+}
+
+// A file rule behind its pattern and its access, and what stands behind the rule.
+fn read_targeted<'a>(
+    qualifiers: Qualifiers,
+    pattern: Spliced<'a>,
+    access: Access,
+    tokens: &'a [Spliced<'a>],
+) -> Result<(Rule<'a>, &'a [Spliced<'a>]), Fault>
+    ensures ok { IfOk result (IsRead seen_rule (targeted_rule qualifiers (seen_spliced pattern.entry) access) tokens.now) }
+    ensures refused { IfErr result (IsFault (targeted_rule qualifiers (seen_spliced pattern.entry) access) tokens.now) }
+    ensures shorter { IfOk result (λ read. length read.1.now < length tokens.now) }
+{
+    let (target, rest) = read_target(access, tokens)?;
+    read_end(
+        Rule::OnFile {
+            qualifiers,
+            pattern,
+            access,
+            target,
+        },
+        rest,
+    )
+}
+
+// A file rule behind its pattern, and what stands behind the rule.
+fn read_pattern_first<'a>(
+    qualifiers: Qualifiers,
+    pattern: Spliced<'a>,
+    tokens: &'a [Spliced<'a>],
+) -> Result<(Rule<'a>, &'a [Spliced<'a>]), Fault>
+    ensures ok { IfOk result (IsRead seen_rule (pattern_first qualifiers (seen_spliced pattern.entry)) tokens.now) }
+    ensures refused { IfErr result (IsFault (pattern_first qualifiers (seen_spliced pattern.entry)) tokens.now) }
+    ensures shorter { IfOk result (λ read. length read.1.now < length tokens.now) }
+{
+    let (access, rest) = read_access(qualifiers.deny, tokens)?;
+    read_targeted(qualifiers, pattern, access, rest)
+}
+
+// A file rule whose access stands before its pattern, and what stands behind the rule.
+fn read_access_first<'a>(
+    qualifiers: Qualifiers,
+    tokens: &'a [Spliced<'a>],
+) -> Result<(Rule<'a>, &'a [Spliced<'a>]), Fault>
+    ensures ok { IfOk result (IsRead seen_rule (access_first qualifiers) tokens.now) }
+    ensures refused { IfErr result (IsFault (access_first qualifiers) tokens.now) }
+    ensures shorter { IfOk result (λ read. length read.1.now < length tokens.now) }
+{
+    let (access, behind) = read_access(qualifiers.deny, tokens)?;
+    let (pattern, rest) = read_pattern(behind)?;
+    read_targeted(qualifiers, pattern, access, rest)
+}
+
+// The file rule that tokens begin with, behind its qualifiers: a pattern and its access, in either order, and a target.
+fn read_file_rule<'a>(
+    qualifiers: Qualifiers,
+    tokens: &'a [Spliced<'a>],
+) -> Result<(Rule<'a>, &'a [Spliced<'a>]), Fault>
+    ensures ok { IfOk result (IsRead seen_rule (file_rule qualifiers) tokens.now) }
+    ensures refused { IfErr result (IsFault (file_rule qualifiers) tokens.now) }
+    ensures shorter { IfOk result (λ read. length read.1.now < length tokens.now) }
+{
+    match tokens {
+        [] => Err(Fault::RanOut),
+        [token, behind @ ..] if is_pattern(*token) => {
+            read_pattern_first(qualifiers, *token, behind)
+        }
+        _ => read_access_first(qualifiers, tokens),
+    }
+}
+
+// The token of the word `file`, as the pattern of all files.
+fn all_files(word: Spliced<'_>) -> Spliced<'_>
+    ensures { seen_spliced result ≡ all_files (seen_spliced word.entry) }
+{
+    Spliced {
+        token: Token {
+            text: b"/{**,}",
+            ..word.token
+        },
+        ..word
+    }
+}
+
+// The rule of the word `file` alone.
+fn whole_rule<'a>(qualifiers: Qualifiers, word: Spliced<'a>) -> Rule<'a>
+    ensures { seen_rule result ≡ whole_rule qualifiers (seen_spliced word.entry) }
+{
+    Rule::OnFile {
+        qualifiers,
+        pattern: all_files(word),
+        access: whole_access(qualifiers.deny),
+        target: None,
+    }
+}
+
+// The rule behind the word `file`, and what stands behind the rule.
+fn read_behind_file<'a>(
+    qualifiers: Qualifiers,
+    word: Spliced<'a>,
+    tokens: &'a [Spliced<'a>],
+) -> Result<(Rule<'a>, &'a [Spliced<'a>]), Fault>
+    ensures ok { IfOk result (IsRead seen_rule (rule_behind_file qualifiers (seen_spliced word.entry)) tokens.now) }
+    ensures refused { IfErr result (IsFault (rule_behind_file qualifiers (seen_spliced word.entry)) tokens.now) }
+    ensures shorter { IfOk result (λ read. length read.1.now < length tokens.now) }
+{
+    match tokens {
+        [] => Err(Fault::RanOut),
+        [token, behind @ ..] if token.token.kind == TokenKind::Comma => {
+            Ok((whole_rule(qualifiers, word), behind))
+        }
+        _ => read_file_rule(qualifiers, tokens),
+    }
+}
+
+// The rule that is kept as it is written with which tokens begin, behind its qualifiers, and what stands behind it.
+fn read_kept_rule<'a>(
+    qualifiers: Qualifiers,
+    tokens: &'a [Spliced<'a>],
+) -> Result<(Rule<'a>, &'a [Spliced<'a>]), Fault>
+    ensures ok { IfOk result (IsRead seen_rule (kept_rule qualifiers) tokens.now) }
+    ensures refused { IfErr result (IsFault (kept_rule qualifiers) tokens.now) }
+    ensures shorter { IfOk result (λ read. length read.1.now < length tokens.now) }
+{
+    let (tokens, rest) = read_kept(tokens)?;
+    Ok((Rule::Kept { qualifiers, tokens }, rest))
+}
+
+// The rule on capabilities that tokens go on with behind its word, and what stands behind the rule.
+fn read_capability_rule<'a>(
+    qualifiers: Qualifiers,
+    tokens: &'a [Spliced<'a>],
+) -> Result<(Rule<'a>, &'a [Spliced<'a>]), Fault>
+    ensures ok { IfOk result (IsRead seen_rule (capability_rule qualifiers) tokens.now) }
+    ensures refused { IfErr result (IsFault (capability_rule qualifiers) tokens.now) }
+    ensures shorter { IfOk result (λ read. length read.1.now < length tokens.now) }
+{
+    let (capabilities, behind) = read_capabilities(tokens)?;
+    read_end(
+        Rule::OnCapabilities {
+            qualifiers,
+            capabilities,
+        },
+        behind,
+    )
+}
+
+// The rule on sockets that tokens go on with behind its word, and what stands behind the rule.
+fn read_network_rule<'a>(
+    qualifiers: Qualifiers,
+    tokens: &'a [Spliced<'a>],
+) -> Result<(Rule<'a>, &'a [Spliced<'a>]), Fault>
+    ensures ok { IfOk result (IsRead seen_rule (network_rule qualifiers) tokens.now) }
+    ensures refused { IfErr result (IsFault (network_rule qualifiers) tokens.now) }
+    ensures shorter { IfOk result (λ read. length read.1.now < length tokens.now) }
+{
+    let (sockets, behind) = read_sockets(tokens)?;
+    read_end(
+        Rule::OnNetwork {
+            qualifiers,
+            sockets,
+        },
+        behind,
+    )
+}
+
+// Whether a token is the word of a rule on what has no owner.
+fn begins_unowned(token: Spliced<'_>) -> bool
+    ensures { result ≡ begins_unowned (seen_spliced token.entry) }
+{
+    is_word_of(b"capability", token) || is_word_of(b"network", token)
+}
+
+// The rule on what has no owner that a word begins, with which tokens go on behind it, and what stands behind the rule.
+fn read_unowned_rule<'a>(
+    qualifiers: Qualifiers,
+    word: Spliced<'a>,
+    tokens: &'a [Spliced<'a>],
+) -> Result<(Rule<'a>, &'a [Spliced<'a>]), Fault>
+    ensures ok { IfOk result (IsRead seen_rule (unowned_rule qualifiers (seen_spliced word.entry)) tokens.now) }
+    ensures refused { IfErr result (IsFault (unowned_rule qualifiers (seen_spliced word.entry)) tokens.now) }
+    ensures shorter { IfOk result (λ read. length read.1.now < length tokens.now) }
+{
+    if qualifiers.owner {
+        return Err(refusal_at(GrammarRefusal::BadToken, word));
+    }
+    if is_word_of(b"capability", word) {
+        read_capability_rule(qualifiers, tokens)
+    } else {
+        read_network_rule(qualifiers, tokens)
+    }
+}
+
+// The rule that tokens begin with, behind its qualifiers, where it isn't kept: on what has no owner, where it begins with such a word, and else
+// on files.
+fn read_plain_rule<'a>(
+    qualifiers: Qualifiers,
+    tokens: &'a [Spliced<'a>],
+) -> Result<(Rule<'a>, &'a [Spliced<'a>]), Fault>
+    ensures ok { IfOk result (IsRead seen_rule (plain_rule qualifiers) tokens.now) }
+    ensures refused { IfErr result (IsFault (plain_rule qualifiers) tokens.now) }
+    ensures shorter { IfOk result (λ read. length read.1.now < length tokens.now) }
+{
+    match tokens {
+        [] => Err(Fault::RanOut),
+        [token, behind @ ..] if begins_unowned(*token) => {
+            read_unowned_rule(qualifiers, *token, behind)
+        }
+        _ => read_file_rule(qualifiers, tokens),
+    }
+}
+
+// The rule that tokens begin with, behind its qualifiers.
+fn read_behind<'a>(
+    qualifiers: Qualifiers,
+    tokens: &'a [Spliced<'a>],
+) -> Result<(Rule<'a>, &'a [Spliced<'a>]), Fault>
+    ensures ok { IfOk result (IsRead seen_rule (rule_behind qualifiers) tokens.now) }
+    ensures refused { IfErr result (IsFault (rule_behind qualifiers) tokens.now) }
+    ensures shorter { IfOk result (λ read. length read.1.now < length tokens.now) }
+{
+    let [token, behind @ ..] = tokens else {
+        return Err(Fault::RanOut);
+    };
+    if is_word_of(b"file", *token) {
+        read_behind_file(qualifiers, *token, behind)
+    } else if begins_kept(*token) {
+        read_kept_rule(qualifiers, tokens)
+    } else {
+        read_plain_rule(qualifiers, tokens)
+    }
+}
+
+/// The rule that tokens begin with, and the tokens behind the Comma that ends it.
+///
+/// # Errors
+///
+/// Each at the first token at which nothing that could follow would be accepted (docs/policy.md, "Rules").
+/// - `BadToken`: `allow` with `deny`, `owner` before `capability` or `network` (told at this word), a token that no rule has there, or a
+///   missing Comma.
+/// - `BadAccess`: an access with what is neither a letter of `r w a l k m` nor an exec word. Else `TwoExec`: one with two different exec words,
+///   where a bare `x` counts as one; else `ExecQualifier`: one with a bare `x` in a rule without `deny`, or with another exec word in one with it;
+///   else `WriteAppend`: one with both `w` and `a`.
+/// - `TargetWithoutExec`, at `->`: a target in a rule whose exec word leads neither to a profile nor to a child or a hat, or that has neither an
+///   exec word nor the letter `l` without `x`.
+/// - `BadName`, at the target: one of an exec word that leads to a profile and that is no full name, or of one that leads to a child or a hat and
+///   that is no name, or is `unconfined`.
+/// - `BadCapability`: a word behind `capability` that is no capability's name.
+/// - `BadNetwork`: a first word behind `network` that is no domain, type or protocol, or a second one that can't stand behind it: behind a
+///   domain a type may stand, or a protocol where the domain has protocols, and behind a type or a protocol nothing.
+/// - `RanOut`: the tokens end before the rule does.
+pub fn read_rule<'a>(tokens: &'a [Spliced<'a>]) -> Result<(Rule<'a>, &'a [Spliced<'a>]), Fault>
+    ensures ok { IfOk result (IsRead seen_rule rule tokens.now) }
+    ensures refused { IfErr result (IsFault rule tokens.now) }
+    ensures shorter { IfOk result (λ read. length read.1.now < length tokens.now) }
+{
+    let (qualifiers, behind) = read_qualifiers(tokens)?;
+    read_behind(qualifiers, behind)
+}

@@ -1,9 +1,0 @@
-pub mod Access
-pub mod Capabilities
-pub mod KeptRules
-pub mod Networks
-pub mod Qualifiers
-pub mod RuleNumbers
-pub mod Rules
-pub mod Targets
-pub mod code

@@ -1,0 +1,91 @@
+-- Answers: what a policy set says to a question, or of one of its profiles, and the lines that tell it (docs/commands.md).
+use Rattle.std.specs.Prelude.{ℕ, Bool, if◌then◌else◌, List, [], ◌∷◌, ◌++◌, Option, None, Some, Result, Ok, Err, codes, is_none}
+use Rattle.aa_bytes.specs.Bytes.{line_feed}
+use Rattle.aa_profile_access.specs.Request.{Request}
+use Rattle.aa_set_commands.specs.Question.{Asked, OfAccess, OfExec}
+use Rattle.aa_set_commands.specs.Refusal.{plain}
+use Rattle.aa_set_commands.specs.declared.refusal.Refusal.{Refusal}
+use Rattle.aa_set_commands.specs.declared.refusal.RefusalKind.TheVariants.{Absent}
+use Rattle.aa_decide_audit.specs.Answer.{answer_word}
+use Rattle.aa_decide_verdict.specs.Confinement.{By, Confinement, Unconfined}
+use Rattle.aa_decide_verdict.specs.Entries.{Loaded}
+use Rattle.aa_decide.specs.Exec.{Asker, ExecAnswer, Nowhere, Null, Started, Unconfined as Free, Under, exec_answer}
+use Rattle.aa_decide_audit.specs.LogLines.{exec_line, log_line}
+use Rattle.aa_decide_verdict.specs.Ready.{decided}
+use Rattle.aa_decide_audit.specs.declared.verdict.Answer.{Answer}
+use Rattle.aa_decide_audit.specs.declared.verdict.Verdict.{Verdict}
+use Rattle.aa_profile_data.specs.declared.profile.Profile.{Profile}
+use Rattle.aa_quoting.specs.Texts.{told_text}
+use Rattle.aa_profile_names.specs.FullNames.{full_name}
+use Rattle.aa_set_listing.specs.ProfileNames.{full_name_at}
+use Rattle.aa_set_listing.specs.Show.{show_lines}
+use Rattle.aa_set_answers.specs.Askers.{asker, confinement, named_asker}
+
+-- a line: a text, and a line feed
+abbrev pub line_with : List ℕ → List ℕ
+line_with text = text ++ line_feed ∷ []
+
+-- the verdict on a request, by what confines who asks; where nothing does, there is none
+abbrev pub confined_answer : Confinement → Request → Option Verdict
+confined_answer Unconfined request = None
+confined_answer (By profile child mode) request = Some (decided profile child mode request)
+
+-- the lines of an answer: its word, and the line that logs it, where it is logged
+abbrev pub answer_lines : List ℕ → Request → Option Verdict → List ℕ
+answer_lines who request None = line_with (codes "unconfined")
+answer_lines who request (Some verdict) = line_with (answer_word verdict.answer) ++ log_line who request verdict
+
+-- how it is told that a program's environment is scrubbed
+abbrev pub scrub_text : Bool → List ℕ
+scrub_text scrub = if scrub then codes " scrub" else []
+
+-- how it is told that a program runs under a profile, or a child or hat of it
+abbrev pub under_text : Profile → Option ℕ → Bool → List ℕ
+under_text profile child scrub = codes "allow to " ++ told_text (full_name_at profile child) ++ scrub_text scrub
+
+-- how it is told that it runs under no profile
+abbrev pub unconfined_text : Bool → List ℕ
+unconfined_text scrub = codes "allow unconfined" ++ scrub_text scrub
+
+-- under what a program runs, and whether its environment is scrubbed; where it isn't started, that is the answer's word
+abbrev pub started_text : Answer → Started → Bool → List ℕ
+started_text answer (Under entry child) scrub = under_text entry.profile child scrub
+started_text answer Free scrub = unconfined_text scrub
+started_text answer Null scrub = codes "complain null"
+started_text answer Nowhere scrub = answer_word answer
+
+-- the lines of an answer on the start of a program: under what it runs, and the line that logs it, where it is logged
+abbrev pub exec_lines : List ℕ → List ℕ → ExecAnswer → List ℕ
+exec_lines who path answer = line_with (started_text answer.verdict.answer answer.to answer.scrub) ++ exec_line who path answer.verdict
+
+-- the lines of the reply, by who asks, if it is there
+abbrev pub lines_by : List Loaded → Asked → Option Asker → List ℕ
+lines_by entries (OfAccess who request) asker = answer_lines who request (confined_answer (confinement asker) request)
+lines_by entries (OfExec who owned path) asker = exec_lines who path (exec_answer entries asker owned path)
+
+-- who a question says asks
+abbrev pub who_asks : Asked → List ℕ
+who_asks (OfAccess who request) = who
+who_asks (OfExec who owned path) = who
+
+-- the lines of the reply to a question
+abbrev pub reply_lines : List Loaded → Asked → Result (List ℕ) Refusal
+reply_lines entries asked = elim (asker entries (who_asks asked)) [
+  | None ↦ Err (plain Absent)
+  | Some asker ↦ Ok (lines_by entries asked asker)
+]
+
+-- a question is asked of a profile, a child or a hat that isn't there
+abbrev pub asks_absent : List Loaded → Asked → Bool
+asks_absent entries asked = is_none (asker entries (who_asks asked))
+
+-- the lines of the reply to `show NAME`
+abbrev pub shown : List Loaded → List ℕ → Result (List ℕ) Refusal
+shown entries name = elim (named_asker entries (full_name name)) [
+  | None ↦ Err (plain Absent)
+  | Some named ↦ Ok (show_lines named.entry named.child)
+]
+
+-- what `show` names isn't there
+abbrev pub shows_absent : List Loaded → List ℕ → Bool
+shows_absent entries name = is_none (named_asker entries (full_name name))

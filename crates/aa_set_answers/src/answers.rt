@@ -1,0 +1,182 @@
+//! The lines that answer questions, and those that tell what a profile consists of.
+
+ghost use Rattle.std.specs.Prelude.{◌≡◌, ◌≢◌, ◌++◌, Ok, Err, IfOk, IfErr, OnOk, false};
+ghost use Rattle.aa_set_commands.specs.Question.{OfAccess, OfExec};
+ghost use Rattle.aa_set_commands.specs.Refusal.{plain};
+ghost use Rattle.aa_set_commands.specs.declared.refusal.RefusalKind.TheVariants.{Memory};
+ghost use Rattle.aa_decide_verdict.specs.Slots.{filled};
+ghost use Rattle.aa_decide_verdict.specs.Confinement.{found};
+ghost use Rattle.aa_profile_access.specs.SeenRequests.{request_of};
+ghost use Rattle.aa_decide_audit.specs.LogLines.{exec_line};
+ghost use Rattle.aa_set_answers.specs.Answers.{answer_lines, asks_absent, confined_answer, line_with, reply_lines, scrub_text, shown, shows_absent, unconfined_text, under_text};
+ghost use Rattle.aa_set_answers.specs.code.SeenTexts.{seen_text};
+
+use crate::asker::{find_asker, find_loaded};
+use aa_decide::{
+    Confinement, Entry, ExecTo, ExecVerdict, Request, Steps, entry_at, exec, exec_line, log_line,
+};
+use aa_profile_data::Profile;
+use aa_quoting::push_text;
+use aa_set_commands::{Refusal, RefusalKind, plain};
+use aa_set_listing::{full_name, show_lines};
+use std::alloc::{AllocError, Global};
+
+// The line of a text, and what stands behind it.
+fn lines_of(alloc: Global, text: &[u8], behind: &[u8]) -> Result<Vec<u8>, AllocError>
+    ensures { IfOk result (λ lines. lines.items ≡ line_with text.now ++ behind.now) }
+{
+    let size = text.len().saturating_add(1).saturating_add(behind.len());
+    let mut lines = Vec::with_capacity(alloc, size)?;
+    lines.extend_from_slice(text)?;
+    lines.push(b'\n')?;
+    lines.extend_from_slice(behind)?;
+    Ok(lines)
+}
+
+// The lines of the answer to a request, by what confines who asks.
+fn confined_lines(
+    alloc: Global,
+    who: &[u8],
+    request: &Request<'_>,
+    confinement: Confinement<'_>,
+) -> Result<Vec<u8>, AllocError>
+    ensures { IfOk result (λ lines. lines.items ≡ answer_lines who.now (request_of request.entry.now) (confined_answer (found confinement.entry) (request_of request.entry.now))) }
+{
+    match confinement {
+        Confinement::Unconfined => lines_of(alloc, b"unconfined", b""),
+        Confinement::By { ready, child, mode } => {
+            let verdict = ready.decide(alloc, child, mode, request, &mut Steps::new())?;
+            let logged = log_line(alloc, who, request, &verdict)?;
+            lines_of(alloc, verdict.answer.word().as_bytes(), logged.as_slice())
+        }
+    }
+}
+
+/// The lines of the reply to a request of who asks by this full name, or as the word `unconfined`.
+///
+/// # Errors
+///
+/// `Absent` where no profile, child or hat of the full name is loaded, which is found without memory, and `Memory` where memory ran out.
+pub fn access_lines(
+    alloc: Global,
+    slots: &[Option<Entry>],
+    who: &[u8],
+    request: &Request<'_>,
+) -> Result<Vec<u8>, Refusal>
+    ensures told { IfOk result (λ lines. reply_lines (filled slots.now) (OfAccess who.now (request_of request.entry.now)) ≡ Ok lines.items) }
+    ensures refused { IfErr result (λ refusal. refusal ≢ plain Memory → reply_lines (filled slots.now) (OfAccess who.now (request_of request.entry.now)) ≡ Err refusal) }
+    ensures memory { IfErr result (λ refusal. refusal ≡ plain Memory → asks_absent (filled slots.now) (OfAccess who.now (request_of request.entry.now)) ≡ false) }
+{
+    let Some(asker) = find_asker(slots, who) else {
+        return Err(plain(RefusalKind::Absent));
+    };
+    Ok(confined_lines(alloc, who, request, asker.confinement())?)
+}
+
+// Puts behind a text that a program's environment is scrubbed, if it is.
+fn push_scrub(text: &mut Vec<u8>, scrub: bool) -> Result<(), AllocError>
+    ensures { OnOk result (text.new.items ≡ text.old.items ++ scrub_text scrub) }
+{
+    if scrub {
+        text.extend_from_slice(b" scrub")?;
+    }
+    Ok(())
+}
+
+// How it is told that a program runs under a profile, or a child or hat of it.
+fn under_text(
+    alloc: Global,
+    profile: &Profile,
+    child: Option<usize>,
+    scrub: bool,
+) -> Result<Vec<u8>, AllocError>
+    ensures { IfOk result (λ text. text.items ≡ under_text profile.now child scrub) }
+{
+    let name = full_name(alloc, profile, child)?;
+    let mut text = Vec::from_slice(alloc, b"allow to ")?;
+    push_text(&mut text, name.as_slice())?;
+    push_scrub(&mut text, scrub)?;
+    Ok(text)
+}
+
+// How it is told that a program runs under no profile.
+fn unconfined_text(alloc: Global, scrub: bool) -> Result<Vec<u8>, AllocError>
+    ensures { IfOk result (λ text. text.items ≡ unconfined_text scrub) }
+{
+    let mut text = Vec::from_slice(alloc, b"allow unconfined")?;
+    push_scrub(&mut text, scrub)?;
+    Ok(text)
+}
+
+// How it is told under what a program runs.
+fn started_text(
+    alloc: Global,
+    slots: &[Option<Entry>],
+    verdict: &ExecVerdict,
+) -> Result<Vec<u8>, AllocError>
+    ensures { IfOk result (λ text. text.items ≡ seen_text slots.now verdict.now) }
+{
+    match verdict.to {
+        ExecTo::Profile { slot, child } => match entry_at(slots, slot) {
+            None => Ok(Vec::new(alloc)),
+            Some(entry) => under_text(alloc, entry.profile(), child, verdict.scrub),
+        },
+        ExecTo::Unconfined => unconfined_text(alloc, verdict.scrub),
+        ExecTo::Null => Vec::from_slice(alloc, b"complain null"),
+        ExecTo::Nowhere => Vec::from_slice(alloc, verdict.verdict.answer.word().as_bytes()),
+    }
+}
+
+// The lines of the answer on the start of the program of a path.
+fn verdict_lines(
+    alloc: Global,
+    slots: &[Option<Entry>],
+    who: &[u8],
+    path: &[u8],
+    verdict: &ExecVerdict,
+) -> Result<Vec<u8>, AllocError>
+    ensures { IfOk result (λ lines. lines.items ≡ line_with (seen_text slots.now verdict.now) ++ exec_line who.now path.now verdict.now.verdict) }
+{
+    let text = started_text(alloc, slots, verdict)?;
+    let logged = exec_line(alloc, who, path, verdict)?;
+    lines_of(alloc, text.as_slice(), logged.as_slice())
+}
+
+/// The lines of the reply to the start of the program of a path, of who asks by this full name, or as the word `unconfined`.
+///
+/// # Errors
+///
+/// `Absent` where no profile, child or hat of the full name is loaded, which is found without memory, and `Memory` where memory ran out.
+pub fn exec_lines(
+    alloc: Global,
+    slots: &[Option<Entry>],
+    who: &[u8],
+    owned: bool,
+    path: &[u8],
+) -> Result<Vec<u8>, Refusal>
+    ensures told { IfOk result (λ lines. reply_lines (filled slots.now) (OfExec who.now owned path.now) ≡ Ok lines.items) }
+    ensures refused { IfErr result (λ refusal. refusal ≢ plain Memory → reply_lines (filled slots.now) (OfExec who.now owned path.now) ≡ Err refusal) }
+    ensures memory { IfErr result (λ refusal. refusal ≡ plain Memory → asks_absent (filled slots.now) (OfExec who.now owned path.now) ≡ false) }
+{
+    let Some(asker) = find_asker(slots, who) else {
+        return Err(plain(RefusalKind::Absent));
+    };
+    let verdict = exec(alloc, slots, asker.who(), owned, path)?;
+    Ok(verdict_lines(alloc, slots, who, path, &verdict)?)
+}
+
+/// The lines of the reply to `show NAME`: what the profile, child or hat of this full name consists of (docs/commands.md, "What is loaded").
+///
+/// # Errors
+///
+/// `Absent` where no profile, child or hat of the full name is loaded, which is found without memory, and `Memory` where memory ran out.
+pub fn shown_lines(alloc: Global, slots: &[Option<Entry>], name: &[u8]) -> Result<Vec<u8>, Refusal>
+    ensures told { IfOk result (λ lines. shown (filled slots.now) name.now ≡ Ok lines.items) }
+    ensures refused { IfErr result (λ refusal. refusal ≢ plain Memory → shown (filled slots.now) name.now ≡ Err refusal) }
+    ensures memory { IfErr result (λ refusal. refusal ≡ plain Memory → shows_absent (filled slots.now) name.now ≡ false) }
+{
+    let Some(named) = find_loaded(slots, name) else {
+        return Err(plain(RefusalKind::Absent));
+    };
+    Ok(show_lines(alloc, named.entry, named.child)?)
+}

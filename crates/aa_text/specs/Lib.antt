@@ -1,2 +1,0 @@
-pub mod Splicing
-pub mod code

@@ -1,0 +1,24 @@
+-- Choices of values of which each was cut off.
+use Rattle.std.proofs.Common.{◌≡◌, ℕ, List, [], ◌∷◌, map, refl, sym, ap, ◌∙◌}
+use Rattle.aa_text_expansion.specs.Choices.{choices, choices_within}
+use Rattle.aa_text_expansion.specs.Expanding.{AreCutOff, expanded_words}
+use Rattle.aa_text_expansion.specs.Joining.{cut_off, joined}
+use Rattle.aa_text_expansion.specs.Names.{EachName, EachNameWithin}
+use Rattle.aa_text_expansion.specs.Parts.{Part, Byte, Name, Unclosed, parts}
+use Rattle.aa_text_expansion.proofs.JoiningLemmas.{cut_off-append, cut_off-end-one, cut_off-front, cut_off-same}
+
+module _ (held values : List ℕ → List (List ℕ)) where
+  -- of parts
+  pub parts-cut : (ps : List Part) → EachName (AreCutOff held values) ps → cut_off (choices held ps) ≡ cut_off (choices values ps)
+  parts-cut [] each = refl
+  parts-cut (Byte b ∷ ps) each =
+      sym (cut_off-end-one (b ∷ []) (choices held ps)) ∙ ap (λ all. cut_off (map (λ rest. b ∷ rest) all)) (parts-cut ps each) ∙ cut_off-end-one (b ∷ []) (choices values ps)
+  parts-cut (Unclosed ∷ ps) each = refl
+  parts-cut (Name name ∷ ps) each =
+      ap (λ all. cut_off (joined all (choices held ps))) each.0 ∙ cut_off-front (values name) (choices held ps) ∙ cut_off-same (values name) _ _ (parts-cut ps each.1)
+
+  -- of words
+  pub words-cut : (words : List (List ℕ)) → EachNameWithin (AreCutOff held values) words → expanded_words held words ≡ cut_off (choices_within values words)
+  words-cut [] each = refl
+  words-cut (word ∷ words) each =
+      rw (parts-cut (parts word) each.0, words-cut words each.1) (sym (cut_off-append (choices values (parts word)) (choices_within values words)))

@@ -1,0 +1,29 @@
+-- The refusals of a text: each one's number and name.
+use Rattle.std.specs.Prelude.{ℕ, List, codes, None}
+use Rattle.aa_text_files.specs.declared.text_error.TextError.{TextError}
+use Rattle.aa_text_files.specs.declared.text_error.TextRefusal.{TextRefusal}
+use Rattle.aa_text_files.specs.declared.text_error.TextRefusal.TheVariants.{ZeroByte, OpenQuote, OpenOther, NoFile, IncludeDepth, TextTooBig, Undefined, Redefined, AppendUndefined, Cycle, Memory}
+
+-- the one table of numbers and names
+abbrev pub described : TextRefusal → ℕ × List ℕ
+described ZeroByte = (20, codes "ZeroByte")
+described OpenQuote = (21, codes "OpenQuote")
+described OpenOther = (22, codes "OpenOther")
+described NoFile = (23, codes "NoFile")
+described IncludeDepth = (24, codes "IncludeDepth")
+described TextTooBig = (25, codes "TextTooBig")
+described Undefined = (26, codes "Undefined")
+described Redefined = (27, codes "Redefined")
+described AppendUndefined = (28, codes "AppendUndefined")
+described Cycle = (29, codes "Cycle")
+described Memory = (99, codes "Memory")
+
+abbrev pub number_of : TextRefusal → ℕ
+number_of refusal = (described refusal).0
+
+abbrev pub name_of : TextRefusal → List ℕ
+name_of refusal = (described refusal).1
+
+-- a refusal without a place
+abbrev pub plain : TextRefusal → TextError
+plain refusal = record { refusal = refusal; place = None }

@@ -1,0 +1,196 @@
+//! The files that a set of profiles is read from, handed in by name.
+ghost use Rattle.std.specs.Prelude.{◌≡◌, ◌++◌, ◌∷◌, [], ◌↔◌, ◌&&◌, not, IsTrue, IsErrOf, OnOk, OnErr, length, option_map, slice_get};
+ghost use Rattle.aa_text_files.specs.Files.{bytes_at, bytes_of, described, file_at, has_control_byte, has_file, is_bad_file, is_folder_name, name_at};
+
+use indexmap::IndexMap;
+use std::alloc::Global;
+use std::marker::Model;
+use thiserror::Error;
+
+/// Named files in the order in which they came, as a list of pairs of a name and the file's bytes.
+///
+/// A name is a text of bytes as the caller gives it, with no byte below the space, and no name comes twice.
+/// A name whose last byte is `/` declares a folder, which has no bytes.
+#[derive(Drop)]
+pub struct Files {
+    by_name: IndexMap<Vec<u8>, Vec<u8>>,
+}
+
+impl Model for Files {
+    ghost use Rattle.std.specs.Prelude.{ℕ, List};
+
+    ghost Value = { List (List ℕ × List ℕ) };
+
+    ghost use Rattle.aa_text_files.specs.Files.{AreTaken, as_files};
+
+    ghost view = { λ f. as_files f.by_name.entries };
+
+    // No name comes twice, and a folder has no bytes.
+    ghost invariant = { λ f. AreTaken (as_files f.by_name.entries) };
+}
+
+/// Why a file was not taken. Nothing of it is kept, and the files before it stay as they were.
+#[derive(Clone, Copy, Debug, PartialEq, Eq, Error)]
+pub enum FilesError {
+    /// The name is empty, holds a byte below the space, or declares a folder although there are bytes.
+    #[error("this is no name for a file of these bytes")]
+    BadFile,
+    /// A file or folder of that name is there already.
+    #[error("a file of this name is there already")]
+    Twice,
+    /// Memory ran out.
+    #[error("memory ran out")]
+    Memory,
+}
+
+impl FilesError {
+    /// The number of the refusal: 70, 71 or 99.
+    pub fn number(self) -> u8
+        ensures { result ≡ (described self).0 }
+    {
+        match self {
+            FilesError::BadFile => 70,
+            FilesError::Twice => 71,
+            FilesError::Memory => 99,
+        }
+    }
+
+    /// The name of the refusal, as the variant is written.
+    pub fn name(self) -> &'static str
+        ensures { result.now ≡ (described self).1 }
+    {
+        match self {
+            FilesError::BadFile => "BadFile",
+            FilesError::Twice => "Twice",
+            FilesError::Memory => "Memory",
+        }
+    }
+}
+
+// Whether a name holds a byte below the space.
+fn has_control(name: &[u8]) -> bool
+    ensures { result ≡ has_control_byte name.now }
+{
+    name.iter().any(|b| *b < b' ')
+}
+
+// Whether no file has this name and these bytes.
+fn is_bad(name: &[u8], bytes: &[u8]) -> bool
+    ensures { result ≡ is_bad_file name.now bytes.now }
+{
+    name.is_empty() || has_control(name) || (Files::is_folder(name) && !bytes.is_empty())
+}
+
+impl Files {
+    /// No files, on an allocator from which each later file takes its memory.
+    pub fn new(alloc: Global) -> Files
+        ensures { result ≡ [] }
+    {
+        Files {
+            by_name: IndexMap::new(alloc),
+        }
+    }
+
+    /// Whether a name declares a folder: its last byte is `/`.
+    pub fn is_folder(name: &[u8]) -> bool
+        ensures { result ≡ is_folder_name name.now }
+    {
+        match name.last() {
+            Some(last) => *last == b'/',
+            None => false,
+        }
+    }
+
+    /// Takes a file, after those that came before. A name whose last byte is `/` declares a folder, with no bytes.
+    ///
+    /// # Errors
+    ///
+    /// The first of these that applies. The files are then as they were, and the name and bytes are dropped.
+    /// - `BadFile`: the name is empty, holds a byte below the space, or declares a folder although there are bytes.
+    /// - `Twice`: a file or folder of that name is there.
+    /// - `Memory`: memory ran out.
+    pub fn insert(&mut self, name: Vec<u8>, bytes: Vec<u8>) -> Result<(), FilesError>
+        ensures ok { OnOk result (self.new ≡ self.old ++ (name.items, bytes.items) ∷ []) }
+        ensures err { OnErr result (self.new ≡ self.old) }
+        ensures bad { IsErrOf result FilesError.BadFile ↔ IsTrue (is_bad_file name.items bytes.items) }
+        ensures twice { IsErrOf result FilesError.Twice ↔ IsTrue (not (is_bad_file name.items bytes.items) && has_file self.old name.items) }
+    {
+        if is_bad(name.as_slice(), bytes.as_slice()) {
+            return Err(FilesError::BadFile);
+        }
+        if self.by_name.contains_key(&name) {
+            return Err(FilesError::Twice);
+        }
+        match self.by_name.insert(name, bytes) {
+            Ok(_) => Ok(()),
+            Err(_) => Err(FilesError::Memory),
+        }
+    }
+
+    /// The bytes of the file of that name, or nothing where no file has it or it declares a folder.
+    pub fn bytes(&self, name: &[u8]) -> Option<&[u8]>
+        ensures { option_map (λ b. b.now) result ≡ bytes_of self.now name.now }
+    {
+        if Files::is_folder(name) {
+            return None;
+        }
+        match self.by_name.get(name) {
+            Some(bytes) => Some(bytes.as_slice()),
+            None => None,
+        }
+    }
+
+    /// How many files and folders there are.
+    pub fn len(&self) -> usize
+        ensures { result ≡ length self.now }
+    {
+        self.by_name.len()
+    }
+
+    /// Whether a file or folder of that name is there.
+    pub fn has(&self, name: &[u8]) -> bool
+        ensures { result ≡ has_file self.now name.now }
+    {
+        self.by_name.contains_key(name)
+    }
+
+    /// How many files and folders came before the file of that name, or nothing where no file has it or it declares a folder.
+    pub fn position(&self, name: &[u8]) -> Option<usize>
+        ensures { result ≡ file_at self.now name.now }
+    {
+        if !Files::is_folder(name) {
+            return self.by_name.get_index_of(name);
+        }
+        None
+    }
+
+    /// The bytes of the file that came after `at` others: none where it is a folder, or where there are no more than that.
+    pub fn bytes_at(&self, at: usize) -> &[u8]
+        ensures { result.now ≡ bytes_at self.now at }
+    {
+        match self.by_name.get_index(at) {
+            Some((_, bytes)) => bytes.as_slice(),
+            None => &[],
+        }
+    }
+
+    /// The name of the file or folder that came after `at` others: an empty one where there are no more than that.
+    pub fn name_at(&self, at: usize) -> &[u8]
+        ensures { result.now ≡ name_at self.now at }
+    {
+        match self.by_name.get_index(at) {
+            Some((name, _)) => name.as_slice(),
+            None => &[],
+        }
+    }
+
+    /// The name of the file or folder that came after `file` others, or nothing where there are no more than that.
+    pub fn name(&self, file: usize) -> Option<&[u8]>
+        ensures { option_map (λ n. n.now) result ≡ option_map (λ f. f.0) (slice_get self.now file) }
+    {
+        match self.by_name.get_index(file) {
+            Some((name, _)) => Some(name.as_slice()),
+            None => None,
+        }
+    }
+}

@@ -1,0 +1,139 @@
+//! Why the text of a file was refused, and where.
+
+ghost use Rattle.std.specs.Prelude.{◌≡◌};
+ghost use Rattle.aa_text_files.specs.TextError.{name_of, number_of, plain};
+ghost use Rattle.aa_text_files.specs.declared.text_error.TextRefusal.TheVariants.{Memory};
+
+use std::alloc::{AllocError, AllocFailed};
+use std::fmt::{self, Display, Formatter, Write};
+use thiserror::Error;
+
+/// A place in the files that were handed in.
+#[derive(Clone, Copy, Debug, PartialEq, Eq)]
+pub struct Place {
+    /// The index of the file among the files.
+    pub file: usize,
+    /// How many bytes of the file stand before the place.
+    pub at: usize,
+}
+
+/// Why the text of a file was refused.
+#[derive(Clone, Copy, Debug, PartialEq, Eq)]
+pub enum TextRefusal {
+    /// A file holds a zero byte.
+    ZeroByte,
+    /// A quote isn't closed in its line.
+    OpenQuote,
+    /// The name of an Include isn't closed in its line, or a blank or the text's end stands within the braces of a word.
+    OpenOther,
+    /// No file of the name was handed in.
+    NoFile,
+    /// More than 16 includes stand one in another.
+    IncludeDepth,
+    /// The files that are entered have more than 16,777,216 bytes together.
+    TextTooBig,
+    /// A variable isn't defined, or its name isn't closed.
+    Undefined,
+    /// A variable is defined again, with other values.
+    Redefined,
+    /// Values are added to a variable that isn't defined.
+    AppendUndefined,
+    /// A variable leads to itself.
+    Cycle,
+    /// Memory ran out.
+    Memory,
+}
+
+impl Display for TextRefusal {
+    fn fmt<W: Write>(&self, f: &mut Formatter<W>) -> fmt::Result {
+        f.write_str(match self {
+            TextRefusal::ZeroByte => "a file holds a zero byte",
+            TextRefusal::OpenQuote => "a quote isn't closed in its line",
+            TextRefusal::OpenOther => "a name or a brace isn't closed",
+            TextRefusal::NoFile => "there is no such file",
+            TextRefusal::IncludeDepth => "the includes are nested too deep",
+            TextRefusal::TextTooBig => "the files are too long together",
+            TextRefusal::Undefined => "a variable isn't defined",
+            TextRefusal::Redefined => "a variable is defined twice",
+            TextRefusal::AppendUndefined => "values are added to a variable that isn't defined",
+            TextRefusal::Cycle => "a variable leads to itself",
+            TextRefusal::Memory => "memory ran out",
+        })
+    }
+}
+
+/// Why the text of a file was refused, and where.
+#[derive(Clone, Copy, Debug, PartialEq, Eq, Error)]
+#[error("{refusal}")]
+pub struct TextError {
+    /// What is wrong.
+    pub refusal: TextRefusal,
+    /// Where it is, if that is known.
+    pub place: Option<Place>,
+}
+
+/// A refusal whose place isn't known, or known to the caller alone.
+pub fn plain(refusal: TextRefusal) -> TextError
+    ensures { result ≡ plain refusal }
+{
+    TextError {
+        refusal,
+        place: None,
+    }
+}
+
+impl TextError {
+    /// The number of the refusal: 20 to 29, or 99.
+    pub fn number(self) -> u8
+        ensures { result ≡ number_of self.refusal }
+    {
+        match self.refusal {
+            TextRefusal::ZeroByte => 20,
+            TextRefusal::OpenQuote => 21,
+            TextRefusal::OpenOther => 22,
+            TextRefusal::NoFile => 23,
+            TextRefusal::IncludeDepth => 24,
+            TextRefusal::TextTooBig => 25,
+            TextRefusal::Undefined => 26,
+            TextRefusal::Redefined => 27,
+            TextRefusal::AppendUndefined => 28,
+            TextRefusal::Cycle => 29,
+            TextRefusal::Memory => 99,
+        }
+    }
+
+    /// The name of the refusal, as the variant is written.
+    pub fn name(self) -> &'static str
+        ensures { result.now ≡ name_of self.refusal }
+    {
+        match self.refusal {
+            TextRefusal::ZeroByte => "ZeroByte",
+            TextRefusal::OpenQuote => "OpenQuote",
+            TextRefusal::OpenOther => "OpenOther",
+            TextRefusal::NoFile => "NoFile",
+            TextRefusal::IncludeDepth => "IncludeDepth",
+            TextRefusal::TextTooBig => "TextTooBig",
+            TextRefusal::Undefined => "Undefined",
+            TextRefusal::Redefined => "Redefined",
+            TextRefusal::AppendUndefined => "AppendUndefined",
+            TextRefusal::Cycle => "Cycle",
+            TextRefusal::Memory => "Memory",
+        }
+    }
+}
+
+impl From<AllocError> for TextError {
+    ghost from_gives = { λ _ error. error ≡ plain Memory };
+
+    fn from(_: AllocError) -> Self {
+        plain(TextRefusal::Memory)
+    }
+}
+
+impl<T: Drop> From<AllocFailed<T>> for TextError {
+    ghost from_gives = { λ _ error. error ≡ plain Memory };
+
+    fn from(_: AllocFailed<T>) -> Self {
+        plain(TextRefusal::Memory)
+    }
+}

@@ -1,0 +1,3 @@
+pub mod SeenTokens
+pub mod Splicing
+pub mod code

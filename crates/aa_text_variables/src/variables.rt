@@ -1,0 +1,181 @@
+//! The variables that a profile's text defines, by name.
+
+ghost use Rattle.std.specs.Prelude.{◌≡◌, ◌≢◌, ◌<◌, ◌++◌, ◌∷◌, [], true, false, length, map, Ok, Err, None, IfOk, IfErr, OnOk, OnErr, option_map, slice_get};
+ghost use Rattle.aa_text_variables.specs.Variables.{after_append, after_define, is_defined, named, names_undefined, same_texts};
+ghost use Rattle.aa_text_files.specs.declared.text_error.TextRefusal.TheVariants.{Memory};
+
+use aa_bytes::Sequence;
+use aa_text_expansion::has_missing;
+use aa_text_files::{TextError, TextRefusal, plain};
+use indexmap::IndexMap;
+use std::alloc::{AllocError, Global};
+use std::marker::Model;
+
+// The values of a variable: those of its first `=`, and those that were added behind them.
+#[derive(Drop)]
+struct Values {
+    defined: Sequence<Sequence<u8>>,
+    added: Sequence<Sequence<u8>>,
+}
+
+/// Variables in the order of their first definitions.
+///
+/// No name comes twice, and each variable has at least one word.
+#[derive(Drop)]
+pub struct Variables {
+    by_name: IndexMap<Vec<u8>, Values>,
+}
+
+impl Model for Variables {
+    ghost use Rattle.std.specs.Prelude.{List, IsTrue};
+    ghost use Rattle.aa_text_variables.specs.Variables.{Variable, are_variables};
+    ghost use Rattle.aa_text_variables.specs.code.VariablesMap.{as_variables};
+
+    ghost Value = { List Variable };
+
+    ghost view = { λ v. as_variables v.by_name.entries };
+
+    ghost invariant = { λ v. IsTrue (are_variables (as_variables v.by_name.entries)) };
+}
+
+// Equal words, in memory of their own.
+fn copied_words(alloc: Global, words: &[&[u8]]) -> Result<Sequence<Sequence<u8>>, AllocError>
+    ensures { IfOk result (λ copies. copies ≡ map (λ w. w.now) words.now) }
+{
+    let mut copies = Vec::with_capacity(alloc, words.len())?;
+    for word in words {
+        copies.push(Sequence::from_slice(alloc, word)?)?;
+    }
+    Ok(Sequence::from_vec(copies))
+}
+
+// Whether words are the same as others, in the same order.
+fn are_same(words: &[&[u8]], others: &[Sequence<u8>]) -> bool
+    ensures { result ≡ same_texts (map (λ w. w.now) words.now) others.now }
+{
+    let mut rest = others;
+    for word in words {
+        match rest {
+            [other, more @ ..] => {
+                if *word != other.as_slice() {
+                    return false;
+                }
+                rest = more;
+            }
+            [] => return false,
+        }
+    }
+    rest.is_empty()
+}
+
+impl Variables {
+    /// No variables, on an allocator from which each later one takes its memory. It takes none itself.
+    pub fn new(alloc: Global) -> Variables
+        ensures { result ≡ [] }
+    {
+        Variables {
+            by_name: IndexMap::new(alloc),
+        }
+    }
+
+    /// The name of the variable before which so many others were defined, or nothing where there are no more than that. It takes no
+    /// memory.
+    pub fn name(&self, index: usize) -> Option<&[u8]>
+        ensures { option_map (λ name. name.now) result ≡ option_map (λ variable. variable.name) (slice_get self.now index) }
+    {
+        match self.by_name.get_index(index) {
+            Some((name, _)) => Some(name.as_slice()),
+            None => None,
+        }
+    }
+
+    /// What `=` does: defines a variable with these words, behind those that are there.
+    ///
+    /// Where the variable is defined with the same words already, nothing changes, whatever was added to it.
+    ///
+    /// # Errors
+    ///
+    /// The first of these that applies, without a place. The variables are then as they were.
+    /// - `Redefined`: the variable is defined with other words.
+    /// - `Memory`: memory ran out for a variable that isn't defined.
+    pub fn define(&mut self, name: &[u8], words: &[&[u8]]) -> Result<(), TextError>
+        requires { 0 < length words.now }
+        ensures ok { OnOk result (after_define self.old name.now (map (λ w. w.now) words.now) ≡ Ok self.new) }
+        ensures refused { IfErr result (λ e. e.refusal ≢ Memory → after_define self.old name.now (map (λ w. w.now) words.now) ≡ Err e.refusal) }
+        ensures memory { IfErr result (λ e. e.refusal ≡ Memory → is_defined name.now self.old ≡ false) }
+        ensures place { IfErr result (λ e. e.place ≡ None) }
+        ensures unchanged { OnErr result (self.new ≡ self.old) }
+    {
+        match self.by_name.get(name) {
+            Some(values) => {
+                if !are_same(words, values.defined.as_slice()) {
+                    return Err(plain(TextRefusal::Redefined));
+                }
+                Ok(())
+            }
+            None => self.define_new(name, words),
+        }
+    }
+
+    // Defines a variable that isn't there.
+    fn define_new(&mut self, name: &[u8], words: &[&[u8]]) -> Result<(), TextError>
+        requires new { named name.now self.old ≡ None }
+        requires some { 0 < length words.now }
+        ensures ok { OnOk result (self.new ≡ self.old ++ record { name = name.now; defined = map (λ w. w.now) words.now; added = [] } ∷ []) }
+        ensures memory { IfErr result (λ e. e.refusal ≡ Memory) }
+        ensures place { IfErr result (λ e. e.place ≡ None) }
+        ensures unchanged { OnErr result (self.new ≡ self.old) }
+    {
+        let alloc = *self.by_name.allocator();
+        let values = Values {
+            defined: copied_words(alloc, words)?,
+            added: Sequence::new(alloc),
+        };
+        let name = Vec::from_slice(alloc, name)?;
+        self.by_name.insert(name, values)?;
+        Ok(())
+    }
+
+    /// What `+=` does: adds these words behind those of a variable.
+    ///
+    /// # Errors
+    ///
+    /// The first of these that applies, without a place. The variables are then as they were.
+    /// - `AppendUndefined`: the variable isn't defined.
+    /// - `Memory`: memory ran out for the words of one that is.
+    pub fn append(&mut self, name: &[u8], words: &[&[u8]]) -> Result<(), TextError>
+        requires { 0 < length words.now }
+        ensures ok { OnOk result (after_append self.old name.now (map (λ w. w.now) words.now) ≡ Ok self.new) }
+        ensures refused { IfErr result (λ e. e.refusal ≢ Memory → after_append self.old name.now (map (λ w. w.now) words.now) ≡ Err e.refusal) }
+        ensures memory { IfErr result (λ e. e.refusal ≡ Memory → is_defined name.now self.old ≡ true) }
+        ensures place { IfErr result (λ e. e.place ≡ None) }
+        ensures unchanged { OnErr result (self.new ≡ self.old) }
+    {
+        let alloc = *self.by_name.allocator();
+        let values = match self.by_name.get_mut(name) {
+            Some(values) => values,
+            None => return Err(plain(TextRefusal::AppendUndefined)),
+        };
+        let more = copied_words(alloc, words)?;
+        values.added.append(more)?;
+        Ok(())
+    }
+
+    /// Whether a text itself names a variable that isn't defined, or doesn't close a name. It takes no memory.
+    pub fn undefined(&self, text: &[u8]) -> bool
+        ensures { result ≡ names_undefined self.now text.now }
+    {
+        has_missing(text, |name| self.index_of(name).is_none())
+    }
+}
+
+mod column;
+mod count;
+mod expand;
+mod indexes;
+mod order;
+mod reached;
+mod table;
+mod walk;
+
+pub use table::ExpansionTable;

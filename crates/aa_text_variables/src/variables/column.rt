@@ -1,0 +1,77 @@
+//! What is worked out for the variables of an order: a table that stands beside it, with a row for each.
+
+ghost use Rattle.std.specs.Prelude.{◌≡◌};
+ghost use Rattle.aa_bytes.specs.Texts.{is_empty};
+ghost use Rattle.aa_text_variables.specs.code.Columns.{IsBeside, counts_in, values_in};
+ghost use Rattle.aa_text_variables.specs.code.ExpansionTables.{row_of};
+
+use crate::variables::Variables;
+use aa_text_expansion::{Counts, Values};
+use indexmap::IndexSet;
+
+impl Variables {
+    // A table with the order that it stands beside.
+    pub(super) fn beside<'a, T>(
+        &'a self,
+        order: &'a IndexSet<usize>,
+        rows: &'a [T],
+    ) -> Column<'a, T>
+        ensures { IsBeside result self.now order.now.keys rows.now }
+    {
+        Column {
+            variables: self,
+            order,
+            rows,
+        }
+    }
+
+    // The row of a name's variable in each table that stands beside an order.
+    pub(super) fn row(&self, order: &IndexSet<usize>, name: &[u8]) -> Option<usize>
+        ensures { result ≡ row_of self.now order.now.keys name.now }
+    {
+        let index = self.index_of(name)?;
+        order.get_index_of(&index)
+    }
+}
+
+// A table with the order that it stands beside: counts of values, or the values themselves. Rows may be missing at its end.
+#[derive(Drop)]
+pub(super) struct Column<'a, T> {
+    pub(super) variables: &'a Variables,
+    pub(super) order: &'a IndexSet<usize>,
+    rows: &'a [T],
+}
+
+impl Counts for Column<'_, usize> {
+    ghost counts = { counts_in };
+
+    fn count_of(&self, name: &[u8]) -> usize {
+        match self.variables.row(self.order, name) {
+            Some(row) => self.rows.get(row).copied().unwrap_or(0),
+            None => 0,
+        }
+    }
+}
+
+impl Values for Column<'_, Vec<Vec<u8>>> {
+    ghost values = { values_in };
+
+    fn values_of(&self, name: &[u8]) -> &[Vec<u8>] {
+        match self.variables.row(self.order, name) {
+            Some(row) => match self.rows.get(row) {
+                Some(values) => values.as_slice(),
+                None => &[],
+            },
+            None => &[],
+        }
+    }
+}
+
+impl Column<'_, Vec<Vec<u8>>> {
+    // Whether it has no values for a name.
+    pub(super) fn lacks(&self, name: &[u8]) -> bool
+        ensures { result ≡ is_empty (values_in self.now name.now) }
+    {
+        self.values_of(name).is_empty()
+    }
+}

@@ -1,0 +1,67 @@
+//! The order of the variables that a text leads to, and the first variable that leads to itself.
+
+ghost use Rattle.std.specs.Prelude.{◌≡◌, ◌≢◌, ◌<◌, ◌≤◌, true, None, Some, IfOk, IfErr, OnOk, MatchOption, length, position};
+ghost use Rattle.aa_text_variables.specs.code.ExpansionOrder.{IsOrder, is_text_known};
+ghost use Rattle.aa_text_variables.specs.Expansions.{expansion_refusal, expansions, is_cyclic, leads_to_cycle};
+ghost use Rattle.aa_text_variables.specs.code.VariableWalks.{IsOrderOf, IsSettled};
+ghost use Rattle.aa_text_files.specs.declared.text_error.TextRefusal.TheVariants.{Memory};
+
+use crate::variables::Variables;
+use aa_text_files::{TextError, TextRefusal, plain};
+use indexmap::IndexSet;
+use std::alloc::AllocError;
+
+impl Variables {
+    // The indexes of the variables that a text leads to, in an order in which each stands behind all that its words name.
+    pub(super) fn order(&self, text: &[u8]) -> Result<IndexSet<usize>, TextError>
+        ensures order { IfOk result (λ o. IsOrder self.now o.keys) }
+        ensures few { IfOk result (λ o. length o.keys ≤ length self.now) }
+        ensures named { IfOk result (λ o. is_text_known self.now o.keys text.now ≡ true) }
+        ensures fine { OnOk result (expansion_refusal self.now text.now ≡ None) }
+        ensures some { OnOk result (0 < length (expansions self.now text.now)) }
+        ensures refused { IfErr result (λ e. e.refusal ≢ Memory → expansion_refusal self.now text.now ≡ Some e.refusal) }
+        ensures place { IfErr result (λ e. e.place ≡ None) }
+    {
+        self.refuse_undefined(text)?;
+        match self.walk_text(text, IndexSet::new(*self.by_name.allocator()))? {
+            Some(order) => Ok(order),
+            None => Err(plain(TextRefusal::Cycle)),
+        }
+    }
+
+    // An order with the variables that a text leads to behind it, or nothing where it leads to a cycle.
+    pub(super) fn walk_text(
+        &self,
+        text: &[u8],
+        order: IndexSet<usize>,
+    ) -> Result<Option<IndexSet<usize>>, AllocError>
+        requires { IsSettled self.now order.keys }
+        ensures { IfOk result (λ found. MatchOption found (leads_to_cycle self.now text.now ≡ true) (λ o. IsOrderOf self.now text.now order.keys o.keys)) }
+    {
+        let mut starts = IndexSet::new(*self.by_name.allocator());
+        self.note(text, &mut starts)?;
+        self.walk(starts.as_slice(), order)
+    }
+
+    /// The index, by first definitions, of the first variable that leads to itself, or to one that does.
+    ///
+    /// Names that aren't defined lead nowhere; names before one that isn't closed count.
+    ///
+    /// # Errors
+    ///
+    /// - `Memory`, without a place: memory ran out.
+    pub fn first_cycle(&self) -> Result<Option<usize>, TextError>
+        ensures ok { IfOk result (λ index. index ≡ position (is_cyclic self.now) self.now) }
+        ensures memory { IfErr result (λ e. e.refusal ≡ Memory) }
+        ensures place { IfErr result (λ e. e.place ≡ None) }
+    {
+        let mut order = IndexSet::new(*self.by_name.allocator());
+        for index in 0..self.by_name.len() {
+            match self.walk(&[index], order)? {
+                Some(more) => order = more,
+                None => return Ok(Some(index)),
+            }
+        }
+        Ok(None)
+    }
+}

@@ -1,4 +1,0 @@
-pub mod Cut
-pub mod CutFault
-pub mod CutLaws
-pub mod code

@@ -1,8 +1,0 @@
-use Rattle.std.proofs.lemmas.Result.{IfOk-weaker}
-use Rattle.aa_verdicts.proofs.part.Part.matching_attachments.Goals as goal
-
-pub returns-clause-found : goal.returns-clause-found
-returns-clause-found c = IfOk-weaker c.matching.result _ _ (λ places found rules attachments is. found attachments is.attached) c.matching.ensures.found
-
-pub returns-clause-steps : goal.returns-clause-steps
-returns-clause-steps c rules attachments is states has = c.matching.ensures.steps attachments states is.attached has
