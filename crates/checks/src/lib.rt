@@ -1,5 +1,5 @@
-//! Tests of the library crates that no row can state: a journal over a change of one's own, streams of the standard library that fail, files
-//! that are read in pieces, the words of arguments, texts of many bytes, and automata of many patterns.
+//! Tests of the library crates that no row can state: a journal over a change of one's own, streams of the standard library that fail, the
+//! words of arguments, and automata of many patterns.
 #![tactic(auto)]
 
 #[cfg(test)]
@@ -7,15 +7,9 @@ mod arguments;
 #[cfg(test)]
 mod automata;
 #[cfg(test)]
-mod disk;
-#[cfg(test)]
 mod fakes;
 #[cfg(test)]
-mod gathering;
-#[cfg(test)]
 mod journal;
-#[cfg(test)]
-mod lengths;
 #[cfg(test)]
 mod runs;
 #[cfg(test)]
