@@ -1,13 +1,14 @@
 //! Loaded profiles with their states.
 
 ghost use Rattle.std.specs.Prelude.{◌≡◌, IfOk, true};
-ghost use Rattle.aa_decide_verdict.specs.Entries.{fits, is_in_force};
+ghost use Rattle.aa_decide_verdict.specs.Entries.{fits, is_in_force, state_left, with_state};
 
 use crate::ready::Ready;
 use aa_bytes::Sequence;
 use aa_profile_data::{Mode, Profile};
 use std::alloc::{AllocError, Global};
 use std::marker::Model;
+use std::mem;
 
 /// The state of a loaded profile.
 #[derive(Debug, Drop)]
@@ -47,6 +48,16 @@ impl State {
         }
     }
 
+    /// Whether it fits a profile: it is out of force, or has a mode for the profile and for each of its children and hats. It takes no memory.
+    pub fn fits(&self, profile: &Profile) -> bool
+        ensures { result ≡ fits profile.now self.now }
+    {
+        match self {
+            State::Disabled => true,
+            State::Modes(modes) => modes.as_slice().len() == profile.children.as_slice().len() + 1,
+        }
+    }
+
     // An equal state.
     fn try_copy(&self, alloc: Global) -> Result<State, AllocError>
         ensures { IfOk result (λ copy. copy ≡ self.now) }
@@ -81,11 +92,22 @@ impl Entry {
         &self.ready
     }
 
-    /// The state.
+    /// The state. It fits the profile.
     pub fn state(&self) -> &State
-        ensures { result.now ≡ self.now.state }
+        ensures state { result.now ≡ self.now.state }
+        ensures fits { fits self.now.profile result.now ≡ true }
     {
         &self.state
+    }
+
+    /// Exchanges the state for another, which then holds the one from before. One that doesn't fit the profile is left, and so is the entry. It takes no memory.
+    pub fn exchange_state(&mut self, state: &mut State)
+        ensures entry { self.new ≡ with_state state.old self.old }
+        ensures state { state.new ≡ state_left state.old self.old }
+    {
+        if state.fits(&self.ready.profile) {
+            mem::swap(&mut self.state, state);
+        }
     }
 
     /// An equal entry.
