@@ -1,7 +1,7 @@
 -- One change back, one on and one more in a list of changes with a cursor.
-use Rattle.std.proofs.Common.{◌≡◌, ℕ, ◌+◌, ◌-◌, ◌<◌, ◌≤◌, suc, List, [], ◌∷◌, ◌++◌, length, take, drop, slice_index_or, slice_set, refl, sym, ap, ◌∙◌, arith}
-use Rattle.std.proofs.lemmas.List.{length-take-le, length-drop, take_at, drop_at, take_more, drop_more, take-set, drop-set, take_more_set, drop-set-lt}
-use Rattle.aa_history.specs.Machine.{accepted, gone_back, gone_on}
+use Rattle.std.proofs.Common.{◌≡◌, ℕ, ◌+◌, ◌-◌, ◌<◌, ◌≤◌, zero, suc, List, map, [], ◌∷◌, ◌++◌, length, take, drop, slice_index_or, slice_set, refl, sym, ap, ◌∙◌, arith}
+use Rattle.std.proofs.lemmas.List.{length-take-le, length-drop, take_at, drop_at, take_more, drop_more, take-set, drop-set, map-append, take-map, take_more_set, drop-set-lt}
+use Rattle.aa_history.specs.Machine.{Kept, Machine, accepted, committed, gone_back, gone_on}
 use Rattle.aa_history.proofs.MachineLemmas.{one_back, one_on, same_machine}
 use Rattle.aa_history.specs.code.Timeline.{state_behind, states_ahead, states_behind, timeline}
 
@@ -33,14 +33,14 @@ take_last cs done c h k e =
     ap (λ n. take n cs) up ∙ take_more cs (done - 1) c (omega arith) ∙ ap (λ x. take (done - 1) cs ++ x ∷ []) (sym e)
 
 -- one change back
-pub timeline_back : {S C : Type 0} (after : S → C → S) (back : S → C → C) → ((s : S) (c : C) → after (after s c) (back s c) ≡ s)
-    → (cs : List C) (done : ℕ) (s there : S) (c turned : C) → 0 < done → done ≤ length cs → c ≡ slice_index_or cs (done - 1) c
+pub timeline_back : {S C : Type 0} (after : S → C → S) (back : S → C → C)
+    → (cs : List C) (done : ℕ) (s there : S) (c turned : C) → after (after s c) (back s c) ≡ s → 0 < done → done ≤ length cs → c ≡ slice_index_or cs (done - 1) c
     → there ≡ after s c → turned ≡ back s c
     → timeline after (slice_set cs (done - 1) turned) (done - 1) there ≡ gone_back 1 (timeline after cs done s)
-timeline_back {S} {C} after back returns cs done s there c turned h k e p q =
+timeline_back {S} {C} after back cs done s there c turned law h k e p q =
     let place : ℕ = done - 1 in
     let up : place + 1 ≡ done = omega arith in
-    let home : after there turned ≡ s = ap (λ t. after t turned) p ∙ ap (after (after s c)) q ∙ returns s c in
+    let home : after there turned ≡ s = ap (λ t. after t turned) p ∙ ap (after (after s c)) q ∙ law in
     let behind : List S = states_behind after (take place cs) there in
     let ahead : List S = states_ahead after (drop done cs) s in
     let old : states_behind after (take done cs) s ≡ behind ++ there ∷ [] =
@@ -56,12 +56,12 @@ timeline_back {S} {C} after back returns cs done s there c turned h k e p q =
     ∙ ap (gone_back 1) (same_machine (sym old) refl refl)
 
 -- one change on
-pub timeline_on : {S C : Type 0} (after : S → C → S) (back : S → C → C) → ((s : S) (c : C) → after (after s c) (back s c) ≡ s)
-    → (cs : List C) (done : ℕ) (s there : S) (c turned : C) → done < length cs → c ≡ slice_index_or cs done c
+pub timeline_on : {S C : Type 0} (after : S → C → S) (back : S → C → C)
+    → (cs : List C) (done : ℕ) (s there : S) (c turned : C) → after (after s c) (back s c) ≡ s → done < length cs → c ≡ slice_index_or cs done c
     → there ≡ after s c → turned ≡ back s c
     → timeline after (slice_set cs done turned) (done + 1) there ≡ gone_on 1 (timeline after cs done s)
-timeline_on {S} {C} after back returns cs done s there c turned h e p q =
-    let home : after there turned ≡ s = ap (λ t. after t turned) p ∙ ap (after (after s c)) q ∙ returns s c in
+timeline_on {S} {C} after back cs done s there c turned law h e p q =
+    let home : after there turned ≡ s = ap (λ t. after t turned) p ∙ ap (after (after s c)) q ∙ law in
     let behind : List S = states_behind after (take done cs) s in
     let ahead : List S = states_ahead after (drop (done + 1) cs) there in
     let old : states_ahead after (drop done cs) s ≡ there ∷ ahead =
@@ -94,3 +94,36 @@ timeline_kept {S} {C} after cs kept done s c h e =
     refl
     (ap (λ rest. states_ahead after rest s) (drop_at (take done cs) (c ∷ []) done size)))
     ∙ one_on (states_behind after (take done cs) s) s (after s c) []
+
+-- a change that was turned in its place keeps what is measured of each
+pub measured_turned : {C : Type 0} (f : C → ℕ) (cs : List C) (place : ℕ) (c turned : C) → c ≡ slice_index_or cs place c → f turned ≡ f c
+    → map f (slice_set cs place turned) ≡ map f cs
+measured_turned f [] place c turned h e = refl
+measured_turned f (x ∷ xs) zero c turned h e = ap (λ n. n ∷ map f xs) (e ∙ ap f h)
+measured_turned f (x ∷ xs) (suc place) c turned h e = ap (λ ns. f x ∷ ns) (measured_turned f xs place c turned h e)
+
+-- kept machines of equal parts
+pub same_kept : {S : Type 0} {m n : Machine S} {ms ns : List ℕ} → m ≡ n → ms ≡ ns → ◌≡◌ {A = Kept S} (record { machine = m; sizes = ms }) (record { machine = n; sizes = ns })
+same_kept p q = λ i. record { machine = p i; sizes = q i }
+
+-- as many changes back from equal ones
+pub went_back : {S : Type 0} (n : ℕ) {k l : Kept S} → k ≡ l → ◌≡◌ {A = Kept S} (record k { machine = gone_back n k.machine }) (record l { machine = gone_back n l.machine })
+went_back {S} n p = λ i. record (p i) { machine = gone_back n (p i).machine }
+
+-- as many changes on from equal ones
+pub went_on : {S : Type 0} (n : ℕ) {k l : Kept S} → k ≡ l → ◌≡◌ {A = Kept S} (record k { machine = gone_on n k.machine }) (record l { machine = gone_on n l.machine })
+went_on {S} n p = λ i. record (p i) { machine = gone_on n (p i).machine }
+
+-- one with equal machines in place of its own
+pub with_machine : {S : Type 0} (k : Kept S) {m n : Machine S} → m ≡ n → ◌≡◌ {A = Kept S} (record k { machine = m }) (record k { machine = n })
+with_machine k p = λ i. record k { machine = p i }
+
+-- a change kept behind the cursor, and then made, with how many parts it has
+pub kept_committed : {S C : Type 0} (after : S → C → S) (parts : C → ℕ) (cs kept : List C) (done : ℕ) (s t : S) (c : C) (k : Kept S) → done ≤ length cs
+    → kept ≡ take done cs ++ c ∷ [] → t ≡ s → ◌≡◌ {A = Kept S} (record { machine = timeline after cs done s; sizes = map parts cs }) k
+    → ◌≡◌ {A = Kept S} (record { machine = gone_on 1 (timeline after kept done t); sizes = map parts kept }) (committed k (after k.machine.now c) (parts c))
+kept_committed {S} {C} after parts cs kept done s t c k h e f g =
+    same_kept
+    (ap (λ set. gone_on 1 (timeline after kept done set)) f ∙ timeline_kept after cs kept done s c h e)
+    (ap (map parts) e ∙ map-append parts (take done cs) (c ∷ []) ∙ ap (λ sizes. sizes ++ parts c ∷ []) (sym (take-map parts done cs) ∙ ap (λ n. take n (map parts cs)) (sym (length-back after cs done s h))))
+    ∙ (λ i. committed (g i) (after (g i).machine.now c) (parts c))

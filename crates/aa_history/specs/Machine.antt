@@ -1,5 +1,5 @@
 -- The machine that keeps whole sets, of whatever kind a set is: a policy set, or any state (docs/guarantees.md).
-use Rattle.std.specs.Prelude.{ℕ, ◌+◌, ◌-◌, Bool, nat_le, List, [], ◌∷◌, ◌++◌, length, take, drop, slice_index_or}
+use Rattle.std.specs.Prelude.{ℕ, ◌+◌, ◌-◌, Bool, nat_le, List, [], ◌∷◌, ◌++◌, length, map, take, drop, slice_index_or}
 
 -- The set now, those that changes have left behind, oldest first, and those that going back has left, nearest first: all
 -- of them in the order in which they came to be.
@@ -32,10 +32,31 @@ can_go_back n machine = nat_le n (length machine.earlier)
 abbrev pub can_go_on : {S : Type 0} → ℕ → Machine S → Bool
 can_go_on n machine = nat_le n (length machine.later)
 
+-- at a place among all sets, in order: the one there is the one now
+abbrev pub gone_to : {S : Type 0} → ℕ → Machine S → Machine S
+gone_to place machine = standing_at place (all_sets machine) machine.now
+
 -- n changes back, where so many can be gone back: of the same sets the one n places nearer to the first is the one now
 abbrev pub gone_back : {S : Type 0} → ℕ → Machine S → Machine S
-gone_back n machine = standing_at (length machine.earlier - n) (all_sets machine) machine.now
+gone_back n machine = gone_to (length machine.earlier - n) machine
 
 -- n changes on, where so many can be gone on: of the same sets the one n places nearer to the last is the one now
 abbrev pub gone_on : {S : Type 0} → ℕ → Machine S → Machine S
-gone_on n machine = standing_at (length machine.earlier + n) (all_sets machine) machine.now
+gone_on n machine = gone_to (length machine.earlier + n) machine
+
+-- the machine of what each set stands for
+abbrev pub mapped : {S T : Type 0} → (S → T) → Machine S → Machine T
+mapped f machine = record { earlier = map f machine.earlier; now = f machine.now; later = map f machine.later }
+
+-- a machine, and how many parts each change has that leads from one of its sets to the next
+pub record Kept (S : Type 0) : Type 0 where
+  pub machine : Machine S
+  pub sizes : List ℕ
+
+-- a machine that has made no change yet, and so keeps none
+abbrev pub begun : {S : Type 0} → S → Kept S
+begun set = record { machine = started set; sizes = [] }
+
+-- after an accepted change of so many parts to a set: of the changes kept, those that could be gone back stay, and it stands behind them
+abbrev pub committed : {S : Type 0} → Kept S → S → ℕ → Kept S
+committed kept set size = record { machine = accepted kept.machine set; sizes = take (length kept.machine.earlier) kept.sizes ++ size ∷ [] }

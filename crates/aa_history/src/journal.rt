@@ -1,7 +1,8 @@
 //! A state with its history.
 
-ghost use Rattle.std.specs.Prelude.{◌≡◌, ◌<◌, ◌≤◌, [], ◌∷◌, ◌++◌, IfErr, OnOk, OnErr, true, false, length, take};
-ghost use Rattle.aa_history.specs.Machine.{accepted, can_go_back, can_go_on, gone_back, gone_on, started};
+ghost use Rattle.std.specs.Prelude.{◌≡◌, ◌<◌, ◌≤◌, [], ◌∷◌, ◌++◌, true, false, length, map, sum, take};
+ghost use Rattle.std.specs.Prelude.{IfErr, OnOk, OnErr, vec_capacity};
+ghost use Rattle.aa_history.specs.Machine.{begun, can_go_back, can_go_on, committed, gone_back, gone_on};
 
 use crate::change::Change;
 use std::alloc::{AllocError, Global};
@@ -17,7 +18,8 @@ pub struct Short {
 /// A state, with the changes that lead back to the earlier states and on to the later ones.
 ///
 /// Contracts see the machine that keeps whole states (docs/guarantees.md): the state now, the earlier ones, oldest first, and the later
-/// ones, nearest first.
+/// ones, nearest first, each by what it stands for (`Change::means`). Beside it they see how many parts each change has, in the same order:
+/// first those that can be undone, oldest first, and then those that can be redone, nearest first.
 #[derive(Drop)]
 pub struct Journal<S: Drop, C: Change<S>> {
     state: S,
@@ -28,21 +30,25 @@ pub struct Journal<S: Drop, C: Change<S>> {
 }
 
 impl<S: Drop, C: Change<S>> Model for Journal<S, C> {
-    ghost use Rattle.std.specs.Prelude.{◌≤◌, length};
-    ghost use Rattle.aa_history.specs.Machine.{Machine};
+    ghost use Rattle.std.specs.Prelude.{◌≤◌, length, map};
+    ghost use Rattle.std.specs.List.{All};
+    ghost use Rattle.aa_history.specs.Machine.{Kept};
     ghost use Rattle.aa_history.specs.code.Timeline.{timeline};
 
-    ghost Value = { Machine S };
+    ghost Value = { Kept S };
 
-    ghost view = { λ j. timeline C.after j.changes.items j.done j.state };
+    ghost view = { λ j. record {
+      machine = timeline C.after j.changes.items j.done (C.means j.state);
+      sizes = map C.parts j.changes.items;
+    } };
 
-    ghost invariant = { λ j. j.done ≤ length j.changes.items };
+    ghost invariant = { λ j. (j.done ≤ length j.changes.items) × All (λ change. C.need change ≤ C.room j.state) j.changes.items };
 }
 
 impl<S: Drop, C: Change<S>> Journal<S, C> {
-    /// A journal of a state that no change has been made to yet. It takes no memory.
+    /// A journal of a state that no change has been made to yet. It takes no memory; `alloc` is for the changes to come.
     pub fn new(alloc: Global, state: S) -> Journal<S, C>
-        ensures { result ≡ started state }
+        ensures { result ≡ begun (C.means state) }
     {
         Journal {
             state,
@@ -53,21 +59,21 @@ impl<S: Drop, C: Change<S>> Journal<S, C> {
 
     /// The state now.
     pub fn state(&self) -> &S
-        ensures { result.now ≡ self.now.now }
+        ensures { C.means result.now ≡ self.now.machine.now }
     {
         &self.state
     }
 
     /// How many changes can be undone.
     pub fn depth(&self) -> usize
-        ensures { result ≡ length self.now.earlier }
+        ensures { result ≡ length self.now.machine.earlier }
     {
         self.done
     }
 
     /// How many changes can be redone.
     pub fn ahead(&self) -> usize
-        ensures { result ≡ length self.now.later }
+        ensures { result ≡ length self.now.machine.later }
     {
         self.changes.len() - self.done
     }
@@ -76,21 +82,36 @@ impl<S: Drop, C: Change<S>> Journal<S, C> {
     ///
     /// # Errors
     ///
-    /// The change itself, as it was, where there is no memory to keep it in. The journal is as it was then.
+    /// `AllocError`, with the change as it was, where memory runs out: to keep the change in, or for the room that it needs. The journal is as
+    /// it was then: the state stands for what it stood for, and the same changes can be undone and redone.
     pub fn commit(&mut self, change: C) -> Result<(), (C, AllocError)>
-        ensures ok { OnOk result (self.new ≡ accepted self.old (C.after self.old.now change)) }
+        ensures ok { OnOk result (self.new ≡ committed self.old (C.after self.old.machine.now change) (C.parts change)) }
         ensures handed_back { IfErr result (λ refused. refused.0 ≡ change) }
         ensures unchanged { OnErr result (self.new ≡ self.old) }
     {
-        keep(&mut self.changes, self.done, change)?;
+        if let Err(error) = room_for_one(&mut self.changes, self.done) {
+            return Err((change, error));
+        }
+        if let Err(error) = change.prepare(&mut self.state) {
+            return Err((change, error));
+        }
+        put(&mut self.changes, self.done, change);
         self.step_on();
         Ok(())
     }
 
+    /// How many parts all changes have together (`Change::size`), those that can be undone and those that can be redone: the measure of what
+    /// the way back and on takes. It asks each change, and takes no memory.
+    pub fn kept(&self) -> u128
+        ensures { result ≡ sum self.now.sizes }
+    {
+        kept_by::<S, C>(&self.changes)
+    }
+
     // One change back.
     fn step_back(&mut self)
-        requires { 0 < length self.old.earlier }
-        ensures { self.new ≡ gone_back 1 self.old }
+        requires { 0 < length self.old.machine.earlier }
+        ensures { self.new ≡ record self.old { machine = gone_back 1 self.old.machine } }
     {
         self.done -= 1;
         let last = &mut self.changes[self.done];
@@ -99,8 +120,8 @@ impl<S: Drop, C: Change<S>> Journal<S, C> {
 
     // One change on.
     fn step_on(&mut self)
-        requires { 0 < length self.old.later }
-        ensures { self.new ≡ gone_on 1 self.old }
+        requires { 0 < length self.old.machine.later }
+        ensures { self.new ≡ record self.old { machine = gone_on 1 self.old.machine } }
     {
         let next = &mut self.changes[self.done];
         next.turn(&mut self.state);
@@ -113,9 +134,9 @@ impl<S: Drop, C: Change<S>> Journal<S, C> {
     ///
     /// `Short`, with the number of changes that can be undone, where fewer than `n` can. Nothing is undone then.
     pub fn undo(&mut self, n: usize) -> Result<(), Short>
-        ensures can { OnOk result (can_go_back n self.old ≡ true) }
-        ensures ok { OnOk result (self.new ≡ gone_back n self.old) }
-        ensures short { IfErr result (λ short. can_go_back n self.old ≡ false × short.have ≡ length self.old.earlier) }
+        ensures can { OnOk result (can_go_back n self.old.machine ≡ true) }
+        ensures ok { OnOk result (self.new ≡ record self.old { machine = gone_back n self.old.machine }) }
+        ensures short { IfErr result (λ short. can_go_back n self.old.machine ≡ false × short.have ≡ length self.old.machine.earlier) }
         ensures unchanged { OnErr result (self.new ≡ self.old) }
     {
         let have = self.depth();
@@ -134,9 +155,9 @@ impl<S: Drop, C: Change<S>> Journal<S, C> {
     ///
     /// `Short`, with the number of changes that can be redone, where fewer than `n` can. Nothing is redone then.
     pub fn redo(&mut self, n: usize) -> Result<(), Short>
-        ensures can { OnOk result (can_go_on n self.old ≡ true) }
-        ensures ok { OnOk result (self.new ≡ gone_on n self.old) }
-        ensures short { IfErr result (λ short. can_go_on n self.old ≡ false × short.have ≡ length self.old.later) }
+        ensures can { OnOk result (can_go_on n self.old.machine ≡ true) }
+        ensures ok { OnOk result (self.new ≡ record self.old { machine = gone_on n self.old.machine }) }
+        ensures short { IfErr result (λ short. can_go_on n self.old.machine ≡ false × short.have ≡ length self.old.machine.later) }
         ensures unchanged { OnErr result (self.new ≡ self.old) }
     {
         let have = self.ahead();
@@ -150,23 +171,40 @@ impl<S: Drop, C: Change<S>> Journal<S, C> {
     }
 }
 
-// Puts a change behind as many changes as lead back, in place of those that led on. A refused one is handed back.
-fn keep<C: Drop>(changes: &mut Vec<C>, done: usize, change: C) -> Result<(), (C, AllocError)>
+// How many parts changes have together.
+fn kept_by<S, C: Change<S>>(changes: &[C]) -> u128
+    ensures { result ≡ sum (map C.parts changes.now) }
+{
+    let mut kept = 0;
+    let mut rest = changes;
+    while let [change, behind @ ..] = rest {
+        kept += change.size() as u128;
+        rest = behind;
+    }
+    kept
+}
+
+// Makes room for one more change behind those that lead back, of which there are `done`.
+fn room_for_one<C>(changes: &mut Vec<C>, done: usize) -> Result<(), AllocError>
     requires { done ≤ length changes.old.items }
-    ensures ok { OnOk result (changes.new.items ≡ take done changes.old.items ++ change ∷ []) }
-    ensures handed_back { IfErr result (λ refused. refused.0 ≡ change) }
-    ensures unchanged { OnErr result (changes.new.items ≡ changes.old.items) }
+    ensures same { changes.new.items ≡ changes.old.items }
+    ensures ok { OnOk result (done < vec_capacity changes.new) }
 {
     if done == changes.len() {
-        match changes.reserve(1) {
-            Ok(()) => {}
-            Err(error) => return Err((change, error)),
-        }
+        changes.reserve(1)?;
     }
+    Ok(())
+}
+
+// Puts a change behind the changes that lead back, of which there are `done`, in place of those that led on.
+fn put<C: Drop>(changes: &mut Vec<C>, done: usize, change: C)
+    requires within { done ≤ length changes.old.items }
+    requires room { done < vec_capacity changes.old }
+    ensures { changes.new.items ≡ take done changes.old.items ++ change ∷ [] }
+{
     changes.truncate(done);
     match changes.push(change) {
         Ok(()) => {}
         Err(_) => unreachable!(),
     }
-    Ok(())
 }

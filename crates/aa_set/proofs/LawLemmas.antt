@@ -1,7 +1,7 @@
 -- The laws of the machine.
 use Rattle.std.proofs.Common.{◌≡◌, ℕ, ◌+◌, Bool, true, false, not, cond, leb, ◌&&◌, List, [], ◌∷◌, ◌++◌, length, Option, None, Some, Result, Ok, Err, IfOk, refl, sym, ap, ◌∙◌, subst, arith, append_assoc, append-nil, length-append}
 use Rattle.std.proofs.lemmas.Bool.{cond-false, cond-true, le-leb, true≢false}
-use Rattle.aa_history.specs.Machine.{all_sets, can_go_back, can_go_on, gone_back, gone_on}
+use Rattle.aa_history.specs.Machine.{Machine, accepted, all_sets, can_go_back, can_go_on, gone_back, gone_on}
 use Rattle.aa_history.specs.MachineLaws.{BackAfterOn, BackFromNewSets, BackKeepsSets, CanGoBackInParts, CanGoOnInParts, GoesBackInParts, GoesOnInParts, LengthsAfterBack, LengthsAfterOn, OnAfterBack, OnKeepsSets}
 use Rattle.aa_set_commands.specs.Command.{Ask, Listed, Make, Order, Redo, Show, Undo}
 use Rattle.aa_set_commands.specs.Refusal.{plain}
@@ -9,7 +9,7 @@ use Rattle.aa_set_commands.specs.declared.refusal.Refusal.{Refusal}
 use Rattle.aa_set_commands.specs.declared.refusal.RefusalKind.TheVariants.{LineTooLong, Memory, NothingToRedo, NothingToUndo}
 use Rattle.aa_set_answers.specs.Answers.{reply_lines, shown}
 use Rattle.aa_set_changes.specs.ChangeLaws.{ChangesKeepNamesApart}
-use Rattle.aa_set_changes.specs.Changes.{changed as change_of_set}
+use Rattle.aa_set_changes.specs.Changes.{changed as change_of_set, parts_of}
 use Rattle.aa_decide.specs.Named.{have_distinct_names}
 use Rattle.aa_set_lines.specs.Limits.{longest_line}
 use Rattle.aa_set_listing.specs.List.{list_lines}
@@ -44,10 +44,10 @@ either_grows : (t change : Bool) (m : Managed) (a b : Outcome) → Grows change 
 either_grows true change m a b p q = p
 either_grows false change m a b p q = q
 
-change_grows : (m : Managed) (r : Result (List Loaded) Refusal) → Grows true m (changed m (after_change m r))
+change_grows : (m : Managed) (size : ℕ) (r : Result (List Loaded) Refusal) → Grows true m (changed m (after_change m size r))
 unfolding Grows
-change_grows m (Ok entries) = (entries ∷ [], refl, refl)
-change_grows m (Err refusal) = refusal_stays true m refusal
+change_grows m size (Ok entries) = (entries ∷ [], refl, refl)
+change_grows m size (Err refusal) = refusal_stays true m refusal
 
 told_grows : (m : Managed) (r : Result (List ℕ) Refusal) → Grows false m (told m r)
 told_grows m (Ok lines) = stays false m (Told lines) refl
@@ -65,7 +65,7 @@ order_grows files m flag (Ok None) h = stays false m Silent refl
 order_grows files m flag (Ok (Some (Undo n))) h = absurd (true≢false h)
 order_grows files m flag (Ok (Some (Redo n))) h = absurd (true≢false h)
 order_grows files m flag (Ok (Some (Make change))) h =
-    flag_grows files m flag true (Make change) (change_grows m (change_of_set files m.force_complain m.machine.now change))
+    flag_grows files m flag true (Make change) (change_grows m (parts_of files change) (change_of_set files m.force_complain m.machine.now change))
 order_grows files m flag (Ok (Some (Ask question))) h = flag_grows files m flag false (Ask question) (told_grows m (reply_lines m.machine.now question))
 order_grows files m flag (Ok (Some Listed)) h = flag_grows files m flag false Listed (told_grows m (Ok (list_lines m.machine.now)))
 order_grows files m flag (Ok (Some (Show name))) h = flag_grows files m flag false (Show name) (told_grows m (shown m.machine.now name))
@@ -116,15 +116,21 @@ distinct-front : (xs ys : List (List Loaded)) → AreDistinct (xs ++ ys) → Are
 distinct-front [] ys p = tt
 distinct-front (x ∷ xs) ys p = (p.0, distinct-front xs ys p.1)
 
-distinct-behind : (xs ys : List (List Loaded)) → AreDistinct (xs ++ ys) → AreDistinct ys
+pub distinct-behind : (xs ys : List (List Loaded)) → AreDistinct (xs ++ ys) → AreDistinct ys
 distinct-behind [] ys p = p
 distinct-behind (x ∷ xs) ys p = distinct-behind xs ys p.1
 
-changed_distinct : (m : Managed) (r : Result (List Loaded) Refusal) → AreDistinct (all_sets m.machine) → IfOk r (λ set. have_distinct_names set ≡ true) → AreDistinct (all_sets (changed m (after_change m r)).managed.machine)
-changed_distinct m (Err refusal) h d = h
-changed_distinct m (Ok set) h d =
-    let now = distinct-behind m.machine.earlier (m.machine.now ∷ m.machine.later) h in
-    distinct-append (sets_of m) (set ∷ []) (distinct-append m.machine.earlier (m.machine.now ∷ []) (distinct-front m.machine.earlier (m.machine.now ∷ m.machine.later) h) (now.0, tt)) (d, tt)
+-- distinct sets stay so where one more is accepted
+pub accepted-distinct : (machine : Machine (List Loaded)) (set : List Loaded) → AreDistinct (all_sets machine) → have_distinct_names set ≡ true → AreDistinct (all_sets (accepted machine set))
+accepted-distinct machine set h d =
+    let now = distinct-behind machine.earlier (machine.now ∷ machine.later) h in
+    distinct-append (machine.earlier ++ machine.now ∷ []) (set ∷ [])
+    (distinct-append machine.earlier (machine.now ∷ []) (distinct-front machine.earlier (machine.now ∷ machine.later) h) (now.0, tt)) (d, tt)
+
+changed_distinct : (m : Managed) (size : ℕ) (r : Result (List Loaded) Refusal) → AreDistinct (all_sets m.machine) → IfOk r (λ set. have_distinct_names set ≡ true)
+    → AreDistinct (all_sets (changed m (after_change m size r)).managed.machine)
+changed_distinct m size (Err refusal) h d = h
+changed_distinct m size (Ok set) h d = accepted-distinct m.machine set h d
 
 undone_distinct : BackKeepsSets (List Loaded) → (m : Managed) (n : ℕ) → AreDistinct (all_sets m.machine) → AreDistinct (all_sets (changed m (undone n m)).managed.machine)
 undone_distinct keep m n h = by (can_go_back n m.machine) refl
@@ -159,7 +165,7 @@ obeyed_distinct keep files m (Undo n) h = undone_distinct keep.0 m n h
 obeyed_distinct keep files m (Redo n) h = redone_distinct keep.1 m n h
 obeyed_distinct keep files m (Make change) h =
     let now = distinct-behind m.machine.earlier (m.machine.now ∷ m.machine.later) h in
-    changed_distinct m (change_of_set files m.force_complain m.machine.now change) h (keep.2 files m.force_complain m.machine.now change now.0)
+    changed_distinct m (parts_of files change) (change_of_set files m.force_complain m.machine.now change) h (keep.2 files m.force_complain m.machine.now change now.0)
 obeyed_distinct keep files m (Ask question) h = told_distinct m (reply_lines m.machine.now question) h
 obeyed_distinct keep files m Listed h = told_distinct m (Ok (list_lines m.machine.now)) h
 obeyed_distinct keep files m (Show name) h = told_distinct m (shown m.machine.now name) h

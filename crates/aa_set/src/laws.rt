@@ -3,8 +3,10 @@
 
 ghost use Rattle.aa_set.specs.Laws.{OtherLineLeavesAll, RefusedLineLeavesAll, SetDecidesAnswer, SetsHaveDistinctNames, StepsAdd, StepsReturn, UndoGivesBack};
 
+use aa_bytes::Sequence;
+use aa_decide::Entry;
 use aa_history::{how_machines_go_back_and_on, what_machines_keep, where_machines_go_back_to};
-use aa_set_changes::{PolicySet, what_changes_keep};
+use aa_set_changes::what_changes_keep;
 
 /// A refused line leaves the policy set and both lists of sets, and so does any line whose command neither changes nor goes back or on, as a
 /// question or a blank one. After lines of which none goes back or on, undoing as many changes as were accepted gives back the
@@ -20,8 +22,8 @@ pub fn the_way_back()
     ensures asked { SetDecidesAnswer }
     ensures distinct { SetsHaveDistinctNames }
 {
-    how_machines_go_back_and_on::<PolicySet>();
-    what_machines_keep::<PolicySet>();
-    where_machines_go_back_to::<PolicySet>();
+    how_machines_go_back_and_on::<Sequence<Entry>>();
+    what_machines_keep::<Sequence<Entry>>();
+    where_machines_go_back_to::<Sequence<Entry>>();
     what_changes_keep();
 }

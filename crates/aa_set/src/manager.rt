@@ -1,6 +1,6 @@
 //! The manager: a policy set with its history.
 
-ghost use Rattle.std.specs.Prelude.{◌≡◌, ◌≢◌, Ok, Err, IfOk, IfErr, OnOk, OnErr, false, true};
+ghost use Rattle.std.specs.Prelude.{◌≡◌, ◌≢◌, Ok, Err, IfOk, IfErr, OnOk, OnErr, false, true, sum};
 ghost use Rattle.aa_set_answers.specs.Answers.{asks_absent, reply_lines, shown, shows_absent};
 ghost use Rattle.aa_set_changes.specs.Changes.{is_disabled, is_loaded};
 ghost use Rattle.aa_set_commands.specs.Command.{Add, Remove, Replace};
@@ -8,40 +8,51 @@ ghost use Rattle.aa_set_commands.specs.Question.{IsWellFormed, asked};
 ghost use Rattle.aa_set_commands.specs.Refusal.{plain};
 ghost use Rattle.aa_set_commands.specs.declared.refusal.RefusalKind.TheVariants.{Memory};
 ghost use Rattle.aa_set_listing.specs.List.{list_lines};
+ghost use Rattle.aa_set.specs.code.Making.{Makes};
 ghost use Rattle.aa_profile_data.specs.declared.profile.Mode.TheVariants.{Complain, Enforce};
 
-use aa_decide::Request;
-use aa_history::Journal;
+use aa_bytes::Sequence;
+use aa_decide::{Entry, Request};
+use aa_history::{Journal, what_machines_keep, what_sets_stand_for};
 use aa_profile::read_file;
 use aa_profile_data::Mode;
 use aa_set_answers::{access_lines, exec_lines, shown_lines};
-use aa_set_changes::{Exchange, PolicySet};
+use aa_set_changes::{
+    PolicySet, adding, disabling, removing, replacing, switching, what_changes_keep,
+};
 use aa_set_commands::{Question, Refusal, RefusalKind, plain};
 use aa_set_listing::list_lines;
+use aa_set_parts::{Exchange, Slots};
 use aa_text_files::Files;
-use std::alloc::{AllocError, Global};
+use std::alloc::Global;
 use std::marker::Model;
 
 /// A policy set, and the policy sets that changes and undoing have left behind.
 ///
-/// Contracts see the machine that keeps whole policy sets: the set now, the earlier ones and the later ones.
+/// Contracts see the machine that keeps whole policy sets: the set now, the earlier ones and the later ones; and how many parts each change has. What is
+/// kept are the slots of the set now, and of each change the parts that it exchanges with them.
 #[derive(Drop)]
 pub struct Manager {
     alloc: Global,
     force_complain: bool,
-    journal: Journal<PolicySet, Exchange>,
+    journal: Journal<Slots, Exchange>,
 }
 
 impl Model for Manager {
-    ghost use Rattle.aa_set.specs.Manager.{Managed};
+    ghost use Rattle.aa_decide_verdict.specs.Slots.{filled};
+    ghost use Rattle.aa_history.specs.Machine.{all_sets, mapped};
+    ghost use Rattle.aa_set.specs.Laws.{AreDistinct};
+    ghost use Rattle.aa_set.specs.Manager.{Managed, managed_by};
 
     ghost Value = { Managed };
 
-    ghost view = { λ m. record { force_complain = m.force_complain; machine = m.journal } };
+    ghost view = { λ m. managed_by m.force_complain (record { machine = mapped filled m.journal.machine; sizes = m.journal.sizes }) };
+
+    ghost invariant = { λ m. AreDistinct (all_sets (mapped filled m.journal.machine)) };
 }
 
 impl Manager {
-    ghost use Rattle.aa_set.specs.Manager.{after_commit, disabled, in_mode, made, new_manager, redone, undone};
+    ghost use Rattle.aa_set.specs.Manager.{disabled, in_mode, made, new_manager, redone, undone};
 
     /// A manager of the empty policy set, which no change has made yet. With `force_complain` (the option `-C`) each profile is loaded in complain
     /// mode, and so are its children and hats, whatever their flags. It takes no memory.
@@ -51,15 +62,23 @@ impl Manager {
         Manager {
             alloc,
             force_complain,
-            journal: Journal::new(alloc, PolicySet::new(alloc)),
+            journal: Journal::new(alloc, Slots::new(alloc)),
         }
     }
 
     /// The policy set now. It takes no memory.
-    pub fn policy_set(&self) -> &PolicySet
-        ensures { result.now ≡ self.now.machine.now }
+    pub fn policy_set(&self) -> PolicySet<'_>
+        ensures { result ≡ self.now.machine.now }
     {
-        self.journal.state()
+        PolicySet::of(self.journal.state())
+    }
+
+    /// How many parts all changes have together, of those that can be undone and of those that can be redone: one for a switch, and for `add`, `replace`
+    /// and `remove` the number of the file's profiles. It takes no memory.
+    pub fn kept(&self) -> u128
+        ensures { result ≡ sum self.now.sizes }
+    {
+        self.journal.kept()
     }
 
     /// Adds the profiles of a file, each in force in the modes of its own flags, or with `force_complain` in complain mode, at the end of the policy
@@ -89,11 +108,10 @@ impl Manager {
         ensures unchanged { OnErr result (self.new ≡ self.old) }
     {
         let profiles = read_file(self.alloc, files, name)?;
-        let set = self
-            .policy_set()
-            .after_add(self.alloc, self.force_complain, profiles)?;
-        self.commit(set)?;
-        Ok(())
+        let slots = self.journal.state();
+        let exchange = adding(self.alloc, slots, self.force_complain, profiles);
+        what_changes_keep();
+        make(&mut self.journal, exchange)
     }
 
     /// Puts each profile of a file in the place of the one of its name, or where there is none at the end of the policy set, in the file's order:
@@ -110,11 +128,10 @@ impl Manager {
         ensures unchanged { OnErr result (self.new ≡ self.old) }
     {
         let profiles = read_file(self.alloc, files, name)?;
-        let set = self
-            .policy_set()
-            .after_replace(self.alloc, self.force_complain, profiles)?;
-        self.commit(set)?;
-        Ok(())
+        let slots = self.journal.state();
+        let exchange = replacing(self.alloc, slots, self.force_complain, profiles);
+        what_changes_keep();
+        make(&mut self.journal, exchange)
     }
 
     /// Reads a file, and takes out the profiles of the names that its profiles have, in force or disabled: all of them or none. At `Ok` that is one
@@ -130,11 +147,9 @@ impl Manager {
         ensures unchanged { OnErr result (self.new ≡ self.old) }
     {
         let profiles = read_file(self.alloc, files, name)?;
-        let set = self
-            .policy_set()
-            .after_remove(self.alloc, profiles.as_slice())?;
-        self.commit(set)?;
-        Ok(())
+        let exchange = removing(self.alloc, self.journal.state(), profiles.as_slice());
+        what_changes_keep();
+        make(&mut self.journal, exchange)
     }
 
     /// Sets the profile of a name to enforce mode, and all its children and hats; a disabled one comes into force. At `Ok` that is one change, also
@@ -150,11 +165,9 @@ impl Manager {
         ensures unchanged { OnErr result (self.new ≡ self.old) }
         ensures memory { IfErr result (λ refusal. refusal ≡ plain Memory → is_loaded name.now self.old.machine.now ≡ true) }
     {
-        let set = self
-            .policy_set()
-            .after_mode(self.alloc, Mode::Enforce, name)?;
-        self.commit(set)?;
-        Ok(())
+        let exchange = switching(self.alloc, self.journal.state(), Mode::Enforce, name);
+        what_changes_keep();
+        make(&mut self.journal, exchange)
     }
 
     /// Sets the profile of a name to complain mode, and all its children and hats; a disabled one comes into force. At `Ok` that is one change, also
@@ -169,11 +182,9 @@ impl Manager {
         ensures unchanged { OnErr result (self.new ≡ self.old) }
         ensures memory { IfErr result (λ refusal. refusal ≡ plain Memory → is_loaded name.now self.old.machine.now ≡ true) }
     {
-        let set = self
-            .policy_set()
-            .after_mode(self.alloc, Mode::Complain, name)?;
-        self.commit(set)?;
-        Ok(())
+        let exchange = switching(self.alloc, self.journal.state(), Mode::Complain, name);
+        what_changes_keep();
+        make(&mut self.journal, exchange)
     }
 
     /// Takes the profile of a name out of force, and its children and hats: it confines nothing, no program is started under it, and it keeps its place.
@@ -190,20 +201,9 @@ impl Manager {
         ensures loaded { IfErr result (λ refusal. refusal ≡ plain Memory → is_loaded name.now self.old.machine.now ≡ true) }
         ensures in_force { IfErr result (λ refusal. refusal ≡ plain Memory → is_disabled name.now self.old.machine.now ≡ false) }
     {
-        let set = self.policy_set().after_disable(self.alloc, name)?;
-        self.commit(set)?;
-        Ok(())
-    }
-
-    // Makes a set the one now, and the one now the last of the earlier ones.
-    fn commit(&mut self, set: PolicySet) -> Result<(), AllocError>
-        ensures ok { OnOk result (self.new ≡ after_commit self.old set) }
-        ensures err { OnErr result (self.new ≡ self.old) }
-    {
-        match self.journal.commit(Exchange::to(set)) {
-            Ok(()) => Ok(()),
-            Err((_, error)) => Err(error),
-        }
+        let exchange = disabling(self.alloc, self.journal.state(), name);
+        what_changes_keep();
+        make(&mut self.journal, exchange)
     }
 
     /// Goes `n` changes back: the policy set is the one from before the last `n` changes, in each entry and its place. It
@@ -217,6 +217,8 @@ impl Manager {
         ensures refused { IfErr result (λ refusal. undone n self.old ≡ Err refusal) }
         ensures unchanged { OnErr result (self.new ≡ self.old) }
     {
+        what_machines_keep::<Slots>();
+        what_sets_stand_for::<Slots, Sequence<Entry>>();
         match self.journal.undo(n) {
             Ok(()) => Ok(()),
             Err(_) => Err(plain(RefusalKind::NothingToUndo)),
@@ -234,6 +236,8 @@ impl Manager {
         ensures refused { IfErr result (λ refusal. redone n self.old ≡ Err refusal) }
         ensures unchanged { OnErr result (self.new ≡ self.old) }
     {
+        what_machines_keep::<Slots>();
+        what_sets_stand_for::<Slots, Sequence<Entry>>();
         match self.journal.redo(n) {
             Ok(()) => Ok(()),
             Err(_) => Err(plain(RefusalKind::NothingToRedo)),
@@ -307,5 +311,21 @@ impl Manager {
                 access_lines(self.alloc, slots, who, &request)
             }
         }
+    }
+}
+
+// Makes a change to the slots of a journal and keeps the way back, if the change wasn't refused.
+fn make(
+    journal: &mut Journal<Slots, Exchange>,
+    exchange: Result<Exchange, Refusal>,
+) -> Result<(), Refusal>
+    ensures { Makes journal.old journal.new exchange result }
+{
+    match exchange {
+        Err(refusal) => Err(refusal),
+        Ok(exchange) => match journal.commit(exchange) {
+            Ok(()) => Ok(()),
+            Err(_) => Err(plain(RefusalKind::Memory)),
+        },
     }
 }

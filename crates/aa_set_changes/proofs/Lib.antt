@@ -1,2 +1,3 @@
 pub mod NameLemmas
-pub mod SlotLemmas
+pub mod PartLemmas
+pub mod PlaceLemmas

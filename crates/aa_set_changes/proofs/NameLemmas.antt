@@ -25,7 +25,7 @@ use Rattle.aa_set_commands.specs.declared.refusal.RefusalKind.TheVariants.{Absen
 use Rattle.aa_set_changes.specs.ChangeLaws.{ChangesKeepNamesApart}
 use Rattle.aa_set_changes.specs.Changes.{are_there, by_file, disabled, forced, in_force, loaded, put, put_all, some_are_absent, some_are_disabled, with_added, with_disabled, with_mode, with_removed, with_replaced, without}
 
-bytes_eq-comm : (a b : List ℕ) → bytes_eq a b ≡ bytes_eq b a
+pub bytes_eq-comm : (a b : List ℕ) → bytes_eq a b ≡ bytes_eq b a
 bytes_eq-comm a b =
     let one = bytes_eq-Decides a b in
     let other = bytes_eq-Decides b a in
@@ -47,7 +47,7 @@ some-map f None = refl
 some-map f (Some x) = refl
 
 -- some entry has a name where its profile has it
-has-profile : (name : List ℕ) (entries : List Loaded) → has_name name entries ≡ list_any (is_profile_named name) (profiles_of entries)
+pub has-profile : (name : List ℕ) (entries : List Loaded) → has_name name entries ≡ list_any (is_profile_named name) (profiles_of entries)
 has-profile name [] = refl
 has-profile name (entry ∷ entries) = ap (λ more. is_named name entry || more) (has-profile name entries)
 
@@ -63,7 +63,7 @@ distinct_with_last (e ∷ es) entry h n =
     grind (arith, nat_tests, apart, joined, rest, before, after)
 
 -- names that are apart from those that are there and from one more are apart from all of these
-there-more : (set : Option Mode) (profiles : List Profile) (entries : List Loaded) (profile : Profile) → are_there profiles entries ≡ false → list_any (is_profile_named profile.name) profiles ≡ false
+pub there-more : (set : Option Mode) (profiles : List Profile) (entries : List Loaded) (profile : Profile) → are_there profiles entries ≡ false → list_any (is_profile_named profile.name) profiles ≡ false
     → are_there profiles (entries ++ in_force set profile ∷ []) ≡ false
 there-more set [] entries profile h n = refl
 there-more set (other ∷ profiles) entries profile h n =
@@ -201,3 +201,10 @@ changes-keep named files force entries (Remove file) h =
 changes-keep named files force entries (Enforce name) h = with_mode-distinct EnforceMode entries name h
 changes-keep named files force entries (Complain name) h = with_mode-distinct ComplainMode entries name h
 changes-keep named files force entries (Disable name) h = with_disabled-distinct entries name h
+
+-- an entry whose name isn't there comes behind all
+pub put_absent-end : (entry : Loaded) (entries : List Loaded) → has_name entry.profile.name entries ≡ false → put entry entries ≡ entries ++ entry ∷ []
+put_absent-end entry [] h = refl
+put_absent-end entry (other ∷ entries) h =
+    let parts = or_parts (is_named entry.profile.name other) (has_name entry.profile.name entries) h in
+    rw (parts.0) (ap (λ entries. other ∷ entries) (put_absent-end entry entries parts.1))

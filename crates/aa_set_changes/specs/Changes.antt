@@ -1,5 +1,5 @@
 -- The change that a command makes of a policy set: a new policy set, or a refusal (docs/commands.md, "Changes").
-use Rattle.std.specs.Prelude.{ℕ, Bool, true, false, not, ◌&&◌, if◌then◌else◌, List, [], ◌∷◌, ◌++◌, map, filter, fold, Option, None, Some, is_none, Result, Ok, Err}
+use Rattle.std.specs.Prelude.{ℕ, Bool, true, false, not, ◌&&◌, if◌then◌else◌, List, [], ◌∷◌, ◌++◌, length, map, filter, fold, Option, None, Some, is_none, Result, Ok, Err}
 use Rattle.std.specs.List.{list_any}
 use Rattle.aa_text_files.specs.Files.{File}
 use Rattle.aa_profile_data.specs.Profile.{is_named as is_profile_named}
@@ -111,6 +111,20 @@ changed files force_complain entries (Remove file) = by_file (with_removed entri
 changed files force_complain entries (Enforce name) = with_mode EnforceMode entries name
 changed files force_complain entries (Complain name) = with_mode ComplainMode entries name
 changed files force_complain entries (Disable name) = with_disabled entries name
+
+-- how many profiles a file has, if it is read
+abbrev pub profile_count : Result (List Profile) ProfileError → ℕ
+profile_count (Ok profiles) = length profiles
+profile_count (Err error) = 0
+
+-- how many parts a change has: one for each profile of its file, or one for a switch
+abbrev pub parts_of : List File → Change → ℕ
+parts_of files (Add file) = profile_count (file_profiles files file)
+parts_of files (Replace file) = profile_count (file_profiles files file)
+parts_of files (Remove file) = profile_count (file_profiles files file)
+parts_of files (Enforce name) = 1
+parts_of files (Complain name) = 1
+parts_of files (Disable name) = 1
 
 -- the entry of a name is there
 abbrev pub is_loaded : List ℕ → List Loaded → Bool

@@ -1,2 +1,2 @@
--- What is about the code: what slots hold.
-pub mod SeenSlots
+-- What is about the code: the slots that a change exchanges, and its parts.
+pub mod Places

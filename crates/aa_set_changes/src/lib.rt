@@ -1,13 +1,13 @@
 //! Policy sets, and the changes that commands make of them.
 #![tactic(auto)]
 
-mod copies;
-mod exchange;
+mod changes;
 mod laws;
+mod loading;
 mod modes;
+mod places;
 mod policy;
-mod slots;
 
-pub use exchange::Exchange;
+pub use changes::{adding, disabling, removing, replacing, switching};
 pub use laws::what_changes_keep;
 pub use policy::PolicySet;

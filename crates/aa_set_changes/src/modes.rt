@@ -1,7 +1,7 @@
 //! The modes that profiles come into force in.
 
-ghost use Rattle.std.specs.Prelude.{◌≡◌, IfOk, Some};
-ghost use Rattle.aa_set_changes.specs.Changes.{disabled, forced, in_force, mode_of, modes_of};
+ghost use Rattle.std.specs.Prelude.{◌≡◌, IfOk};
+ghost use Rattle.aa_set_changes.specs.Changes.{forced, in_force, mode_of, modes_of};
 
 use aa_bytes::Sequence;
 use aa_decide::{Entry, Ready, State};
@@ -29,8 +29,16 @@ fn mode_of(set: Option<Mode>, own: Mode) -> Mode
     }
 }
 
-// The modes of a profile and of each of its children and hats.
-fn modes_of(alloc: Global, set: Option<Mode>, profile: &Profile) -> Result<Vec<Mode>, AllocError>
+/// The modes of a profile and of each of its children and hats.
+///
+/// # Errors
+///
+/// Where memory runs out.
+pub fn modes_of(
+    alloc: Global,
+    set: Option<Mode>,
+    profile: &Profile,
+) -> Result<Vec<Mode>, AllocError>
     ensures { IfOk result (λ modes. modes.items ≡ modes_of set profile.now) }
 {
     let children = profile.children.as_slice();
@@ -52,26 +60,4 @@ pub fn in_force(alloc: Global, set: Option<Mode>, ready: Ready) -> Result<Entry,
 {
     let modes = modes_of(alloc, set, &ready.profile)?;
     Ok(Entry::new(ready, State::Modes(Sequence::from_vec(modes))))
-}
-
-/// An equal profile in force, it and its children and hats in one mode.
-///
-/// # Errors
-///
-/// Where memory runs out.
-pub fn copy_in_mode(alloc: Global, mode: Mode, entry: &Entry) -> Result<Entry, AllocError>
-    ensures { IfOk result (λ copy. copy ≡ in_force (Some mode) entry.now.profile) }
-{
-    in_force(alloc, Some(mode), entry.ready().try_copy(alloc)?)
-}
-
-/// An equal profile out of force.
-///
-/// # Errors
-///
-/// Where memory runs out.
-pub fn disabled_copy(alloc: Global, entry: &Entry) -> Result<Entry, AllocError>
-    ensures { IfOk result (λ copy. copy ≡ disabled entry.now.profile) }
-{
-    Ok(Entry::new(entry.ready().try_copy(alloc)?, State::Disabled))
 }

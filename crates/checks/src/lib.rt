@@ -1,5 +1,5 @@
-//! Tests of the library crates that no row can state: a journal over a change of one's own, streams of the standard library that fail, the
-//! words of arguments, and automata of many patterns.
+//! Tests of the library crates that no row can state: a journal over a change of one's own, how much a manager keeps, streams of the
+//! standard library that fail, the words of arguments, and automata of many patterns.
 #![tactic(auto)]
 
 #[cfg(test)]
@@ -10,6 +10,8 @@ mod automata;
 mod fakes;
 #[cfg(test)]
 mod journal;
+#[cfg(test)]
+mod manager;
 #[cfg(test)]
 mod runs;
 #[cfg(test)]

@@ -1,0 +1,38 @@
+-- The slots that a change of a policy set exchanges, and the parts that it is made of.
+use Rattle.std.specs.Prelude.{ℕ, ◌+◌, Bool, false, not, List, [], ◌∷◌, Option, None, Some}
+use Rattle.aa_decide_verdict.specs.Entries.{Loaded, is_in_force}
+use Rattle.aa_decide_verdict.specs.Slots.{entry_at}
+use Rattle.aa_profile_data.specs.declared.profile.Mode.{Mode}
+use Rattle.aa_profile_data.specs.declared.profile.Profile.{Profile}
+use Rattle.aa_set_changes.specs.Changes.{in_force}
+use Rattle.aa_set_parts.specs.declared.parts.Content.TheVariants.{Whole}
+use Rattle.aa_set_parts.specs.declared.parts.Part.{Part}
+
+-- the slots that profiles come to: each to the one where its name was found, and the others to new ones, from a number on
+abbrev pub places : ℕ → List (Option ℕ) → List ℕ
+places next [] = []
+places next (None ∷ found) = next ∷ places (next + 1) found
+places next (Some slot ∷ found) = slot ∷ places next found
+
+-- the number behind the new ones
+abbrev pub behind : ℕ → List (Option ℕ) → ℕ
+behind next [] = next
+behind next (None ∷ found) = behind (next + 1) found
+behind next (Some slot ∷ found) = behind next found
+
+-- the parts that load profiles into slots
+abbrev pub filling : Option Mode → List Profile → List ℕ → List Part
+filling set [] slots = []
+filling set (profile ∷ profiles) [] = []
+filling set (profile ∷ profiles) (slot ∷ slots) = record { slot = slot; content = Whole (Some (in_force set profile)) } ∷ filling set profiles slots
+
+-- the parts that empty the slots that were found
+abbrev pub emptying : List (Option ℕ) → List Part
+emptying [] = []
+emptying (None ∷ found) = emptying found
+emptying (Some slot ∷ found) = record { slot = slot; content = Whole None } ∷ emptying found
+
+-- the profile in a slot that was found is disabled
+abbrev pub is_disabled_at : List (Option Loaded) → Option ℕ → Bool
+is_disabled_at slots None = false
+is_disabled_at slots (Some slot) = elim (entry_at slots slot) [ None ↦ false | Some entry ↦ not (is_in_force entry.state) ]

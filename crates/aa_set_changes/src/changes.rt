@@ -1,0 +1,125 @@
+//! The changes that commands make of a policy set, each as the parts that it exchanges.
+
+ghost use Rattle.std.specs.Prelude.{◌≡◌, ◌≢◌, Ok, Err, IfOk, IfErr, length, true, false};
+ghost use Rattle.aa_decide.specs.Named.{have_distinct_names};
+ghost use Rattle.aa_decide_verdict.specs.Slots.{filled};
+ghost use Rattle.aa_profile_data.specs.Profile.{are_distinct};
+ghost use Rattle.aa_set_changes.specs.Changes.{are_there, is_disabled, is_loaded, some_are_absent, some_are_disabled, with_added, with_disabled, with_mode, with_removed, with_replaced};
+ghost use Rattle.aa_set_commands.specs.Refusal.{plain};
+ghost use Rattle.aa_set_commands.specs.declared.refusal.RefusalKind.TheVariants.{Memory};
+ghost use Rattle.aa_set_parts.specs.Parts.{after};
+
+use crate::loading::{in_state, loading, unloading};
+use crate::modes::{forced, modes_of};
+use crate::places::{find, found_to_add, found_to_remove, found_to_replace};
+use aa_bytes::Sequence;
+use aa_decide::State;
+use aa_profile_data::{Mode, Profile};
+use aa_set_commands::{Refusal, RefusalKind, plain};
+use aa_set_parts::{Exchange, Slots};
+use std::alloc::Global;
+
+/// The change that adds the profiles of a file, whose names are their own, at the end of a policy set: each in force in the modes of its own flags, or
+/// in complain mode where that is forced (docs/commands.md, "Changes"). It has a part for each profile. The slots stay as they are.
+///
+/// # Errors
+///
+/// `Exists` where a profile of one of their names is there, which is found without memory, and `Memory` where memory ran out.
+pub fn adding(
+    alloc: Global,
+    slots: &Slots,
+    force_complain: bool,
+    profiles: Vec<Profile>,
+) -> Result<Exchange, Refusal>
+    requires { are_distinct profiles.items ≡ true }
+    ensures ok { IfOk result (λ exchange. with_added force_complain (filled slots.now) profiles.items ≡ Ok (filled (after slots.now exchange.parts))) }
+    ensures parts { IfOk result (λ exchange. length exchange.parts ≡ length profiles.items) }
+    ensures refused { IfErr result (λ refusal. refusal ≢ plain Memory → with_added force_complain (filled slots.now) profiles.items ≡ Err refusal) }
+    ensures memory { IfErr result (λ refusal. refusal ≡ plain Memory → are_there profiles.items (filled slots.now) ≡ false) }
+{
+    let found = found_to_add(alloc, slots.as_slice(), &profiles)?;
+    Ok(loading(alloc, slots, forced(force_complain), profiles, &found)?)
+}
+
+/// The change that puts the profiles of a file, whose names are their own, in the places of those of their names, or at the end, in the file's order,
+/// where there is none: each in force in the modes of its own flags, or in complain mode where that is forced (docs/commands.md, "Changes"). It has a
+/// part for each profile. The slots stay as they are.
+///
+/// # Errors
+///
+/// `Disabled` where the profile of one of their names is disabled, which is found without memory, and `Memory` where memory ran out.
+pub fn replacing(
+    alloc: Global,
+    slots: &Slots,
+    force_complain: bool,
+    profiles: Vec<Profile>,
+) -> Result<Exchange, Refusal>
+    requires { are_distinct profiles.items ≡ true }
+    ensures ok { IfOk result (λ exchange. with_replaced force_complain (filled slots.now) profiles.items ≡ Ok (filled (after slots.now exchange.parts))) }
+    ensures parts { IfOk result (λ exchange. length exchange.parts ≡ length profiles.items) }
+    ensures refused { IfErr result (λ refusal. refusal ≢ plain Memory → with_replaced force_complain (filled slots.now) profiles.items ≡ Err refusal) }
+    ensures memory { IfErr result (λ refusal. refusal ≡ plain Memory → some_are_disabled profiles.items (filled slots.now) ≡ false) }
+{
+    let found = found_to_replace(alloc, slots.as_slice(), &profiles)?;
+    Ok(loading(alloc, slots, forced(force_complain), profiles, &found)?)
+}
+
+/// The change that takes out the profiles of these names, which are their own (docs/commands.md, "Changes"). It has a part for each. The slots, in which
+/// no two profiles have one name, stay as they are.
+///
+/// # Errors
+///
+/// `Absent` where one of these names isn't there, which is found without memory, and `Memory` where memory ran out.
+pub fn removing(alloc: Global, slots: &Slots, profiles: &[Profile]) -> Result<Exchange, Refusal>
+    requires own { are_distinct profiles.now ≡ true }
+    requires apart { have_distinct_names (filled slots.now) ≡ true }
+    ensures ok { IfOk result (λ exchange. with_removed (filled slots.now) profiles.now ≡ Ok (filled (after slots.now exchange.parts))) }
+    ensures parts { IfOk result (λ exchange. length exchange.parts ≡ length profiles.now) }
+    ensures refused { IfErr result (λ refusal. refusal ≢ plain Memory → with_removed (filled slots.now) profiles.now ≡ Err refusal) }
+    ensures memory { IfErr result (λ refusal. refusal ≡ plain Memory → some_are_absent profiles.now (filled slots.now) ≡ false) }
+{
+    let found = found_to_remove(alloc, slots.as_slice(), profiles)?;
+    Ok(unloading(alloc, slots, profiles, &found)?)
+}
+
+/// The change that brings the profile of a name into force, it and all its children and hats in one mode (docs/commands.md, "Changes"). It has one part.
+/// The slots stay as they are.
+///
+/// # Errors
+///
+/// `Absent` where no profile has the name, which is found without memory, and `Memory` where memory ran out.
+pub fn switching(alloc: Global, slots: &Slots, mode: Mode, name: &[u8]) -> Result<Exchange, Refusal>
+    ensures ok { IfOk result (λ exchange. with_mode mode (filled slots.now) name.now ≡ Ok (filled (after slots.now exchange.parts))) }
+    ensures parts { IfOk result (λ exchange. length exchange.parts ≡ 1) }
+    ensures refused { IfErr result (λ refusal. refusal ≢ plain Memory → with_mode mode (filled slots.now) name.now ≡ Err refusal) }
+    ensures memory { IfErr result (λ refusal. refusal ≡ plain Memory → is_loaded name.now (filled slots.now) ≡ true) }
+{
+    let Some((slot, entry)) = find(slots.as_slice(), name) else {
+        return Err(plain(RefusalKind::Absent));
+    };
+    let modes = modes_of(alloc, Some(mode), entry.profile())?;
+    Ok(in_state(alloc, slot, State::Modes(Sequence::from_vec(modes)))?)
+}
+
+/// The change that takes the profile of a name out of force, and its children and hats (docs/commands.md, "Changes"). It has one part. The slots stay as
+/// they are.
+///
+/// # Errors
+///
+/// `Absent` where no profile has the name, and `Disabled` where it is out of force already, which are found without memory; and `Memory` where
+/// memory ran out.
+pub fn disabling(alloc: Global, slots: &Slots, name: &[u8]) -> Result<Exchange, Refusal>
+    ensures ok { IfOk result (λ exchange. with_disabled (filled slots.now) name.now ≡ Ok (filled (after slots.now exchange.parts))) }
+    ensures parts { IfOk result (λ exchange. length exchange.parts ≡ 1) }
+    ensures refused { IfErr result (λ refusal. refusal ≢ plain Memory → with_disabled (filled slots.now) name.now ≡ Err refusal) }
+    ensures loaded { IfErr result (λ refusal. refusal ≡ plain Memory → is_loaded name.now (filled slots.now) ≡ true) }
+    ensures in_force { IfErr result (λ refusal. refusal ≡ plain Memory → is_disabled name.now (filled slots.now) ≡ false) }
+{
+    let Some((slot, entry)) = find(slots.as_slice(), name) else {
+        return Err(plain(RefusalKind::Absent));
+    };
+    if !entry.state().is_in_force() {
+        return Err(plain(RefusalKind::Disabled));
+    }
+    Ok(in_state(alloc, slot, State::Disabled)?)
+}

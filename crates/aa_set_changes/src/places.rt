@@ -1,0 +1,249 @@
+//! Where the profiles that a change names are found.
+
+ghost use Rattle.std.specs.Prelude.{◌≡◌, ◌≢◌, ◌+◌, ◌≤◌, [], ◌∷◌, false, true, length, IfErr, IfOk, IfSome, OnOk, is_none};
+ghost use Rattle.std.specs.List.{list_any};
+ghost use Rattle.std.specs.Option.{is_some, option_map};
+ghost use Rattle.aa_decide.specs.Named.{entry_named, has_name};
+ghost use Rattle.aa_decide_verdict.specs.Entries.{fits};
+ghost use Rattle.aa_decide_verdict.specs.Slots.{filled};
+ghost use Rattle.aa_set_changes.specs.Changes.{are_there, is_disabled, some_are_absent, some_are_disabled};
+ghost use Rattle.aa_set_changes.specs.code.Places.{behind, is_disabled_at, places};
+ghost use Rattle.aa_set_commands.specs.Refusal.{plain};
+ghost use Rattle.aa_set_commands.specs.declared.refusal.RefusalKind.TheVariants.{Absent, Disabled, Exists, Memory};
+ghost use Rattle.aa_set_names.specs.SlotNames.{slot_named, slots_named};
+
+use aa_decide::{Entry, entry_at};
+use aa_profile_data::Profile;
+use aa_set_commands::{Refusal, RefusalKind, plain};
+use aa_set_names::{slot_named, slots_named};
+use std::alloc::{AllocError, Global};
+
+/// The entry of a name, whose state fits it, and its slot. It takes no memory.
+pub fn find<'a>(slots: &'a [Option<Entry>], name: &[u8]) -> Option<(usize, &'a Entry)>
+    ensures slot { option_map (λ found. found.0) result ≡ slot_named name.now slots.now }
+    ensures entry { option_map (λ found. found.1.now) result ≡ entry_named name.now (filled slots.now) }
+    ensures fits { IfSome result (λ found. fits found.1.now.profile found.1.now.state ≡ true) }
+{
+    match slot_named(slots, name) {
+        None => None,
+        Some(slot) => match entry_at(slots, slot) {
+            None => None,
+            Some(entry) => {
+                let _state = entry.state();
+                Some((slot, entry))
+            }
+        },
+    }
+}
+
+// Whether a profile of this name is there.
+fn has_name(slots: &[Option<Entry>], name: &[u8]) -> bool
+    ensures { result ≡ has_name name.now (filled slots.now) }
+{
+    slot_named(slots, name).is_some()
+}
+
+// Whether one of these profiles has a name that is there.
+fn are_there(slots: &[Option<Entry>], profiles: &[Profile]) -> bool
+    ensures { result ≡ are_there profiles.now (filled slots.now) }
+{
+    profiles
+        .iter()
+        .any(|profile| has_name(slots, profile.name.as_slice()))
+}
+
+// Whether one of these profiles has a name that isn't there.
+fn some_are_absent(slots: &[Option<Entry>], profiles: &[Profile]) -> bool
+    ensures { result ≡ some_are_absent profiles.now (filled slots.now) }
+{
+    profiles
+        .iter()
+        .any(|profile| !has_name(slots, profile.name.as_slice()))
+}
+
+// Whether the profile of this name is disabled.
+fn is_disabled(slots: &[Option<Entry>], name: &[u8]) -> bool
+    ensures { result ≡ is_disabled name.now (filled slots.now) }
+{
+    match find(slots, name) {
+        None => false,
+        Some((_, entry)) => !entry.state().is_in_force(),
+    }
+}
+
+// Whether the profile of the name of one of these is disabled.
+fn some_are_disabled(slots: &[Option<Entry>], profiles: &[Profile]) -> bool
+    ensures { result ≡ some_are_disabled profiles.now (filled slots.now) }
+{
+    profiles
+        .iter()
+        .any(|profile| is_disabled(slots, profile.name.as_slice()))
+}
+
+// Whether some slot was found.
+fn some_are_found(found: &[Option<usize>]) -> bool
+    ensures { result ≡ list_any is_some found.now }
+{
+    found.iter().any(|slot| slot.is_some())
+}
+
+// Whether some slot wasn't found.
+fn some_are_missing(found: &[Option<usize>]) -> bool
+    ensures { result ≡ list_any is_none found.now }
+{
+    found.iter().any(|slot| slot.is_none())
+}
+
+// Whether the profile in a slot that was found is disabled.
+fn is_disabled_at(slots: &[Option<Entry>], found: Option<usize>) -> bool
+    ensures { result ≡ is_disabled_at slots.now found }
+{
+    let Some(slot) = found else {
+        return false;
+    };
+    match entry_at(slots, slot) {
+        None => false,
+        Some(entry) => !entry.state().is_in_force(),
+    }
+}
+
+// Whether the profile in one of the slots that were found is disabled.
+fn some_are_disabled_at(slots: &[Option<Entry>], found: &[Option<usize>]) -> bool
+    ensures { result ≡ list_any (is_disabled_at slots.now) found.now }
+{
+    found.iter().any(|slot| is_disabled_at(slots, *slot))
+}
+
+/// The slots in which the names of profiles to be added are found: none of them.
+///
+/// # Errors
+///
+/// `Exists` where one is there, which is found without memory, and `Memory` where memory ran out.
+pub fn found_to_add(
+    alloc: Global,
+    slots: &[Option<Entry>],
+    profiles: &[Profile],
+) -> Result<Vec<Option<usize>>, Refusal>
+    ensures found { IfOk result (λ found. found.items ≡ slots_named profiles.now slots.now) }
+    ensures ok { OnOk result (are_there profiles.now (filled slots.now) ≡ false) }
+    ensures refused { IfErr result (λ refusal. refusal ≢ plain Memory → refusal ≡ plain Exists) }
+    ensures exists { IfErr result (λ refusal. refusal ≢ plain Memory → are_there profiles.now (filled slots.now) ≡ true) }
+    ensures memory { IfErr result (λ refusal. refusal ≡ plain Memory → are_there profiles.now (filled slots.now) ≡ false) }
+{
+    match slots_named(alloc, slots, profiles) {
+        Ok(found) => {
+            if some_are_found(&found) {
+                return Err(plain(RefusalKind::Exists));
+            }
+            Ok(found)
+        }
+        Err(_) => {
+            if are_there(slots, profiles) {
+                return Err(plain(RefusalKind::Exists));
+            }
+            Err(plain(RefusalKind::Memory))
+        }
+    }
+}
+
+/// The slots in which the names of profiles to be replaced are found, of those that are there.
+///
+/// # Errors
+///
+/// `Disabled` where the profile of one of these names is disabled, which is found without memory, and `Memory` where memory ran out.
+pub fn found_to_replace(
+    alloc: Global,
+    slots: &[Option<Entry>],
+    profiles: &[Profile],
+) -> Result<Vec<Option<usize>>, Refusal>
+    ensures found { IfOk result (λ found. found.items ≡ slots_named profiles.now slots.now) }
+    ensures ok { OnOk result (some_are_disabled profiles.now (filled slots.now) ≡ false) }
+    ensures refused { IfErr result (λ refusal. refusal ≢ plain Memory → refusal ≡ plain Disabled) }
+    ensures disabled { IfErr result (λ refusal. refusal ≢ plain Memory → some_are_disabled profiles.now (filled slots.now) ≡ true) }
+    ensures memory { IfErr result (λ refusal. refusal ≡ plain Memory → some_are_disabled profiles.now (filled slots.now) ≡ false) }
+{
+    match slots_named(alloc, slots, profiles) {
+        Ok(found) => {
+            if some_are_disabled_at(slots, &found) {
+                return Err(plain(RefusalKind::Disabled));
+            }
+            Ok(found)
+        }
+        Err(_) => {
+            if some_are_disabled(slots, profiles) {
+                return Err(plain(RefusalKind::Disabled));
+            }
+            Err(plain(RefusalKind::Memory))
+        }
+    }
+}
+
+/// The slots in which the names of profiles to be removed are found: all of them.
+///
+/// # Errors
+///
+/// `Absent` where one isn't there, which is found without memory, and `Memory` where memory ran out.
+pub fn found_to_remove(
+    alloc: Global,
+    slots: &[Option<Entry>],
+    profiles: &[Profile],
+) -> Result<Vec<Option<usize>>, Refusal>
+    ensures found { IfOk result (λ found. found.items ≡ slots_named profiles.now slots.now) }
+    ensures ok { OnOk result (some_are_absent profiles.now (filled slots.now) ≡ false) }
+    ensures refused { IfErr result (λ refusal. refusal ≢ plain Memory → refusal ≡ plain Absent) }
+    ensures absent { IfErr result (λ refusal. refusal ≢ plain Memory → some_are_absent profiles.now (filled slots.now) ≡ true) }
+    ensures memory { IfErr result (λ refusal. refusal ≡ plain Memory → some_are_absent profiles.now (filled slots.now) ≡ false) }
+{
+    match slots_named(alloc, slots, profiles) {
+        Ok(found) => {
+            if some_are_missing(&found) {
+                return Err(plain(RefusalKind::Absent));
+            }
+            Ok(found)
+        }
+        Err(_) => {
+            if some_are_absent(slots, profiles) {
+                return Err(plain(RefusalKind::Absent));
+            }
+            Err(plain(RefusalKind::Memory))
+        }
+    }
+}
+
+// The slot that a profile comes to: the one where its name was found, or else the next new one.
+fn place(next: &mut usize, found: Option<usize>) -> usize
+    requires { next.old + 1 ≤ 18446744073709551615 }
+    ensures slot { result ∷ [] ≡ places next.old (found ∷ []) }
+    ensures next { next.new ≡ behind next.old (found ∷ []) }
+{
+    match found {
+        Some(slot) => slot,
+        None => {
+            let slot = *next;
+            *next += 1;
+            slot
+        }
+    }
+}
+
+/// The slots that profiles come to: each to the one where its name was found, and the others to new ones from `next` on, which becomes the number
+/// behind these.
+///
+/// # Errors
+///
+/// Where memory runs out.
+pub fn places(
+    alloc: Global,
+    next: &mut usize,
+    found: &[Option<usize>],
+) -> Result<Vec<usize>, AllocError>
+    requires { next.old + length found.now ≤ 18446744073709551615 }
+    ensures places { IfOk result (λ made. made.items ≡ places next.old found.now) }
+    ensures next { OnOk result (next.new ≡ behind next.old found.now) }
+{
+    let mut made = Vec::with_capacity(alloc, found.len())?;
+    for slot in found {
+        made.push(place(next, *slot))?;
+    }
+    Ok(made)
+}

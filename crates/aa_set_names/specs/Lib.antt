@@ -1,0 +1,2 @@
+pub mod SlotNames
+pub mod code

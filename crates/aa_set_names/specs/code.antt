@@ -1,0 +1,2 @@
+-- What is about the code: the first slot of each name.
+pub mod FirstSlots

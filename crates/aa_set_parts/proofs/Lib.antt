@@ -1,0 +1,2 @@
+pub mod ExchangeLemmas
+pub mod SlotLemmas

@@ -1,0 +1,4 @@
+pub mod PartLaws
+pub mod Parts
+pub mod SlotLaws
+pub mod Slots
