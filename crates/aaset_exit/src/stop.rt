@@ -1,13 +1,10 @@
 //! Why the program ends before it reads a command.
 ghost use Rattle.std.specs.Prelude.{◌≡◌};
-ghost use Rattle.aaset_exit.specs.declared.stop.Stop.TheVariants.{Failed};
-ghost use Rattle.aaset_exit.specs.declared.fault.Fault.TheVariants.{NoMemory};
 ghost use Rattle.aaset_exit.specs.Stop.{stop_at_arguments, stop_at_files};
 
 use crate::fault::Fault;
 use aaset_arguments::ArgFault;
 use aaset_gather::GatherFault;
-use std::alloc::{AllocError, AllocFailed};
 
 /// Why the program ends before it reads a command.
 #[derive(Debug, Drop)]
@@ -16,22 +13,6 @@ pub enum Stop {
     Shown(String),
     /// There is nothing to begin with.
     Failed(Fault),
-}
-
-impl From<AllocError> for Stop {
-    ghost from_gives = { λ _ stop. stop ≡ Failed NoMemory };
-
-    fn from(_error: AllocError) -> Stop {
-        Stop::Failed(Fault::NoMemory)
-    }
-}
-
-impl<T: Drop> From<AllocFailed<T>> for Stop {
-    ghost from_gives = { λ _ stop. stop ≡ Failed NoMemory };
-
-    fn from(_error: AllocFailed<T>) -> Stop {
-        Stop::Failed(Fault::NoMemory)
-    }
 }
 
 impl From<ArgFault> for Stop {

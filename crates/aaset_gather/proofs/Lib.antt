@@ -1,1 +1,2 @@
 pub mod GatheringLemmas
+pub mod NameLemmas

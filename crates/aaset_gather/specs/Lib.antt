@@ -1,2 +1,3 @@
 pub mod Gathering
+pub mod Names
 pub mod Reading

@@ -1,7 +1,9 @@
-//! The files that are named, read from the file system.
+//! The files that are named, read from a file system.
 #![tactic(auto)]
 
+mod file_system;
 mod gathering;
 mod reading;
 
+pub use file_system::{FileSystem, RuntimeFiles};
 pub use gathering::{GatherFault, gather};

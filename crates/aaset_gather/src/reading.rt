@@ -4,13 +4,14 @@ ghost use Rattle.std.specs.Io.KnownBytes.{IsAtEnd};
 ghost use Rattle.std.specs.IoError.{error_kind};
 ghost use Rattle.aa_text_files.specs.Files.{is_folder_name};
 ghost use Rattle.aa_text_files.specs.Limit.{most_bytes};
+ghost use Rattle.aaset_gather.specs.Gathering.{IsReadBelow};
 ghost use Rattle.aaset_gather.specs.Reading.{ReadsBehind, is_whole_path, path_of, read_fault_of};
 ghost use Rattle.aaset_gather.specs.declared.reading.ReadFault.TheVariants as read;
 
+use crate::file_system::FileSystem;
 use aa_text_files::{Files, MOST_BYTES};
 use std::alloc::{AllocError, Global};
-use std::io::{ErrorKind, Read};
-use std::{fs, io, rt};
+use std::io::{self, ErrorKind, Read};
 
 /// Why the bytes of a file aren't there.
 #[derive(Clone, Copy, Debug, PartialEq, Eq)]
@@ -117,19 +118,20 @@ fn path_of(alloc: Global, base: &str, name: &str) -> Result<String, AllocError>
 ///
 /// - `Unreadable` where the file can't be opened or read, is longer than 16,777,216 bytes, or hasn't ended after 16,777,217 reads.
 /// - `Memory` where memory ran out.
-pub fn bytes_of<R: rt::Files>(
-    rt: &R,
+pub fn bytes_of<D: FileSystem>(
+    disk: &D,
     alloc: Global,
     base: &str,
     name: &str,
 ) -> Result<Vec<u8>, ReadFault>
     ensures folder { IsTrue (is_folder_name name.now) → IsOkAnd result (λ bytes. bytes.items ≡ []) }
     ensures within { IfOk result (λ bytes. vec_len bytes ≤ most_bytes) }
+    ensures read { IfOk result (λ bytes. IsReadBelow (D.bytes_at disk.now) base.now (name.now, bytes.items)) }
 {
     if Files::is_folder(name.as_bytes()) {
         return Ok(Vec::new(alloc));
     }
     let path = path_of(alloc, base, name)?;
-    let mut file = fs::open(rt, path.as_str())?;
+    let mut file = disk.open(path.as_str())?;
     read_whole(alloc, &mut file)
 }

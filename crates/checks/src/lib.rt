@@ -1,5 +1,5 @@
 //! Tests of the library crates that no row can state: a journal over a change of one's own, how much a manager keeps, streams of the
-//! standard library that fail, the words of arguments, and automata of many patterns.
+//! standard library that fail, the words of arguments, automata of many patterns, and the whole program.
 #![tactic(auto)]
 
 #[cfg(test)]
@@ -12,6 +12,8 @@ mod fakes;
 mod journal;
 #[cfg(test)]
 mod manager;
+#[cfg(test)]
+mod program;
 #[cfg(test)]
 mod runs;
 #[cfg(test)]

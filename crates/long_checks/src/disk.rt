@@ -1,9 +1,7 @@
 //! A file system of a few files, which gives their bytes in pieces, and may fail.
 
-use std::alloc::Allocator;
-use std::fs::{Metadata, OpenFile, OpenOptions};
-use std::io::{self, ErrorKind, Read, Seek, SeekFrom, Write};
-use std::rt;
+use aaset_gather::FileSystem;
+use std::io::{self, ErrorKind, Read};
 
 /// A file of these bytes and so many zeros behind them, of which a read gives at most so many bytes, and at whose end a read may fail.
 #[derive(Drop)]
@@ -14,7 +12,7 @@ pub struct Stored {
     pub fails: bool,
 }
 
-// The error of a call that this disk doesn't answer.
+// The error of a read that fails, and of a file that isn't there.
 fn unsupported() -> io::Error {
     io::Error::from(ErrorKind::Unsupported)
 }
@@ -42,40 +40,6 @@ impl Read for Stored {
     }
 }
 
-impl Write for Stored {
-    fn write(&mut self, _buf: &[u8]) -> io::Result<usize> {
-        Err(unsupported())
-    }
-
-    fn flush(&mut self) -> io::Result<()> {
-        Err(unsupported())
-    }
-}
-
-impl Seek for Stored {
-    fn seek(&mut self, _pos: SeekFrom) -> io::Result<u64> {
-        Err(unsupported())
-    }
-}
-
-impl OpenFile for Stored {
-    fn metadata(&self) -> io::Result<Metadata> {
-        Err(unsupported())
-    }
-
-    fn set_len(&self, _size: u64) -> io::Result<()> {
-        Err(unsupported())
-    }
-
-    fn sync_all(&self) -> io::Result<()> {
-        Err(unsupported())
-    }
-
-    fn sync_data(&self) -> io::Result<()> {
-        Err(unsupported())
-    }
-}
-
 /// A file system of a few files, of which `/base/made` has so many zeros behind its text, gives at most so many bytes a read, and may fail
 /// at its end.
 #[derive(Drop)]
@@ -85,12 +49,14 @@ pub struct Disk {
     pub fails: bool,
 }
 
-impl rt::Files for Disk {
+impl FileSystem for Disk {
+    ghost use Rattle.std.specs.Prelude.{None};
+
     type File = Stored;
 
-    type Dir = Stored;
+    ghost bytes_at = { λ _ _. None };
 
-    fn open_file(&self, _how: &OpenOptions, path: &str) -> io::Result<Stored> {
+    fn open(&self, path: &str) -> io::Result<Stored> {
         let bytes: &'static [u8] = match path {
             "/base/made" => b"made",
             "/base/top" => b"profile a {}",
@@ -106,41 +72,5 @@ impl rt::Files for Disk {
             most: if is_made { self.most } else { usize::MAX },
             fails: is_made && self.fails,
         })
-    }
-
-    fn open_dir(&self, _path: &str) -> io::Result<Stored> {
-        Err(unsupported())
-    }
-
-    fn metadata(&self, _path: &str) -> io::Result<Metadata> {
-        Err(unsupported())
-    }
-
-    fn symlink_metadata(&self, _path: &str) -> io::Result<Metadata> {
-        Err(unsupported())
-    }
-
-    fn copy(&self, _from: &str, _to: &str) -> io::Result<u64> {
-        Err(unsupported())
-    }
-
-    fn rename(&self, _from: &str, _to: &str) -> io::Result<()> {
-        Err(unsupported())
-    }
-
-    fn remove_file(&self, _path: &str) -> io::Result<()> {
-        Err(unsupported())
-    }
-
-    fn create_dir(&self, _path: &str) -> io::Result<()> {
-        Err(unsupported())
-    }
-
-    fn remove_dir(&self, _path: &str) -> io::Result<()> {
-        Err(unsupported())
-    }
-
-    fn remove_dir_all<B: Allocator>(&self, _alloc: B, _path: &str) -> io::Result<()> {
-        Err(unsupported())
     }
 }

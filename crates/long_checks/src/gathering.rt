@@ -41,7 +41,7 @@ fn takes_files(alloc: Global) -> Result<bool, AllocError> {
         Some(b"made"),
     ];
     let given = owned(alloc, &names)?;
-    match gather(&DISK, alloc, "/base", &given) {
+    match gather(&DISK, alloc, "/base", given) {
         Ok(files) => Ok(are_files(&files, &names, &want)),
         Err(_) => Ok(false),
     }
@@ -50,7 +50,7 @@ fn takes_files(alloc: Global) -> Result<bool, AllocError> {
 // Whether the fault of gathering these names names this one.
 fn is_untaken(alloc: Global, names: &[&str], want: &str) -> Result<bool, AllocError> {
     let given = owned(alloc, names)?;
-    match gather(&DISK, alloc, "/base", &given) {
+    match gather(&DISK, alloc, "/base", given) {
         Err(GatherFault::Untaken(name)) => Ok(name.as_str() == want),
         _ => Ok(false),
     }
@@ -70,7 +70,7 @@ fn names_the_first(alloc: Global) -> Result<bool, AllocError> {
 // taken, the text first, or none.
 fn reads(disk: &Disk, alloc: Global, want: Option<usize>) -> Result<bool, AllocError> {
     let given = owned(alloc, &["made"])?;
-    match gather(disk, alloc, "/base", &given) {
+    match gather(disk, alloc, "/base", given) {
         Ok(files) => {
             let bytes = files.bytes_at(0);
             Ok(want == Some(bytes.len()) && bytes.starts_with(b"made"))

@@ -1,0 +1,58 @@
+//! What is ready before the first command is read.
+ghost use Rattle.std.specs.Prelude.{◌≡◌, drop, map, string_bytes};
+ghost use Rattle.aaset_arguments.specs.Arguments.{ForRun, asked};
+ghost use Rattle.aaset_arguments.specs.Plan.{run_of};
+ghost use Rattle.aaset_program.specs.Prepared.{ArePrepared, IsPrepared};
+
+use aa_text_files::Files;
+use aaset_arguments::Plan;
+use aaset_exit::{Fault, Stop};
+use aaset_gather::FileSystem;
+use std::alloc::Global;
+
+/// What is ready before the first command is read.
+#[derive(Drop)]
+pub struct Ready {
+    /// The files that commands may name.
+    pub files: Files,
+    /// Whether each profile is taken as one in complain mode, whatever its flags say.
+    pub force_complain: bool,
+}
+
+// Takes the files of a plan.
+fn gather<D: FileSystem>(alloc: Global, plan: Plan, disk: &D) -> Result<Ready, Stop>
+    ensures { IsPrepared (D.bytes_at disk.now) (ForRun (run_of plan)) result }
+{
+    let Plan {
+        force_complain,
+        base,
+        names,
+    } = plan;
+    let files = aaset_gather::gather(disk, alloc, base.as_str(), names)?;
+    Ok(Ready {
+        files,
+        force_complain,
+    })
+}
+
+// Takes the files that the words of the start ask for, the first of which is the program's own name.
+fn prepare_for<D: FileSystem>(alloc: Global, words: &[String], disk: &D) -> Result<Ready, Stop>
+    ensures { IsPrepared (D.bytes_at disk.now) (asked (drop 1 (map string_bytes words.now))) result }
+{
+    let plan = aaset_arguments::plan(alloc, words)?;
+    gather(alloc, plan, disk)
+}
+
+// Takes the files that the words of the start ask for, where these words are there.
+pub fn prepare<D: FileSystem>(
+    alloc: Global,
+    words: Result<Vec<String>, Fault>,
+    disk: &D,
+) -> Result<Ready, Stop>
+    ensures { ArePrepared (D.bytes_at disk.now) words result }
+{
+    match words {
+        Ok(words) => prepare_for(alloc, words.as_slice(), disk),
+        Err(fault) => Err(Stop::Failed(fault)),
+    }
+}

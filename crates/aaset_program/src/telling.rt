@@ -1,0 +1,51 @@
+//! What is told apart from replies: faults, and texts that were asked for.
+ghost use Rattle.std.specs.Prelude.{◌≡◌, OnOk, OnErr, true, string_bytes};
+ghost use Rattle.std.specs.Io.KnownBytes.{Appends};
+ghost use Rattle.aaset_exit.specs.Fault.{joined};
+ghost use Rattle.aaset_program.specs.Streams.{written_to};
+ghost use Rattle.aaset_program.specs.Program.{IsShown, IsTold, line_of};
+
+use aa_set::{Failed, Sink};
+use aaset_exit::{Fault, FaultText};
+use std::alloc::Global;
+
+// Writes a text, in as many calls as the sink needs, and without memory.
+fn write<W: Sink>(alloc: Global, writer: &mut W, text: &str) -> Result<(), Failed>
+    ensures ok { OnOk result (Appends (W.written writer.old) (W.written writer.new) text.now) }
+    ensures flag { OnOk result (W.failed writer.new ≡ W.failed writer.old) }
+    ensures fault { OnErr result (W.failed writer.new ≡ true) }
+{
+    let mut waiting = Vec::new(alloc);
+    aa_set_lines::tell(writer, &mut waiting, text.as_bytes())?;
+    aa_set_lines::flush(writer, &mut waiting)
+}
+
+// Writes a fault's text on a line of its own.
+fn write_line<E: Sink>(alloc: Global, errors: &mut E, text: FaultText<'_>) -> Result<(), Failed>
+    ensures ok { OnOk result (Appends (E.written errors.old) (E.written errors.new) (line_of (joined text.entry))) }
+    ensures flag { OnOk result (E.failed errors.new ≡ E.failed errors.old) }
+    ensures fault { OnErr result (E.failed errors.new ≡ true) }
+{
+    write(alloc, errors, text.words)?;
+    write(alloc, errors, text.name)?;
+    write(alloc, errors, "\n")
+}
+
+// Tells a fault on standard error, and gives its exit status, which alone tells it where that can't be written.
+pub fn tell<E: Sink>(alloc: Global, errors: &mut E, fault: &Fault) -> u8
+    ensures { IsTold fault.now (written_to (E.written errors.old) (E.written errors.new) (E.failed errors.new)) result }
+{
+    let _ = write_line(alloc, errors, aaset_exit::fault_text(fault));
+    aaset_exit::fault_status(fault)
+}
+
+// Shows a text that was asked for.
+pub fn show<W: Sink, E: Sink>(alloc: Global, text: &str, output: &mut W, errors: &mut E) -> u8
+    ensures { IsShown text.now (written_to (W.written output.old) (W.written output.new) (W.failed output.new))
+        (written_to (E.written errors.old) (E.written errors.new) (E.failed errors.new)) result }
+{
+    match write(alloc, output, text) {
+        Ok(()) => 0,
+        Err(_) => tell(alloc, errors, &Fault::Write),
+    }
+}
