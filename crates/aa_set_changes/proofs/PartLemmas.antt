@@ -21,9 +21,9 @@ use Rattle.aa_profile_data.specs.declared.profile.Profile.{Profile}
 use Rattle.aa_set_changes.specs.Changes.{are_there, disabled, forced, in_force, loaded, mode_of, modes_of, put, put_all, some_are_absent, some_are_disabled, with_added, with_disabled, with_mode, without}
 use Rattle.aa_set_commands.specs.Refusal.{plain}
 use Rattle.aa_set_commands.specs.declared.refusal.RefusalKind.TheVariants.{Absent, Disabled, Exists}
-use Rattle.aa_set_changes.specs.code.Places.{behind, emptying, filling, is_disabled_at, places}
+use Rattle.aa_set_changes.specs.code.Places.{behind, emptying, filling, is_disabled_at, next_behind, place_for, places}
 use Rattle.aa_set_changes.proofs.NameLemmas.{bytes_eq-comm, has-profile, put_absent-end, there-more, without-distinct}
-use Rattle.aa_set_changes.proofs.PlaceLemmas.{Finds, content-behind, disabled-found, filled-put, finds, found, found-is, found-kept, length-with, none-found, place_for, some-found, stands-at, with-end}
+use Rattle.aa_set_changes.proofs.PlaceLemmas.{Finds, content-behind, disabled-found, filled-put, finds, found, found-is, found-kept, length-with, none-found, some-found, stands-at, with-end}
 use Rattle.aa_set_names.specs.SlotNames.{holds, slot_named, slots_named}
 use Rattle.aa_set_parts.specs.Parts.{after, put_in}
 use Rattle.aa_set_parts.specs.Slots.{content_at, trimmed, with_content}
@@ -76,14 +76,10 @@ held_there name other slots (Some k) there h apart = ap (holds other) h.at ∙ o
 
 -- so many slots there are up to the last filled one, when an entry came to its place
 end_behind : (entry : Loaded) (slots : List (Option Loaded)) (k : Option ℕ) (there : Option Loaded) → Finds entry.profile.name slots k there
-    → length (trimmed (with_content (place_for (length (trimmed slots)) k) (Some entry) slots)) ≡ behind (length (trimmed slots)) (k ∷ [])
+    → length (trimmed (with_content (place_for (length (trimmed slots)) k) (Some entry) slots)) ≡ next_behind (length (trimmed slots)) k
 end_behind entry slots None there h =
     ap length (with-settled (length (trimmed slots)) (Some entry) slots ∙ with-end entry slots) ∙ length_push (trimmed slots) (Some entry)
 end_behind entry slots (Some k) there h = ap length (with-settled k (Some entry) slots) ∙ length-with k entry slots h.within
-
-places-next : (next : ℕ) (k : Option ℕ) (rest : List (Option ℕ)) → places next (k ∷ rest) ≡ place_for next k ∷ places (behind next (k ∷ [])) rest
-places-next next None rest = refl
-places-next next (Some k) rest = refl
 
 -- profiles that come to their places, one after another
 pub all-put : (set : Option Mode) (profiles : List Profile) (slots : List (Option Loaded)) → are_distinct profiles ≡ true
@@ -100,9 +96,8 @@ all-put set (profile ∷ profiles) slots h =
     let kept : all_found profiles there ≡ all_found profiles slots =
     all-kept profile.name slot (Some entry) slots profiles
     (λ other apart. (bytes_eq-comm profile.name other ∙ apart, held_there profile.name other slots k (entry_named profile.name (filled slots)) is apart)) alone in
-    let end : length (trimmed there) ≡ behind (length (trimmed slots)) (k ∷ []) = end_behind entry slots k (entry_named profile.name (filled slots)) is in
-    ap (λ slots_of. filled (after slots (filling set (profile ∷ profiles) slots_of))) (places-next (length (trimmed slots)) k (all_found profiles slots))
-    ∙ (λ i. filled (after there (filling set profiles (places (sym end i) (sym kept i)))))
+    let end : length (trimmed there) ≡ next_behind (length (trimmed slots)) k = end_behind entry slots k (entry_named profile.name (filled slots)) is in
+    (λ i. filled (after there (filling set profiles (places (sym end i) (sym kept i)))))
     ∙ all-put set profiles there own.1
     ∙ ap (λ entries. put_all set entries profiles) (filled-put entry slots)
 
@@ -275,18 +270,9 @@ pub told-disabled : (found : List (Option ℕ)) (profiles : List Profile) (slots
     → list_any (is_disabled_at slots) found ≡ some_are_disabled profiles (filled slots)
 told-disabled found profiles slots h = ap (list_any (is_disabled_at slots)) (h ∙ all_found-is profiles slots) ∙ some-disabled profiles slots
 
--- one slot more
-pub places-cons : (next : ℕ) (k : Option ℕ) (rest : List (Option ℕ)) → places next (k ∷ rest) ≡ places next (k ∷ []) ++ places (behind next (k ∷ [])) rest
-places-cons next None rest = refl
-places-cons next (Some k) rest = refl
-
-pub behind-cons : (next : ℕ) (k : Option ℕ) (rest : List (Option ℕ)) → behind next (k ∷ rest) ≡ behind (behind next (k ∷ [])) rest
-behind-cons next None rest = refl
-behind-cons next (Some k) rest = refl
-
-pub behind-one : (next : ℕ) (k : Option ℕ) → behind next (k ∷ []) ≤ next + 1
-behind-one next None = omega arith
-behind-one next (Some k) = omega arith
+pub next-one : (next : ℕ) (k : Option ℕ) → next_behind next k ≤ next + 1
+next-one next None = omega arith
+next-one next (Some k) = omega arith
 
 pub emptying-cons : (k : Option ℕ) (rest : List (Option ℕ)) → emptying (k ∷ rest) ≡ emptying (k ∷ []) ++ emptying rest
 emptying-cons None rest = refl

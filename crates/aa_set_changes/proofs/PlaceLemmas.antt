@@ -9,7 +9,7 @@ use Rattle.aa_decide.specs.Named.{entry_named, has_name, is_named}
 use Rattle.aa_decide_verdict.specs.Entries.{Loaded, is_in_force}
 use Rattle.aa_decide_verdict.specs.Slots.{entry_at, filled}
 use Rattle.aa_set_changes.specs.Changes.{is_disabled, put}
-use Rattle.aa_set_changes.specs.code.Places.{is_disabled_at}
+use Rattle.aa_set_changes.specs.code.Places.{is_disabled_at, place_for}
 use Rattle.aa_set_changes.proofs.NameLemmas.{has-found}
 use Rattle.aa_set_names.specs.SlotNames.{holds, slot_named}
 use Rattle.aa_set_parts.specs.Slots.{content_at, onto, trimmed, with_content}
@@ -154,11 +154,6 @@ disabled-found name slots = by (found name slots) (finds name slots)
     by : (k : Option ℕ) → Finds name slots k (entry_named name (filled slots)) → is_disabled_at slots k ≡ is_disabled name (filled slots)
     by None h = sym (ap told h)
     by (Some k) h = ap told (entry-content slots k ∙ h.at ∙ sym h.is)
-
--- the slot that an entry comes to: the one where its name was found, or else the one behind all
-abbrev pub place_for : ℕ → Option ℕ → ℕ
-place_for next None = next
-place_for next (Some k) = k
 
 content-end : (slots : List (Option Loaded)) → content_at (length slots) slots ≡ None
 content-end [] = refl

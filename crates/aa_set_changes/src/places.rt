@@ -1,13 +1,13 @@
 //! Where the profiles that a change names are found.
 
-ghost use Rattle.std.specs.Prelude.{◌≡◌, ◌≢◌, ◌+◌, ◌≤◌, [], ◌∷◌, false, true, length, IfErr, IfOk, IfSome, OnOk, is_none};
+ghost use Rattle.std.specs.Prelude.{◌≡◌, ◌≢◌, ◌+◌, ◌≤◌, false, true, length, IfErr, IfOk, IfSome, OnOk, is_none};
 ghost use Rattle.std.specs.List.{list_any};
 ghost use Rattle.std.specs.Option.{is_some, option_map};
 ghost use Rattle.aa_decide.specs.Named.{entry_named, has_name};
 ghost use Rattle.aa_decide_verdict.specs.Entries.{fits};
 ghost use Rattle.aa_decide_verdict.specs.Slots.{filled};
 ghost use Rattle.aa_set_changes.specs.Changes.{are_there, is_disabled, some_are_absent, some_are_disabled};
-ghost use Rattle.aa_set_changes.specs.code.Places.{behind, is_disabled_at, places};
+ghost use Rattle.aa_set_changes.specs.code.Places.{behind, is_disabled_at, next_behind, place_for, places};
 ghost use Rattle.aa_set_commands.specs.Refusal.{plain};
 ghost use Rattle.aa_set_commands.specs.declared.refusal.RefusalKind.TheVariants.{Absent, Disabled, Exists, Memory};
 ghost use Rattle.aa_set_names.specs.SlotNames.{slot_named, slots_named};
@@ -213,8 +213,8 @@ pub fn found_to_remove(
 // The slot that a profile comes to: the one where its name was found, or else the next new one.
 fn place(next: &mut usize, found: Option<usize>) -> usize
     requires { next.old + 1 ≤ 18446744073709551615 }
-    ensures slot { result ∷ [] ≡ places next.old (found ∷ []) }
-    ensures next { next.new ≡ behind next.old (found ∷ []) }
+    ensures slot { result ≡ place_for next.old found }
+    ensures next { next.new ≡ next_behind next.old found }
 {
     match found {
         Some(slot) => slot,

@@ -8,17 +8,25 @@ use Rattle.aa_set_changes.specs.Changes.{in_force}
 use Rattle.aa_set_parts.specs.declared.parts.Content.TheVariants.{Whole}
 use Rattle.aa_set_parts.specs.declared.parts.Part.{Part}
 
--- the slots that profiles come to: each to the one where its name was found, and the others to new ones, from a number on
+-- the slot that a profile comes to: the one where its name was found, or else the next new one
+abbrev pub place_for : ℕ → Option ℕ → ℕ
+place_for next None = next
+place_for next (Some slot) = slot
+
+-- the next new one behind it
+abbrev pub next_behind : ℕ → Option ℕ → ℕ
+next_behind next None = next + 1
+next_behind next (Some slot) = next
+
+-- the slots that profiles come to, by those where their names were found
 abbrev pub places : ℕ → List (Option ℕ) → List ℕ
 places next [] = []
-places next (None ∷ found) = next ∷ places (next + 1) found
-places next (Some slot ∷ found) = slot ∷ places next found
+places next (found ∷ more) = place_for next found ∷ places (next_behind next found) more
 
--- the number behind the new ones
+-- the next new one behind all of them
 abbrev pub behind : ℕ → List (Option ℕ) → ℕ
 behind next [] = next
-behind next (None ∷ found) = behind (next + 1) found
-behind next (Some slot ∷ found) = behind next found
+behind next (found ∷ more) = behind (next_behind next found) more
 
 -- the parts that load profiles into slots
 abbrev pub filling : Option Mode → List Profile → List ℕ → List Part
