@@ -1,8 +1,9 @@
 //! The run of command lines: lines from a reader, replies to a writer.
 
-ghost use Rattle.std.specs.Prelude.{◌≡◌, ◌+◌, ◌^◌, ◌<◌, ◌≤◌, ◌∷◌, [], length, vec_len, count_by, false, true, OnOk, OnErr, IfOk, IsErrOf, ◌⊎◌};
+ghost use Rattle.std.specs.Prelude.{◌≡◌, ◌+◌, ◌-◌, ◌^◌, ◌<◌, ◌≤◌, ◌∷◌, [], length, vec_len, count_by, false, true, OnOk, OnErr, IfOk, IsErrOf, ◌⊎◌};
 ghost use Rattle.std.specs.List.{list_any};
-ghost use Rattle.std.specs.Io.KnownBytes.{IsAtEnd};
+ghost use Rattle.std.specs.Io.{ReadsAtMost};
+ghost use Rattle.std.specs.Io.KnownBytes.{IsAtEnd, ReadConsumes};
 ghost use Rattle.aa_set_lines.specs.Lines.{is_line_feed};
 ghost use Rattle.aa_set.specs.Reply.{is_acceptance, is_refusal};
 ghost use Rattle.aa_set.specs.Limits.{most_reads};
@@ -108,6 +109,7 @@ fn serve<S: Source, W: Sink>(
     piece: &mut [u8],
 ) -> Result<(), RunFault>
     requires fresh { counted session.old ≡ 0 }
+    requires nothing_waits { session.old.waiting.items ≡ [] }
     requires piece { length piece.old ≡ piece_size }
     requires whole_reader { S.failed reader.old ≡ false }
     requires whole_writer { W.failed writer.old ≡ false }
@@ -122,7 +124,7 @@ fn serve<S: Source, W: Sink>(
     ensures bound { S.reads reader.new ≤ S.reads reader.old + most_reads }
 {
     for _turn in 0..MOST_READS {
-        let Ok(count) = reader.read(piece) else {
+        let Ok(count) = read_piece(reader, session.waiting.as_slice(), piece) else {
             return Err(RunFault::Read);
         };
         if count == 0 {
@@ -138,6 +140,20 @@ fn serve<S: Source, W: Sink>(
     Err(RunFault::Read)
 }
 
+// Reads the next piece of the input, where no reply waits to be written. Each read of a run is made here.
+fn read_piece<S: Source>(reader: &mut S, waiting: &[u8], piece: &mut [u8]) -> Result<usize, Failed>
+    requires nothing_waits { waiting.now ≡ [] }
+    requires countable { S.reads reader.old < 2 ^ 64 - 1 }
+    ensures within { ReadsAtMost result piece.new }
+    ensures bytes { ReadConsumes (S.left reader.old) (S.left reader.new) result piece.new }
+    ensures counted { S.reads reader.new ≡ S.reads reader.old + 1 }
+    ensures ok { OnOk result (S.failed reader.new ≡ S.failed reader.old) }
+    ensures err { OnErr result (S.failed reader.new ≡ true) }
+{
+    prove!(waiting.is_empty());
+    reader.read(piece)
+}
+
 // A session of the empty policy set, an empty line buffer, and a buffer for a piece of the input.
 fn prepared(
     alloc: Global,
@@ -145,6 +161,7 @@ fn prepared(
 ) -> Result<(Session, LineBuffer, Vec<u8>), AllocError>
     ensures session { IfOk result (λ made. IsFresh force_complain made.0 made.1) }
     ensures counted { IfOk result (λ made. counted made.0 ≡ 0) }
+    ensures nothing_waits { IfOk result (λ made. made.0.waiting.items ≡ []) }
     ensures piece { IfOk result (λ made. vec_len made.2 ≡ piece_size) }
 {
     let session = Session {

@@ -54,6 +54,7 @@ pub fn tell<W: Sink>(writer: &mut W, waiting: &mut Vec<u8>, bytes: &[u8]) -> Res
         (waiting.old.items ++ bytes.now)) }
     ensures fault { OnErr result (W.failed writer.new ≡ true) }
     ensures dropped { OnErr result (waiting.new.items ≡ []) }
+    ensures within { vec_len waiting.new ≤ vec_capacity waiting.old }
     ensures capacity { vec_capacity waiting.old ≤ vec_capacity waiting.new }
 {
     if bytes.len() > waiting.capacity() - waiting.len() {

@@ -4,7 +4,7 @@ ghost use Rattle.std.specs.Prelude.{◌≡◌, ◌<◌, ◌≤◌, ◌∷◌, []
 ghost use Rattle.std.specs.List.{prefix_len};
 ghost use Rattle.std.specs.Option.{option_map};
 ghost use Rattle.aa_bytes.specs.Texts.{begins_with};
-ghost use Rattle.aa_set_lines.specs.declared.words.TheConstants.{MOST_WORDS};
+ghost use Rattle.aa_set_lines.specs.Limits.{most_words};
 ghost use Rattle.aa_set_lines.specs.code.FirstWord.{IsFirstWord};
 ghost use Rattle.aa_set_lines.specs.Words.{words_of, words_in_quotes, is_word_end, is_quote, is_command_blank};
 
@@ -24,7 +24,7 @@ pub struct BadWords;
 pub struct Words<'a> {
     words: [&'a [u8]; MOST_WORDS],
     count: usize,
-    ghost within: { count ≤ MOST_WORDS },
+    ghost within: { count ≤ most_words },
 }
 
 impl<'a> Words<'a> {
@@ -37,7 +37,7 @@ impl<'a> Words<'a> {
     /// `BadWords` where a quote isn't closed or is followed directly, and where there are more words than any command has.
     pub fn cut(line: &'a [u8]) -> Result<Words<'a>, BadWords>
         ensures words { IfOk result (λ words. words_of line.now ≡ Some (texts words)) }
-        ensures refused { OnErr result (IfSome (words_of line.now) (λ words. MOST_WORDS < length words)) }
+        ensures refused { OnErr result (IfSome (words_of line.now) (λ words. most_words < length words)) }
     {
         let mut words: [&[u8]; MOST_WORDS] = [b""; MOST_WORDS];
         let mut count = 0;

@@ -1,16 +1,29 @@
 use Rattle.std.proofs.lemmas.List.{length-take-le}
-use Rattle.std.proofs.Common.{◌≡◌, length-append, ◌≤◌, ◌++◌, length, take, ◌∙◌, arith}
+use Rattle.std.proofs.Common.{◌≡◌, length-append, ◌≤◌, ◌++◌, ◌<◌, ℕ, length, take, subst, ap, ◌∙◌, arith}
 use Rattle.std.proofs.KnownBytes.{Consumes-trans}
+use Rattle.std.specs.Io.KnownBytes.{Consumes}
+use Rattle.aa_set.specs.Run.{IsAnswered}
+use Rattle.aa_set.proofs.StreamLemmas.{Consumes-whole}
 use Rattle.aa_set.proofs.session.serve.Goals as goal
+
+pub returns-then-count-eq0-clause-answered : goal.returns-then-count-eq0-clause-answered
+returns-then-count-eq0-clause-answered g c = λ force_complain before follows.
+    let so_far = c.loop-turn.invariant in
+    let none = ap (λ (n : ℕ). take n c.read_piece.new.piece) c.if-count-eq0.true in
+    let some : 0 < length c.read_piece.new.piece = omega (arith, c.read_piece.auto.piece, c.loop-turn.auto.piece, c.requires.piece) in
+    let last = subst (Consumes (g.S.Source.left c.loop-turn.reader) (g.S.Source.left c.read_piece.new.reader)) none c.in-Ok.ensures.bytes.0 in
+    Consumes-whole _ _ _ (IsAnswered c.args.files.now force_complain before (g.W.Sink.written c.finish.new.writer) c.finish.new.session.summary) so_far.0
+    so_far.1 last (c.in-Ok.ensures.bytes.1 c.if-count-eq0.true some)
+    (c.in-Ok-finish.ensures.ok force_complain before so_far.0 (so_far.3 force_complain before follows))
 
 pub loop-turn-preserved : goal.loop-turn-preserved
 loop-turn-preserved g c =
     let so_far = c.loop-turn.invariant in
     let count = c.in-Ok.count in
-    let piece = take count c.read.new.buffer in
+    let piece = take count c.read_piece.new.piece in
     let longer = length-append so_far.0 piece in
-    let some : length piece ≡ count = length-take-le count c.read.new.buffer (omega (arith, c.in-Ok.ensures.within.0, c.in-Ok.ensures.within.1)) in
-    let size : length piece ≤ 65536 = omega (arith, c.in-Ok.ensures.within.0, c.in-Ok.ensures.within.1, c.read.auto.buffer, c.loop-turn.auto.piece, c.requires.piece) in (
+    let some : length piece ≡ count = length-take-le count c.read_piece.new.piece (omega (arith, c.in-Ok.ensures.within.0, c.in-Ok.ensures.within.1)) in
+    let size : length piece ≤ 65536 = omega (arith, c.in-Ok.ensures.within.0, c.in-Ok.ensures.within.1, c.read_piece.auto.piece, c.loop-turn.auto.piece, c.requires.piece) in (
       so_far.0 ++ piece,
       Consumes-trans _ _ _ so_far.0 piece so_far.1 c.in-Ok.ensures.bytes.0,
       omega (arith, longer, some, so_far.2),
@@ -19,4 +32,5 @@ loop-turn-preserved g c =
       omega (arith, c.in-Ok-turn.ensures.counted, so_far.5, size),
       c.in-Ok.ensures.ok ∙ so_far.6,
       c.in-Ok-turn.ensures.flag ∙ so_far.7,
+      c.in-Ok-turn.ensures.written,
     )

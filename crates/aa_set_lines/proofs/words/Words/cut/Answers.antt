@@ -2,7 +2,7 @@ use Rattle.std.proofs.Common.{◌≡◌, ◌≤◌, ◌<◌, ◌++◌, length, m
 use Rattle.std.proofs.lemmas.List.{length-map, length-take-le, map-append, take_more_set, length-set}
 use Rattle.std.specs.Option.{option_map}
 use Rattle.aa_set_lines.specs.Words.{words_of}
-use Rattle.aa_set_lines.specs.declared.words.TheConstants.{MOST_WORDS}
+use Rattle.aa_set_lines.specs.Limits.{most_words}
 use Rattle.aa_set_lines.proofs.WordLemmas.{words_more, words_many}
 use Rattle.aa_set_lines.proofs.words.Words.cut.Goals as goal
 
@@ -14,9 +14,9 @@ returns-then-count-eq-MOST_WORDS-clause-refused c =
     let more = words_of c.in-Some.after.now in
     let found = rw c.in-Some.is at c.in_ok-word.ensures.word in
     let within : c.loop-word.count ≤ length c.loop-word.words = omega arith in
-    let size : length front ≡ MOST_WORDS = rw (length-map, length-take-le) (omega arith) in
+    let size : length front ≡ most_words = rw (length-map, length-take-le) (omega arith) in
     let whole = ap (option_map (λ more. front ++ more)) (sym found) ∙ c.loop-word.invariant.words in
-    words_many MOST_WORDS front word more (words_of c.args.line.now) size whole
+    words_many most_words front word more (words_of c.args.line.now) size whole
 
 pub loop-word-preserved : goal.loop-word-preserved
 loop-word-preserved c =
