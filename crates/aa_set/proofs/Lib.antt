@@ -1,3 +1,4 @@
+pub mod BreakLemmas
 pub mod LawLemmas
 pub mod LineLemmas
 pub mod LinesLemmas

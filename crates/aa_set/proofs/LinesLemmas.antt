@@ -1,9 +1,9 @@
 -- What stands between the line feeds of a text, from its front.
-use Rattle.std.proofs.Common.{◌≡◌, ℕ, Bool, true, false, cond, List, [], ◌∷◌, ◌++◌, refl, sym, ap, ◌∙◌}
+use Rattle.std.proofs.Common.{◌≡◌, ℕ, Bool, true, false, cond, List, [], ◌∷◌, ◌++◌, refl, sym, ap, ◌∙◌, append-nil}
 use Rattle.std.specs.List.{list_any, onto_first, slice_split}
 use Rattle.std.proofs.lemmas.Bool.{or_parts, cond-true, cond-false}
 use Rattle.aa_bytes.specs.Texts.{is_empty}
-use Rattle.aa_set_lines.specs.Lines.{without_empty_last}
+use Rattle.aa_set_lines.specs.Lines.{without_empty_last, without_last}
 
 -- a text without separators is its one piece
 pub split-whole : (p : ℕ → Bool) (w : List ℕ) → list_any p w ≡ false → slice_split p w ≡ w ∷ []
@@ -73,3 +73,28 @@ pub without_empty_last-filled : (ls : List (List ℕ)) (u : List ℕ) → is_emp
 without_empty_last-filled [] u h = cond-false (is_empty u) _ _ h
 without_empty_last-filled (l ∷ []) u h = ap (λ zs. l ∷ zs) (cond-false (is_empty u) _ _ h)
 without_empty_last-filled (l ∷ m ∷ ls) u h = ap (λ zs. l ∷ zs) (without_empty_last-filled (m ∷ ls) u h)
+
+-- pieces but for the last
+pub without_last-push : (ls : List (List ℕ)) (u : List ℕ) → without_last (ls ++ u ∷ []) ≡ ls
+without_last-push [] u = refl
+without_last-push (l ∷ []) u = refl
+without_last-push (l ∷ m ∷ ls) u = ap (λ zs. l ∷ zs) (without_last-push (m ∷ ls) u)
+
+-- pieces before others stay
+pub without_last-append : (ls : List (List ℕ)) (u : List ℕ) (us : List (List ℕ)) → without_last (ls ++ u ∷ us) ≡ ls ++ without_last (u ∷ us)
+without_last-append [] u us = refl
+without_last-append (l ∷ []) u us = refl
+without_last-append (l ∷ m ∷ ls) u us = ap (λ zs. l ∷ zs) (without_last-append (m ∷ ls) u us)
+
+-- there is a last piece
+pub last_piece : (p : ℕ → Bool) (a : List ℕ) → (ls : List (List ℕ)) × (u : List ℕ) × (slice_split p a ≡ ls ++ u ∷ [])
+last_piece p a = let first = first_piece p a in let found = ending first.0 first.1 in (found.0, found.1, first.2 ∙ found.2)
+  where
+    ending : (x : List ℕ) (xs : List (List ℕ)) → (ls : List (List ℕ)) × (u : List ℕ) × (x ∷ xs ≡ ls ++ u ∷ [])
+    ending x [] = ([], x, refl)
+    ending x (y ∷ ys) = let rest = ending y ys in (x ∷ rest.0, rest.1, ap (λ zs. x ∷ zs) rest.2)
+
+-- a last piece is a line where it isn't empty
+pub without_empty_last-some : (ls : List (List ℕ)) (u : List ℕ) → (more : List (List ℕ)) × (without_empty_last (ls ++ u ∷ []) ≡ ls ++ more)
+without_empty_last-some ls [] = ([], without_empty_last-empty ls ∙ sym (append-nil ls))
+without_empty_last-some ls (b ∷ bs) = ((b ∷ bs) ∷ [], without_empty_last-filled ls (b ∷ bs) refl)

@@ -1,8 +1,10 @@
 -- What was told to a stream, and what a stream gave: facts that follow one another make one fact.
-use Rattle.std.proofs.Common.{◌≡◌, ℕ, List, [], ◌++◌, Option, None, Some, IfSome, sym, ap, ◌∙◌, append_assoc, append-nil, subst}
+use Rattle.std.proofs.Common.{◌≡◌, ℕ, zero, suc, Bool, true, false, ◌||◌, refl, List, [], ◌++◌, Option, None, Some, IfSome, sym, ap, ◌∙◌, append_assoc, append-nil, subst}
 use Rattle.std.proofs.KnownBytes.{Appends-nil, Appends-trans}
 use Rattle.std.specs.Io.KnownBytes.{Appends, Consumes, IsAtEnd}
-use Rattle.aa_set_lines.specs.Streams.{Tells}
+use Rattle.std.specs.Prelude.{OnErr, Result, Ok, Err, ◌∷◌, fold}
+use Rattle.std.proofs.Math.Dec.{eqb-suc-zero}
+use Rattle.aa_set_lines.specs.Streams.{AppendsFront, Tells, comes_to_end}
 
 -- no bytes were told
 pub Tells-nil : (a : Option (List ℕ)) (waits : List ℕ) → Tells a a waits waits []
@@ -30,3 +32,47 @@ Consumes-whole None b c holds given p q end h = tt
 Consumes-whole (Some x) None c holds given p q end h = absurd p
 Consumes-whole (Some x) (Some y) None holds given p q end h = absurd q
 Consumes-whole (Some x) (Some y) (Some z) holds given p q end h = subst holds (sym (p ∙ ap (λ (l : List ℕ). given ++ l) (q ∙ end) ∙ append-nil given)) h
+
+-- a front of some bytes is one of more
+pub Front-more : (a b : Option (List ℕ)) (bs more : List ℕ) → AppendsFront a b bs → AppendsFront a b (bs ++ more)
+Front-more a b bs more (front, rest, is, written) = (front, rest ++ more, ap (λ (l : List ℕ). l ++ more) is ∙ append_assoc front rest more, written)
+
+pub Front-same : (a b : Option (List ℕ)) (bs cs : List ℕ) → AppendsFront a b bs → bs ≡ cs → AppendsFront a b cs
+Front-same a b bs cs p e = subst (AppendsFront a b) e p
+
+-- behind bytes that were written
+pub Front-behind : (a b c : Option (List ℕ)) (done bs : List ℕ) → Appends a b done → AppendsFront b c bs → AppendsFront a c (done ++ bs)
+Front-behind a b c done bs written (front, rest, is, next) =
+    (done ++ front, rest, ap (λ (l : List ℕ). done ++ l) is ∙ sym (append_assoc done front rest), Appends-trans a b c done front written next)
+
+Front-on : (a c : Option (List ℕ)) (w bs : List ℕ) (more : List (List ℕ)) → AppendsFront a c (w ++ bs) → AppendsFront a c (w ++ fold (λ l m. l ++ m) bs more)
+Front-on a c w bs [] front = front
+Front-on a c w bs (piece ∷ more) front =
+    Front-on a c w (bs ++ piece) more (Front-same a c ((w ++ bs) ++ piece) (w ++ (bs ++ piece)) (Front-more a c (w ++ bs) piece front) (append_assoc w bs piece))
+
+-- Bytes were told, and then a front of what waited and of a further piece was written: so a front of all, of these and of more pieces that weren't told.
+pub Front-told : {a b : Option (List ℕ)} {w v pre : List ℕ} (c : Option (List ℕ)) (piece : List ℕ) (more : List (List ℕ)) (whole : List ℕ) → Tells a b w v pre
+    → AppendsFront b c (v ++ piece) → fold (λ l m. l ++ m) (pre ++ piece) more ≡ whole → AppendsFront a c (w ++ whole)
+Front-told {a} {b} {w} {v} {pre} c piece more whole tells front same =
+    Front-same a c (w ++ fold (λ l m. l ++ m) (pre ++ piece) more) (w ++ whole)
+    (Front-on a c w (pre ++ piece) more (
+    Front-same a c (tells.done ++ (v ++ piece)) (w ++ (pre ++ piece)) (Front-behind a b c tells.done (v ++ piece) tells.writes front)
+    (sym (append_assoc tells.done v piece) ∙ ap (λ (l : List ℕ). l ++ piece) tells.keeps ∙ append_assoc w pre piece)
+    ))
+    (ap (λ (l : List ℕ). w ++ l) same)
+
+-- what holds, holds where there is an error
+pub where_err : {A E P : Type 0} (result : Result A E) → P → OnErr result P
+where_err (Ok done) p = tt
+where_err (Err error) p = p
+
+-- and what follows from what holds there
+pub weaker_err : {A E P Q : Type 0} (result : Result A E) → (P → Q) → OnErr result P → OnErr result Q
+weaker_err (Ok done) f p = tt
+weaker_err (Err error) f p = f p
+
+-- a read that gave bytes comes to no end
+pub still_going : (ended : Bool) (count size : ℕ) → (count ≡ 0 → ⊥) → (ended || comes_to_end count size) ≡ ended
+still_going true count size h = refl
+still_going false zero size h = absurd (h refl)
+still_going false (suc count) size h = rw (eqb-suc-zero count) refl

@@ -1,5 +1,5 @@
 -- The laws of the machine, and what they speak of: which lines change the policy set, and which ones go back or on.
-use Rattle.std.specs.Prelude.{◌≡◌, ℕ, ◌+◌, Bool, true, false, not, ◌&&◌, if◌then◌else◌, List, ◌∷◌, [], IfOk, Option, Some, Result, Ok, Err}
+use Rattle.std.specs.Prelude.{◌≡◌, ℕ, ◌+◌, Bool, true, false, not, ◌&&◌, if◌then◌else◌, List, ◌∷◌, [], ◌++◌, IfOk, Option, Some, Result, Ok, Err}
 use Rattle.aa_text_files.specs.Files.{File}
 use Rattle.aa_history.specs.Machine.{all_sets}
 use Rattle.aa_set_commands.specs.Command.{Ask, Listed, Make, Order, Redo, Show, Undo, line_order}
@@ -8,7 +8,7 @@ use Rattle.aa_decide.specs.Named.{have_distinct_names}
 use Rattle.aa_set_lines.specs.Words.{words_of}
 use Rattle.aa_set.specs.Manager.{Managed, new_manager, next, redone, undone}
 use Rattle.aa_set.specs.Reply.{is_refusal}
-use Rattle.aa_set.specs.Run.{after_lines, line_outcome}
+use Rattle.aa_set.specs.Run.{after_lines, line_outcome, output, output_so_far}
 use Rattle.aa_decide_verdict.specs.Entries.{Loaded}
 
 -- the command in a line
@@ -102,3 +102,9 @@ abbrev pub StepsReturn : Type 0
 StepsReturn =
     (n : ℕ) (managed : Managed)
     → IfOk (undone n managed) (λ after. redone n after ≡ Ok managed) × IfOk (redone n managed) (λ after. undone n after ≡ Ok managed)
+
+-- What is written for the whole lines of an input, for some flags on them, is a front of what is written for that input and any more, for some flags.
+abbrev pub SoFarIsFront : Type 0
+SoFarIsFront =
+    (files : List File) (force_complain : Bool) (input more : List ℕ) (flags : List Bool)
+    → (later : List Bool) × (rest : List ℕ) × (output files force_complain (input ++ more) later ≡ output_so_far files force_complain input flags ++ rest)

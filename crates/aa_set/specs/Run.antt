@@ -9,7 +9,8 @@ use Rattle.aa_set_listing.specs.List.{list_lines}
 use Rattle.aa_text_files.specs.Files.{File}
 use Rattle.aa_set_commands.specs.Command.{Order, Make, Undo, Redo, Ask, Listed, Show, line_order}
 use Rattle.aa_set.specs.Manager.{Managed, new_manager, made, redone, undone}
-use Rattle.aa_set_lines.specs.Lines.{lines}
+use Rattle.aa_set_lines.specs.Lines.{lines, whole_lines}
+use Rattle.aa_set_lines.specs.Streams.{AppendsFront}
 use Rattle.aa_set.specs.Reply.{reply_text, is_refusal, is_acceptance}
 use Rattle.aa_set_lines.specs.Words.{words_of}
 use Rattle.aa_set.specs.declared.session.Summary.{Summary}
@@ -107,6 +108,24 @@ pub record IsAnswered (files : List File) (force_complain : Bool) (before now : 
 -- the input that a reader has left was answered, where its bytes are known
 abbrev pub IsLeftAnswered : List File → Bool → (left before now : Option (List ℕ)) → Summary → Type 0
 IsLeftAnswered files force_complain left before now summary = IfSome left (IsAnswered files force_complain before now summary)
+
+-- what is written for the whole lines of an input, those that a line feed ends: the texts of their replies, joined
+abbrev pub output_so_far : List File → Bool → List ℕ → List Bool → List ℕ
+output_so_far files force_complain input flags = flat_map (reply_text files) (replies_to files (new_manager force_complain) (flagged (whole_lines input) flags))
+
+-- The whole lines of an input were answered, for some flags on them, and nothing else was written: an unfinished line has no reply.
+pub record IsAnsweredSoFar (files : List File) (force_complain : Bool) (before now : Option (List ℕ)) (input : List ℕ) : Type 0 where
+  pub flags : List Bool
+  pub written : Appends before now (output_so_far files force_complain input flags)
+
+-- For some flags on the lines of an input, what was written is a front of the output for it.
+pub record IsFrontAnswered (files : List File) (force_complain : Bool) (before now : Option (List ℕ)) (input : List ℕ) : Type 0 where
+  pub flags : List Bool
+  pub written : AppendsFront before now (output files force_complain input flags)
+
+-- this holds of the bytes that a reader gave, where its bytes are known
+abbrev pub HoldsOfRead : Option (List ℕ) → Option (List ℕ) → (List ℕ → Type 0) → Type 0
+HoldsOfRead before now holds = (input : List ℕ) × Consumes before now input × holds input
 
 -- a reader gave so many bytes, where its bytes are known
 abbrev pub HasGiven : ℕ → Option (List ℕ) → Option (List ℕ) → Type 0

@@ -1,7 +1,7 @@
 //! What holds of the machine whatever it is told, as laws over the definitions that `run` and `Manager` are proved to
 //! follow.
 
-ghost use Rattle.aa_set.specs.Laws.{OtherLineLeavesAll, RefusedLineLeavesAll, SetDecidesAnswer, SetsHaveDistinctNames, StepsAdd, StepsReturn, UndoGivesBack};
+ghost use Rattle.aa_set.specs.Laws.{OtherLineLeavesAll, RefusedLineLeavesAll, SetDecidesAnswer, SetsHaveDistinctNames, SoFarIsFront, StepsAdd, StepsReturn, UndoGivesBack};
 
 use aa_bytes::Sequence;
 use aa_decide::Entry;
@@ -27,3 +27,9 @@ pub fn the_way_back()
     where_machines_go_back_to::<Sequence<Entry>>();
     what_changes_keep();
 }
+
+/// What a run writes before a fault of its reader, the replies to the whole lines that were read, is a front of what a run writes that reads these bytes
+/// and any more to the end: for some flags on lines that found no memory.
+pub fn what_faults_leave()
+    ensures { SoFarIsFront }
+{}

@@ -1,14 +1,16 @@
 //! The run of command lines: lines from a reader, replies to a writer.
 
-ghost use Rattle.std.specs.Prelude.{◌≡◌, ◌+◌, ◌-◌, ◌^◌, ◌<◌, ◌≤◌, ◌∷◌, [], length, vec_len, count_by, false, true, OnOk, OnErr, IfOk, IsErrOf, ◌⊎◌};
+ghost use Rattle.std.specs.Prelude.{◌≡◌, ◌+◌, ◌-◌, ◌^◌, ◌<◌, ◌≤◌, ◌||◌, ◌∷◌, [], length, vec_len, count_by, false, true, OnOk, OnErr, IfOk, IsErrOf, ◌⊎◌};
 ghost use Rattle.std.specs.List.{list_any};
 ghost use Rattle.std.specs.Io.{ReadsAtMost};
 ghost use Rattle.std.specs.Io.KnownBytes.{IsAtEnd, ReadConsumes};
 ghost use Rattle.aa_set_lines.specs.Lines.{is_line_feed};
 ghost use Rattle.aa_set.specs.Reply.{is_acceptance, is_refusal};
 ghost use Rattle.aa_set.specs.Limits.{most_reads};
-ghost use Rattle.aa_set.specs.Run.{HasGiven, IsLeftAnswered};
-ghost use Rattle.aa_set.specs.code.Session.{AnswersLine, EndsInput, EndsLine, Feeds, IsFresh, Serves, counted, piece_size};
+ghost use Rattle.aa_set.specs.Run.{HasGiven, HoldsOfRead, IsAnsweredSoFar, IsFrontAnswered, IsLeftAnswered};
+ghost use Rattle.aa_set_lines.specs.Streams.{comes_to_end};
+ghost use Rattle.aa_set_answers.specs.Answers.{line_with};
+ghost use Rattle.aa_set.specs.code.Session.{AnswersLine, BreaksAfter, BreaksOff, BreaksOffEnd, BreaksOffLine, EndsInput, EndsLine, Feeds, IsFresh, Serves, StopsAfter, counted, piece_size};
 
 use crate::manager::Manager;
 use crate::reply::{Reply, reply_to};
@@ -49,13 +51,13 @@ pub struct Session {
     pub summary: Summary,
 }
 
-/// How many reads a run makes at most.
+/// How many reads `run` makes at most.
 pub const MOST_READS: u32 = 2_147_483_648;
 
 // How many bytes a read asks for, and how many wait at most to be written.
 const PIECE: usize = 65_536;
 
-/// Answers the command lines of a reader, one after another, and writes the replies.
+/// Answers the command lines of a reader, one after another, and writes the replies: `run_with` with 2,147,483,648 reads.
 ///
 /// The run begins with the empty policy set. A line ends at a line feed, the last one at the input's end too; one of more
 /// than 65,536 bytes is refused when it ends. The replies to all lines that were read are written before the next read.
@@ -65,8 +67,9 @@ const PIECE: usize = 65_536;
 /// # Errors
 ///
 /// - `Memory`: no memory was left for the buffers. Nothing was read or written.
-/// - `Read`: a read failed, or 2,147,483,648 reads were made and each gave at least one byte. An unfinished line has no reply.
-/// - `Write`: a write failed.
+/// - `Read`: a read failed, or 2,147,483,648 reads were made and each gave at least one byte. The replies to the whole lines that were
+///   read are written, and nothing else: an unfinished line has no reply.
+/// - `Write`: a write failed. What was written is a front of the replies to what was read.
 pub fn run<S: Source, W: Sink>(
     alloc: Global,
     files: &Files,
@@ -81,6 +84,7 @@ pub fn run<S: Source, W: Sink>(
     // The replies are those of the machine that keeps whole policy sets, to all that was read.
     ensures answered { IfOk result (IsLeftAnswered files.now force_complain (S.left reader.old) (W.written writer.old) (W.written writer.new)) }
     ensures ended { OnOk result (IsAtEnd (S.left reader.new)) }
+    ensures end { OnOk result (S.ended reader.new ≡ true) }
     ensures whole { OnOk result ((S.failed reader.new ≡ false) × (W.failed writer.new ≡ false)) }
 
     // It reads no more often than it may.
@@ -88,22 +92,80 @@ pub fn run<S: Source, W: Sink>(
 
     // When each fault comes.
     ensures read { IsErrOf result RunFault.Read → (S.failed reader.new ≡ true) ⊎ (S.reads reader.new ≡ S.reads reader.old + most_reads) }
+    ensures going { IsErrOf result RunFault.Read → S.failed reader.new ≡ false → S.ended reader.new ≡ S.ended reader.old }
     ensures given { IsErrOf result RunFault.Read → S.failed reader.new ≡ false → HasGiven most_reads (S.left reader.old) (S.left reader.new) }
     ensures write { IsErrOf result RunFault.Write → W.failed writer.new ≡ true }
+
+    // What stands after each.
+    ensures so_far { IsErrOf result RunFault.Read → HoldsOfRead (S.left reader.old) (S.left reader.new)
+        (IsAnsweredSoFar files.now force_complain (W.written writer.old) (W.written writer.new)) }
+    ensures front { IsErrOf result RunFault.Write → HoldsOfRead (S.left reader.old) (S.left reader.new)
+        (IsFrontAnswered files.now force_complain (W.written writer.old) (W.written writer.new)) }
+    ensures memory { IsErrOf result RunFault.Memory → (reader.new ≡ reader.old) × (writer.new ≡ writer.old) }
+{
+    run_with(alloc, files, force_complain, MOST_READS, reader, writer)
+}
+
+/// Answers the command lines of a reader as `run` does, by at most so many reads: the end of the input must be seen within them.
+///
+/// # Errors
+///
+/// Those of `run`, with `reads` in place of 2,147,483,648. With none no read is made, and the fault is `Read`.
+pub fn run_with<S: Source, W: Sink>(
+    alloc: Global,
+    files: &Files,
+    force_complain: bool,
+    reads: u32,
+    reader: &mut S,
+    writer: &mut W,
+) -> Result<Summary, RunFault>
+    requires whole_reader { S.failed reader.old ≡ false }
+    requires whole_writer { W.failed writer.old ≡ false }
+    requires reads { S.reads reader.old ≤ 2 ^ 63 }
+
+    // The replies are those of the machine that keeps whole policy sets, to all that was read.
+    ensures answered { IfOk result (IsLeftAnswered files.now force_complain (S.left reader.old) (W.written writer.old) (W.written writer.new)) }
+    ensures ended { OnOk result (IsAtEnd (S.left reader.new)) }
+    ensures end { OnOk result (S.ended reader.new ≡ true) }
+    ensures whole { OnOk result ((S.failed reader.new ≡ false) × (W.failed writer.new ≡ false)) }
+
+    // It reads no more often than it may.
+    ensures bound { S.reads reader.new ≤ S.reads reader.old + reads }
+
+    // When each fault comes.
+    ensures read { IsErrOf result RunFault.Read → (S.failed reader.new ≡ true) ⊎ (S.reads reader.new ≡ S.reads reader.old + reads) }
+    ensures going { IsErrOf result RunFault.Read → S.failed reader.new ≡ false → S.ended reader.new ≡ S.ended reader.old }
+    ensures given { IsErrOf result RunFault.Read → S.failed reader.new ≡ false → HasGiven reads (S.left reader.old) (S.left reader.new) }
+    ensures write { IsErrOf result RunFault.Write → W.failed writer.new ≡ true }
+
+    // What stands after each.
+    ensures so_far { IsErrOf result RunFault.Read → HoldsOfRead (S.left reader.old) (S.left reader.new)
+        (IsAnsweredSoFar files.now force_complain (W.written writer.old) (W.written writer.new)) }
+    ensures front { IsErrOf result RunFault.Write → HoldsOfRead (S.left reader.old) (S.left reader.new)
+        (IsFrontAnswered files.now force_complain (W.written writer.old) (W.written writer.new)) }
     ensures memory { IsErrOf result RunFault.Memory → (reader.new ≡ reader.old) × (writer.new ≡ writer.old) }
 {
     let Ok((mut session, mut held, mut piece)) = prepared(alloc, force_complain) else {
         return Err(RunFault::Memory);
     };
-    serve(files, &mut session, &mut held, reader, writer, &mut piece)?;
+    serve(
+        files,
+        &mut session,
+        &mut held,
+        reads,
+        reader,
+        writer,
+        &mut piece,
+    )?;
     Ok(session.summary)
 }
 
-// Reads piece after piece, and answers the lines, until the input ends.
+// Reads piece after piece, and answers the lines, until the input ends, by at most so many reads.
 fn serve<S: Source, W: Sink>(
     files: &Files,
     session: &mut Session,
     held: &mut LineBuffer,
+    reads: u32,
     reader: &mut S,
     writer: &mut W,
     piece: &mut [u8],
@@ -116,14 +178,18 @@ fn serve<S: Source, W: Sink>(
     requires reads { S.reads reader.old ≤ 2 ^ 63 }
     ensures answered { OnOk result (Serves files.now (S.left reader.old) (W.written writer.old) (W.written writer.new) session.old held.old session.new) }
     ensures ended { OnOk result (IsAtEnd (S.left reader.new)) }
+    ensures end { OnOk result (S.ended reader.new ≡ true) }
     ensures whole { OnOk result ((S.failed reader.new ≡ false) × (W.failed writer.new ≡ false)) }
-    ensures read { IsErrOf result RunFault.Read → (S.failed reader.new ≡ true) ⊎ (S.reads reader.new ≡ S.reads reader.old + most_reads) }
-    ensures given { IsErrOf result RunFault.Read → S.failed reader.new ≡ false → HasGiven most_reads (S.left reader.old) (S.left reader.new) }
+    ensures read { IsErrOf result RunFault.Read → (S.failed reader.new ≡ true) ⊎ (S.reads reader.new ≡ S.reads reader.old + reads) }
+    ensures going { IsErrOf result RunFault.Read → S.failed reader.new ≡ false → S.ended reader.new ≡ S.ended reader.old }
+    ensures given { IsErrOf result RunFault.Read → S.failed reader.new ≡ false → HasGiven reads (S.left reader.old) (S.left reader.new) }
     ensures write { IsErrOf result RunFault.Write → W.failed writer.new ≡ true }
+    ensures so_far { IsErrOf result RunFault.Read → StopsAfter files.now (S.left reader.old) (S.left reader.new) (W.written writer.old) (W.written writer.new) session.old held.old }
+    ensures front { IsErrOf result RunFault.Write → BreaksAfter files.now (S.left reader.old) (S.left reader.new) (W.written writer.old) (W.written writer.new) session.old held.old }
     ensures memory { IsErrOf result RunFault.Memory → ⊥ }
-    ensures bound { S.reads reader.new ≤ S.reads reader.old + most_reads }
+    ensures bound { S.reads reader.new ≤ S.reads reader.old + reads }
 {
-    for _turn in 0..MOST_READS {
+    for _turn in 0..reads {
         let Ok(count) = read_piece(reader, session.waiting.as_slice(), piece) else {
             return Err(RunFault::Read);
         };
@@ -147,6 +213,8 @@ fn read_piece<S: Source>(reader: &mut S, waiting: &[u8], piece: &mut [u8]) -> Re
     ensures within { ReadsAtMost result piece.new }
     ensures bytes { ReadConsumes (S.left reader.old) (S.left reader.new) result piece.new }
     ensures counted { S.reads reader.new ≡ S.reads reader.old + 1 }
+    ensures end { IfOk result (λ count. S.ended reader.new ≡ (S.ended reader.old || comes_to_end count (length piece.old))) }
+    ensures going { OnErr result (S.ended reader.new ≡ S.ended reader.old) }
     ensures ok { OnOk result (S.failed reader.new ≡ S.failed reader.old) }
     ensures err { OnErr result (S.failed reader.new ≡ true) }
 {
@@ -186,6 +254,7 @@ fn turn<W: Sink>(
 ) -> Result<(), Failed>
     requires room { counted session.old + length piece.now < 2 ^ 64 }
     ensures ok { OnOk result (Feeds files.now (W.written writer.old) (W.written writer.new) session.old session.new held.old held.new piece.now) }
+    ensures err { OnErr result (BreaksOff files.now (W.written writer.old) (W.written writer.new) session.old held.old piece.now) }
     // No reply waits for the next read.
     ensures written { OnOk result (session.new.waiting.items ≡ []) }
     ensures counted { counted session.new ≤ counted session.old + length piece.now }
@@ -205,6 +274,7 @@ fn answer<W: Sink>(
 ) -> Result<(), Failed>
     requires { counted session.old + 1 < 2 ^ 64 }
     ensures ok { OnOk result (AnswersLine files.now (W.written writer.old) (W.written writer.new) session.old session.new line.now) }
+    ensures err { OnErr result (BreaksOffLine files.now (W.written writer.old) (W.written writer.new) session.old line.now) }
     ensures counted { counted session.new ≤ counted session.old + 1 }
     ensures flag { OnOk result (W.failed writer.new ≡ W.failed writer.old) }
     ensures fault { OnErr result (W.failed writer.new ≡ true) }
@@ -240,6 +310,7 @@ fn end_line<W: Sink>(
     requires room { counted session.old + 1 < 2 ^ 64 }
     requires one_line { list_any is_line_feed last.now ≡ false }
     ensures ok { OnOk result (EndsLine files.now (W.written writer.old) (W.written writer.new) session.old session.new held.old held.new last.now) }
+    ensures err { OnErr result (BreaksOff files.now (W.written writer.old) (W.written writer.new) session.old held.old (line_with last.now)) }
     ensures counted { counted session.new ≤ counted session.old + 1 }
     ensures flag { OnOk result (W.failed writer.new ≡ W.failed writer.old) }
     ensures fault { OnErr result (W.failed writer.new ≡ true) }
@@ -263,6 +334,7 @@ fn feed<W: Sink>(
 ) -> Result<(), Failed>
     requires room { counted session.old + length piece.now < 2 ^ 64 }
     ensures ok { OnOk result (Feeds files.now (W.written writer.old) (W.written writer.new) session.old session.new held.old held.new piece.now) }
+    ensures err { OnErr result (BreaksOff files.now (W.written writer.old) (W.written writer.new) session.old held.old piece.now) }
     ensures counted { counted session.new ≤ counted session.old + length piece.now }
     ensures flag { OnOk result (W.failed writer.new ≡ W.failed writer.old) }
     ensures fault { OnErr result (W.failed writer.new ≡ true) }
@@ -285,6 +357,7 @@ fn finish<W: Sink>(
 ) -> Result<(), Failed>
     requires { counted session.old + 1 < 2 ^ 64 }
     ensures ok { OnOk result (EndsInput files.now (W.written writer.old) (W.written writer.new) session.old held.now session.new.summary) }
+    ensures err { OnErr result (BreaksOffEnd files.now (W.written writer.old) (W.written writer.new) session.old held.now) }
     ensures flag { OnOk result (W.failed writer.new ≡ W.failed writer.old) }
     ensures fault { OnErr result (W.failed writer.new ≡ true) }
 {

@@ -1,9 +1,9 @@
 //! The texts of replies, told to a writer without memory.
 
-ghost use Rattle.std.specs.Prelude.{◌≡◌, true, OnOk, OnErr};
+ghost use Rattle.std.specs.Prelude.{◌≡◌, ◌++◌, true, OnOk, OnErr};
 ghost use Rattle.std.specs.Fmt.{decimal};
 ghost use Rattle.aa_text_files.specs.Files.{name_at};
-ghost use Rattle.aa_set_lines.specs.Streams.{Tells};
+ghost use Rattle.aa_set_lines.specs.Streams.{AppendsFront, Tells};
 ghost use Rattle.aa_set.specs.Reply.{place_text, refusal_text, reply_text};
 ghost use Rattle.aa_quoting.specs.Texts.{hexadecimal, told_text};
 
@@ -18,7 +18,7 @@ use itoa::Buffer;
 ///
 /// # Errors
 ///
-/// `Failed` where the writer has a fault.
+/// `Failed` where the writer has a fault. Some front of what waited and the reply behind it is then written.
 pub fn tell_reply<W: Sink>(
     writer: &mut W,
     waiting: &mut Vec<u8>,
@@ -26,6 +26,7 @@ pub fn tell_reply<W: Sink>(
     reply: &Reply,
 ) -> Result<(), Failed>
     ensures ok { OnOk result (Tells (W.written writer.old) (W.written writer.new) waiting.old.items waiting.new.items (reply_text files.now reply.now)) }
+    ensures err { OnErr result (AppendsFront (W.written writer.old) (W.written writer.new) (waiting.old.items ++ (reply_text files.now reply.now))) }
     ensures flag { OnOk result (W.failed writer.new ≡ W.failed writer.old) }
     ensures fault { OnErr result (W.failed writer.new ≡ true) }
 {
@@ -45,6 +46,7 @@ fn tell_refusal<W: Sink>(
     refusal: Refusal,
 ) -> Result<(), Failed>
     ensures ok { OnOk result (Tells (W.written writer.old) (W.written writer.new) waiting.old.items waiting.new.items (refusal_text files.now refusal)) }
+    ensures err { OnErr result (AppendsFront (W.written writer.old) (W.written writer.new) (waiting.old.items ++ (refusal_text files.now refusal))) }
     ensures flag { OnOk result (W.failed writer.new ≡ W.failed writer.old) }
     ensures fault { OnErr result (W.failed writer.new ≡ true) }
 {
@@ -64,6 +66,7 @@ fn tell_place<W: Sink>(
     place: Option<Place>,
 ) -> Result<(), Failed>
     ensures ok { OnOk result (Tells (W.written writer.old) (W.written writer.new) waiting.old.items waiting.new.items (place_text files.now place)) }
+    ensures err { OnErr result (AppendsFront (W.written writer.old) (W.written writer.new) (waiting.old.items ++ (place_text files.now place))) }
     ensures flag { OnOk result (W.failed writer.new ≡ W.failed writer.old) }
     ensures fault { OnErr result (W.failed writer.new ≡ true) }
 {
@@ -89,6 +92,7 @@ fn file_name(files: &Files, file: usize) -> &[u8]
 // Tells a text: between quotes, or in hexadecimal where one of its bytes isn't shown.
 fn tell_text<W: Sink>(writer: &mut W, waiting: &mut Vec<u8>, text: &[u8]) -> Result<(), Failed>
     ensures ok { OnOk result (Tells (W.written writer.old) (W.written writer.new) waiting.old.items waiting.new.items (told_text text.now)) }
+    ensures err { OnErr result (AppendsFront (W.written writer.old) (W.written writer.new) (waiting.old.items ++ (told_text text.now))) }
     ensures flag { OnOk result (W.failed writer.new ≡ W.failed writer.old) }
     ensures fault { OnErr result (W.failed writer.new ≡ true) }
 {
@@ -107,6 +111,7 @@ fn tell_hexadecimal<W: Sink>(
     bytes: &[u8],
 ) -> Result<(), Failed>
     ensures ok { OnOk result (Tells (W.written writer.old) (W.written writer.new) waiting.old.items waiting.new.items (hexadecimal bytes.now)) }
+    ensures err { OnErr result (AppendsFront (W.written writer.old) (W.written writer.new) (waiting.old.items ++ (hexadecimal bytes.now))) }
     ensures flag { OnOk result (W.failed writer.new ≡ W.failed writer.old) }
     ensures fault { OnErr result (W.failed writer.new ≡ true) }
 {
@@ -119,6 +124,7 @@ fn tell_hexadecimal<W: Sink>(
 // Tells a number in decimal.
 fn tell_number<W: Sink>(writer: &mut W, waiting: &mut Vec<u8>, number: usize) -> Result<(), Failed>
     ensures ok { OnOk result (Tells (W.written writer.old) (W.written writer.new) waiting.old.items waiting.new.items (decimal number)) }
+    ensures err { OnErr result (AppendsFront (W.written writer.old) (W.written writer.new) (waiting.old.items ++ (decimal number))) }
     ensures flag { OnOk result (W.failed writer.new ≡ W.failed writer.old) }
     ensures fault { OnErr result (W.failed writer.new ≡ true) }
 {

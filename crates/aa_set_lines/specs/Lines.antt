@@ -16,3 +16,13 @@ without_empty_last (text ∷ next ∷ texts) = text ∷ without_empty_last (next
 -- the lines of an input: what stands between its line feeds, the last one only where it isn't empty
 abbrev pub lines : List ℕ → List (List ℕ)
 lines input = without_empty_last (slice_split is_line_feed input)
+
+-- texts but for the last
+abbrev pub without_last : List (List ℕ) → List (List ℕ)
+without_last [] = []
+without_last (text ∷ []) = []
+without_last (text ∷ next ∷ texts) = text ∷ without_last (next ∷ texts)
+
+-- the whole lines of an input: those that a line feed ends
+abbrev pub whole_lines : List ℕ → List (List ℕ)
+whole_lines input = without_last (slice_split is_line_feed input)

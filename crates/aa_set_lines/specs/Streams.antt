@@ -1,5 +1,5 @@
 -- What has been written to a stream, and what waits to be written, where the written bytes are known.
-use Rattle.std.specs.Prelude.{◌≡◌, ℕ, List, ◌++◌, Option}
+use Rattle.std.specs.Prelude.{◌≡◌, ◌==◌, ◌&&◌, not, ℕ, Bool, List, ◌++◌, Option}
 use Rattle.std.specs.Io.KnownBytes.{Appends}
 
 -- Some front of the bytes was written, and nothing else: all of them, none of them, or the first few.
@@ -12,3 +12,7 @@ pub record Tells (old new : Option (List ℕ)) (waited waits bytes : List ℕ) :
   pub done : List ℕ
   pub writes : Appends old new done
   pub keeps : done ++ waits ≡ waited ++ bytes
+
+-- a read of so many bytes into a buffer of this length comes to the end: it gives none, although there is room
+abbrev pub comes_to_end : ℕ → ℕ → Bool
+comes_to_end count size = count == 0 && not (size == 0)

@@ -9,6 +9,6 @@ mod words;
 
 pub use laws::quoted_words_read_back;
 pub use line::{LONGEST_LINE, LineBuffer, first_line};
-pub use stream::{Failed, FromRead, Sink, Source, ToWrite};
+pub use stream::{Failed, FromRead, Sink, Source, ToWrite, comes_to_end};
 pub use waiting::{flush, tell};
 pub use words::{BadWords, Words};

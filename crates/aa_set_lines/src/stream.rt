@@ -1,7 +1,8 @@
 //! Where bytes come from and where they go: a reader and a writer that count and remember their faults.
-ghost use Rattle.std.specs.Prelude.{Option, ◌≡◌, ℕ, ◌+◌, ◌-◌, ◌^◌, ◌<◌, List, Bool, true, false, length, IfOk, OnOk, OnErr};
+ghost use Rattle.std.specs.Prelude.{Option, ◌≡◌, ℕ, ◌+◌, ◌-◌, ◌^◌, ◌<◌, ◌||◌, List, Bool, true, false, length, IfOk, OnOk, OnErr};
 ghost use Rattle.std.specs.Io.{ReadsAtMost, WritesAtMost};
 ghost use Rattle.std.specs.Io.KnownBytes.{ReadConsumes, WriteAppends};
+ghost use Rattle.aa_set_lines.specs.Streams.{comes_to_end};
 
 use std::io::{Read, Write};
 use thiserror::Error;
@@ -15,7 +16,7 @@ pub struct Failed;
 
 /// Where bytes come from, piece by piece.
 ///
-/// A source counts the reads that were asked of it, and remembers whether one of them failed.
+/// A source counts the reads that were asked of it, and remembers whether one of them failed, and whether one came to the end.
 pub trait Source {
     // The bytes that reads will give from here on, where they are known.
     ghost left: { Self → Option (List ℕ) };
@@ -26,6 +27,9 @@ pub trait Source {
     // Whether a read failed.
     ghost failed: { Self → Bool };
 
+    // Whether a read came to the end: it gave no bytes into a buffer that has room.
+    ghost ended: { Self → Bool };
+
     /// Reads a piece: puts the next bytes at the front of `buffer`, and says how many they are, at most the buffer's
     /// length. What stands behind them in `buffer` means nothing. A count of 0 for a buffer that is not empty comes at
     /// the end alone.
@@ -35,12 +39,14 @@ pub trait Source {
     /// # Errors
     ///
     /// `Failed` where the stream has a fault. No byte is then lost: those that were left are left still. `failed()` is
-    /// true from then on.
+    /// true from then on, and `ended()` is as it was.
     fn read(&mut self, buffer: &mut [u8]) -> Result<usize, Failed>
         requires countable { reads self.old < 2 ^ 64 - 1 }
         ensures within { ReadsAtMost result buffer.new }
         ensures bytes { ReadConsumes (left self.old) (left self.new) result buffer.new }
         ensures counted { reads self.new ≡ reads self.old + 1 }
+        ensures end { IfOk result (λ count. ended self.new ≡ (ended self.old || comes_to_end count (length buffer.old))) }
+        ensures going { OnErr result (ended self.new ≡ ended self.old) }
         ensures ok { OnOk result (failed self.new ≡ failed self.old) }
         ensures err { OnErr result (failed self.new ≡ true) };
 
@@ -51,6 +57,10 @@ pub trait Source {
     /// Whether a call of `read` has failed.
     fn failed(&self) -> bool
         ensures { result ≡ failed self.now };
+
+    /// Whether a call of `read` has come to the end.
+    fn ended(&self) -> bool
+        ensures { result ≡ ended self.now };
 }
 
 /// Where bytes go.
@@ -81,6 +91,13 @@ pub trait Sink {
         ensures { result ≡ failed self.now };
 }
 
+/// Whether a read of so many bytes into a buffer of this length comes to the end: it gives none, although there is room.
+pub fn comes_to_end(count: usize, size: usize) -> bool
+    ensures { result ≡ comes_to_end count size }
+{
+    count == 0 && size > 0
+}
+
 /// A reader of the standard library as a source.
 ///
 /// Each error of the reader is a fault, also one that only says that a signal came between: nothing is tried twice.
@@ -89,19 +106,22 @@ pub struct FromRead<R> {
     reader: R,
     reads: u64,
     failed: bool,
+    ended: bool,
 }
 
 impl<R: Read> FromRead<R> {
-    /// A source of the bytes that `reader` has left, with no read so far and no fault.
+    /// A source of the bytes that `reader` has left, with no read so far, no fault and no end.
     pub fn new(reader: R) -> FromRead<R>
         ensures left { ⟦<FromRead<R> as Source>⟧.left result ≡ R.remaining reader }
         ensures reads { ⟦<FromRead<R> as Source>⟧.reads result ≡ 0 }
         ensures failed { ⟦<FromRead<R> as Source>⟧.failed result ≡ false }
+        ensures ended { ⟦<FromRead<R> as Source>⟧.ended result ≡ false }
     {
         FromRead {
             reader,
             reads: 0,
             failed: false,
+            ended: false,
         }
     }
 
@@ -120,10 +140,15 @@ impl<R: Read> Source for FromRead<R> {
 
     ghost failed = { λ s. s.failed };
 
+    ghost ended = { λ s. s.ended };
+
     fn read(&mut self, buffer: &mut [u8]) -> Result<usize, Failed> {
         self.reads += 1;
         match self.reader.read(buffer) {
-            Ok(count) => Ok(count),
+            Ok(count) => {
+                self.ended = self.ended || comes_to_end(count, buffer.len());
+                Ok(count)
+            }
             Err(_) => {
                 self.failed = true;
                 Err(Failed)
@@ -137,6 +162,10 @@ impl<R: Read> Source for FromRead<R> {
 
     fn failed(&self) -> bool {
         self.failed
+    }
+
+    fn ended(&self) -> bool {
+        self.ended
     }
 }
 

@@ -2,7 +2,7 @@
 use Rattle.std.specs.Prelude.{◌≡◌, ◌+◌, ◌==◌, ◌⊎◌, ℕ, false, true, List, ◌++◌, Result, Ok, Err, codes, string_bytes, if◌then◌else◌}
 use Rattle.std.specs.Io.KnownBytes.{Appends, IsAtEnd}
 use Rattle.aa_set.specs.Limits.{most_reads}
-use Rattle.aa_set.specs.Run.{HasGiven, IsLeftAnswered}
+use Rattle.aa_set.specs.Run.{HasGiven, HoldsOfRead, IsAnsweredSoFar, IsFrontAnswered, IsLeftAnswered}
 use Rattle.aa_set.specs.declared.session.RunFault.{RunFault}
 use Rattle.aa_set.specs.declared.session.RunFault.TheVariants as run
 use Rattle.aa_set.specs.declared.session.Summary.{Summary}
@@ -54,15 +54,22 @@ IsCause run.Read input output = (input.failed ≡ true) ⊎ IsEndless input
 IsCause run.Write input output = output.failed ≡ true
 IsCause run.Memory input output = IsUnread input × IsUnwritten output
 
+-- What stands on standard output after a fault: the replies to the whole lines that were read, a front of the replies to what was read, or nothing.
+abbrev pub StandsAfter : RunFault → Ready → Reads → Writes → Type 0
+StandsAfter run.Read ready input output = HoldsOfRead input.before input.after (IsAnsweredSoFar ready.files ready.force_complain output.before output.after)
+StandsAfter run.Write ready input output = HoldsOfRead input.before input.after (IsFrontAnswered ready.files ready.force_complain output.before output.after)
+StandsAfter run.Memory ready input output = IsUnwritten output
+
 -- a fault ended the run, and is told
-pub record IsBroken (input : Reads) (output errors : Writes) (status : ℕ) : Type 0 where
+pub record IsBroken (ready : Ready) (input : Reads) (output errors : Writes) (status : ℕ) : Type 0 where
   pub fault : RunFault
   pub cause : IsCause fault input output
+  pub stands : StandsAfter fault ready input output
   pub told : IsTold (fault_of_run fault) errors status
 
 -- a run over what is ready
 abbrev pub IsRun : Ready → Reads → Writes → Writes → ℕ → Type 0
-IsRun ready input output errors status = AreAnswered ready input output errors status ⊎ IsBroken input output errors status
+IsRun ready input output errors status = AreAnswered ready input output errors status ⊎ IsBroken ready input output errors status
 
 -- What is done of what was prepared: commands are answered, a text is shown, or a fault is told, and then nothing was read or answered.
 abbrev pub IsPerformed : Result Ready Stop → Reads → Writes → Writes → ℕ → Type 0

@@ -2,7 +2,7 @@
 
 ghost use Rattle.std.specs.Prelude.{◌≡◌, false};
 
-use aa_set::{Failed, Sink, Source};
+use aa_set::{Failed, Sink, Source, comes_to_end};
 
 /// A source that gives so many bytes a read, and fails at one of its reads.
 #[derive(Drop)]
@@ -12,6 +12,7 @@ pub struct Pieces<'a> {
     failing: u64,
     reads: u64,
     failed: bool,
+    ended: bool,
 }
 
 impl<'a> Pieces<'a> {
@@ -26,6 +27,7 @@ impl<'a> Pieces<'a> {
             failing,
             reads: 0,
             failed: false,
+            ended: false,
         }
     }
 }
@@ -39,6 +41,8 @@ impl Source for Pieces<'_> {
 
     ghost failed = { λ s. s.failed };
 
+    ghost ended = { λ s. s.ended };
+
     fn read(&mut self, buffer: &mut [u8]) -> Result<usize, Failed> {
         self.reads += 1;
         if self.reads == self.failing {
@@ -49,6 +53,7 @@ impl Source for Pieces<'_> {
         let (piece, rest) = self.rest.split_at(count);
         buffer[..count].copy_from_slice(piece);
         self.rest = rest;
+        self.ended = self.ended || comes_to_end(count, buffer.len());
         Ok(count)
     }
 
@@ -58,6 +63,10 @@ impl Source for Pieces<'_> {
 
     fn failed(&self) -> bool {
         self.failed
+    }
+
+    fn ended(&self) -> bool {
+        self.ended
     }
 }
 

@@ -4,11 +4,11 @@ use Rattle.std.specs.Prelude.{◌≡◌, ℕ, ◌+◌, Bool, List, [], ◌∷◌
 use Rattle.std.specs.List.{flat_map, slice_split}
 use Rattle.aa_text_files.specs.Files.{File}
 use Rattle.aa_set.specs.Manager.{new_manager}
-use Rattle.aa_set_lines.specs.Lines.{is_line_feed}
+use Rattle.aa_set_lines.specs.Lines.{is_line_feed, whole_lines}
 use Rattle.aa_set.specs.Reply.{reply_text}
 use Rattle.aa_set_answers.specs.Answers.{line_with}
-use Rattle.aa_set.specs.Run.{IsAnswered, IsLeftAnswered, replies_to, after_lines, SumsUp}
-use Rattle.aa_set_lines.specs.Streams.{Tells}
+use Rattle.aa_set.specs.Run.{HoldsOfRead, IsAnswered, IsAnsweredSoFar, IsFrontAnswered, IsLeftAnswered, replies_to, after_lines, SumsUp}
+use Rattle.aa_set_lines.specs.Streams.{AppendsFront, Tells}
 use Rattle.aa_set_lines.specs.Limits.{longest_line}
 use Rattle.aa_set.specs.declared.session.Session.{Session}
 use Rattle.aa_set.specs.declared.session.Summary.{Summary}
@@ -76,3 +76,45 @@ AnswersLine files old new before after line =
     (force_complain : Bool) (start : Option (List ℕ)) (lines : List (List ℕ × Bool))
     → IsAfter files force_complain start old before lines
     → (flag : Bool) × IsAfter files force_complain start new after (lines ++ (line, flag) ∷ [])
+
+-- what was written is a front of the texts of the replies to some lines, each with its flag, with which the whole lines of an input begin
+pub record IsFrontOfWhole (files : List File) (force_complain : Bool) (before now : Option (List ℕ)) (input : List ℕ) : Type 0 where
+  pub lines : List (List ℕ × Bool)
+  pub more : List (List ℕ)
+  pub whole : whole_lines input ≡ map (λ line. line.0) lines ++ more
+  pub written : AppendsFront before now (flat_map (reply_text files) (replies_to files (new_manager force_complain) lines))
+
+-- how a fault of the writer leaves what was written, where bytes were to be fed to a session, whatever was fed before
+abbrev pub BreaksOff : List File → (old new : Option (List ℕ)) → Session → List ℕ → List ℕ → Type 0
+BreaksOff files old new before held more =
+    (force_complain : Bool) (start : Option (List ℕ)) (input : List ℕ)
+    → Follows files force_complain start old before held input
+    → IsFrontOfWhole files force_complain start new (input ++ more)
+
+-- the same where a line was to be answered, whatever was answered before: with a flag where it found no memory
+abbrev pub BreaksOffLine : List File → (old new : Option (List ℕ)) → Session → List ℕ → Type 0
+BreaksOffLine files old new before line =
+    (force_complain : Bool) (start : Option (List ℕ)) (lines : List (List ℕ × Bool))
+    → IsAfter files force_complain start old before lines
+    → (flag : Bool) × AppendsFront start new (flat_map (reply_text files) (replies_to files (new_manager force_complain) (lines ++ (line, flag) ∷ [])))
+
+-- the same where the input's end was to be answered
+abbrev pub BreaksOffEnd : List File → (old new : Option (List ℕ)) → Session → List ℕ → Type 0
+BreaksOffEnd files old new before held =
+    (force_complain : Bool) (start : Option (List ℕ)) (input : List ℕ)
+    → Follows files force_complain start old before held input
+    → IsFrontAnswered files force_complain start new input
+
+-- how reads that came to no end lead from a session without any: the whole lines that were read are answered
+abbrev pub StopsAfter : List File → (left_before left_now old new : Option (List ℕ)) → Session → List ℕ → Type 0
+StopsAfter files left_before left_now old new before held =
+    (force_complain : Bool) (start : Option (List ℕ))
+    → Follows files force_complain start old before held []
+    → HoldsOfRead left_before left_now (IsAnsweredSoFar files force_complain start new)
+
+-- how a fault of the writer leads from there: a front of the output is written
+abbrev pub BreaksAfter : List File → (left_before left_now old new : Option (List ℕ)) → Session → List ℕ → Type 0
+BreaksAfter files left_before left_now old new before held =
+    (force_complain : Bool) (start : Option (List ℕ))
+    → Follows files force_complain start old before held []
+    → HoldsOfRead left_before left_now (IsFrontAnswered files force_complain start new)

@@ -1,5 +1,7 @@
 use Rattle.std.proofs.lemmas.Result.{on_ok_weaker}
 use Rattle.aa_set.proofs.RunLemmas.{IsAfter-more}
+use Rattle.aa_set.proofs.BreakLemmas.{front-line}
+use Rattle.aa_set.proofs.StreamLemmas.{weaker_err}
 use Rattle.aa_set.proofs.session.answer.Goals as goal
 
 pub returns-clause-ok : goal.returns-clause-ok
@@ -10,3 +12,12 @@ returns-clause-ok g c =
       IsAfter-more c.args.files.now force_complain c.args.line.now flagged.0 c.reply_to-reply.result after flagged.1 told c.count.ensures.accepted c.count.ensures.refused,
     ))
     c.tell_reply.ensures.ok
+
+pub returns-clause-err : goal.returns-clause-err
+returns-clause-err g c =
+    let flagged = c.reply_to-reply.ensures in
+    weaker_err c.tell_reply.result (λ broken force_complain before lines after. (
+      flagged.0,
+      front-line c.args.files.now force_complain (g.W.Sink.written c.tell_reply.new.writer) c.args.line.now flagged.0 c.reply_to-reply.result c.reply_to-reply.new.manager after flagged.1 broken,
+    ))
+    c.tell_reply.ensures.err

@@ -1,5 +1,7 @@
 use Rattle.std.proofs.Common.{◌≡◌, ℕ, ◌+◌, ◌∷◌, [], ◌++◌, List, length, sym, ap, ◌∙◌, arith, append_assoc, length-append}
 use Rattle.aa_set.proofs.RunLemmas.{Follows-same, Follows-kept}
+use Rattle.aa_set.proofs.BreakLemmas.{front-longer, front-same}
+use Rattle.aa_set.proofs.StreamLemmas.{where_err}
 use Rattle.aa_set.proofs.session.feed.Goals as goal
 
 pub loop-last-preserved : goal.loop-last-preserved
@@ -27,3 +29,14 @@ returns-clause-ok g c = λ force_complain before input follows.
     Follows-same c.args.files.now force_complain
     (Follows-kept c.args.files.now force_complain (so_far.4 force_complain before input follows) rest c.in_default.ensures.none c.keep.ensures)
     (append_assoc input so_far.0 rest ∙ ap (λ (fed : List ℕ). input ++ fed) (sym so_far.1))
+
+pub returns-in_err-end_line-clause-err : goal.returns-in_err-end_line-clause-err
+returns-in_err-end_line-clause-err g c =
+    let so_far = c.loop-last.invariant in
+    let after = c.in-Some.after.now in
+    let line = c.in-Some.last.now ++ 10 ∷ [] in
+    where_err c.from_residual.result (λ force_complain before input follows.
+    front-same c.args.files.now force_complain
+    (front-longer c.args.files.now force_complain (c.in_err-end_line.ensures.err force_complain before (input ++ so_far.0) (so_far.4 force_complain before input follows)) after)
+    (append_assoc (input ++ so_far.0) line after ∙ ap (λ (l : List ℕ). (input ++ so_far.0) ++ l) (sym c.in-Some.ensures.whole) ∙ append_assoc input so_far.0 c.loop-last.rest.now
+    ∙ ap (λ (l : List ℕ). input ++ l) (sym so_far.1)))

@@ -1,9 +1,10 @@
 use Rattle.std.proofs.lemmas.List.{length-take-le}
-use Rattle.std.proofs.Common.{◌≡◌, length-append, ◌≤◌, ◌++◌, ◌<◌, ℕ, length, take, subst, ap, ◌∙◌, arith}
-use Rattle.std.proofs.KnownBytes.{Consumes-trans}
+use Rattle.std.proofs.Common.{◌≡◌, length-append, ◌≤◌, ◌++◌, ◌<◌, ℕ, length, take, [], append-nil, subst, ap, ◌∙◌, arith}
+use Rattle.std.proofs.KnownBytes.{Consumes-kept, Consumes-trans}
 use Rattle.std.specs.Io.KnownBytes.{Consumes}
 use Rattle.aa_set.specs.Run.{IsAnswered}
-use Rattle.aa_set.proofs.StreamLemmas.{Consumes-whole}
+use Rattle.aa_set.proofs.StreamLemmas.{Consumes-whole, still_going}
+use Rattle.aa_set.proofs.BreakLemmas.{answered-so-far, front-answered}
 use Rattle.aa_set.proofs.session.serve.Goals as goal
 
 pub returns-then-count-eq0-clause-answered : goal.returns-then-count-eq0-clause-answered
@@ -33,4 +34,34 @@ loop-turn-preserved g c =
       c.in-Ok.ensures.ok ∙ so_far.6,
       c.in-Ok-turn.ensures.flag ∙ so_far.7,
       c.in-Ok-turn.ensures.written,
+      c.in-Ok.ensures.end ∙ still_going (g.S.Source.ended c.loop-turn.reader) c.in-Ok.count (length c.loop-turn.piece) c.if-count-eq0.false ∙ so_far.9,
     )
+
+pub returns-in_default-clause-so_far : goal.returns-in_default-clause-so_far
+returns-in_default-clause-so_far g c = λ fault force_complain start follows.
+    let so_far = c.loop-turn.invariant in
+    (so_far.0, Consumes-kept _ _ _ so_far.0 so_far.1 c.in_default.ensures.bytes, answered-so-far c.args.files.now force_complain (so_far.3 force_complain start follows) so_far.8)
+
+pub returns-in_default-finish-clause-front : goal.returns-in_default-finish-clause-front
+returns-in_default-finish-clause-front g c = λ fault force_complain start follows.
+    let so_far = c.loop-turn.invariant in
+    let none = ap (λ (n : ℕ). take n c.read_piece.new.piece) c.if-count-eq0.true in
+    let last = subst (Consumes (g.S.Source.left c.loop-turn.reader) (g.S.Source.left c.read_piece.new.reader)) none c.in-Ok.ensures.bytes.0 in (
+      so_far.0,
+      subst (Consumes (g.S.Source.left c.args.reader.now) (g.S.Source.left c.read_piece.new.reader)) (append-nil so_far.0) (Consumes-trans _ _ _ so_far.0 [] so_far.1 last),
+      c.in_default-finish.ensures.err force_complain start so_far.0 (so_far.3 force_complain start follows),
+    )
+
+pub returns-in_default-turn-clause-front : goal.returns-in_default-turn-clause-front
+returns-in_default-turn-clause-front g c = λ fault force_complain start follows.
+    let so_far = c.loop-turn.invariant in
+    let piece = take c.in-Ok.count c.read_piece.new.piece in (
+      so_far.0 ++ piece,
+      Consumes-trans _ _ _ so_far.0 piece so_far.1 c.in-Ok.ensures.bytes.0,
+      front-answered c.args.files.now force_complain (c.in_default-turn.ensures.err force_complain start so_far.0 (so_far.3 force_complain start follows)),
+    )
+
+pub returns-clause-so_far : goal.returns-clause-so_far
+returns-clause-so_far g c = λ fault force_complain start follows.
+    let so_far = c.loop-turn.invariant in
+    (so_far.0, so_far.1, answered-so-far c.args.files.now force_complain (so_far.3 force_complain start follows) so_far.8)
