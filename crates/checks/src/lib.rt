@@ -1,5 +1,6 @@
 //! Tests of the library crates that no row can state: a journal over a change of one's own, how much a manager keeps, streams of the
-//! standard library that fail, the words of arguments, automata of many patterns, and the whole program.
+//! standard library that fail, the words of arguments, automata of many patterns, the visits that they take, and the whole
+//! program.
 #![tactic(auto)]
 
 #[cfg(test)]
@@ -18,3 +19,5 @@ mod program;
 mod runs;
 #[cfg(test)]
 mod streams;
+#[cfg(test)]
+mod visits;

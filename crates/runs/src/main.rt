@@ -1,6 +1,7 @@
 //! Asks the rows of runs, each whole, byte by byte and with streams that fail, and those of the refusals' numbers and names.
 #![tactic(auto)]
 
+mod cuts;
 mod failing;
 mod refusals;
 mod runs;

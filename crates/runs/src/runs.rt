@@ -1,6 +1,8 @@
 //! Rows of runs.
 
-use crate::failing::{Calls, ask_failing, ask_pieces};
+use crate::cuts::ask_cuts;
+use crate::failing::{ask_failing, ask_pieces, ask_within};
+use crate::streams::Calls;
 use crate::wanted::{Wanted, compare, read_wanted};
 use aa_set::{FromRead, ToWrite, run};
 use aa_text::Files;
@@ -20,31 +22,39 @@ fn ask_whole(tally: &mut Tally, files: &Files, wanted: Wanted<'_>) -> Result<(),
     compare(tally, wanted, outcome, &writer.into_inner())
 }
 
-// Runs with each of the streams that fail.
-fn ask_faults(
+// Runs with the streams of a line.
+fn ask_line(
     tally: &mut Tally,
     files: &Files,
     wanted: Wanted<'_>,
-    parts: &[Part<'_>],
+    line: &str,
 ) -> Result<(), RowError> {
-    for part in parts {
-        if let Some(line) = part.head.strip_prefix("fault ") {
-            ask_failing(tally, files, wanted, line)?;
-        }
+    if let Some(line) = line.strip_prefix("fault ") {
+        return ask_failing(tally, files, wanted, line);
     }
-    Ok(())
+    if let Some(line) = line.strip_prefix("within ") {
+        return ask_within(tally, files, wanted, line);
+    }
+    match line.strip_prefix("cuts ") {
+        Some(line) => ask_cuts(tally, files, wanted, line),
+        None => Ok(()),
+    }
 }
 
-// Runs the input of a paragraph: whole, byte by byte, and with the streams that fail.
+// Runs the input of a paragraph: whole, byte by byte, and with the streams of its lines.
 fn ask_parts(tally: &mut Tally, files: &Files, parts: &[Part<'_>]) -> Result<(), RowError> {
     let wanted = read_wanted(parts)?;
     let bytes = Calls {
+        first: 1,
         size: 1,
         failing: 0,
     };
     ask_whole(tally, files, wanted)?;
     ask_pieces(tally, files, wanted, bytes)?;
-    ask_faults(tally, files, wanted, parts)
+    for part in parts {
+        ask_line(tally, files, wanted, part.head)?;
+    }
+    Ok(())
 }
 
 // Runs over the files of the paragraphs above and of this one.
