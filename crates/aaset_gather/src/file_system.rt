@@ -1,7 +1,7 @@
 //! Where files are read from.
 ghost use Rattle.std.specs.Prelude.{◌≡◌, ℕ, List, Option, None, Some, IfOk, IfSome};
 
-use std::io::Read;
+use std::io::{ErrorKind, Read};
 use std::{fs, io, rt};
 
 /// A file system, as far as files are read from it.
@@ -21,7 +21,8 @@ pub trait FileSystem {
         ensures { IfOk result (λ file. IfSome (bytes_at self.now path.now) (λ bytes. Self.File.remaining file ≡ Some bytes)) };
 }
 
-/// The file system of a runtime. Nothing is known of its files' bytes before they are read.
+/// The file system of a runtime, of which files alone are opened: no folder, no device, and no named pipe, whose opening would wait for
+/// a writer. Nothing is known of its files' bytes before they are read.
 #[derive(Drop)]
 pub struct RuntimeFiles<R> {
     rt: R,
@@ -40,6 +41,10 @@ impl<R: rt::Files> FileSystem for RuntimeFiles<R> {
     ghost bytes_at = { λ _ _. None };
 
     fn open(&self, path: &str) -> io::Result<R::File> {
-        fs::open(&self.rt, path)
+        if fs::metadata(&self.rt, path)?.is_file() {
+            fs::open(&self.rt, path)
+        } else {
+            Err(io::Error::from(ErrorKind::Unsupported))
+        }
     }
 }
