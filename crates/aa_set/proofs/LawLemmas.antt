@@ -12,11 +12,12 @@ use Rattle.aa_set_changes.specs.ChangeLaws.{ChangesKeepNamesApart}
 use Rattle.aa_set_changes.specs.Changes.{changed as change_of_set, parts_of}
 use Rattle.aa_decide.specs.Named.{have_distinct_names}
 use Rattle.aa_set_lines.specs.Limits.{longest_line}
+use Rattle.aa_set_lines.specs.Lines.{lines}
 use Rattle.aa_set_listing.specs.List.{list_lines}
-use Rattle.aa_set.specs.Laws.{AreDistinct, GivesBack, NoneGoes, StepsAdd, StepsReturn, changes, goes, is_change, order_in}
+use Rattle.aa_set.specs.Laws.{AreDistinct, GivesBack, NoneFlagged, NoneGoes, PiecesChangeNoReply, StepsAdd, StepsReturn, changes, goes, is_change, order_in}
 use Rattle.aa_set.specs.Manager.{Managed, after_change, new_manager, next, redone, undone}
 use Rattle.aa_set.specs.Reply.{is_refusal}
-use Rattle.aa_set.specs.Run.{Outcome, after_lines, changed, line_outcome, obeyed, order_outcome, refused, takes_memory, told}
+use Rattle.aa_set.specs.Run.{Outcome, after_lines, changed, flagged, line_outcome, obeyed, order_outcome, refused, replies_to, takes_memory, told}
 use Rattle.aa_decide_verdict.specs.Entries.{Loaded}
 use Rattle.aa_set.specs.declared.reply.Reply.{Reply}
 use Rattle.aa_set.specs.declared.reply.Reply.TheVariants.{Refused, Silent, Told}
@@ -249,3 +250,15 @@ undone-redone lengths returns n m = by (can_go_on n m.machine) refl
 
 pub steps-return : LengthsAfterBack (List Loaded) → OnAfterBack (List Loaded) → LengthsAfterOn (List Loaded) → BackAfterOn (List Loaded) → StepsReturn
 steps-return lengths_back on_after_back lengths_on back_after_on n m = (redone-undone lengths_back on_after_back n m, undone-redone lengths_on back_after_on n m)
+
+-- lines none of which is flagged are lines without flags
+unflagged : (ls : List (List ℕ)) (flags : List Bool) → NoneFlagged flags → flagged ls flags ≡ flagged ls []
+unflagged [] flags none = refl
+unflagged (l ∷ ls) [] none = refl
+unflagged (l ∷ ls) (flag ∷ flags) (is, none) =
+    ap (λ f. (l, f) ∷ flagged ls flags) is ∙ ap (λ rest. (l, false) ∷ rest) (unflagged ls flags none)
+
+-- two runs without flags give the same replies
+pub pieces-no-reply : PiecesChangeNoReply
+pieces-no-reply files force_complain input some others none nor =
+    ap (replies_to files (new_manager force_complain)) (unflagged (lines input) some none ∙ sym (unflagged (lines input) others nor))

@@ -8,7 +8,7 @@ use Rattle.aa_decide.specs.Named.{have_distinct_names}
 use Rattle.aa_set_lines.specs.Words.{words_of}
 use Rattle.aa_set.specs.Manager.{Managed, new_manager, next, redone, undone}
 use Rattle.aa_set.specs.Reply.{is_refusal}
-use Rattle.aa_set.specs.Run.{after_lines, line_outcome, output, output_so_far}
+use Rattle.aa_set.specs.Run.{after_lines, line_outcome, output, output_so_far, replies}
 use Rattle.aa_decide_verdict.specs.Entries.{Loaded}
 
 -- the command in a line
@@ -108,3 +108,16 @@ abbrev pub SoFarIsFront : Type 0
 SoFarIsFront =
     (files : List File) (force_complain : Bool) (input more : List ℕ) (flags : List Bool)
     → (later : List Bool) × (rest : List ℕ) × (output files force_complain (input ++ more) later ≡ output_so_far files force_complain input flags ++ rest)
+
+-- none of these flags says that a line found no memory
+abbrev pub NoneFlagged : List Bool → Type 0
+NoneFlagged [] = Unit {0}
+NoneFlagged (flag ∷ flags) = (flag ≡ false) × NoneFlagged flags
+
+-- Two runs over the same bytes, in whatever pieces these come, give the same replies where no line of either found no memory.
+abbrev pub PiecesChangeNoReply : Type 0
+PiecesChangeNoReply =
+    (files : List File) (force_complain : Bool) (input : List ℕ) (some others : List Bool)
+    → NoneFlagged some
+    → NoneFlagged others
+    → replies files force_complain input some ≡ replies files force_complain input others

@@ -1,7 +1,7 @@
 //! What holds of the machine whatever it is told, as laws over the definitions that `run` and `Manager` are proved to
 //! follow.
 
-ghost use Rattle.aa_set.specs.Laws.{OtherLineLeavesAll, RefusedLineLeavesAll, SetDecidesAnswer, SetsHaveDistinctNames, SoFarIsFront, StepsAdd, StepsReturn, UndoGivesBack};
+ghost use Rattle.aa_set.specs.Laws.{OtherLineLeavesAll, PiecesChangeNoReply, RefusedLineLeavesAll, SetDecidesAnswer, SetsHaveDistinctNames, SoFarIsFront, StepsAdd, StepsReturn, UndoGivesBack};
 
 use aa_bytes::Sequence;
 use aa_decide::Entry;
@@ -32,4 +32,10 @@ pub fn the_way_back()
 /// and any more to the end: for some flags on lines that found no memory.
 pub fn what_faults_leave()
     ensures { SoFarIsFront }
+{}
+
+/// The pieces in which an input comes change no reply: two runs that read the same bytes to the end give the same replies, where no line of either
+/// found no memory.
+pub fn pieces_change_no_reply()
+    ensures { PiecesChangeNoReply }
 {}
