@@ -1,7 +1,7 @@
 //! Runs over readers and writers of few bytes a call, and over some that fail.
 
 use crate::fakes::{Slow, Small, Undoing};
-use aa_set::{FromRead, RunFault, Sink, Source, Summary, ToWrite, run, run_with};
+use aa_set::{FromRead, RunFault, Sink, Source, Summary, ToWrite, run};
 use aa_text::Files;
 use std::alloc::Global;
 
@@ -27,7 +27,7 @@ fn answers_bytes(alloc: Global, count: usize, lines: u64, reads: u64) -> bool {
         accepted: 0,
         refused: lines,
     };
-    outcome == Ok(want) && reader.reads() == reads
+    outcome == Ok(want) && reader.ended() && reader.reads() == reads
 }
 
 // The replies that are written where a reader fails behind so many bytes.
@@ -42,47 +42,8 @@ fn answers_until_the_fault(alloc: Global, count: usize, lines: usize) -> bool {
     let outcome = run(alloc, &files, false, &mut reader, &mut writer);
     outcome == Err(RunFault::Read)
         && reader.failed()
+        && !reader.ended()
         && are_replies(writer.into_inner().as_slice(), lines)
-}
-
-// Whether a reader of so many bytes, one a read, is answered by at most so many reads: the end has to be seen within them.
-fn ends_within(
-    alloc: Global,
-    count: usize,
-    reads: u32,
-    outcome: Result<Summary, RunFault>,
-    lines: usize,
-) -> bool {
-    let files = Files::new(alloc);
-    let mut reader = FromRead::new(Undoing {
-        at: 0,
-        count,
-        fails: false,
-    });
-    let mut writer = ToWrite::new(Vec::new(alloc));
-    let told = run_with(alloc, &files, false, reads, &mut reader, &mut writer);
-    let ended = told.is_ok();
-    told == outcome
-        && reader.ended() == ended
-        && reader.reads() <= u64::from(reads)
-        && are_replies(writer.into_inner().as_slice(), lines)
-}
-
-// Whether an input of one line is answered where its end is seen by the last read, and no input by none.
-fn ends_by_reads(alloc: Global) -> bool {
-    let one = Summary {
-        accepted: 0,
-        refused: 1,
-    };
-    ends_within(alloc, 5, 6, Ok(one), 1)
-        && ends_within(alloc, 5, 5, Err(RunFault::Read), 1)
-        && ends_within(alloc, 4, 4, Err(RunFault::Read), 0)
-        && ends_within(alloc, 0, 0, Err(RunFault::Read), 0)
-}
-
-#[test]
-fn an_end_is_seen_within_the_reads(rt: HostRuntime) {
-    assert!(rt; ends_by_reads(rt.alloc()));
 }
 
 // A slice as a writer has room for five bytes: the front that fits is written.

@@ -23,8 +23,9 @@ fn reads_pieces() -> bool {
     let mut source = FromRead::new(b"three".as_slice());
     let first = gives(&mut source, b"thre");
     let second = gives(&mut source, b"e");
+    let goes_on = !source.ended();
     let last = gives(&mut source, b"");
-    first && second && last && source.reads() == 3 && !source.failed()
+    first && second && goes_on && last && source.ended() && source.reads() == 3 && !source.failed()
 }
 
 // A read that fails counts.
