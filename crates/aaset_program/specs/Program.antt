@@ -39,13 +39,15 @@ pub record AreAnswered (ready : Ready) (input : Reads) (output errors : Writes) 
   pub summary : Summary
   pub answered : IsLeftAnswered ready.files ready.force_complain input.before output.before output.after summary
   pub ended : IsAtEnd input.after
+  pub seen : input.ended_after ≡ true
   pub whole : (input.failed ≡ false) × (output.failed ≡ false)
   pub silent : IsUnwritten errors
   pub by_refusals : status ≡ (if summary.refused == 0 then 0 else 1)
 
--- reads came to as many as a run makes, each of at least one byte
+-- reads came to as many as a run makes, none to the end, and each gave at least one byte
 pub record IsEndless (input : Reads) : Type 0 where
   pub all_made : input.reads_after ≡ input.reads_before + most_reads
+  pub going : input.ended_after ≡ input.ended_before
   pub given : HasGiven most_reads input.before input.after
 
 -- what a fault of a run comes from

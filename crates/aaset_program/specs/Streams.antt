@@ -2,12 +2,15 @@
 use Rattle.std.specs.Prelude.{◌≡◌, ℕ, Bool, false, List, Option}
 use Rattle.std.specs.Io.KnownBytes.{Appends}
 
--- a stream that is read: the bytes that it had left and has, where they are known, how many reads there were, and whether one failed
+-- a stream that is read: the bytes that it had left and has, where they are known, how many reads there were, whether one had come to the end and
+-- has, and whether one failed
 pub record Reads : Type 0 where
   pub before : Option (List ℕ)
   pub after : Option (List ℕ)
   pub reads_before : ℕ
   pub reads_after : ℕ
+  pub ended_before : Bool
+  pub ended_after : Bool
   pub failed : Bool
 
 -- a stream that is written: the bytes that it had got and has, where they are known, and whether a write failed
@@ -16,9 +19,16 @@ pub record Writes : Type 0 where
   pub after : Option (List ℕ)
   pub failed : Bool
 
-abbrev pub read_from : (before after : Option (List ℕ)) (reads_before reads_after : ℕ) → Bool → Reads
-read_from before after reads_before reads_after failed =
-    record { before = before; after = after; reads_before = reads_before; reads_after = reads_after; failed = failed }
+abbrev pub read_from : (before after : Option (List ℕ)) (reads_before reads_after : ℕ) (ended_before ended_after : Bool) → Bool → Reads
+read_from before after reads_before reads_after ended_before ended_after failed = record {
+  before = before;
+  after = after;
+  reads_before = reads_before;
+  reads_after = reads_after;
+  ended_before = ended_before;
+  ended_after = ended_after;
+  failed = failed;
+}
 
 abbrev pub written_to : (before after : Option (List ℕ)) → Bool → Writes
 written_to before after failed = record { before = before; after = after; failed = failed }
@@ -27,6 +37,7 @@ written_to before after failed = record { before = before; after = after; failed
 pub record IsUnread (stream : Reads) : Type 0 where
   pub left : stream.after ≡ stream.before
   pub reads : stream.reads_after ≡ stream.reads_before
+  pub ended : stream.ended_after ≡ stream.ended_before
 
 -- nothing was written
 abbrev pub IsUnwritten : Writes → Type 0

@@ -25,7 +25,7 @@ fn answer<S: Source, W: Sink, E: Sink>(
     requires whole_output { W.failed output.old ≡ false }
     requires reads { S.reads input.old ≤ 2 ^ 63 }
     ensures { IsRun ready.now
-        (read_from (S.left input.old) (S.left input.new) (S.reads input.old) (S.reads input.new) (S.failed input.new))
+        (read_from (S.left input.old) (S.left input.new) (S.reads input.old) (S.reads input.new) (S.ended input.old) (S.ended input.new) (S.failed input.new))
         (written_to (W.written output.old) (W.written output.new) (W.failed output.new))
         (written_to (E.written errors.old) (E.written errors.new) (E.failed errors.new)) result }
 {
@@ -48,7 +48,7 @@ fn perform<S: Source, W: Sink, E: Sink>(
     requires whole_output { W.failed output.old ≡ false }
     requires reads { S.reads input.old ≤ 2 ^ 63 }
     ensures { IsPerformed prepared
-        (read_from (S.left input.old) (S.left input.new) (S.reads input.old) (S.reads input.new) (S.failed input.new))
+        (read_from (S.left input.old) (S.left input.new) (S.reads input.old) (S.reads input.new) (S.ended input.old) (S.ended input.new) (S.failed input.new))
         (written_to (W.written output.old) (W.written output.new) (W.failed output.new))
         (written_to (E.written errors.old) (E.written errors.new) (E.failed errors.new)) result }
 {
@@ -80,7 +80,7 @@ pub fn start<D: FileSystem, S: Source, W: Sink, E: Sink>(
     requires reads { S.reads input.old ≤ 2 ^ 63 }
     ensures { (prepared : Result Ready Stop) × ArePrepared (D.bytes_at disk.now) words prepared
         × IsPerformed prepared
-        (read_from (S.left input.old) (S.left input.new) (S.reads input.old) (S.reads input.new) (S.failed input.new))
+        (read_from (S.left input.old) (S.left input.new) (S.reads input.old) (S.reads input.new) (S.ended input.old) (S.ended input.new) (S.failed input.new))
         (written_to (W.written output.old) (W.written output.new) (W.failed output.new))
         (written_to (E.written errors.old) (E.written errors.new) (E.failed errors.new)) result }
 {
