@@ -1,7 +1,12 @@
 pub mod ChoiceLemmas
 pub mod CountingLemmas
 pub mod ExpandingLemmas
+pub mod GrownLemmas
 pub mod JoiningLemmas
+pub mod ListLemmas
+pub mod MadeLemmas
 pub mod MissingLemmas
 pub mod NumberLemmas
 pub mod PartLemmas
+pub mod StepLemmas
+pub mod WrittenLemmas

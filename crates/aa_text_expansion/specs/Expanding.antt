@@ -1,32 +1,34 @@
--- Texts and words in whose names' places values are put, each cut off.
-use Rattle.std.specs.Prelude.{ℕ, ◌≡◌, List, flat_map}
+-- Texts and words in whose names' places values are put: the numbers of lists of all that comes of it.
+use Rattle.std.specs.Prelude.{ℕ, ◌≡◌, ◌<◌, List, [], length, Option, None, Some}
 use Rattle.aa_text_expansion.specs.Choices.{choices, choices_within}
-use Rattle.aa_text_expansion.specs.Joining.{cut_off, joined}
+use Rattle.aa_text_expansion.specs.Joining.{cut_off}
+use Rattle.aa_text_expansion.specs.Lists.{AreKept, list_at}
 use Rattle.aa_text_expansion.specs.Names.{EachNameIn, EachNameWithin}
-use Rattle.aa_text_expansion.specs.Parts.{Part, parts}
+use Rattle.aa_text_expansion.specs.Parts.{parts}
 
--- texts with each choice of values for parts behind them, each cut off
-abbrev pub extended : (List ℕ → List (List ℕ)) → List (List ℕ) → List Part → List (List ℕ)
-extended values texts parts = cut_off (joined texts (choices values parts))
+-- the values that lists hold for a name, by the number of its list; none where it has no list
+abbrev pub held : List (List (List ℕ)) → (List ℕ → Option ℕ) → List ℕ → List (List ℕ)
+held lists numbers name = elim (numbers name) [
+  | None ↦ []
+  | Some number ↦ list_at lists number
+]
 
--- all choices of values for the names of a text, each cut off
-abbrev pub expanded : (List ℕ → List (List ℕ)) → List ℕ → List (List ℕ)
-expanded values text = cut_off (choices values (parts text))
+-- there is a list of each number that a name has
+abbrev pub AreThere : List (List (List ℕ)) → (List ℕ → Option ℕ) → Type 0
+AreThere lists numbers = (name : List ℕ) (number : ℕ) → numbers name ≡ Some number → number < length lists
 
--- those of words, one list behind the other
-abbrev pub expanded_words : (List ℕ → List (List ℕ)) → List (List ℕ) → List (List ℕ)
-expanded_words values words = flat_map (expanded values) words
-
--- what is held of a name's values is each of them, cut off
+-- what is held of a name's values is as they are, as far as texts are kept
 abbrev pub AreCutOff : (List ℕ → List (List ℕ)) → (List ℕ → List (List ℕ)) → List ℕ → Type 0
-AreCutOff held values name = held name ≡ cut_off (values name)
+AreCutOff holds values name = cut_off (holds name) ≡ cut_off (values name)
 
--- Where what is held of the values of a text's names is each of them, cut off, texts are the text's choices, each cut off.
-abbrev pub AreChoices : (List ℕ → List (List ℕ)) → List ℕ → List (List ℕ) → Type 0
-AreChoices held text texts =
-    (values : List ℕ → List (List ℕ)) → EachNameIn (AreCutOff held values) text → texts ≡ cut_off (choices values (parts text))
+-- A number is that of a list of all choices of values for the names of a text, where their values are held; and the lists before are kept.
+pub record Expands (before : List (List (List ℕ))) (numbers : List ℕ → Option ℕ) (text : List ℕ) (number : ℕ) (after : List (List (List ℕ))) : Type 0 where
+  pub kept : AreKept before after
+  pub within : number < length after
+  pub value : (values : List ℕ → List (List ℕ)) → EachNameIn (AreCutOff (held before numbers) values) text → cut_off (list_at after number) ≡ cut_off (choices values (parts text))
 
--- the same of words
-abbrev pub AreChoicesWithin : (List ℕ → List (List ℕ)) → List (List ℕ) → List (List ℕ) → Type 0
-AreChoicesWithin held words texts =
-    (values : List ℕ → List (List ℕ)) → EachNameWithin (AreCutOff held values) words → texts ≡ cut_off (choices_within values words)
+-- the same of words, the choices of one behind those of the other
+pub record ExpandsWords (before : List (List (List ℕ))) (numbers : List ℕ → Option ℕ) (words : List (List ℕ)) (number : ℕ) (after : List (List (List ℕ))) : Type 0 where
+  pub kept : AreKept before after
+  pub within : number < length after
+  pub value : (values : List ℕ → List (List ℕ)) → EachNameWithin (AreCutOff (held before numbers) values) words → cut_off (list_at after number) ≡ cut_off (choices_within values words)

@@ -2,6 +2,7 @@ pub mod Choices
 pub mod Counting
 pub mod Expanding
 pub mod Joining
+pub mod Lists
 pub mod Missing
 pub mod Names
 pub mod Numbers

@@ -1,83 +1,104 @@
 //! Texts in whose names' places values are put: one for each choice of a value for each name.
 
-ghost use Rattle.std.specs.Prelude.{◌≡◌, ℕ, List, IfOk};
-ghost use Rattle.aa_text_expansion.specs.Expanding.{AreChoices, AreChoicesWithin, expanded, expanded_words, extended};
-ghost use Rattle.aa_text_expansion.specs.Joining.{as_texts, texts_of};
+ghost use Rattle.std.specs.Prelude.{◌≡◌, ◌<◌, ◌++◌, ℕ, List, length, Option, IfOk};
+ghost use Rattle.aa_text_expansion.specs.Choices.{choices, choices_within};
+ghost use Rattle.aa_text_expansion.specs.Expanding.{AreThere, Expands, ExpandsWords, held};
+ghost use Rattle.aa_text_expansion.specs.Lists.{IsMade, list_at};
 ghost use Rattle.aa_text_expansion.specs.code.TextParts.{parts_of};
 
-use crate::joining::{with_bytes, with_ends};
+use crate::lists::Lists;
 use crate::parts::{TextPart, first_part};
 use aa_bytes::Sequence;
-use std::alloc::{AllocError, Global};
+use std::alloc::AllocError;
 
-/// Values of names.
+/// Values of names, as numbers of lists.
 pub trait Values {
     // They are a function of names.
-    ghost values: { Self → List ℕ → List (List ℕ) };
+    ghost numbers: { Self → List ℕ → Option ℕ };
 
-    /// The values of a name, in order.
-    fn values_of(&self, name: &[u8]) -> &[Vec<u8>]
-        ensures { as_texts result.now ≡ values self.now name.now };
+    /// The number of the list of a name's values, if it has one.
+    fn list_of(&self, name: &[u8]) -> Option<usize>
+        ensures { result ≡ numbers self.now name.now };
 }
 
-// Texts with the choices of a part behind them, each cut off.
+// The list of the choices of a part.
 fn expand_part<V: Values>(
-    alloc: Global,
+    lists: &mut Lists,
     values: &V,
     part: TextPart<'_>,
-    texts: Vec<Vec<u8>>,
-) -> Result<Vec<Vec<u8>>, AllocError>
-    ensures { IfOk result (λ all. texts_of all ≡ extended (V.values values.now) (texts_of texts) (parts_of part.entry)) }
+) -> Result<usize, AllocError>
+    requires { AreThere lists.old (V.numbers values.now) }
+    ensures { IfOk result (λ number. IsMade lists.old number (choices (held lists.old (V.numbers values.now)) (parts_of part.entry)) lists.new) }
 {
     match part {
-        TextPart::Text(bytes) => with_bytes(texts, bytes),
-        TextPart::Name(name) => with_ends(alloc, texts.as_slice(), values.values_of(name)),
-        TextPart::Unclosed => Ok(Vec::new(alloc)),
+        TextPart::Text(bytes) => lists.text(bytes),
+        TextPart::Name(name) => match values.list_of(name) {
+            Some(number) => Ok(number),
+            None => lists.nothing(),
+        },
+        TextPart::Unclosed => lists.nothing(),
     }
 }
 
-/// A text with each choice of values in its names' places, the first name changing slowest. Of each, the first 4,097 bytes are kept. One that
-/// doesn't close a name has no choice.
+/// The number of a list of the text with each choice of values in its names' places, the first name changing slowest. One that doesn't close a name,
+/// or has a name without a list, has no choice.
 ///
 /// # Errors
 ///
-/// Memory ran out.
+/// Memory ran out. There may then be more lists than before.
 pub fn expand_text<V: Values>(
-    alloc: Global,
+    lists: &mut Lists,
     values: &V,
     text: &[u8],
-) -> Result<Vec<Vec<u8>>, AllocError>
-    ensures value { IfOk result (λ texts. texts_of texts ≡ expanded (V.values values.now) text.now) }
-    // Where the values are cut off already, that is the same.
-    ensures same { IfOk result (λ texts. AreChoices (V.values values.now) text.now (texts_of texts)) }
+) -> Result<usize, AllocError>
+    requires { AreThere lists.old (V.numbers values.now) }
+    ensures { IfOk result (λ number. Expands lists.old (V.numbers values.now) text.now number lists.new) }
 {
-    let mut texts = Vec::with_capacity(alloc, 1)?;
-    texts.push(Vec::new(alloc))?;
+    let mut so_far = lists.text(&[])?;
     let mut rest = text;
     while let Some((part, after)) = first_part(rest) {
-        texts = expand_part(alloc, values, part, texts)?;
+        let next = expand_part(lists, values, part)?;
+        so_far = lists.joined(so_far, next)?;
         rest = after;
     }
-    Ok(texts)
+    Ok(so_far)
 }
 
-/// The same of words, one list behind the other.
+// The list of the texts of a list, and behind them the choices of words.
+fn expand_behind<V: Values>(
+    lists: &mut Lists,
+    values: &V,
+    first: usize,
+    words: &[Sequence<u8>],
+) -> Result<usize, AllocError>
+    requires there { AreThere lists.old (V.numbers values.now) }
+    requires first { first < length lists.old }
+    ensures { IfOk result (λ number. IsMade lists.old number (list_at lists.old first ++ choices_within (held lists.old (V.numbers values.now)) words.now) lists.new) }
+{
+    let mut so_far = first;
+    for word in words {
+        let next = expand_text(lists, values, word.as_slice())?;
+        so_far = lists.both(so_far, next)?;
+    }
+    Ok(so_far)
+}
+
+/// The same of words, and of more words behind them, one list behind the other.
 ///
 /// # Errors
 ///
-/// Memory ran out.
+/// Memory ran out. There may then be more lists than before.
 pub fn expand_words<V: Values>(
-    alloc: Global,
+    lists: &mut Lists,
     values: &V,
     words: &[Sequence<u8>],
-) -> Result<Vec<Vec<u8>>, AllocError>
-    ensures value { IfOk result (λ texts. texts_of texts ≡ expanded_words (V.values values.now) words.now) }
-    ensures same { IfOk result (λ texts. AreChoicesWithin (V.values values.now) words.now (texts_of texts)) }
+    more: &[Sequence<u8>],
+) -> Result<usize, AllocError>
+    requires { AreThere lists.old (V.numbers values.now) }
+    ensures { IfOk result (λ number. ExpandsWords lists.old (V.numbers values.now) (words.now ++ more.now) number lists.new) }
 {
-    let mut texts = Vec::new(alloc);
-    for word in words {
-        let mut more = expand_text(alloc, values, word.as_slice())?;
-        texts.append(&mut more)?;
-    }
-    Ok(texts)
+    let none = lists.nothing()?;
+    let first = expand_behind(lists, values, none, words)?;
+    let all = expand_behind(lists, values, first, more)?;
+    Ok(all)
 }

@@ -1,16 +1,15 @@
--- What a table says of the texts whose values it holds, and what it keeps.
-use Rattle.std.proofs.Common.{◌≡◌, ℕ, zero, suc, ◌<◌, Bool, true, false, not, nat_eq, List, [], ◌∷◌, ◌++◌, length, length-append, map, take, drop, set, arith, refl, sym, ap, subst, ◌∙◌, inl, inr}
-use Rattle.std.specs.Prelude.{Option, None, Some, Result, Ok, Err, IfOk, Vec, nat_lt, option_map, position, slice_get, slice_index_or}
-use Rattle.std.specs.List.{list_all, list_any, position_or_len}
+-- What a table says of the texts for whose names it has lists, and what it keeps.
+use Rattle.std.proofs.Common.{◌≡◌, ℕ, zero, suc, ◌<◌, ◌≤◌, Bool, true, false, not, nat_eq, List, [], ◌∷◌, ◌++◌, length, length-append, map, take, drop, arith, refl, sym, ap, subst, ◌∙◌, inl, inr}
+use Rattle.std.specs.Prelude.{Option, None, Some, is_none, nat_lt, option_map, position, slice_get}
+use Rattle.std.specs.List.{IsDistinct, list_all, list_any, position_or_len}
 use Rattle.std.proofs.lemmas.Bool.{and_parts, or_from, or_parts}
 use Rattle.std.proofs.lemmas.Bool.Decides.{nat_tests}
-use Rattle.std.proofs.lemmas.List.{get_or_past, length-map, length-set, map-append, map-set, take-append-drop}
+use Rattle.std.proofs.lemmas.List.{length-map, take-append-drop, take_all}
 use Rattle.std.proofs.lemmas.Map.Keys.{any_passes_from_place}
-use Rattle.std.proofs.lemmas.Option.{get_or_from_slice_get, slice_get_cases, slice_get_within}
+use Rattle.std.proofs.lemmas.Option.{slice_get_cases, slice_get_within}
 use Rattle.std.proofs.Math.Seq.{drop-append_seam, take-append_seam}
-use Rattle.aa_bytes.specs.Texts.{is_empty}
 use Rattle.aa_text_variables.proofs.CycleLemmas.{refusal-none}
-use Rattle.aa_text_variables.proofs.ExpandLemmas.{values-beside}
+use Rattle.aa_text_variables.proofs.IndexLemmas.{values_within-from_none}
 use Rattle.aa_text_variables.proofs.ListLemmas.{index-found, listed, slice_get-front, slice_get-push}
 use Rattle.aa_text_variables.proofs.OrderLemmas.{values-settled}
 use Rattle.aa_text_variables.proofs.ReachedLemmas.{leads-none}
@@ -18,21 +17,22 @@ use Rattle.aa_text_variables.proofs.TableLemmas.{Settled}
 use Rattle.aa_text_variables.proofs.TestLemmas.{any-left, any-split, same-from_test}
 use Rattle.aa_text_variables.proofs.VariableLemmas.{shifted}
 use Rattle.aa_text_variables.proofs.WalkLemmas.{settled-few}
-use Rattle.aa_text_expansion.specs.Expanding.{AreChoicesWithin, AreCutOff}
-use Rattle.aa_text_expansion.specs.Joining.{as_texts, cut_off, texts_of}
+use Rattle.aa_text_expansion.specs.Choices.{choices_within}
+use Rattle.aa_text_expansion.specs.Expanding.{AreCutOff, AreThere, Expands, ExpandsWords, held}
+use Rattle.aa_text_expansion.specs.Joining.{cut_off}
+use Rattle.aa_text_expansion.specs.Lists.{AreKept, list_at}
 use Rattle.aa_text_expansion.specs.Missing.{is_missing}
 use Rattle.aa_text_expansion.specs.Names.{EachName, EachNameIn, EachNameWithin}
 use Rattle.aa_text_expansion.specs.Parts.{Byte, Name, Part, Unclosed, parts}
-use Rattle.aa_text_variables.specs.Expansions.{expansion_refusal, values}
+use Rattle.aa_text_variables.specs.Expansions.{expansion_refusal, expansions, values}
 use Rattle.aa_text_variables.specs.Variables.{Variable, is_defined, is_undefined, names_undefined}
-use Rattle.aa_text_variables.specs.code.Columns.{IsBeside, values_in}
-use Rattle.aa_text_variables.specs.code.ExpansionOrder.{are_texts_known, is_part_known, is_text_known}
-use Rattle.aa_text_variables.specs.code.ExpansionTables.{AreFirstCounts, count_at, cut_off_at, cut_off_by, looked_up, row_of}
-use Rattle.aa_text_variables.specs.code.HeldValues.{AreFewer, AreValuesAt, IsSpent, IsTable, are_texts_lacking, is_text_lacking, names_undefined_at}
+use Rattle.aa_text_variables.specs.code.Columns.{IsBeside, numbers_in}
+use Rattle.aa_text_variables.specs.code.ExpansionOrder.{are_texts_known, is_part_known, is_text_known, IsOrder}
+use Rattle.aa_text_variables.specs.code.ExpansionTables.{AreFirstCounts, AreListed, count_at, cut_off_at, number_of, row_of}
+use Rattle.aa_text_variables.specs.code.HeldValues.{IsTable, is_text_lacking, names_undefined_at}
 use Rattle.aa_text_variables.specs.code.VariableIndexes.{index_of, words_at}
 use Rattle.aa_text_variables.specs.code.VariableWalks.{IsOrderOf}
 use Rattle.aa_text_variables.specs.declared.variables.column.Column.{Column}
-use Rattle.aa_text_variables.specs.declared.variables.table.Rows.{Rows}
 use Rattle.std.specs.Cmp.Derive.{both_true}
 use Rattle.std.specs.Str.{bytes_eq}
 
@@ -87,81 +87,189 @@ index-defined (variable ∷ variables) name index h = by (bytes_eq name variable
         other None e h = absurd (cc)
         other (Some j) e h = rest j e
 
-module _ (variables : List Variable) (order counts : List ℕ) (held : List (List (List ℕ))) (table : IsTable variables order counts held) where
-  -- the values that are held for a name
-  abbrev pub looked : List ℕ → List (List ℕ)
-  looked = looked_up [] variables order held
+-- the position of a number that stands among the first ones
+position-front : (index : ℕ) (xs : List ℕ) (size : ℕ) → list_any (nat_eq index) (take size xs) ≡ true → (k : ℕ) × (position (nat_eq index) xs ≡ Some k) × (k < size)
+position-front index [] zero h = absurd cc
+position-front index [] (suc size) h = absurd cc
+position-front index (x ∷ xs) zero h = absurd cc
+position-front index (x ∷ xs) (suc size) h = by (nat_eq index x) refl h (position-front index xs size)
+  where
+    by : (b : Bool) → nat_eq index x ≡ b → list_any (nat_eq index) (take (suc size) (x ∷ xs)) ≡ true
+        → (list_any (nat_eq index) (take size xs) ≡ true → (k : ℕ) × (position (nat_eq index) xs ≡ Some k) × (k < size))
+        → (k : ℕ) × (position (nat_eq index) (x ∷ xs) ≡ Some k) × (k < suc size)
+    by true b h rest =
+        let first : nat_lt 0 (suc (length xs)) ≡ true = grind (arith, nat_tests) in
+        (0, rw (b, first) refl, omega arith)
+    by false b h rest =
+        let among : list_any (nat_eq index) (take size xs) ≡ true = rw b at h in
+        let found = rest among in
+        let within = found.2 in
+        (suc found.0, rw b (shifted (position_or_len (nat_eq index) xs) (length xs) ∙ ap (option_map suc) found.1), omega arith)
 
-  -- a name for which values are held: its variable is in the order, and they are its values
-  abbrev IsNameHeld : List ℕ → Type 0
-  IsNameHeld name = (index : ℕ) × (index_of variables name ≡ Some index) × (list_any (nat_eq index) order ≡ true) × (looked name ≡ cut_off (values variables name))
+-- Lists of the values of the first variables of an order.
+module _ (variables : List Variable) (order numbers : List ℕ) (lists : List (List (List ℕ))) (has : AreListed variables order numbers lists) where
+  -- a name that has a number is that of a variable in the order
+  abbrev IsInOrder : List ℕ → ℕ → Type 0
+  IsInOrder name number = (index : ℕ) × (row : ℕ) × (index_of variables name ≡ Some index) × (slice_get order row ≡ Some index) × (slice_get numbers row ≡ Some number)
 
+  number-row : (name : List ℕ) (number : ℕ) → number_of variables order numbers name ≡ Some number → IsInOrder name number
+  number-row name number h = by (index_of variables name) refl
+    where
+      by_row : (index : ℕ) → index_of variables name ≡ Some index → (row : Option ℕ) → position (nat_eq index) order ≡ row → IsInOrder name number
+      by_row index named None p = let wrong : None ≡ Some number = rw (number_of, row_of, named, p) at h in absurd (cc)
+      by_row index named (Some row) p = (index, row, named, position-some index order row p, rw (number_of, row_of, named, p) at h)
+
+      by : (found : Option ℕ) → index_of variables name ≡ found → IsInOrder name number
+      by None e = let wrong : None ≡ Some number = rw (number_of, row_of, e) at h in absurd (cc)
+      by (Some index) e = by_row index e (position (nat_eq index) order) refl
+
+  -- there is a list of each number
+  pub listed-there : AreThere lists (number_of variables order numbers)
+  listed-there name number h = let row = number-row name number h in (has row.1 row.0 number row.3 row.4).0
+
+  module _ (settled : Settled variables order) where
+    -- a name that has a number has its values
+    pub number-held : (name : List ℕ) (number : ℕ) → number_of variables order numbers name ≡ Some number
+        → AreCutOff (held lists (number_of variables order numbers)) (values variables) name
+    number-held name number h =
+        let row = number-row name number h in
+        rw (held, h) ((has row.1 row.0 number row.3 row.4).1 ∙ ap cut_off (sym (settled row.1 row.0 row.3 name row.2)))
+
+    -- so does one that is known, where there are lists of the first ones
+    pub known-held : (size : ℕ) → size ≤ length numbers → (name : List ℕ) → is_part_known variables (take size order) (Name name) ≡ true
+        → AreCutOff (held lists (number_of variables order numbers)) (values variables) name
+    known-held size few name h = by (index_of variables name) refl
+      where
+        at_row : (index row : ℕ) → index_of variables name ≡ Some index → position (nat_eq index) order ≡ Some row → row < size
+            → AreCutOff (held lists (number_of variables order numbers)) (values variables) name
+        at_row index row named there within = elim (slice_get_cases numbers row).1 [
+          | inl found ↦ number-held name found.0 (rw (number_of, row_of, named, there) found.2)
+          | inr past ↦ let far = past.0 in absurd (omega arith)
+        ]
+
+        by : (found : Option ℕ) → index_of variables name ≡ found → AreCutOff (held lists (number_of variables order numbers)) (values variables) name
+        by None e =
+            let nothing : number_of variables order numbers name ≡ None = rw (number_of, row_of, e) refl in
+            rw (held, nothing) (ap cut_off (sym (values_within-from_none variables (length variables) name e)))
+        by (Some index) e =
+            let found = position-front index order size (rw (e, is_part_known) at h) in
+            at_row index found.0 e found.1 found.2
+
+    module _ (size : ℕ) (few : size ≤ length numbers) where
+      parts-known : (ps : List Part) → list_all (is_part_known variables (take size order)) ps ≡ true → EachName (AreCutOff (held lists (number_of variables order numbers)) (values variables)) ps
+      parts-known [] h = tt
+      parts-known (Byte b ∷ ps) h = parts-known ps (and_parts (is_part_known variables (take size order) (Byte b)) (list_all (is_part_known variables (take size order)) ps) h).1
+      parts-known (Unclosed ∷ ps) h = tt
+      parts-known (Name name ∷ ps) h =
+          let both = and_parts (is_part_known variables (take size order) (Name name)) (list_all (is_part_known variables (take size order)) ps) h in
+          (known-held size few name both.0, parts-known ps both.1)
+
+      -- for each name in a known text
+      pub text-known : (text : List ℕ) → is_text_known variables (take size order) text ≡ true → EachNameIn (AreCutOff (held lists (number_of variables order numbers)) (values variables)) text
+      text-known text h = parts-known (parts text) h
+
+      -- for each in known words
+      pub words-known : (words : List (List ℕ)) → are_texts_known variables (take size order) words ≡ true
+          → EachNameWithin (AreCutOff (held lists (number_of variables order numbers)) (values variables)) words
+      words-known [] h = tt
+      words-known (word ∷ words) h =
+          let both = and_parts (is_text_known variables (take size order) word) (are_texts_known variables (take size order) words) h in
+          (text-known word both.0, words-known words both.1)
+
+  -- more lists
+  pub listed-kept : (after : List (List (List ℕ))) → AreKept lists after → AreListed variables order numbers after
+  listed-kept after kept row index number at is =
+      let here = has row index number at is in
+      let within = here.0 in
+      let more = kept.as_many in
+      (omega arith, ap cut_off (kept.same number within) ∙ here.1)
+
+  -- a list of one more variable
+  pub listed-pushed : (after : List (List (List ℕ))) (index number : ℕ) → AreKept lists after → slice_get order (length numbers) ≡ Some index → number < length after
+      → cut_off (list_at after number) ≡ cut_off_at variables index → AreListed variables order (numbers ++ number ∷ []) after
+  listed-pushed after index number kept there within value row other last at is = elim (slice_get-push numbers number row last is) [
+    | inl front ↦ listed-kept after kept row other last at front.1
+    | inr here ↦
+        let said : Some index ≡ Some other = sym there ∙ ap (slice_get order) (sym here.0) ∙ at in
+        let same : index ≡ other = cc in
+        (subst (λ n. n < length after) here.1 within, ap (λ n. cut_off (list_at after n)) (sym here.1) ∙ value ∙ ap (cut_off_at variables) same)
+  ]
+
+-- no lists of no variables
+pub none-listed : (variables : List Variable) (order numbers : List ℕ) (lists : List (List (List ℕ))) → numbers ≡ [] → AreListed variables order numbers lists
+none-listed variables order numbers lists none row index number at is = let there : slice_get [] row ≡ Some number = rw none at is in absurd (nothing row there)
+  where
+    nothing : (row : ℕ) → slice_get {X = ℕ} [] row ≡ Some number → ⊥
+    nothing zero h = cc
+    nothing (suc row) h = cc
+
+-- no numbers are distinct
+distinct-nothing : IsDistinct nat_eq []
+unfolding IsDistinct
+distinct-nothing = tt
+
+-- a table without rows
+pub empty-table : (variables : List Variable) (order counts numbers : List ℕ) (lists : List (List (List ℕ))) → order ≡ [] → counts ≡ [] → numbers ≡ [] → IsTable variables order counts numbers lists
+empty-table variables order counts numbers lists o c n = rw (o, c, n) (record {
+  settled = record { ordered = λ at index h. absurd (nothing at index h); below = λ q h. absurd (cc); distinct = distinct-nothing };
+  defined = λ index h. absurd (cc);
+  counted = refl;
+  few = omega arith;
+  listed = none-listed variables [] [] lists refl;
+})
+  where
+    nothing : (at index : ℕ) → slice_get {X = ℕ} [] at ≡ Some index → ⊥
+    nothing zero index h = cc
+    nothing (suc at) index h = cc
+
+module _ (variables : List Variable) (order counts numbers : List ℕ) (lists : List (List (List ℕ))) (table : IsTable variables order counts numbers lists) where
   -- the values of each variable in the order are the expansions of its words
   pub settled-values : Settled variables order
   settled-values = values-settled variables order table.settled.ordered (settled-few variables order table.settled)
 
-  name-held : (name : List ℕ) → is_empty (looked name) ≡ false → IsNameHeld name
-  name-held name some = by (index_of variables name) refl
+  -- a part that has a list is known and defined
+  part-listed : (name : List ℕ) → is_none (number_of variables order numbers name) ≡ false → (number : ℕ) × (number_of variables order numbers name ≡ Some number)
+  part-listed name h = by (number_of variables order numbers name) refl
     where
-      at_row : (index row : ℕ) → index_of variables name ≡ Some index → slice_get order row ≡ Some index → looked name ≡ slice_index_or held row [] → IsNameHeld name
-      at_row index row named there here = elim (slice_get_cases held row).1 [
-        | inl found ↦
-            let same : looked name ≡ found.0 = here ∙ get_or_from_slice_get held row found.0 [] found.2 in
-            let full : is_empty found.0 ≡ false = rw same at some in
-            let told : found.0 ≡ cut_off_at variables index = table.held row index found.0 there found.2 full in
-            (index, named, listed order row index there, same ∙ told ∙ ap cut_off (sym (settled-values row index there name named)))
-        | inr past ↦
-            let none : looked name ≡ [] = here ∙ get_or_past held row [] past.0 in
-            let wrong : true ≡ false = rw none at some in
-            absurd (cc)
-      ]
+      by : (found : Option ℕ) → number_of variables order numbers name ≡ found → (number : ℕ) × (number_of variables order numbers name ≡ Some number)
+      by None e = let wrong : true ≡ false = rw e at h in absurd (cc)
+      by (Some number) e = (number, e)
 
-      by_row : (index : ℕ) → index_of variables name ≡ Some index → (row : Option ℕ) → position (nat_eq index) order ≡ row → IsNameHeld name
-      by_row index named None p = let wrong : true ≡ false = rw (looked_up, row_of, named, p) at some in absurd (cc)
-      by_row index named (Some row) p = at_row index row named (position-some index order row p) (rw (looked_up, row_of, named, p) refl)
-
-      by : (found : Option ℕ) → index_of variables name ≡ found → IsNameHeld name
-      by None e = let wrong : true ≡ false = rw (looked_up, row_of, e) at some in absurd (cc)
-      by (Some index) e = by_row index e (position (nat_eq index) order) refl
-
-  parts-known_held : (ps : List Part) → list_any (is_missing (λ name. is_empty (looked name))) ps ≡ false → list_all (is_part_known variables order) ps ≡ true
+  parts-known_held : (ps : List Part) → list_any (is_missing (λ name. is_none (number_of variables order numbers name))) ps ≡ false → list_all (is_part_known variables order) ps ≡ true
   parts-known_held [] h = refl
   parts-known_held (Byte b ∷ ps) h = parts-known_held ps h
   parts-known_held (Unclosed ∷ ps) h = absurd (cc)
   parts-known_held (Name name ∷ ps) h =
-      let both = or_parts (is_empty (looked name)) (list_any (is_missing (λ name. is_empty (looked name))) ps) h in
-      let found = name-held name both.0 in
-      let here : is_part_known variables order (Name name) ≡ true = rw (found.1, is_part_known) found.2 in
+      let both = or_parts (is_none (number_of variables order numbers name)) (list_any (is_missing (λ name. is_none (number_of variables order numbers name))) ps) h in
+      let found = part-listed name both.0 in
+      let row = number-row variables order numbers lists table.listed name found.0 found.1 in
+      let here : is_part_known variables order (Name name) ≡ true = rw (row.2, is_part_known) (listed order row.1 row.0 row.3) in
       both_true here (parts-known_held ps both.1)
 
-  parts-defined_held : (ps : List Part) → list_any (is_missing (λ name. is_empty (looked name))) ps ≡ false → list_any (is_undefined variables) ps ≡ false
+  parts-defined_held : (ps : List Part) → list_any (is_missing (λ name. is_none (number_of variables order numbers name))) ps ≡ false → list_any (is_undefined variables) ps ≡ false
   parts-defined_held [] h = refl
   parts-defined_held (Byte b ∷ ps) h = parts-defined_held ps h
   parts-defined_held (Unclosed ∷ ps) h = absurd (cc)
   parts-defined_held (Name name ∷ ps) h =
-      let both = or_parts (is_empty (looked name)) (list_any (is_missing (λ name. is_empty (looked name))) ps) h in
-      let here : is_undefined variables (Name name) ≡ false = ap not (index-defined variables name (name-held name both.0).0 (name-held name both.0).1) in
+      let both = or_parts (is_none (number_of variables order numbers name)) (list_any (is_missing (λ name. is_none (number_of variables order numbers name))) ps) h in
+      let found = part-listed name both.0 in
+      let row = number-row variables order numbers lists table.listed name found.0 found.1 in
+      let here : is_undefined variables (Name name) ≡ false = ap not (index-defined variables name row.0 row.2) in
       or_from (is_undefined variables (Name name)) (list_any (is_undefined variables) ps) here (parts-defined_held ps both.1)
 
-  -- what a table has for each name among parts for which values are held
-  parts-held : (ps : List Part) → list_any (is_missing (λ name. is_empty (looked name))) ps ≡ false → EachName (AreCutOff looked (values variables)) ps
+  parts-held : (ps : List Part) → list_any (is_missing (λ name. is_none (number_of variables order numbers name))) ps ≡ false
+      → EachName (AreCutOff (held lists (number_of variables order numbers)) (values variables)) ps
   parts-held [] h = tt
   parts-held (Byte b ∷ ps) h = parts-held ps h
   parts-held (Unclosed ∷ ps) h = tt
   parts-held (Name name ∷ ps) h =
-      let both = or_parts (is_empty (looked name)) (list_any (is_missing (λ name. is_empty (looked name))) ps) h in
-      ((name-held name both.0).3, parts-held ps both.1)
+      let both = or_parts (is_none (number_of variables order numbers name)) (list_any (is_missing (λ name. is_none (number_of variables order numbers name))) ps) h in
+      let found = part-listed name both.0 in
+      (number-held variables order numbers lists table.listed settled-values name found.0 found.1, parts-held ps both.1)
 
-  -- for each in a text
-  pub text-held : (text : List ℕ) → is_text_lacking looked text ≡ false → EachNameIn (AreCutOff looked (values variables)) text
+  -- there are the values of each name in a text for whose names there are lists
+  pub text-held : (text : List ℕ) → is_text_lacking (number_of variables order numbers) text ≡ false → EachNameIn (AreCutOff (held lists (number_of variables order numbers)) (values variables)) text
   text-held text h = parts-held (parts text) h
-
-  -- for each in words
-  pub words-held : (words : List (List ℕ)) → are_texts_lacking looked words ≡ false → EachNameWithin (AreCutOff looked (values variables)) words
-  words-held [] h = tt
-  words-held (word ∷ words) h =
-      let both = or_parts (is_text_lacking looked word) (are_texts_lacking looked words) h in
-      (text-held word both.0, words-held words both.1)
 
   -- a variable is known as long as one more stands in an order
   known-first : (k : ℕ) (part : Part) → is_part_known variables (take k order) part ≡ true → is_part_known variables order part ≡ true
@@ -188,34 +296,17 @@ module _ (variables : List Variable) (order counts : List ℕ) (held : List (Lis
       refusal-none variables text order table.settled.ordered (settled-few variables order table.settled) known (leads-none variables order closed table.defined (length variables) text known defined)
 
   -- so is one for whose names all values are held
-  pub held-fine : (text : List ℕ) → is_text_lacking looked text ≡ false → expansion_refusal variables text ≡ None
+  pub held-fine : (text : List ℕ) → is_text_lacking (number_of variables order numbers) text ≡ false → expansion_refusal variables text ≡ None
   held-fine text h = known-fine text (parts-known_held (parts text) h) (parts-defined_held (parts text) h)
 
-  -- one more row
-  pub row-pushed : (index : ℕ) (texts : List (List ℕ)) → slice_get order (length held) ≡ Some index → AreValuesAt variables index texts → IsTable variables order counts (held ++ texts ∷ [])
-  row-pushed index texts there are = record {
+  -- more lists
+  pub table-kept : (after : List (List (List ℕ))) → AreKept lists after → IsTable variables order counts numbers after
+  table-kept after kept = record {
     settled = table.settled;
     defined = table.defined;
     counted = table.counted;
-    few = let within : length held < length order = slice_get_within order (length held) index there in rw (length-append held (texts ∷ [])) (omega arith);
-    held = λ row other more at is full. elim (slice_get-push held texts row more is) [
-      | inl front ↦ table.held row other more at front.1 full
-      | inr last ↦
-          let said : Some index ≡ Some other = sym there ∙ ap (slice_get order) (sym last.0) ∙ at in
-          let same : index ≡ other = cc in
-          let full_here : is_empty texts ≡ false = rw (sym last.1) at full in
-          sym last.1 ∙ are full_here ∙ ap (cut_off_at variables) same
-    ];
-  }
-
-  -- fewer rows that are held
-  pub rows-spent : (ordered : List ℕ) (counted : List ℕ) (values : List (List (List ℕ))) → ordered ≡ order → counted ≡ counts → AreFewer held values → IsTable variables ordered counted values
-  rows-spent ordered counted values o c fewer = rw (o, c) record {
-    settled = table.settled;
-    defined = table.defined;
-    counted = table.counted;
-    few = let many = fewer.as_many in omega arith;
-    held = λ row index texts at is full. table.held row index texts at (fewer.held row texts is full) full;
+    few = table.few;
+    listed = listed-kept variables order numbers lists table.listed after kept;
   }
 
   module _ (text more : List ℕ) (of : IsOrderOf variables text order more) where
@@ -225,87 +316,69 @@ module _ (variables : List Variable) (order counts : List ℕ) (held : List (Lis
         let size : length counts ≡ length order = ap length table.counted ∙ length-map order (count_at variables) in
         table.counted ∙ ap (map (count_at variables)) (sym (ap (λ n. take n more) size ∙ ap (take (length order)) of.begins.1 ∙ take-append_seam order of.begins.0))
 
+    -- so are the lists
+    pub first-listed : AreListed variables more numbers lists
+    first-listed row index number at is =
+        let within : row < length numbers = slice_get_within numbers row number is in
+        let few = table.few in
+        let inside : row < length order = omega arith in
+        table.listed row index number (sym (slice_get-front order of.begins.0 row inside) ∙ ap (λ all. slice_get all row) (sym of.begins.1) ∙ at) is
+
+    pub first-few : length numbers ≤ length more
+    first-few = let long = ap length of.begins.1 ∙ length-append order of.begins.0 in let few = table.few in omega arith
+
     -- a longer table
-    pub table-grown : (counted : List ℕ) → counted ≡ map (count_at variables) more → list_any (names_undefined_at variables) (drop (length order) more) ≡ false → IsTable variables more counted held
-    table-grown counted c none = record {
+    pub table-grown : (counted all : List ℕ) (after : List (List (List ℕ))) → counted ≡ map (count_at variables) more → list_any (names_undefined_at variables) (drop (length order) more) ≡ false
+        → AreListed variables more all after → length all ≡ length more → IsTable variables more counted all after
+    table-grown counted all after c none has size = record {
       settled = of.settled;
-      defined = λ index has. elim (any-split (nat_eq index) order of.begins.0 (subst (λ all. list_any (nat_eq index) all ≡ true) of.begins.1 has)) [
+      defined = λ index is. elim (any-split (nat_eq index) order of.begins.0 (subst (λ all. list_any (nat_eq index) all ≡ true) of.begins.1 is)) [
         | inl early ↦ table.defined index early
         | inr late ↦ none-at (names_undefined_at variables) of.begins.0 index (subst (λ rest. list_any (names_undefined_at variables) rest ≡ false) (ap (drop (length order)) of.begins.1 ∙ drop-append_seam order of.begins.0) none) late
       ];
       counted = c;
-      few = let long = ap length of.begins.1 ∙ length-append order of.begins.0 in let few = table.few in omega arith;
-      held = λ row index texts at is full.
-          let within : row < length held = slice_get_within held row texts is in
-          let few = table.few in
-          let inside : row < length order = omega arith in
-          table.held row index texts (sym (slice_get-front order of.begins.0 row inside) ∙ ap (λ all. slice_get all row) (sym of.begins.1) ∙ at) is full;
+      few = omega (arith, size);
+      listed = has;
     }
 
--- ---- the same of tables in memory
+-- what a column of numbers has
+pub numbers-beside : (column : Column ℕ) (variables : List Variable) (order numbers : List ℕ) → IsBeside column variables order numbers → numbers_in column ≡ number_of variables order numbers
+numbers-beside column variables order numbers beside = rw (beside.holder, beside.ordered, beside.filled) refl
 
--- what is worked out for the variable at an index
-pub words-values : {A B E : Type 0} (variables : List Variable) (order counts : List ℕ) (held : List (Vec (Vec ℕ A) B)) → IsTable variables order counts (map texts_of held)
-    → (column : Column (Vec (Vec ℕ A) B)) → IsBeside column variables order held → (index : ℕ) (result : Result (Vec (Vec ℕ A) B) E)
-    → are_texts_lacking (values_in column) (words_at column.variables.now index) ≡ false
-    → IfOk result (λ texts. AreChoicesWithin (values_in column) (words_at column.variables.now index) (texts_of texts))
-    → IfOk result (λ texts. AreValuesAt variables index (texts_of texts))
-words-values variables order counts held table column beside index (Err error) none is = tt
-words-values variables order counts held table column beside index (Ok texts) none is = λ full.
-    let looks = values-beside column variables order held beside in
-    let nothing : are_texts_lacking (cut_off_by variables order held) (words_at variables index) ≡ false =
-    subst (λ all. are_texts_lacking (cut_off_by variables order held) (words_at all index) ≡ false) beside.holder
-    (subst (λ has. are_texts_lacking has (words_at column.variables.now index) ≡ false) looks none)
+-- there is a list of each
+pub column-there : (column : Column ℕ) (variables : List Variable) (order numbers : List ℕ) (lists : List (List (List ℕ))) → IsBeside column variables order numbers
+    → AreListed variables order numbers lists → AreThere lists (numbers_in column)
+column-there column variables order numbers lists beside has =
+    subst (AreThere lists) (sym (numbers-beside column variables order numbers beside)) (listed-there variables order numbers lists has)
+
+-- a list of one more variable, by those of the variables before it in an order
+pub row-listed : (variables : List Variable) (order numbers pushed : List ℕ) (lists after : List (List (List ℕ))) (column : Column ℕ) (index number : ℕ) → IsOrder variables order → Settled variables order
+    → IsBeside column variables order numbers → AreListed variables order numbers lists → Some index ≡ slice_get order (length numbers)
+    → ExpandsWords lists (numbers_in column) (words_at column.variables.now index) number after → pushed ≡ numbers ++ number ∷ [] → AreListed variables order pushed after
+row-listed variables order numbers pushed lists after column index number ordered settled beside has there words p =
+    let looks = numbers-beside column variables order numbers beside in
+    let each = words-known variables order numbers lists has settled (length numbers) (omega arith) (words_at variables index) (ordered (length numbers) index (sym there)) in
+    let every : EachNameWithin (AreCutOff (held lists (numbers_in column)) (values variables)) (words_at column.variables.now index) =
+    subst (λ all. EachNameWithin (AreCutOff (held lists (numbers_in column)) (values variables)) (words_at all index)) (sym beside.holder)
+    (subst (λ of. EachNameWithin (AreCutOff (held lists of) (values variables)) (words_at variables index)) (sym looks) each)
     in
-    let each = words-held variables order counts (map texts_of held) table (words_at variables index) nothing in
-    subst (λ all. AreChoicesWithin (values_in column) (words_at all index) (texts_of texts)) beside.holder is (values variables) (subst (λ has. EachNameWithin (AreCutOff has (values variables)) (words_at variables index)) (sym looks) each)
+    subst (λ all. AreListed variables order all after) (sym p)
+    (listed-pushed variables order numbers lists has after index number words.kept (sym there) words.within
+    (words.value (values variables) every ∙ ap (λ all. cut_off (choices_within (values variables) (words_at all index))) beside.holder))
 
--- a text for whose names a column has values
-pub column-held : {A B : Type 0} (variables : List Variable) (order counts : List ℕ) (held : List (Vec (Vec ℕ A) B)) → IsTable variables order counts (map texts_of held)
-    → (column : Column (Vec (Vec ℕ A) B)) → IsBeside column variables order held → (text : List ℕ) → is_text_lacking (values_in column) text ≡ false
-    → (expansion_refusal variables text ≡ None) × EachNameIn (AreCutOff (values_in column) (values variables)) text
-column-held variables order counts held table column beside text none =
-    let looks = values-beside column variables order held beside in
-    let nothing : is_text_lacking (cut_off_by variables order held) text ≡ false = subst (λ has. is_text_lacking has text ≡ false) looks none in (
-      held-fine variables order counts (map texts_of held) table text nothing,
-      subst (λ has. EachNameIn (AreCutOff has (values variables)) text) (sym looks) (text-held variables order counts (map texts_of held) table text nothing),
-    )
+-- a list of the expansions of a text of which each variable is in an order
+pub known-listed : (variables : List Variable) (order numbers : List ℕ) (lists after : List (List (List ℕ))) (column : Column ℕ) (text : List ℕ) (number : ℕ) → Settled variables order
+    → IsBeside column variables order numbers → AreListed variables order numbers lists → length numbers ≡ length order → is_text_known variables order text ≡ true
+    → Expands lists (numbers_in column) text number after → cut_off (list_at after number) ≡ cut_off (expansions variables text)
+known-listed variables order numbers lists after column text number settled beside has size known of =
+    let whole : take (length order) order ≡ order = take_all (length order) order (omega arith) in
+    let each = text-known variables order numbers lists has settled (length order) (omega (arith, size)) text (rw whole known) in
+    of.value (values variables) (subst (λ by. EachNameIn (AreCutOff (held lists by) (values variables)) text) (sym (numbers-beside column variables order numbers beside)) each)
 
--- as many are held as were
-pub fewer-same : (values : List (List (List ℕ))) → AreFewer values values
-fewer-same values = record { as_many = refl; held = λ row texts is full. is }
-
--- fewer than fewer
-pub fewer-more : (first second third : List (List (List ℕ))) → AreFewer first second → AreFewer second third → AreFewer first third
-fewer-more first second third one other = record { as_many = other.as_many ∙ one.as_many; held = λ row texts is full. one.held row texts (other.held row texts is full) full }
-
-pub spent-more : (first second third : Rows) → IsSpent first second → IsSpent second third → IsSpent first third
-spent-more first second third one other = record {
-  ordered = other.ordered ∙ one.ordered;
-  counted = other.counted ∙ one.counted;
-  fewer = fewer-more (map texts_of first.values.items) (map texts_of second.values.items) (map texts_of third.values.items) one.fewer other.fewer;
-}
-
--- a row is let go
-pub fewer-set : (values : List (List (List ℕ))) (row : ℕ) → AreFewer values (set values row [])
-fewer-set values row = record { as_many = length-set values row []; held = λ at texts is full. front values row at texts is full }
-  where
-    front : (values : List (List (List ℕ))) (row at : ℕ) (texts : List (List ℕ)) → slice_get (set values row []) at ≡ Some texts → is_empty texts ≡ false → slice_get values at ≡ Some texts
-    front [] row at texts is full = is
-    front (x ∷ xs) zero zero texts is full = let same : [] ≡ texts = cc in let wrong : true ≡ false = rw (sym same) at full in absurd (cc)
-    front (x ∷ xs) zero (suc at) texts is full = is
-    front (x ∷ xs) (suc row) zero texts is full = is
-    front (x ∷ xs) (suc row) (suc at) texts is full = front xs row at texts is full
-
--- the same of vectors
-pub values-set : {A B : Type 0} (values : List (Vec (Vec ℕ A) B)) (row : ℕ) (none : Vec (Vec ℕ A) B) → none.items ≡ [] → AreFewer (map texts_of values) (map texts_of (set values row none))
-values-set values row none empty =
-    subst (AreFewer (map texts_of values)) (sym (map-set texts_of values row none ∙ ap (set (map texts_of values) row) (ap as_texts empty))) (fewer-set (map texts_of values) row)
-
--- one more row of a vector
-pub rows-pushed : {A B : Type 0} (variables : List Variable) (order counts : List ℕ) (values pushed : List (Vec (Vec ℕ A) B)) (row : Vec (Vec ℕ A) B) (size index : ℕ)
-    → IsTable variables order counts (map texts_of values) → size ≡ length values → Some index ≡ slice_get order size → AreValuesAt variables index (texts_of row) → pushed ≡ values ++ row ∷ []
-    → IsTable variables order counts (map texts_of pushed)
-rows-pushed variables order counts values pushed row size index table s there are p =
-    subst (IsTable variables order counts) (sym (ap (map texts_of) p ∙ map-append texts_of values (row ∷ [])))
-    (row-pushed variables order counts (map texts_of values) table index (texts_of row) (ap (slice_get order) (length-map values texts_of ∙ sym s) ∙ sym there) are)
+-- a list of the expansions of a text for whose names a table has lists
+pub held-listed : (variables : List Variable) (order counts numbers : List ℕ) (lists after : List (List (List ℕ))) (table : IsTable variables order counts numbers lists) (column : Column ℕ) (text : List ℕ) (number : ℕ)
+    → IsBeside column variables order numbers → is_text_lacking (number_of variables order numbers) text ≡ false
+    → Expands lists (numbers_in column) text number after → cut_off (list_at after number) ≡ cut_off (expansions variables text)
+held-listed variables order counts numbers lists after table column text number beside none of =
+    of.value (values variables) (subst (λ by. EachNameIn (AreCutOff (held lists by) (values variables)) text) (sym (numbers-beside column variables order numbers beside))
+    (text-held variables order counts numbers lists table text none))

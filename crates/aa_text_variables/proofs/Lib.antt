@@ -3,7 +3,6 @@ pub mod ChainLemmas
 pub mod CountLemmas
 pub mod CycleLaws
 pub mod CycleLemmas
-pub mod ExpandLemmas
 pub mod ExpansionLaws
 pub mod HeldLemmas
 pub mod IndexLemmas

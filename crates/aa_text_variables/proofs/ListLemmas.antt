@@ -12,13 +12,6 @@ past-none [] at h = omega arith
 past-none (x ∷ xs) zero h = absurd cc
 past-none (x ∷ xs) (suc at) h = let rest : length xs ≤ at = past-none xs at h in omega arith
 
--- none are left there
-pub drop-none : {X : Type 0} (xs : List X) (at : ℕ) → None ≡ slice_get xs at → drop at xs ≡ []
-drop-none [] zero h = refl
-drop-none [] (suc at) h = refl
-drop-none (x ∷ xs) zero h = absurd cc
-drop-none (x ∷ xs) (suc at) h = drop-none xs at h
-
 -- where a number stands that is among the first ones
 pub index-among_first : (order : List ℕ) (count index : ℕ) → list_any (nat_eq index) (take count order) ≡ true
     → (at : ℕ) × (at < count) × (slice_get order at ≡ Some index)

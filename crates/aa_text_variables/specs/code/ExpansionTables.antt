@@ -1,7 +1,8 @@
 -- Tables that stand beside an order of variables: what the variable at each index of the order has.
-use Rattle.std.specs.Prelude.{ℕ, ◌≡◌, nat_eq, List, [], length, map, flat_map, take, position, slice_index_or, Option, None, Some, Vec}
+use Rattle.std.specs.Prelude.{ℕ, ◌≡◌, ◌<◌, nat_eq, List, length, map, flat_map, take, position, slice_get, slice_index_or, Option, None, Some}
 use Rattle.aa_text_expansion.specs.Counting.{count_of}
-use Rattle.aa_text_expansion.specs.Joining.{cut_off, texts_of}
+use Rattle.aa_text_expansion.specs.Joining.{cut_off}
+use Rattle.aa_text_expansion.specs.Lists.{list_at}
 use Rattle.aa_text_variables.specs.Variables.{Variable}
 use Rattle.aa_text_variables.specs.Expansions.{expansions}
 use Rattle.aa_text_variables.specs.code.VariableIndexes.{index_of, words_at}
@@ -35,6 +36,12 @@ AreFirstCounts variables order counts = counts ≡ map (count_at variables) (tak
 abbrev pub cut_off_at : List Variable → ℕ → List (List ℕ)
 cut_off_at variables index = cut_off (values_at variables index)
 
--- the values that a table in memory has for a name
-abbrev pub cut_off_by : {A B : Type 0} → List Variable → List ℕ → List (Vec (Vec ℕ A) B) → List ℕ → List (List ℕ)
-cut_off_by variables order table name = looked_up [] variables order (map texts_of table) name
+-- the number that a table has for a name
+abbrev pub number_of : List Variable → List ℕ → List ℕ → List ℕ → Option ℕ
+number_of variables order numbers name = elim (row_of variables order name) [ None ↦ None | Some row ↦ slice_get numbers row ]
+
+-- Lists of the values of the first variables of an order, by their numbers.
+abbrev pub AreListed : List Variable → List ℕ → List ℕ → List (List (List ℕ)) → Type 0
+AreListed variables order numbers lists =
+    (row index number : ℕ) → slice_get order row ≡ Some index → slice_get numbers row ≡ Some number
+    → (number < length lists) × (cut_off (list_at lists number) ≡ cut_off_at variables index)

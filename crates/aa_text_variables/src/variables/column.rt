@@ -1,8 +1,7 @@
 //! What is worked out for the variables of an order: a table that stands beside it, with a row for each.
 
-ghost use Rattle.std.specs.Prelude.{◌≡◌};
-ghost use Rattle.aa_bytes.specs.Texts.{is_empty};
-ghost use Rattle.aa_text_variables.specs.code.Columns.{IsBeside, counts_in, values_in};
+ghost use Rattle.std.specs.Prelude.{◌≡◌, is_none};
+ghost use Rattle.aa_text_variables.specs.code.Columns.{IsBeside, counts_in, numbers_in};
 ghost use Rattle.aa_text_variables.specs.code.ExpansionTables.{row_of};
 
 use crate::variables::Variables;
@@ -34,7 +33,7 @@ impl Variables {
     }
 }
 
-// A table with the order that it stands beside: counts of values, or the values themselves. Rows may be missing at its end.
+// A table with the order that it stands beside: counts of values, or numbers of the lists of values. Rows may be missing at its end.
 #[derive(Drop)]
 pub(super) struct Column<'a, T> {
     pub(super) variables: &'a Variables,
@@ -53,25 +52,22 @@ impl Counts for Column<'_, usize> {
     }
 }
 
-impl Values for Column<'_, Vec<Vec<u8>>> {
-    ghost values = { values_in };
+impl Values for Column<'_, usize> {
+    ghost numbers = { numbers_in };
 
-    fn values_of(&self, name: &[u8]) -> &[Vec<u8>] {
+    fn list_of(&self, name: &[u8]) -> Option<usize> {
         match self.variables.row(self.order, name) {
-            Some(row) => match self.rows.get(row) {
-                Some(values) => values.as_slice(),
-                None => &[],
-            },
-            None => &[],
+            Some(row) => self.rows.get(row).copied(),
+            None => None,
         }
     }
 }
 
-impl Column<'_, Vec<Vec<u8>>> {
-    // Whether it has no values for a name.
+impl Column<'_, usize> {
+    // Whether it has no list for a name.
     pub(super) fn lacks(&self, name: &[u8]) -> bool
-        ensures { result ≡ is_empty (values_in self.now name.now) }
+        ensures { result ≡ is_none (numbers_in self.now name.now) }
     {
-        self.values_of(name).is_empty()
+        self.list_of(name).is_none()
     }
 }

@@ -1,35 +1,30 @@
 //! The expansions of a text: one for each choice of a value for each of its names.
 
-ghost use Rattle.std.specs.Prelude.{◌≡◌, ◌≢◌, ◌<◌, ◌≤◌, None, Some, IfOk, IfErr, OnOk, length, map, take};
-ghost use Rattle.aa_text_expansion.specs.Expanding.{AreChoicesWithin};
+ghost use Rattle.std.specs.Prelude.{◌≡◌, ◌≢◌, ◌<◌, ◌≤◌, true, None, Some, IfOk, IfErr, OnOk, length, map, take};
+ghost use Rattle.aa_text_expansion.specs.Expanding.{AreThere, ExpandsWords};
 ghost use Rattle.aa_text_expansion.specs.Joining.{most_kept, texts_of};
-ghost use Rattle.aa_text_variables.specs.code.Columns.{values_in};
-ghost use Rattle.aa_text_variables.specs.code.ExpansionOrder.{IsOrder};
-ghost use Rattle.aa_text_variables.specs.code.ExpansionTables.{cut_off_at};
+ghost use Rattle.aa_text_variables.specs.code.Columns.{numbers_in};
+ghost use Rattle.aa_text_variables.specs.code.ExpansionOrder.{IsOrder, is_text_known};
+ghost use Rattle.aa_text_variables.specs.code.ExpansionTables.{AreListed};
 ghost use Rattle.aa_text_variables.specs.Expansions.{expansion_refusal, expansions};
 ghost use Rattle.aa_text_variables.specs.code.VariableIndexes.{words_at};
 ghost use Rattle.aa_text_files.specs.declared.text_error.TextRefusal.TheVariants.{Memory};
 
 use crate::variables::Variables;
 use crate::variables::column::Column;
-use aa_text_expansion::{expand_text, expand_words};
+use crate::variables::reached::gathered;
+use aa_text_expansion::{Lists, expand_text, expand_words};
 use aa_text_files::TextError;
 use indexmap::IndexSet;
 use std::alloc::AllocError;
 
-// The values of the variable at an index, by those of the variables that its words name.
-pub(super) fn expanded_at(
-    values: &Column<'_, Vec<Vec<u8>>>,
-    index: usize,
-) -> Result<Vec<Vec<u8>>, AllocError>
-    ensures { IfOk result (λ texts. AreChoicesWithin (values_in values.now) (words_at values.now.variables.now index) (texts_of texts)) }
+// The list of the values of the variable at an index, by the lists for the names in its words.
+fn listed_at(lists: &mut Lists, held: &Column<'_, usize>, index: usize) -> Result<usize, AllocError>
+    requires { AreThere lists.old (numbers_in held.now) }
+    ensures { IfOk result (λ number. ExpandsWords lists.old (numbers_in held.now) (words_at held.now.variables.now index) number lists.new) }
 {
-    let alloc = *values.order.allocator();
-    let (defined, added) = values.variables.words(index);
-    let mut texts = expand_words(alloc, values, defined)?;
-    let mut more = expand_words(alloc, values, added)?;
-    texts.append(&mut more)?;
-    Ok(texts)
+    let (defined, added) = held.variables.words(index);
+    expand_words(lists, held, defined, added)
 }
 
 impl Variables {
@@ -52,23 +47,43 @@ impl Variables {
         ensures place { IfErr result (λ e. e.place ≡ None) }
     {
         let order = self.order(text)?;
-        let table = self.table(&order)?;
-        let values = self.beside(&order, table.as_slice());
-        Ok(expand_text(*order.allocator(), &values, text)?)
+        Ok(self.expanded_by(&order, text)?)
     }
 
-    // The values of each variable of an order.
-    fn table(&self, order: &IndexSet<usize>) -> Result<Vec<Vec<Vec<u8>>>, AllocError>
+    // Those of a text of which each variable is in an order.
+    fn expanded_by(&self, order: &IndexSet<usize>, text: &[u8]) -> Result<Vec<Vec<u8>>, AllocError>
         requires order { IsOrder self.now order.now.keys }
         requires few { length order.now.keys ≤ length self.now }
-        ensures { IfOk result (λ table. map texts_of table.items ≡ map (cut_off_at self.now) order.now.keys) }
+        requires known { is_text_known self.now order.now.keys text.now ≡ true }
+        ensures { IfOk result (λ texts. texts_of texts ≡ map (take most_kept) (expansions self.now text.now)) }
     {
-        let indexes = order.as_slice();
-        let mut table = Vec::with_capacity(*order.allocator(), indexes.len())?;
-        for index in indexes {
-            let texts = expanded_at(&self.beside(order, table.as_slice()), *index)?;
-            table.push(texts)?;
+        let alloc = *order.allocator();
+        let mut lists = Lists::new(alloc);
+        let numbers = self.list(order, &mut lists, Vec::new(alloc))?;
+        let number = expand_text(&mut lists, &self.beside(order, numbers.as_slice()), text)?;
+        let texts = lists.texts(number)?;
+        Ok(texts)
+    }
+
+    // Lists of the values of all variables of an order, where there are those of the first ones: their numbers.
+    pub(super) fn list(
+        &self,
+        order: &IndexSet<usize>,
+        lists: &mut Lists,
+        first: Vec<usize>,
+    ) -> Result<Vec<usize>, AllocError>
+        requires order { IsOrder self.now order.now.keys }
+        requires few { length order.now.keys ≤ length self.now }
+        requires first { AreListed self.now order.now.keys first.items lists.old }
+        requires fewer { length first.items ≤ length order.now.keys }
+        ensures listed { IfOk result (λ all. AreListed self.now order.now.keys all.items lists.new) }
+        ensures all { IfOk result (λ all. length all.items ≡ length order.now.keys) }
+    {
+        let mut numbers = first;
+        while let Some(index) = gathered(order, numbers.len()) {
+            let number = listed_at(lists, &self.beside(order, numbers.as_slice()), index)?;
+            numbers.push(number)?;
         }
-        Ok(table)
+        Ok(numbers)
     }
 }

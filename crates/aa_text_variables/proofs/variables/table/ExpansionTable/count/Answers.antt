@@ -1,8 +1,7 @@
-use Rattle.std.proofs.Common.{◌≡◌, ◌<◌, length, map, min, true, arith, ap, sym, subst, ◌∙◌}
+use Rattle.std.proofs.Common.{◌≡◌, ◌<◌, length, min, true, arith, ap, sym, subst, ◌∙◌}
 use Rattle.aa_text_variables.specs.Expansions.{expansion_refusal, expansions, values}
 use Rattle.aa_text_variables.specs.Variables.{are_variables}
 use Rattle.aa_text_expansion.specs.Counting.{most_counted}
-use Rattle.aa_text_expansion.specs.Joining.{texts_of}
 use Rattle.aa_text_variables.specs.code.HeldValues.{HasText}
 use Rattle.aa_text_variables.proofs.CountLemmas.{text-counted}
 use Rattle.aa_text_variables.proofs.HeldLemmas.{known-fine, settled-values}
@@ -13,13 +12,13 @@ pub returns-in-Some-clause-fine : goal.returns-in-Some-clause-fine
 returns-in-Some-clause-fine c =
     let found : HasText c.self.inside.variables.now c.args.text.now c.in-Some.rows = rw c.in-Some.is at c.in_ok-rows.ensures in
     ap (λ variables. expansion_refusal variables c.args.text.now) (sym c.self.view_is)
-    ∙ known-fine c.self.inside.variables.now c.in-Some.rows.order.keys c.in-Some.rows.counts.items (map texts_of c.in-Some.rows.values.items) found.table c.args.text.now found.known found.defined
+    ∙ known-fine c.self.inside.variables.now c.in-Some.rows.order.keys c.in-Some.rows.counts.items c.in-Some.rows.numbers.items c.in-Some.rows.lists found.table c.args.text.now found.known found.defined
 
 pub returns-in-Some-clause-count : goal.returns-in-Some-clause-count
 returns-in-Some-clause-count c =
     let variables = c.self.inside.variables.now in
     let found : HasText variables c.args.text.now c.in-Some.rows = rw c.in-Some.is at c.in_ok-rows.ensures in
-    let settled = settled-values variables c.in-Some.rows.order.keys c.in-Some.rows.counts.items (map texts_of c.in-Some.rows.values.items) found.table in
+    let settled = settled-values variables c.in-Some.rows.order.keys c.in-Some.rows.counts.items c.in-Some.rows.numbers.items c.in-Some.rows.lists found.table in
     c.count_text-count.ensures.right (values variables)
     (text-counted variables c.in-Some.rows.order.keys settled c.beside-counts.result c.args.text.now c.in-Some.rows.counts.items (rw c.as_slice.ensures.value at c.beside-counts.ensures) found.table.counted found.known)
     ∙ ap (λ variables. min (length (expansions variables c.args.text.now)) most_counted) c.self.view_is
