@@ -7,8 +7,8 @@ ghost use Rattle.aa_profile_grammar.specs.code.Names.{AreNamesOf};
 ghost use Rattle.aa_profile_grammar.specs.SeenFiles.{seen_member, seen_profile};
 
 use crate::blocks::{Member, Profile};
-use indexmap::IndexSet;
 use std::alloc::{AllocError, Global};
+use std::collections::BTreeSet;
 
 /// Profiles of a file.
 #[derive(Drop)]
@@ -16,8 +16,8 @@ pub struct ProfilesSoFar<'a> {
     /// The profiles, in order.
     pub items: Vec<Profile<'a>>,
     // Their names.
-    names: IndexSet<&'a [u8]>,
-    ghost named: { AreNamesOf names.keys (λ name. list_any (is_of_name name) (map seen_profile items.items)) },
+    names: BTreeSet<&'a [u8]>,
+    ghost named: { AreNamesOf names (λ name. list_any (is_of_name name) (map seen_profile items.items)) },
 }
 
 impl<'a> ProfilesSoFar<'a> {
@@ -27,7 +27,7 @@ impl<'a> ProfilesSoFar<'a> {
     {
         ProfilesSoFar {
             items: Vec::new(alloc),
-            names: IndexSet::new(alloc),
+            names: BTreeSet::new(alloc),
         }
     }
 
@@ -58,8 +58,8 @@ pub struct MembersSoFar<'a> {
     /// The members, in order.
     pub items: Vec<Member<'a>>,
     // The names of the children and hats among them.
-    names: IndexSet<&'a [u8]>,
-    ghost named: { AreNamesOf names.keys (λ name. list_any (is_child_of_name name) (map seen_member items.items)) },
+    names: BTreeSet<&'a [u8]>,
+    ghost named: { AreNamesOf names (λ name. list_any (is_child_of_name name) (map seen_member items.items)) },
 }
 
 impl<'a> MembersSoFar<'a> {
@@ -69,7 +69,7 @@ impl<'a> MembersSoFar<'a> {
     {
         MembersSoFar {
             items: Vec::new(alloc),
-            names: IndexSet::new(alloc),
+            names: BTreeSet::new(alloc),
         }
     }
 
