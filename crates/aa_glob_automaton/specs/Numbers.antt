@@ -1,5 +1,5 @@
 -- Numbers of elements, by which the way behind a beginning of a pattern is found. Sets of bytes are numbered as they come.
-use Rattle.std.specs.Prelude.{◌≡◌, ℕ, ◌+◌, nat_lt, if◌then◌else◌, List, [], ◌∷◌, map, Option, None, Some, Vec}
+use Rattle.std.specs.Prelude.{◌≡◌, ℕ, ◌+◌, nat_lt, if◌then◌else◌, List, [], ◌∷◌, Option, None, Some}
 use Rattle.std.specs.Str.{bytes_eq}
 use Rattle.aa_glob_syntax.specs.Elements.{Element, Single, Open, Comma, Close, Fault}
 use Rattle.aa_glob_syntax.specs.Items.{Byte, Set, Star, DoubleStar, Group}
@@ -16,10 +16,6 @@ ends_of (range ∷ ranges) = range.first ∷ range.last ∷ ends_of ranges
 abbrev pub key_of : ByteSet → List ℕ
 key_of Inside = []
 key_of (Class negated ranges) = (if negated then 1 else 0) ∷ ends_of ranges
-
--- the keys of the sets that have come, as they are kept
-abbrev pub as_keys : {A : Type 0} → List (Vec ℕ A) → List (List ℕ)
-as_keys keys = map (λ key. key.items) keys
 
 -- the number of the set that came first: below it are those of bytes, stars, braces and commas
 abbrev pub first_set : ℕ

@@ -1,4 +1,5 @@
 -- What the code's own forms mean. No public contract names these.
 pub mod Followed
 pub mod Growths
+pub mod Numbered
 pub mod SeenGroups

@@ -1,11 +1,11 @@
 //! Numbers of the elements of patterns, by which the way behind a beginning is found.
 
-ghost use Rattle.std.specs.Prelude.{◌≡◌, ◌<◌, ◌+◌, ◌++◌, ◌∷◌, [], Some, IfOk, OnOk};
-ghost use Rattle.aa_glob_automaton.specs.Numbers.{AreKept, ends_of, first_set, key_of, most_number, number_of_set};
+ghost use Rattle.std.specs.Prelude.{◌≡◌, ◌<◌, ◌+◌, ◌++◌, ◌∷◌, [], None, Some, IfOk, IfSome, OnOk};
+ghost use Rattle.aa_glob_automaton.specs.Numbers.{AreKept, ends_of, first_set, key_of, most_number, number_from, number_of_set};
 
 use aa_bytes::{ByteRange, ByteSet};
-use indexmap::IndexSet;
 use std::alloc::{AllocError, Global};
+use std::collections::BTreeMap;
 use std::marker::Model;
 
 // The number of the class that came first.
@@ -16,16 +16,19 @@ const FIRST_CLASS: u32 = 261;
 /// Contracts see their keys, in the order in which they came.
 #[derive(Drop)]
 pub struct Numbers {
-    keys: IndexSet<Vec<u8>>,
+    // With each key its number.
+    by_key: BTreeMap<Vec<u8>, u32>,
 }
 
 impl Model for Numbers {
     ghost use Rattle.std.specs.Prelude.{ℕ, List};
-    ghost use Rattle.aa_glob_automaton.specs.Numbers.{as_keys};
+    ghost use Rattle.aa_glob_automaton.specs.code.Numbered.{AreNumbered, keys_in_order};
 
     ghost Value = { List (List ℕ) };
 
-    ghost view = { λ n. as_keys n.keys.keys };
+    ghost view = { λ n. keys_in_order n.by_key.entries };
+
+    ghost invariant = { λ n. AreNumbered n.by_key.entries };
 }
 
 impl Numbers {
@@ -34,7 +37,7 @@ impl Numbers {
         ensures { result ≡ [] }
     {
         Numbers {
-            keys: IndexSet::new(alloc),
+            by_key: BTreeMap::new(alloc),
         }
     }
 
@@ -45,19 +48,42 @@ impl Numbers {
         ensures within { IfOk result (λ number. number < most_number) }
         ensures kept { OnOk result (AreKept self.old self.new) }
     {
-        match u32::try_from(self.place_of(alloc, set)?) {
-            Ok(place) if place < u32::MAX - FIRST_CLASS => Ok(FIRST_CLASS + place),
-            _ => Err(AllocError),
+        let key = key_of(alloc, set)?;
+        match self.known(key.as_slice()) {
+            Some(number) => Ok(number),
+            None => self.add(key),
         }
     }
 
-    // The place of a set of bytes among those that came.
-    fn place_of(&mut self, alloc: Global, set: &ByteSet) -> Result<usize, AllocError>
-        ensures number { IfOk result (λ place. number_of_set self.new set.now ≡ Some (first_set + place)) }
+    // The number of a key that came before.
+    fn known(&self, key: &[u8]) -> Option<u32>
+        ensures number { result ≡ number_from first_set key.now self.now }
+        ensures within { IfSome result (λ number. number < most_number) }
+    {
+        self.by_key.get(key).copied()
+    }
+
+    // The number of a key that comes now.
+    fn add(&mut self, key: Vec<u8>) -> Result<u32, AllocError>
+        requires { number_from first_set key.items self.old ≡ None }
+        ensures number { IfOk result (λ number. number_from first_set key.items self.new ≡ Some number) }
+        ensures within { IfOk result (λ number. number < most_number) }
         ensures kept { OnOk result (AreKept self.old self.new) }
     {
-        let (place, _) = self.keys.insert_full(key_of(alloc, set)?)?;
-        Ok(place)
+        let number = number_after(self.by_key.len())?;
+        self.by_key.insert(key, number)?;
+        Ok(number)
+    }
+}
+
+// The number of the class behind so many, if one is left.
+fn number_after(count: usize) -> Result<u32, AllocError>
+    ensures number { IfOk result (λ number. number ≡ first_set + count) }
+    ensures within { IfOk result (λ number. number < most_number) }
+{
+    match u32::try_from(count) {
+        Ok(count) if count < u32::MAX - FIRST_CLASS => Ok(FIRST_CLASS + count),
+        _ => Err(AllocError),
     }
 }
 
