@@ -3,21 +3,17 @@ use Rattle.std.proofs.Common.{◌≡◌, ℕ, suc, ◌+◌, ◌<◌, Bool, true,
 use Rattle.std.specs.Borrow.{Bor}
 use Rattle.std.specs.List.{position_from}
 use Rattle.std.specs.Option.{is_some}
-use Rattle.indexmap.specs.IndexMap.{insert_entry}
+use Rattle.std.specs.BTreeMap.{BTreeMap, Updates}
+use Rattle.std.specs.Cmp.Lexicographic.{slice_cmp}
+use Rattle.std.specs.Ordering.{nat_cmp}
 use Rattle.std.specs.Str.{bytes_eq}
-use Rattle.std.proofs.lemmas.Bool.Decides.{same_from_decides}
 use Rattle.std.proofs.lemmas.Iterator.Adapters.{position_from-zero}
 use Rattle.std.proofs.lemmas.List.{length-take-le, take_more}
+use Rattle.std.proofs.lemmas.Map.Text.{btree_map_updates_str}
 use Rattle.std.proofs.lemmas.Slice.Eq.{bytes_eq-Decides}
 use Rattle.aa_decide_verdict.specs.Entries.{Loaded}
 use Rattle.aa_set_names.specs.SlotNames.{holds, slot_named}
 use Rattle.aa_set_names.specs.code.FirstSlots.{first_of, slot_of}
-
-bytes_eq-comm : (a b : List ℕ) → bytes_eq a b ≡ bytes_eq b a
-bytes_eq-comm a b =
-    let one = bytes_eq-Decides a b in
-    let other = bytes_eq-Decides b a in
-    same_from_decides (bytes_eq a b) (bytes_eq b a) one (λ h. sym (other.0 h), λ h. other.1 (sym h))
 
 position-push : (test : Option Loaded → Bool) (start : ℕ) (slots : List (Option Loaded)) (slot : Option Loaded)
     → position_from test start (slots ++ slot ∷ []) ≡ first_of (position_from test start slots) (cond (test slot) (Some (start + length slots)) None)
@@ -44,33 +40,32 @@ slot_named-more name slots place given h =
     ∙ position-push (holds name) 0 (take place slots) (slice_index_or slots place given)
     ∙ (λ i. first_of (sym (position_from-zero (holds name) (take place slots)) i) (cond (holds name (slice_index_or slots place given)) (Some (same i)) None))
 
--- a name at the end
-slot_of-push : (name : List ℕ) (noted : List (Bor (List ℕ) × ℕ)) (key : Bor (List ℕ)) (place : ℕ)
-    → slot_of name (noted ++ (key, place) ∷ []) ≡ first_of (slot_of name noted) (cond (bytes_eq name key.now) (Some place) None)
-slot_of-push name [] key place = refl
-slot_of-push name (other ∷ noted) key place = by (bytes_eq name other.0.now) (slot_of-push name noted key place)
-  where
-    by : (here : Bool) → slot_of name (noted ++ (key, place) ∷ []) ≡ first_of (slot_of name noted) (cond (bytes_eq name key.now) (Some place) None)
-        → cond here (Some other.1) (slot_of name (noted ++ (key, place) ∷ [])) ≡ first_of (cond here (Some other.1) (slot_of name noted)) (cond (bytes_eq name key.now) (Some place) None)
-    by true h = refl
-    by false h = h
-
--- a name that had no slot is noted with one
-pub noted-new : (name : List ℕ) (noted : List (Bor (List ℕ) × ℕ)) (key : Bor (List ℕ)) (entry : Loaded) (place : ℕ) → key.now ≡ entry.profile.name
-    → slot_of name (noted ++ (key, place) ∷ []) ≡ first_of (slot_of name noted) (cond (holds name (Some entry)) (Some place) None)
-noted-new name noted key entry place h =
-    slot_of-push name noted key place ∙ ap (λ test. first_of (slot_of name noted) (cond test (Some place) None)) (bytes_eq-comm name key.now ∙ ap (λ own. bytes_eq own name) h)
+-- a slot is noted with a name
+abbrev pub Notes : BTreeMap (Bor (List ℕ)) ℕ → Bor (List ℕ) → ℕ → BTreeMap (Bor (List ℕ)) ℕ → Type 0
+Notes noted key place more = Updates (λ (x y : Bor (List ℕ)). slice_cmp nat_cmp x.now y.now) noted more key (Some place)
 
 first-none : (first : Option ℕ) → first ≡ first_of first None
 first-none None = refl
 first-none (Some slot) = refl
 
+-- a name that had no slot is noted with one
+pub noted-new : (name : List ℕ) (noted more : BTreeMap (Bor (List ℕ)) ℕ) (key : Bor (List ℕ)) (entry : Loaded) (place : ℕ) → Notes noted key place more → slot_of key.now noted ≡ None
+    → key.now ≡ entry.profile.name → slot_of name more ≡ first_of (slot_of name noted) (cond (holds name (Some entry)) (Some place) None)
+noted-new name noted more key entry place notes none own =
+    btree_map_updates_str key.now noted more (Some place) notes name
+    ∙ by (bytes_eq key.now name) refl
+    ∙ ap (λ own. first_of (slot_of name noted) (cond (bytes_eq own name) (Some place) None)) own
+  where
+    by : (same : Bool) → bytes_eq key.now name ≡ same → cond same (Some place) (slot_of name noted) ≡ first_of (slot_of name noted) (cond same (Some place) None)
+    by true is = ap (λ slot. first_of slot (Some place)) (sym none ∙ ap (λ name. slot_of name noted) ((bytes_eq-Decides key.now name).0 is))
+    by false is = first-none (slot_of name noted)
+
 -- an empty slot notes nothing
-pub noted-none : (name : List ℕ) (noted : List (Bor (List ℕ) × ℕ)) (place : ℕ) → slot_of name noted ≡ first_of (slot_of name noted) (cond (holds name None) (Some place) None)
+pub noted-none : (name : List ℕ) (noted : BTreeMap (Bor (List ℕ)) ℕ) (place : ℕ) → slot_of name noted ≡ first_of (slot_of name noted) (cond (holds name None) (Some place) None)
 noted-none name noted place = first-none (slot_of name noted)
 
 -- nor does one whose name has a slot
-pub noted-before : (name : List ℕ) (noted : List (Bor (List ℕ) × ℕ)) (entry : Loaded) (slot place : ℕ) → slot_of entry.profile.name noted ≡ Some slot
+pub noted-before : (name : List ℕ) (noted : BTreeMap (Bor (List ℕ)) ℕ) (entry : Loaded) (slot place : ℕ) → slot_of entry.profile.name noted ≡ Some slot
     → slot_of name noted ≡ first_of (slot_of name noted) (cond (holds name (Some entry)) (Some place) None)
 noted-before name noted entry slot place h = by (bytes_eq entry.profile.name name) refl
   where
@@ -83,15 +78,3 @@ noted-before name noted entry slot place h = by (bytes_eq entry.profile.name nam
 pub not_some : (slot : Option ℕ) → is_some slot ≡ false → slot ≡ None
 not_some None h = refl
 not_some (Some slot) h = absurd (cc)
-
--- a name that had no slot is inserted behind the others
-pub inserted_last : (noted : List (Bor (List ℕ) × ℕ)) (key : Bor (List ℕ)) (place : ℕ) → slot_of key.now noted ≡ None
-    → insert_entry (λ (a b : Bor (List ℕ)). bytes_eq a.now b.now) noted key place ≡ noted ++ (key, place) ∷ []
-inserted_last [] key place h = refl
-inserted_last (other ∷ noted) key place h = by (bytes_eq key.now other.0.now) h (inserted_last noted key place)
-  where
-    by : (here : Bool) → cond here (Some other.1) (slot_of key.now noted) ≡ None
-        → (slot_of key.now noted ≡ None → insert_entry (λ (a b : Bor (List ℕ)). bytes_eq a.now b.now) noted key place ≡ noted ++ (key, place) ∷ [])
-        → cond here ((other.0, place) ∷ noted) (other ∷ insert_entry (λ (a b : Bor (List ℕ)). bytes_eq a.now b.now) noted key place) ≡ other ∷ noted ++ (key, place) ∷ []
-    by true h rest = absurd (cc)
-    by false h rest = ap (λ noted. other ∷ noted) (rest h)

@@ -6,8 +6,8 @@ ghost use Rattle.aa_set_names.specs.code.FirstSlots.{AreFirst, NotesSlot};
 
 use aa_decide::Entry;
 use aa_profile_data::Profile;
-use indexmap::IndexMap;
 use std::alloc::{AllocError, Global};
+use std::collections::BTreeMap;
 
 // For so many names the slots are gone over once for each.
 const FEW: usize = 32;
@@ -46,11 +46,11 @@ fn one_by_one(
 
 // Notes a slot with the name that it holds, if the name has none yet.
 fn note<'a>(
-    noted: &mut IndexMap<&'a [u8], usize>,
+    noted: &mut BTreeMap<&'a [u8], usize>,
     slot: &'a Option<Entry>,
     place: usize,
 ) -> Result<(), AllocError>
-    ensures { OnOk result (NotesSlot noted.old.entries slot.now place noted.new.entries) }
+    ensures { OnOk result (NotesSlot noted.old slot.now place noted.new) }
 {
     if let Some(entry) = slot {
         let name = entry.profile().name.as_slice();
@@ -65,10 +65,10 @@ fn note<'a>(
 fn first_slots<'a>(
     alloc: Global,
     slots: &'a [Option<Entry>],
-) -> Result<IndexMap<&'a [u8], usize>, AllocError>
-    ensures { IfOk result (λ noted. AreFirst noted.entries slots.now) }
+) -> Result<BTreeMap<&'a [u8], usize>, AllocError>
+    ensures { IfOk result (λ noted. AreFirst noted slots.now) }
 {
-    let mut noted = IndexMap::new(alloc);
+    let mut noted = BTreeMap::new(alloc);
     for (place, slot) in slots.iter().enumerate() {
         note(&mut noted, slot, place)?;
     }

@@ -3,4 +3,4 @@ use Rattle.aa_set_names.specs.code.FirstSlots.{AreFirst}
 use Rattle.aa_set_names.proofs.slots.first_slots.Given as goal
 
 abbrev pub invariant-loop-place : goal.invariant-loop-place
-invariant-loop-place l = AreFirst l.noted.entries (take l.place l.slots)
+invariant-loop-place l = AreFirst l.noted (take l.place l.slots)
