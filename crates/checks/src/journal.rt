@@ -2,21 +2,21 @@
 
 use aa_history::{Change, Journal, Short};
 use std::alloc::{AllocError, Global};
-use std::marker::Model;
 use std::mem;
 
-// The change to a number.
+// The change to a number, which may find no memory.
 #[derive(Drop)]
 struct To {
     number: u64,
+    finds_no_memory: bool,
 }
 
-impl Model for To {
-    ghost use Rattle.std.specs.Prelude.{ℕ};
-
-    ghost Value = { ℕ };
-
-    ghost view = { λ t. t.number };
+// The change to a number that finds memory.
+fn change_to(number: u64) -> To {
+    To {
+        number,
+        finds_no_memory: false,
+    }
 }
 
 impl Change<u64> for To {
@@ -33,12 +33,16 @@ impl Change<u64> for To {
     ghost parts = { λ change. 1 };
 
     // The number and the change's number trade places.
-    ghost after = { λ state change. change };
+    ghost after = { λ state change. change.number };
 
-    ghost back = { λ state change. state };
+    ghost back = { λ state change. record change { number = state } };
 
     fn prepare(&self, _state: &mut u64) -> Result<(), AllocError> {
-        Ok(())
+        if self.finds_no_memory {
+            Err(AllocError)
+        } else {
+            Ok(())
+        }
     }
 
     fn turn(&mut self, state: &mut u64) {
@@ -69,19 +73,34 @@ fn is_at(journal: &Journal<u64, To>, state: u64, depth: usize, ahead: usize, kep
 fn keeps_changes(alloc: Global) -> bool {
     let mut journal = Journal::new(alloc, 1);
     let started = is_at(&journal, 1, 0, 0, 0);
-    let first = journal.commit(To { number: 2 }).is_ok() && is_at(&journal, 2, 1, 0, 1);
-    let second = journal.commit(To { number: 3 }).is_ok() && is_at(&journal, 3, 2, 0, 2);
+    let first = journal.commit(change_to(2)).is_ok() && is_at(&journal, 2, 1, 0, 1);
+    let second = journal.commit(change_to(3)).is_ok() && is_at(&journal, 3, 2, 0, 2);
     // What is undone is kept, to be redone.
     let undone = journal.undo(2) == Ok(()) && is_at(&journal, 1, 0, 2, 2);
     let redone = journal.redo(1) == Ok(()) && is_at(&journal, 2, 1, 1, 2);
     // A new change takes the place of those that could be redone.
-    let third = journal.commit(To { number: 4 }).is_ok() && is_at(&journal, 4, 2, 0, 2);
+    let third = journal.commit(change_to(4)).is_ok() && is_at(&journal, 4, 2, 0, 2);
     // Where fewer can be undone, none is.
     let short = journal.undo(3) == Err(Short { have: 2 }) && is_at(&journal, 4, 2, 0, 2);
     let fourth = journal.undo(2) == Ok(())
-        && journal.commit(To { number: 5 }).is_ok()
+        && journal.commit(change_to(5)).is_ok()
         && is_at(&journal, 5, 1, 0, 1);
     started && first && second && undone && redone && third && short && fourth
+}
+
+// A change that finds memory is made; one that finds none comes back, and the journal is as it was.
+pub fn commits(alloc: Global) -> Option<bool> {
+    let mut journal = Journal::new(alloc, 1);
+    journal.commit(change_to(2)).ok()?;
+    journal.commit(change_to(3)).ok()?;
+    journal.undo(1).ok()?;
+    let before = is_at(&journal, 2, 1, 1, 2);
+    let refused = To {
+        number: 4,
+        finds_no_memory: true,
+    };
+    let (refused, _) = journal.commit(refused).err()?;
+    Some(before && refused.number == 4 && refused.finds_no_memory && is_at(&journal, 2, 1, 1, 2))
 }
 
 #[test]

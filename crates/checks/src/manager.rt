@@ -1,19 +1,8 @@
 //! How many parts the history of a manager has.
 
+use crate::given::files;
 use aa_set::Manager;
-use aa_text::Files;
 use std::alloc::Global;
-
-// Files by these names and bytes, if there is memory for them.
-fn files(alloc: Global, given: &[(&[u8], &[u8])]) -> Option<Files> {
-    let mut files = Files::new(alloc);
-    for (name, bytes) in given {
-        let name = Vec::from_slice(alloc, name).ok()?;
-        let bytes = Vec::from_slice(alloc, bytes).ok()?;
-        files.insert(name, bytes).ok()?;
-    }
-    Some(files)
-}
 
 // Three profiles are added, one is switched, and one is removed; then the two last changes are undone, and another takes their place.
 fn keeps_parts(alloc: Global) -> Option<(u128, u128, u128)> {

@@ -1,8 +1,8 @@
 //! How many visits a request takes that a pattern of many splits almost matches.
 
+use crate::given::files;
 use aa_decide::{Answer, Ready, Request, Steps};
 use aa_profile::{Mode, Perms, read_file};
-use aa_text::Files;
 use std::alloc::Global;
 
 // A profile of which such a pattern is the one rule and the one attachment.
@@ -19,9 +19,7 @@ fn path_of(alloc: Global, letters: usize) -> Option<Vec<u8>> {
 
 // The profile, made ready.
 fn made_ready(alloc: Global) -> Option<Ready> {
-    let mut files = Files::new(alloc);
-    let name = Vec::from_slice(alloc, b"p").ok()?;
-    files.insert(name, Vec::from_slice(alloc, TEXT).ok()?).ok()?;
+    let files = files(alloc, &[(b"p", TEXT)])?;
     let profile = read_file(alloc, &files, b"p").ok()?.pop()?;
     Ready::build(alloc, profile).ok()
 }

@@ -1,0 +1,163 @@
+//! The commands of a manager, with the files and replies of docs/commands.md, "Examples".
+
+use crate::given;
+use aa_set::{Manager, Question, Refusal};
+use aa_text::Files;
+use std::alloc::Global;
+
+fn files(alloc: Global) -> Option<Files> {
+    given::files(
+        alloc,
+        &[
+            (
+                b"first",
+                b"profile web { /srv/www/** r, } profile mail { /var/mail/* rw, }",
+            ),
+            (
+                b"second",
+                b"profile log { } profile web flags=(complain) { }",
+            ),
+            (b"gone", b"profile mail { }"),
+            (b"absent", b"profile web { } profile news { }"),
+        ],
+    )
+}
+
+// What is listed of the first file.
+const FIRST: &[u8] = b"profiles 2\n\"web\" enforce\n\"mail\" enforce\n";
+
+// A manager of the first file.
+fn managed(alloc: Global, files: &Files) -> Option<Manager> {
+    let mut manager = Manager::new(alloc, false);
+    manager.add(files, b"first").ok()?;
+    Some(manager)
+}
+
+fn is_listed(manager: &Manager, want: &[u8]) -> bool {
+    match manager.list() {
+        Ok(lines) => lines.as_slice() == want,
+        Err(_) => false,
+    }
+}
+
+fn is_refused(answer: Result<(), Refusal>, number: u8) -> bool {
+    match answer {
+        Ok(()) => false,
+        Err(refusal) => refusal.number() == number && refusal.place.is_none(),
+    }
+}
+
+pub fn adds(alloc: Global) -> Option<bool> {
+    let files = files(alloc)?;
+    let mut manager = managed(alloc, &files)?;
+    let is_added = is_listed(&manager, FIRST);
+    let refused = is_refused(manager.add(&files, b"second"), 60);
+    Some(is_added && refused && is_listed(&manager, FIRST) && manager.kept() == 2)
+}
+
+const SECOND: &[u8] = b"profiles 3\n\"web\" complain\n\"mail\" enforce\n\"log\" enforce\n";
+
+const SECOND_WITHOUT_MAIL: &[u8] =
+    b"profiles 3\n\"web\" complain\n\"mail\" disabled\n\"log\" enforce\n";
+
+pub fn replaces(alloc: Global) -> Option<bool> {
+    let files = files(alloc)?;
+    let mut manager = managed(alloc, &files)?;
+    manager.replace(&files, b"second").ok()?;
+    let is_replaced = is_listed(&manager, SECOND);
+    manager.disable(b"mail").ok()?;
+    let refused = is_refused(manager.replace(&files, b"first"), 62);
+    Some(is_replaced && refused && is_listed(&manager, SECOND_WITHOUT_MAIL))
+}
+
+pub fn removes(alloc: Global) -> Option<bool> {
+    let files = files(alloc)?;
+    let mut manager = managed(alloc, &files)?;
+    let refused = is_refused(manager.remove(&files, b"absent"), 61);
+    let is_left = is_listed(&manager, FIRST);
+    manager.remove(&files, b"gone").ok()?;
+    Some(refused && is_left && is_listed(&manager, b"profiles 1\n\"web\" enforce\n"))
+}
+
+const COMPLAINING: &[u8] = b"profiles 2\n\"web\" complain\n\"mail\" enforce\n";
+
+pub fn complains(alloc: Global) -> Option<bool> {
+    let files = files(alloc)?;
+    let mut manager = managed(alloc, &files)?;
+    let refused = is_refused(manager.complain(b"log"), 61) && is_listed(&manager, FIRST);
+    manager.complain(b"web").ok()?;
+    Some(refused && is_listed(&manager, COMPLAINING))
+}
+
+pub fn enforces(alloc: Global) -> Option<bool> {
+    let files = files(alloc)?;
+    let mut manager = managed(alloc, &files)?;
+    manager.complain(b"web").ok()?;
+    let refused = is_refused(manager.enforce(b"log"), 61) && is_listed(&manager, COMPLAINING);
+    manager.enforce(b"web").ok()?;
+    Some(refused && is_listed(&manager, FIRST))
+}
+
+const DISABLED: &[u8] = b"profiles 2\n\"web\" disabled\n\"mail\" enforce\n";
+
+pub fn disables(alloc: Global) -> Option<bool> {
+    let files = files(alloc)?;
+    let mut manager = managed(alloc, &files)?;
+    manager.disable(b"web").ok()?;
+    let is_disabled = is_listed(&manager, DISABLED);
+    let refused = is_refused(manager.disable(b"web"), 62);
+    Some(is_disabled && refused && is_listed(&manager, DISABLED))
+}
+
+pub fn undoes(alloc: Global) -> Option<bool> {
+    let files = files(alloc)?;
+    let mut manager = managed(alloc, &files)?;
+    let refused = is_refused(manager.undo(2), 63) && is_listed(&manager, FIRST);
+    manager.undo(1).ok()?;
+    Some(refused && is_listed(&manager, b"profiles 0\n"))
+}
+
+pub fn redoes(alloc: Global) -> Option<bool> {
+    let files = files(alloc)?;
+    let mut manager = managed(alloc, &files)?;
+    manager.undo(1).ok()?;
+    let refused = is_refused(manager.redo(2), 64) && is_listed(&manager, b"profiles 0\n");
+    manager.redo(1).ok()?;
+    Some(refused && is_listed(&manager, FIRST))
+}
+
+pub fn lists(alloc: Global) -> Option<bool> {
+    let files = files(alloc)?;
+    let manager = managed(alloc, &files)?;
+    Some(manager.list().ok()?.as_slice() == FIRST)
+}
+
+pub fn shows(alloc: Global) -> Option<bool> {
+    let files = files(alloc)?;
+    let manager = managed(alloc, &files)?;
+    let lines = manager.show(b"web").ok()?;
+    let want = b"profile \"web\" enforce\n  file \"/srv/www/**\" r\n".as_slice();
+    Some(lines.as_slice() == want)
+}
+
+const REFUSED: &[u8] =
+    b"refuse\napparmor=\"DENIED\" operation=\"file\" profile=\"web\" name=\"/etc/hosts\" requested_mask=\"r\" denied_mask=\"r\"\n";
+
+pub fn asks(alloc: Global) -> Option<bool> {
+    let files = files(alloc)?;
+    let manager = managed(alloc, &files)?;
+    let words: [&[u8]; 5] = [b"file", b"web", b"r", b"other", b"/etc/hosts"];
+    match Question::read(&words) {
+        Ok(question) => Some(manager.ask(&question).ok()?.as_slice() == REFUSED),
+        Err(_) => None,
+    }
+}
+
+pub fn question_is_read() -> Option<bool> {
+    let words: [&[u8]; 3] = [b"cap", b"web", b"net_bind_service"];
+    let want = Question::Cap {
+        who: b"web",
+        number: 10,
+    };
+    Some(Question::read(&words).ok()? == want)
+}
