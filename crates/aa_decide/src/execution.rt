@@ -14,13 +14,13 @@ ghost use Rattle.aa_decide_exec_rules.specs.SeenChoices.{seen_choice};
 
 use crate::attachment::{attach, attached_child};
 use crate::slots::{Who, entry_at, find_in_force};
-use aa_bytes::Sequence;
 use aa_decide_audit::{Answer, ExecTo, ExecVerdict, Tag, Verdict};
 use aa_decide_exec_rules::{ExecChoice, exec_choice};
 use aa_decide_verdict::{Confinement, Entry, Ready, Steps};
 use aa_profile_access::{Destination, Perms};
 use aa_profile_data::{Mode, Transition, child_place};
 use aa_profile_names::cut_full_name;
+use aa_shared_bytes::SharedBytes;
 use std::alloc::{AllocError, Global};
 
 // Who asks by a loaded profile.
@@ -144,7 +144,7 @@ fn to_profile(
     alloc: Global,
     slots: &[Option<Entry>],
     path: &[u8],
-    target: &Option<Sequence<u8>>,
+    target: &Option<SharedBytes>,
 ) -> Result<Option<ExecTo>, AllocError>
     ensures { IfOk result (λ to. IsDestination slots.now to (to_profile path.now target.now (filled slots.now))) }
 {
@@ -159,7 +159,7 @@ fn place_of_child(
     alloc: Global,
     ready: &Ready,
     path: &[u8],
-    target: &Option<Sequence<u8>>,
+    target: &Option<SharedBytes>,
 ) -> Result<Option<usize>, AllocError>
     ensures { IfOk result (λ place. place ≡ place_of_child path.now target.now ready.now) }
 {
@@ -174,7 +174,7 @@ fn to_child(
     alloc: Global,
     asker: Asker<'_>,
     path: &[u8],
-    target: &Option<Sequence<u8>>,
+    target: &Option<SharedBytes>,
 ) -> Result<Option<ExecTo>, AllocError>
     ensures { IfOk result (λ to. IsDestinationFrom asker.entry.slot asker.entry.loaded.now to (to_child path.now target.now (seen_asker asker.entry))) }
 {
@@ -196,7 +196,7 @@ fn led(
     slots: &[Option<Entry>],
     asker: Asker<'_>,
     path: &[u8],
-    target: &Option<Sequence<u8>>,
+    target: &Option<SharedBytes>,
     destination: Destination,
 ) -> Result<Option<ExecTo>, AllocError>
     requires { IsIn slots.now asker }

@@ -8,8 +8,8 @@ ghost use Rattle.aa_decide_exec_rules.specs.SeenChoices.{seen_choice};
 ghost use Rattle.aa_decide_exec_rules.specs.code.SeenRules.{seen_rule, seen_rules};
 
 use crate::exec_rules::{ExecRule, exec_rules};
-use aa_bytes::Sequence;
 use aa_profile_data::{Rule, Transition, which_rules_match};
+use aa_shared_bytes::SharedBytes;
 use std::alloc::{AllocError, Global};
 
 /// What rules say together of a program that is started.
@@ -34,7 +34,7 @@ pub enum ExecChoice<'a> {
 }
 
 // Whether two transitions name the same target, or both none.
-fn same_target(one: &Option<Sequence<u8>>, other: &Option<Sequence<u8>>) -> bool
+fn same_target(one: &Option<SharedBytes>, other: &Option<SharedBytes>) -> bool
     ensures { result ≡ same_target one.now other.now }
 {
     match (one, other) {

@@ -39,20 +39,20 @@ kept_text tokens = fold with_token [] tokens
 abbrev pub text_of_target : Option Placed → Option (List ℕ)
 text_of_target target = option_map text_of target
 
--- under what programs run that an access lets be started, where it has an exec word
-abbrev pub transition_of : Access → Option Placed → Option Transition
+-- under what programs run that an access lets be started, where it has an exec word; a target is seen as its text
+abbrev pub transition_of : Access → Option (List ℕ) → Option Transition
 transition_of access target = elim access.word [
   | None ↦ None
-  | Some word ↦ Some (record { word = word; target = text_of_target target })
+  | Some word ↦ Some (record { word = word; target = target })
 ]
 
 -- the target of hard links, where an access has no exec word
-abbrev pub link_of : Access → Option Placed → Option (List ℕ)
-link_of access target = elim access.word [ None ↦ text_of_target target | Some word ↦ None ]
+abbrev pub link_of : Access → Option (List ℕ) → Option (List ℕ)
+link_of access target = elim access.word [ None ↦ target | Some word ↦ None ]
 
--- the file rule of a pattern
-abbrev pub file_rule : Qualifiers → Access → Option Placed → List ℕ → Rule
-file_rule qualifiers access target pattern = OfFile (record {
+-- the file rule of a pattern, with the text of a target
+abbrev pub file_rule_with : Qualifiers → Access → Option (List ℕ) → List ℕ → Rule
+file_rule_with qualifiers access target pattern = OfFile (record {
   pattern = pattern;
   access = access.letters;
   exec = transition_of access target;
@@ -61,6 +61,10 @@ file_rule qualifiers access target pattern = OfFile (record {
   deny = qualifiers.deny;
   audit = qualifiers.audit;
 })
+
+-- the file rule of a pattern
+abbrev pub file_rule : Qualifiers → Access → Option Placed → List ℕ → Rule
+file_rule qualifiers access target pattern = file_rule_with qualifiers access (text_of_target target) pattern
 
 -- a rule on capabilities
 abbrev pub cap_rule : Qualifiers → ℕ → Rule

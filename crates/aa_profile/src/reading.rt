@@ -54,8 +54,8 @@ fn read_written(alloc: Global, file: &File<'_>) -> Result<Vec<Profile>, ProfileE
     read_with(alloc, &variables, &patterns, file)
 }
 
-/// The profiles that a file of the handed-in ones spells, in its order. A file rule is one rule for each expansion of its pattern, each with a
-/// copy of its target. Variables are put into attachments and patterns alone: names, targets and rules that are kept stay as they are written.
+/// The profiles that a file of the handed-in ones spells, in its order. A file rule is one rule for each expansion of its pattern, and these
+/// share its target. Variables are put into attachments and patterns alone: names, targets and rules that are kept stay as they are written.
 ///
 /// # Errors
 ///

@@ -6,6 +6,7 @@ ghost use Rattle.aa_profile_data.specs.Profile.{child_place};
 use aa_bytes::Sequence;
 use aa_glob_pattern::Pattern;
 use aa_profile_access::{ExecWord, Perms};
+use aa_shared_bytes::{SharedBytes, share_option};
 use std::alloc::{AllocError, Global};
 
 /// Whether what the rules don't allow is refused, or let through and logged.
@@ -22,8 +23,8 @@ pub enum Mode {
 pub struct Transition {
     /// The exec word.
     pub word: ExecWord,
-    /// The name of the profile, child or hat that the rule names; none where it names none.
-    pub target: Option<Sequence<u8>>,
+    /// The name of the profile, child or hat that the rule names; none where it names none. All rules that one written rule makes share it.
+    pub target: Option<SharedBytes>,
 }
 
 /// A rule on files.
@@ -35,8 +36,8 @@ pub struct FileRule {
     pub access: Perms,
     /// Under what the programs run that it lets be started; none where it has no exec word.
     pub exec: Option<Transition>,
-    /// The target of hard links that it names, which decides nothing.
-    pub link: Option<Sequence<u8>>,
+    /// The target of hard links that it names, which decides nothing. All rules that one written rule makes share it.
+    pub link: Option<SharedBytes>,
     /// Whether it applies only where the task's user owns the file.
     pub owner: bool,
     /// Whether it denies what it covers.
@@ -129,41 +130,25 @@ pub struct Profile {
     pub children: Sequence<Child>,
 }
 
-// An equal text, where there is one.
-fn copied_text(
-    alloc: Global,
-    text: &Option<Sequence<u8>>,
-) -> Result<Option<Sequence<u8>>, AllocError>
-    ensures { IfOk result (λ copy. copy ≡ text.now) }
-{
-    match text {
-        None => Ok(None),
-        Some(text) => Ok(Some(Sequence::from_slice(alloc, text.as_slice())?)),
-    }
-}
-
 impl Transition {
-    // An equal transition.
-    fn try_copy(&self, alloc: Global) -> Result<Transition, AllocError>
+    // An equal transition, which shares the target. It takes no memory.
+    fn try_copy(&self) -> Result<Transition, AllocError>
         ensures { IfOk result (λ copy. copy ≡ self.now) }
     {
         Ok(Transition {
             word: self.word,
-            target: copied_text(alloc, &self.target)?,
+            target: share_option(&self.target)?,
         })
     }
 }
 
-// An equal transition, where there is one.
-fn copied_transition(
-    alloc: Global,
-    exec: &Option<Transition>,
-) -> Result<Option<Transition>, AllocError>
+// An equal transition, where there is one. It takes no memory.
+fn copied_transition(exec: &Option<Transition>) -> Result<Option<Transition>, AllocError>
     ensures { IfOk result (λ copy. copy ≡ exec.now) }
 {
     match exec {
         None => Ok(None),
-        Some(transition) => Ok(Some(transition.try_copy(alloc)?)),
+        Some(transition) => Ok(Some(transition.try_copy()?)),
     }
 }
 
@@ -175,8 +160,8 @@ impl FileRule {
         Ok(FileRule {
             pattern: self.pattern.try_copy(alloc)?,
             access: self.access,
-            exec: copied_transition(alloc, &self.exec)?,
-            link: copied_text(alloc, &self.link)?,
+            exec: copied_transition(&self.exec)?,
+            link: share_option(&self.link)?,
             owner: self.owner,
             deny: self.deny,
             audit: self.audit,

@@ -6,11 +6,11 @@ ghost use Rattle.aa_set_listing.specs.RuleLines.{access_text, capabilities_text,
 ghost use Rattle.aa_quoting.specs.Texts.{told_text};
 ghost use Rattle.aa_profile_tables.specs.Names.{name_or_none};
 
-use aa_bytes::Sequence;
 use aa_glob_pattern::Pattern;
 use aa_profile_data::{CapRule, FileRule, NetRule, OtherRule, Rule, Transition};
 use aa_profile_tables::{CAPABILITIES, domain_name, kind_name};
 use aa_quoting::push_text;
+use aa_shared_bytes::SharedBytes;
 use std::alloc::AllocError;
 
 // The set of all capabilities.
@@ -41,7 +41,7 @@ fn push_qualifiers(
 }
 
 // Puts the target that a rule names behind a text, if it names one.
-fn push_target(text: &mut Vec<u8>, target: &Option<Sequence<u8>>) -> Result<(), AllocError>
+fn push_target(text: &mut Vec<u8>, target: &Option<SharedBytes>) -> Result<(), AllocError>
     ensures { OnOk result (text.new.items ≡ text.old.items ++ target_text target.now) }
 {
     match target {

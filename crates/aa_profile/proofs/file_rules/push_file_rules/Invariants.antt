@@ -1,11 +1,12 @@
 use Rattle.std.proofs.Common.{◌≡◌, ◌++◌, map}
 use Rattle.std.specs.Option.{option_map}
 use Rattle.aa_text_splicing.specs.SeenTokens.{seen_spliced}
-use Rattle.aa_profile.specs.Profiles.{file_rule}
+use Rattle.aa_profile.specs.Profiles.{file_rule, text_of_target}
 use Rattle.aa_profile.proofs.file_rules.push_file_rules.Given as goal
 
--- the rules so far, and those of the patterns that are left, are all
+-- the text is that of the target; the rules so far, and those of the patterns that are left, are all
 abbrev pub invariant-loop-pattern : goal.invariant-loop-pattern
 invariant-loop-pattern l =
-    l.rules.items ++ map (file_rule l.qualifiers l.access (option_map seen_spliced l.target)) l.pattern-iterator.rest.items
-    ≡ l.initial.rules.items ++ map (file_rule l.qualifiers l.access (option_map seen_spliced l.target)) l.fn.patterns.items
+    (l.text ≡ text_of_target (option_map seen_spliced l.target))
+    × (l.rules.items ++ map (file_rule l.qualifiers l.access (option_map seen_spliced l.target)) l.pattern-iterator.rest.items
+    ≡ l.initial.rules.items ++ map (file_rule l.qualifiers l.access (option_map seen_spliced l.target)) l.fn.patterns.items)
