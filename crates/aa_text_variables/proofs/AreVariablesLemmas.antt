@@ -15,7 +15,7 @@ from_not true h = sym h
 from_not false h = refl
 
 -- a name that isn't another: nor is the other it
-names-apart : (name other : List ℕ) → bytes_eq name other ≡ false → bytes_eq other name ≡ false
+pub names-apart : (name other : List ℕ) → bytes_eq name other ≡ false → bytes_eq other name ≡ false
 names-apart name other h = by (bytes_eq other name) refl
   where
     by : (b : Bool) → bytes_eq other name ≡ b → b ≡ false

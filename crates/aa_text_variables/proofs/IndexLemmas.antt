@@ -1,6 +1,6 @@
 -- A name's variable by its index.
-use Rattle.std.proofs.Common.{◌≡◌, ℕ, Bool, true, false, List, [], ◌∷◌, ◌<◌, suc, zero, length, arith, refl, ap}
-use Rattle.std.specs.Prelude.{Option, None, Some, flat_map}
+use Rattle.std.proofs.Common.{◌≡◌, ℕ, Bool, true, false, List, [], ◌∷◌, ◌<◌, suc, zero, length, arith, refl, sym, ap}
+use Rattle.std.specs.Prelude.{IfSome, Option, None, Some, flat_map}
 use Rattle.std.specs.Str.{bytes_eq}
 use Rattle.aa_text_expansion.specs.Choices.{choices}
 use Rattle.aa_text_expansion.specs.Parts.{parts}
@@ -67,3 +67,7 @@ index_of-within (v ∷ vs) name index h = by (bytes_eq name v.name) refl (index_
         let same : index ≡ suc inner = cc in
         let within : inner < length vs = rest inner e in
         omega arith
+
+pub index-within : (variables : List Variable) (name : List ℕ) (found : Option ℕ) → found ≡ index_of variables name → IfSome found (λ index. index < length variables)
+index-within variables name None e = tt
+index-within variables name (Some index) e = index_of-within variables name index (sym e)

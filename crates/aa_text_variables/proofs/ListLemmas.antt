@@ -1,5 +1,5 @@
 -- What stands at the indexes of lists.
-use Rattle.std.proofs.Common.{◌≡◌, ℕ, Bool, true, false, nat_eq, List, [], ◌∷◌, ◌++◌, ◌<◌, ◌≤◌, zero, suc, length, slice_get, take, drop, arith, refl, sym, ap, ◌⊎◌, inl, inr}
+use Rattle.std.proofs.Common.{◌≡◌, ℕ, Bool, true, false, nat_eq, List, [], ◌∷◌, ◌++◌, ◌<◌, ◌≤◌, zero, suc, length, slice_get, take, arith, refl, sym, ap, ◌⊎◌, inl, inr}
 use Rattle.std.specs.Prelude.{None, Some}
 use Rattle.std.specs.List.{list_any}
 use Rattle.std.proofs.lemmas.Map.Keys.{any_passes_from_place}

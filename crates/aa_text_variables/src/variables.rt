@@ -7,8 +7,8 @@ ghost use Rattle.aa_text_files.specs.declared.text_error.TextRefusal.TheVariants
 use aa_bytes::Sequence;
 use aa_text_expansion::has_missing;
 use aa_text_files::{TextError, TextRefusal, plain};
-use indexmap::IndexMap;
 use std::alloc::{AllocError, Global};
+use std::collections::BTreeMap;
 use std::marker::Model;
 
 // The values of a variable: those of its first `=`, and those that were added behind them.
@@ -23,19 +23,22 @@ struct Values {
 /// No name comes twice, and each variable has at least one word.
 #[derive(Drop)]
 pub struct Variables {
-    by_name: IndexMap<Vec<u8>, Values>,
+    // Their names and values.
+    entries: Vec<(Vec<u8>, Values)>,
+    // How many others were defined before that of a name.
+    places: BTreeMap<Vec<u8>, usize>,
 }
 
 impl Model for Variables {
-    ghost use Rattle.std.specs.Prelude.{List, IsTrue};
-    ghost use Rattle.aa_text_variables.specs.Variables.{Variable, are_variables};
-    ghost use Rattle.aa_text_variables.specs.code.VariablesMap.{as_variables};
+    ghost use Rattle.std.specs.Prelude.{List};
+    ghost use Rattle.aa_text_variables.specs.Variables.{Variable};
+    ghost use Rattle.aa_text_variables.specs.code.VariablesMap.{AreKept, as_variables};
 
     ghost Value = { List Variable };
 
-    ghost view = { λ v. as_variables v.by_name.entries };
+    ghost view = { λ v. as_variables v.entries.items };
 
-    ghost invariant = { λ v. IsTrue (are_variables (as_variables v.by_name.entries)) };
+    ghost invariant = { λ v. AreKept v.entries.items v.places.entries };
 }
 
 // Equal words, in memory of their own.
@@ -74,7 +77,8 @@ impl Variables {
         ensures { result ≡ [] }
     {
         Variables {
-            by_name: IndexMap::new(alloc),
+            entries: Vec::new(alloc),
+            places: BTreeMap::new(alloc),
         }
     }
 
@@ -83,7 +87,7 @@ impl Variables {
     pub fn name(&self, index: usize) -> Option<&[u8]>
         ensures { option_map (λ name. name.now) result ≡ option_map (λ variable. variable.name) (slice_get self.now index) }
     {
-        match self.by_name.get_index(index) {
+        match self.entries.get(index) {
             Some((name, _)) => Some(name.as_slice()),
             None => None,
         }
@@ -106,8 +110,9 @@ impl Variables {
         ensures place { IfErr result (λ e. e.place ≡ None) }
         ensures unchanged { OnErr result (self.new ≡ self.old) }
     {
-        match self.by_name.get(name) {
-            Some(values) => {
+        match self.index_of(name) {
+            Some(index) => {
+                let (_, values) = &self.entries[index];
                 if !are_same(words, values.defined.as_slice()) {
                     return Err(plain(TextRefusal::Redefined));
                 }
@@ -126,14 +131,22 @@ impl Variables {
         ensures place { IfErr result (λ e. e.place ≡ None) }
         ensures unchanged { OnErr result (self.new ≡ self.old) }
     {
-        let alloc = *self.by_name.allocator();
+        let alloc = *self.entries.allocator();
         let values = Values {
             defined: copied_words(alloc, words)?,
             added: Sequence::new(alloc),
         };
+        let key = Vec::from_slice(alloc, name)?;
         let name = Vec::from_slice(alloc, name)?;
-        self.by_name.insert(name, values)?;
-        Ok(())
+        let place = self.entries.len();
+        self.entries.push((name, values))?;
+        match self.places.insert(key, place) {
+            Ok(_) => Ok(()),
+            Err(_) => {
+                self.entries.pop();
+                Err(plain(TextRefusal::Memory))
+            }
+        }
     }
 
     /// What `+=` does: adds these words behind those of a variable.
@@ -151,13 +164,11 @@ impl Variables {
         ensures place { IfErr result (λ e. e.place ≡ None) }
         ensures unchanged { OnErr result (self.new ≡ self.old) }
     {
-        let alloc = *self.by_name.allocator();
-        let values = match self.by_name.get_mut(name) {
-            Some(values) => values,
-            None => return Err(plain(TextRefusal::AppendUndefined)),
+        let Some(index) = self.index_of(name) else {
+            return Err(plain(TextRefusal::AppendUndefined));
         };
-        let more = copied_words(alloc, words)?;
-        values.added.append(more)?;
+        let more = copied_words(*self.entries.allocator(), words)?;
+        self.entries[index].1.added.append(more)?;
         Ok(())
     }
 

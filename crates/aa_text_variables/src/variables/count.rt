@@ -43,7 +43,7 @@ impl Variables {
         ensures place { IfErr result (λ e. e.place ≡ None) }
     {
         let order = self.order(text)?;
-        let counts = self.counts(&order, Vec::new(*self.by_name.allocator()))?;
+        let counts = self.counts(&order, Vec::new(*self.entries.allocator()))?;
         Ok(count_text(&self.beside(&order, counts.as_slice()), text))
     }
 

@@ -12,14 +12,14 @@ impl Variables {
         ensures value { result ≡ index_of self.now name.now }
         ensures within { IfSome result (λ index. index < length self.now) }
     {
-        self.by_name.get_index_of(name)
+        self.places.get(name).copied()
     }
 
     // The words of the variable at an index: those of its first `=`, and those that were added.
     pub(super) fn words(&self, index: usize) -> (&[Sequence<u8>], &[Sequence<u8>])
         ensures { result.0.now ++ result.1.now ≡ words_at self.now index }
     {
-        match self.by_name.get_index(index) {
+        match self.entries.get(index) {
             Some((_, values)) => (values.defined.as_slice(), values.added.as_slice()),
             None => (&[], &[]),
         }

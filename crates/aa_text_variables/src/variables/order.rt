@@ -23,7 +23,7 @@ impl Variables {
         ensures place { IfErr result (λ e. e.place ≡ None) }
     {
         self.refuse_undefined(text)?;
-        match self.walk_text(text, IndexSet::new(*self.by_name.allocator()))? {
+        match self.walk_text(text, IndexSet::new(*self.entries.allocator()))? {
             Some(order) => Ok(order),
             None => Err(plain(TextRefusal::Cycle)),
         }
@@ -38,7 +38,7 @@ impl Variables {
         requires { IsSettled self.now order.keys }
         ensures { IfOk result (λ found. MatchOption found (leads_to_cycle self.now text.now ≡ true) (λ o. IsOrderOf self.now text.now order.keys o.keys)) }
     {
-        let mut starts = IndexSet::new(*self.by_name.allocator());
+        let mut starts = IndexSet::new(*self.entries.allocator());
         self.note(text, &mut starts)?;
         self.walk(starts.as_slice(), order)
     }
@@ -55,8 +55,8 @@ impl Variables {
         ensures memory { IfErr result (λ e. e.refusal ≡ Memory) }
         ensures place { IfErr result (λ e. e.place ≡ None) }
     {
-        let mut order = IndexSet::new(*self.by_name.allocator());
-        for index in 0..self.by_name.len() {
+        let mut order = IndexSet::new(*self.entries.allocator());
+        for index in 0..self.entries.len() {
             match self.walk(&[index], order)? {
                 Some(more) => order = more,
                 None => return Ok(Some(index)),

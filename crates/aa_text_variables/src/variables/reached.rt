@@ -63,7 +63,7 @@ impl Variables {
         if self.undefined(text) {
             return Err(plain(TextRefusal::Undefined));
         }
-        let mut reached = IndexSet::new(*self.by_name.allocator());
+        let mut reached = IndexSet::new(*self.entries.allocator());
         self.note(text, &mut reached)?;
         let mut at = 0;
         while let Some(index) = gathered(&reached, at) {

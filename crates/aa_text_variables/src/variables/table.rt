@@ -55,7 +55,7 @@ impl Variables {
     fn lawful(&self)
         ensures { are_variables self.now ≡ true }
     {
-        let _ = &self.by_name;
+        let _ = &self.entries;
     }
 
     // Whether a word of the variables behind the first ones of an order names a variable that isn't defined, or doesn't close a name.

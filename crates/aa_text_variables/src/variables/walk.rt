@@ -40,7 +40,7 @@ impl Variables {
     fn push_names(&self, index: usize, tasks: &mut Vec<Task>) -> Result<(), AllocError>
         ensures { OnOk result (tasks.new.items ≡ tasks.old.items ++ map Enter (names_at self.now index)) }
     {
-        let mut names = IndexSet::new(*self.by_name.allocator());
+        let mut names = IndexSet::new(*self.entries.allocator());
         self.note_words(index, &mut names)?;
         push_all(names.as_slice(), tasks)
     }
@@ -100,7 +100,7 @@ impl Variables {
         requires settled { IsSettled self.now order.keys }
         ensures { IfOk result (λ found. MatchOption found (SomeEndless self.now starts.now) (λ o. IsWalked self.now starts.now order.keys o.keys)) }
     {
-        let alloc = *self.by_name.allocator();
+        let alloc = *self.entries.allocator();
         let mut walk = Walk {
             entered: IndexSet::new(alloc),
             tasks: Vec::new(alloc),

@@ -8,7 +8,7 @@ use Rattle.aa_text_variables.proofs.variables.Variables.first_cycle.Goals as goa
 
 pub returns-in-None-clause-ok : goal.returns-in-None-clause-ok
 returns-in-None-clause-ok c =
-    let count : length c.args.self.now ≡ c.len-index-end.result = sym (ap length c.self.view_is) ∙ length-map c.self.inside.by_name.entries as_variable ∙ sym c.len-index-end.ensures.len in
+    let count : length c.args.self.now ≡ c.len-index-end.result = sym (ap length c.self.view_is) ∙ length-map c.self.inside.entries.items as_variable ∙ sym c.self.inside.entries.ok.0 ∙ sym c.len-index-end.ensures in
     let within : c.loop-index.index < length c.args.self.now = omega arith in
     let endless : SomeEndless c.args.self.now (c.loop-index.index ∷ []) = rw c.in-None.is at c.in_ok-more.ensures in
     sym (cycle-first c.args.self.now c.loop-index.order.keys c.loop-index.invariant.settled.ordered (settled-few c.args.self.now c.loop-index.order.keys c.loop-index.invariant.settled)
@@ -16,6 +16,6 @@ returns-in-None-clause-ok c =
 
 pub returns-clause-ok : goal.returns-clause-ok
 returns-clause-ok c =
-    let count : length c.args.self.now ≡ c.len-index-end.result = sym (ap length c.self.view_is) ∙ length-map c.self.inside.by_name.entries as_variable ∙ sym c.len-index-end.ensures.len in
+    let count : length c.args.self.now ≡ c.len-index-end.result = sym (ap length c.self.view_is) ∙ length-map c.self.inside.entries.items as_variable ∙ sym c.self.inside.entries.ok.0 ∙ sym c.len-index-end.ensures in
     sym (cycle-nowhere c.args.self.now c.loop-index.order.keys c.loop-index.invariant.settled.ordered (settled-few c.args.self.now c.loop-index.order.keys c.loop-index.invariant.settled)
     (λ q below. let within : q < c.loop-index.index = omega arith in c.loop-index.invariant.has q within))

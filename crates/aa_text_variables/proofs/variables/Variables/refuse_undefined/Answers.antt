@@ -30,4 +30,4 @@ pub returns-clause-defined : goal.returns-clause-defined
 returns-clause-defined c = reached-defined c.args.self.now c.args.text.now c.loop-index.reached.keys c.loop-index.at c.loop-index.invariant c.in_default.ensures.value
 
 pub returns-clause-variables : goal.returns-clause-variables
-returns-clause-variables c = ap are_variables (sym c.self.view_is) ∙ c.self.invariant
+returns-clause-variables c = ap are_variables (sym c.self.view_is) ∙ c.self.invariant.variables
