@@ -299,6 +299,16 @@ module _ (variables : List Variable) (order counts numbers : List ℕ) (lists : 
   pub held-fine : (text : List ℕ) → is_text_lacking (number_of variables order numbers) text ≡ false → expansion_refusal variables text ≡ None
   held-fine text h = known-fine text (parts-known_held (parts text) h) (parts-defined_held (parts text) h)
 
+  -- lists of all variables
+  pub table-filled : (all : List ℕ) (after : List (List (List ℕ))) → AreListed variables order all after → length all ≡ length order → IsTable variables order counts all after
+  table-filled all after has size = record {
+    settled = table.settled;
+    defined = table.defined;
+    counted = table.counted;
+    few = omega (arith, size);
+    listed = has;
+  }
+
   -- more lists
   pub table-kept : (after : List (List (List ℕ))) → AreKept lists after → IsTable variables order counts numbers after
   table-kept after kept = record {
@@ -316,29 +326,22 @@ module _ (variables : List Variable) (order counts numbers : List ℕ) (lists : 
         let size : length counts ≡ length order = ap length table.counted ∙ length-map order (count_at variables) in
         table.counted ∙ ap (map (count_at variables)) (sym (ap (λ n. take n more) size ∙ ap (take (length order)) of.begins.1 ∙ take-append_seam order of.begins.0))
 
-    -- so are the lists
-    pub first-listed : AreListed variables more numbers lists
-    first-listed row index number at is =
-        let within : row < length numbers = slice_get_within numbers row number is in
-        let few = table.few in
-        let inside : row < length order = omega arith in
-        table.listed row index number (sym (slice_get-front order of.begins.0 row inside) ∙ ap (λ all. slice_get all row) (sym of.begins.1) ∙ at) is
-
-    pub first-few : length numbers ≤ length more
-    first-few = let long = ap length of.begins.1 ∙ length-append order of.begins.0 in let few = table.few in omega arith
-
     -- a longer table
-    pub table-grown : (counted all : List ℕ) (after : List (List (List ℕ))) → counted ≡ map (count_at variables) more → list_any (names_undefined_at variables) (drop (length order) more) ≡ false
-        → AreListed variables more all after → length all ≡ length more → IsTable variables more counted all after
-    table-grown counted all after c none has size = record {
+    pub table-grown : (counted : List ℕ) → counted ≡ map (count_at variables) more → list_any (names_undefined_at variables) (drop (length order) more) ≡ false
+        → IsTable variables more counted numbers lists
+    table-grown counted c none = record {
       settled = of.settled;
       defined = λ index is. elim (any-split (nat_eq index) order of.begins.0 (subst (λ all. list_any (nat_eq index) all ≡ true) of.begins.1 is)) [
         | inl early ↦ table.defined index early
         | inr late ↦ none-at (names_undefined_at variables) of.begins.0 index (subst (λ rest. list_any (names_undefined_at variables) rest ≡ false) (ap (drop (length order)) of.begins.1 ∙ drop-append_seam order of.begins.0) none) late
       ];
       counted = c;
-      few = omega (arith, size);
-      listed = has;
+      few = let long = ap length of.begins.1 ∙ length-append order of.begins.0 in let few = table.few in omega arith;
+      listed = λ row index number at is.
+          let within : row < length numbers = slice_get_within numbers row number is in
+          let few = table.few in
+          let inside : row < length order = omega arith in
+          table.listed row index number (sym (slice_get-front order of.begins.0 row inside) ∙ ap (λ all. slice_get all row) (sym of.begins.1) ∙ at) is;
     }
 
 -- what a column of numbers has

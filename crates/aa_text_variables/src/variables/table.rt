@@ -1,6 +1,7 @@
 //! A table of what variables stand for, which many texts share.
 //!
-//! Each variable that some text leads to is counted once, and a list of its values is made once, of the lists of those that its words name.
+//! Each variable that some text leads to is counted once, and a list of its values is made once, of the lists of those that its words name, when a
+//! text is expanded.
 //! What is held decides how long an answer takes, not what it is: for what isn't held a list is made anew.
 
 ghost use Rattle.std.specs.Prelude.{◌≡◌, ◌≢◌, ◌<◌, [], None, Some, IfOk, IfErr, IfSome, OnOk, drop, length, true, false, map, min, take};
@@ -77,7 +78,7 @@ impl Variables {
         let Rows {
             order,
             counts,
-            mut lists,
+            lists,
             numbers,
         } = rows;
         let first = order.len();
@@ -88,13 +89,32 @@ impl Variables {
             return Ok(None);
         }
         let counts = self.counts(&order, counts)?;
-        let numbers = self.list(&order, &mut lists, numbers)?;
         Ok(Some(Rows {
             order,
             counts,
             lists,
             numbers,
         }))
+    }
+
+    // Rows with a list for each variable.
+    fn filled(&self, rows: Rows) -> Result<Rows, AllocError>
+        requires { AreRows self.now rows }
+        ensures { IfOk result (λ all. AreRows self.now all) }
+    {
+        let Rows {
+            order,
+            counts,
+            mut lists,
+            numbers,
+        } = rows;
+        let numbers = self.list(&order, &mut lists, numbers)?;
+        Ok(Rows {
+            order,
+            counts,
+            lists,
+            numbers,
+        })
     }
 
     // Rows with a list of the expansions of a text among theirs, and its number, where there is a list for each of its names.
@@ -195,6 +215,7 @@ impl<'v> ExpansionTable<'v> {
     {
         let alloc = *self.rows.order.allocator();
         let rows = mem::replace(&mut self.rows, Rows::new(alloc));
+        let rows = self.variables.filled(rows)?;
         let held = self.variables.beside(&rows.order, rows.numbers.as_slice());
         if has_missing(text, |name| held.lacks(name)) {
             self.rows = rows;

@@ -2,7 +2,7 @@ use Rattle.std.proofs.Common.{◌≡◌, false, drop, length, sym, ap, ◌∙◌
 use Rattle.std.specs.List.{list_any}
 use Rattle.aa_text_variables.specs.code.HeldValues.{names_undefined_at}
 use Rattle.aa_text_variables.specs.code.VariableWalks.{IsOrderOf}
-use Rattle.aa_text_variables.proofs.HeldLemmas.{first-counts, first-few, first-listed, table-grown}
+use Rattle.aa_text_variables.proofs.HeldLemmas.{first-counts, table-grown}
 use Rattle.aa_text_variables.proofs.WalkLemmas.{settled-few}
 use Rattle.aa_text_variables.proofs.variables.Variables.grown.Goals as goal
 
@@ -16,21 +16,6 @@ counts-requires-clause-first c =
     let found : IsOrderOf c.args.self.now c.args.text.now c.args.rows.order.keys c.in-Some.order.keys = rw c.in-Some.is at c.in_ok-order.ensures in
     first-counts c.args.self.now c.args.rows.order.keys c.args.rows.counts.items c.args.rows.numbers.items c.args.rows.lists c.requires c.args.text.now c.in-Some.order.keys found
 
-pub list-requires-clause-few : goal.list-requires-clause-few
-list-requires-clause-few c =
-    let found : IsOrderOf c.args.self.now c.args.text.now c.args.rows.order.keys c.in-Some.order.keys = rw c.in-Some.is at c.in_ok-order.ensures in
-    settled-few c.args.self.now c.in-Some.order.keys found.settled
-
-pub list-requires-clause-first : goal.list-requires-clause-first
-list-requires-clause-first c =
-    let found : IsOrderOf c.args.self.now c.args.text.now c.args.rows.order.keys c.in-Some.order.keys = rw c.in-Some.is at c.in_ok-order.ensures in
-    first-listed c.args.self.now c.args.rows.order.keys c.args.rows.counts.items c.args.rows.numbers.items c.args.rows.lists c.requires c.args.text.now c.in-Some.order.keys found
-
-pub list-requires-clause-fewer : goal.list-requires-clause-fewer
-list-requires-clause-fewer c =
-    let found : IsOrderOf c.args.self.now c.args.text.now c.args.rows.order.keys c.in-Some.order.keys = rw c.in-Some.is at c.in_ok-order.ensures in
-    first-few c.args.self.now c.args.rows.order.keys c.args.rows.counts.items c.args.rows.numbers.items c.args.rows.lists c.requires c.args.text.now c.in-Some.order.keys found
-
 pub returns : goal.returns
 returns c =
     let found : IsOrderOf c.args.self.now c.args.text.now c.args.rows.order.keys c.in-Some.order.keys = rw c.in-Some.is at c.in_ok-order.ensures in
@@ -39,7 +24,7 @@ returns c =
     in
     record {
       table = table-grown c.args.self.now c.args.rows.order.keys c.args.rows.counts.items c.args.rows.numbers.items c.args.rows.lists c.requires c.args.text.now c.in-Some.order.keys found
-          c.in_ok-counts.counts.items c.in_ok-numbers.numbers.items c.list.new.lists c.in_ok-counts.ensures none c.in_ok-numbers.ensures.listed c.in_ok-numbers.ensures.all;
+          c.in_ok-counts.counts.items c.in_ok-counts.ensures none;
       known = found.named;
       defined = sym c.if-undefined.ensures;
     }

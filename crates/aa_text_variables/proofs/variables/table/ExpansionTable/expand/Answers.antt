@@ -11,7 +11,7 @@ use Rattle.aa_text_variables.proofs.variables.table.ExpansionTable.expand.Goals 
 
 pub listed-requires-clause-listed : goal.listed-requires-clause-listed
 listed-requires-clause-listed c =
-    let rows = c.replace-rows.result in
+    let rows = c.in_ok-rows.rows in
     let none = c.has_missing.ensures (λ name. is_none (numbers_in c.beside-held.result name)) (λ name answer says. search rules) in
     subst (λ numbers. is_text_lacking numbers c.args.text.now ≡ false)
     (numbers-beside c.beside-held.result c.self.inside.variables.now rows.order.keys rows.numbers.items (rw c.as_slice.ensures.value at c.beside-held.ensures)) (sym none ∙ c.if-has_missing.false)
@@ -26,7 +26,7 @@ pub returns-clause-some : goal.returns-clause-some
 returns-clause-some c =
     let all = expansions c.self.inside.variables.now c.args.text.now in
     let texts = c.in_ok-texts.texts.items in
-    let same = c.in_ok-texts.ensures ∙ c.in_ok-rows.ensures.value in
+    let same = c.in_ok-texts.ensures ∙ c.in_ok-rows-2.ensures.value in
     let size : length texts ≡ length all = sym (length-map texts (λ t. t.items)) ∙ ap length same ∙ length-map all (take most_kept) in
-    let some : 0 < length all = some-expansion c.self.inside.variables.now c.args.text.now c.lawful.ensures c.in_ok-rows.ensures.fine in
+    let some : 0 < length all = some-expansion c.self.inside.variables.now c.args.text.now c.lawful.ensures c.in_ok-rows-2.ensures.fine in
     omega arith
