@@ -3,7 +3,7 @@
 
 mod laws;
 
-pub use aa_glob_automaton::{Automaton, AutomatonBuilder, Steps};
+pub use aa_glob_automaton::{Automaton, AutomatonBuilder, Steps, overlap};
 pub use aa_glob_pattern::{LONGEST_PATTERN, Pattern, PatternError};
 pub use aa_glob_prefixes::matching_is_by_splits;
 pub use laws::{

@@ -1,8 +1,8 @@
 pub mod BuiltLemmas
+pub mod ClashLemmas
 pub mod FindLemmas
 pub mod FollowLemmas
 pub mod GrowthLemmas
-pub mod MapLemmas
 pub mod NumberLemmas
 pub mod SeenLemmas
 pub mod StandLemmas

@@ -2,7 +2,9 @@
 
 ghost use Rattle.std.specs.Prelude.{◌≡◌, ◌≤◌, ℕ, List, IfOk, None, Some};
 ghost use Rattle.std.specs.List.Sorted.{IsStrictlyIncreasing};
-ghost use Rattle.aa_glob_automaton.specs.Automata.{IsAutomatonOf, most_visits};
+ghost use Rattle.aa_glob_automaton.specs.Automata.{AreClassesOf, IsAutomatonOf, most_visits};
+ghost use Rattle.aa_glob_pairs.specs.Clashes.{IsLeast};
+ghost use Rattle.aa_glob_syntax.specs.Overlap.{ClashesAmong};
 ghost use Rattle.aa_glob_syntax.specs.Patterns.{AreMatching};
 ghost use Rattle.aa_glob_run.specs.Steps.{IsCounted};
 ghost use Rattle.aa_glob_prefixes.specs.Beginnings.{HasStates, most_states};
@@ -88,6 +90,23 @@ impl Automaton {
         match &self.states {
             None => 0,
             Some(states) => states.states(),
+        }
+    }
+
+    /// The least place of a pattern that clashes with one at an earlier place: some text matches both, and their classes differ. `classes` has the
+    /// class of each pattern, by its place. None where no pattern clashes with an earlier one.
+    ///
+    /// # Errors
+    ///
+    /// Where memory runs out.
+    pub fn first_clash(&self, alloc: Global, classes: &[u32]) -> Result<Option<u32>, AllocError>
+        requires { AreClassesOf self.now classes.now }
+        ensures { IfOk result (λ found. (patterns : List (List ℕ)) → IsAutomatonOf self.now patterns → IsLeast found (ClashesAmong patterns classes.now)) }
+    {
+        what_reaches_a_state();
+        match &self.states {
+            None => Ok(None),
+            Some(states) => states.first_clash(alloc, classes),
         }
     }
 

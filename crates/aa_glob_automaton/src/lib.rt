@@ -7,9 +7,11 @@ mod element;
 mod following;
 mod growing;
 mod numbers;
+mod overlapping;
 mod walk;
 mod ways;
 
 pub use aa_glob_run::Steps;
 pub use automaton::Automaton;
 pub use builder::AutomatonBuilder;
+pub use overlapping::overlap;

@@ -1,6 +1,7 @@
 pub mod BlockLemmas
 pub mod GrownLemmas
 pub mod ListLemmas
+pub mod MapLemmas
 pub mod RowLemmas
 pub mod SoundLemmas
 pub mod TableLemmas

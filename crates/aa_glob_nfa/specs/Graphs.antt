@@ -1,5 +1,5 @@
 -- States, the ways between them, and the texts behind which they are reached.
-use Rattle.std.specs.Prelude.{◌≡◌, ◌↔◌, ◌⊎◌, ℕ, ◌<◌, true, List, [], ◌∷◌, ◌++◌, length, reverse, slice_index_or, Contains}
+use Rattle.std.specs.Prelude.{◌≡◌, ◌↔◌, ◌⊎◌, ℕ, ◌<◌, true, List, [], ◌∷◌, ◌++◌, ◌^◌, length, reverse, slice_index_or, All, Contains}
 use Rattle.aa_glob_nfa.specs.Entries.{is_free, takes_byte, stays_at}
 use Rattle.aa_glob_nfa.specs.declared.entry.Entry.{Entry}
 use Rattle.aa_glob_nfa.specs.declared.entry.Entry.TheVariants.{Free}
@@ -38,6 +38,10 @@ Stays g r c = stays_at (entry_of g r) c ≡ true
 -- a state is an end of a pattern
 abbrev pub EndsAt : Graph → ℕ → ℕ → Type 0
 EndsAt g r p = Contains g.ends (r, p)
+
+-- each number of a text is a byte
+abbrev pub AreBytes : List ℕ → Type 0
+AreBytes text = All (λ c. c < 2 ^ 8) text
 
 -- A state is reached behind a text, which is written with its last byte first. State 0 is reached behind the empty text.
 pub data Reaches (g : Graph) : List ℕ → ℕ → Type 0 where

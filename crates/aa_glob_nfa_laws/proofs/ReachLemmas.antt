@@ -10,7 +10,7 @@ use Rattle.aa_glob_syntax.specs.Matching.{matches}
 use Rattle.aa_glob_syntax.specs.Reading.{items_of, reading}
 use Rattle.aa_glob_nfa_laws.proofs.EntryLemmas.{arrives, free-behind, stays-behind, takes-behind}
 use Rattle.aa_glob_nfa_laws.specs.Drawn.{IsDrawn, Suits, SuitsLast, trail_at}
-use Rattle.aa_glob_nfa_laws.specs.Laws.{AreBytes}
+use Rattle.aa_glob_nfa.specs.Graphs.{AreBytes}
 use Rattle.aa_glob_nfa.specs.Entries.{stays_at}
 use Rattle.aa_glob_nfa.specs.Graphs.{begins, comes, entry_of, Graph, Leads, Reaches, stays, takes}
 use Rattle.aa_glob_prefixes.specs.Laws.{SomeAreReadAsOneIs, SourcesAreShorter, TrailsAreReadBehindSources, WholeTrailsAreMatched}

@@ -111,6 +111,17 @@ module _ (shorter : SourcesAreShorter) (old new : Graph) (trails : List Trail) (
           let long = longer in
           (omega arith, omega arith)
 
+  -- a way leads to a later state
+  added-later : (q r : ℕ) → Leads new q r → q < r
+  added-later q r leads = by_way ((adds.ways q r).0 leads)
+    where
+      by_way : Leads old q r ⊎ ((r ≡ length old.entries) × Contains from q) → q < r
+      by_way (inl before) = drawn.later q r before
+      by_way (inr link) =
+          let first = All-contains (λ q. q < length trails) from q have.0 link.1 in
+          let counted = drawn.states in
+          omega (arith, first, counted, link.0)
+
   -- a way leads from one that has a source
   added-leads : (q r : ℕ) → Lies trails (e ∷ behind) q → Lies trails (e ∷ behind) r → Leads old q r ⊎ ((r ≡ length old.entries) × Contains from q) → Contains (sources (trail_at now r)) (trail_at now q)
   added-leads q r first second (inl before) =
@@ -144,6 +155,7 @@ module _ (shorter : SourcesAreShorter) (old new : Graph) (trails : List Trail) (
     entries = λ q within. added-entry q (lies trails (e ∷ behind) q within);
     all_there = λ q source within h. added-there q source (lies trails (e ∷ behind) q within) h;
     within = added-within;
+    later = added-later;
     ways = λ q r within also. (
       λ leads. added-leads q r (lies trails (e ∷ behind) q within) (lies trails (e ∷ behind) r also) ((adds.ways q r).0 leads),
       λ h. (adds.ways q r).1 (added-has q r (lies trails (e ∷ behind) q within) (lies trails (e ∷ behind) r also) h),
@@ -160,6 +172,7 @@ drawn-start g entries none = record {
   entries = λ q within. let first : q ≡ 0 = omega arith in rw first (ap (λ (es : List Entry). slice_index_or es 0 Free) entries);
   all_there = λ q source within h. let first : q ≡ 0 = omega arith in absurd (none_within source (subst (λ (n : ℕ). Contains (sources (trail_at ([] ∷ []) n)) source) first h));
   within = λ q r leads. absurd (none q r leads);
+  later = λ q r leads. absurd (none q r leads);
   ways = λ q r within also. (
     λ leads. absurd (none q r leads),
     λ h. let first : r ≡ 0 = omega arith in absurd (none_within (trail_at ([] ∷ []) q) (subst (λ (n : ℕ). Contains (sources (trail_at ([] ∷ []) n)) (trail_at ([] ∷ []) q)) first h)),
@@ -206,6 +219,7 @@ drawn-same g h trails entries ways drawn = record {
   entries = λ q within. subst (λ (es : List Entry). SuitsLast (trail_at trails q) (slice_index_or es q Free)) entries (drawn.entries q within);
   all_there = drawn.all_there;
   within = λ q r leads. drawn.within q r ((ways q r).1 leads);
+  later = λ q r leads. drawn.later q r ((ways q r).1 leads);
   ways = λ q r within also. (
     λ leads. (drawn.ways q r within also).0 ((ways q r).1 leads),
     λ source. (ways q r).0 ((drawn.ways q r within also).1 source),

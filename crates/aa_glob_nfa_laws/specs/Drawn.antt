@@ -39,7 +39,7 @@ abbrev pub trail_at : List Trail → ℕ → Trail
 trail_at trails q = slice_index_or trails q []
 
 -- A graph is drawn of these trails, one for each state: state 0 has the empty one, no two states have the same, and to each state lead
--- those that have the sources of its trail, which are all there.
+-- those that have the sources of its trail, which are all there. Ways lead to later states.
 pub record IsDrawn (g : Graph) (trails : List Trail) : Type 0 where
   pub states : length trails ≡ length g.entries
   pub begins : 0 < length trails
@@ -48,6 +48,7 @@ pub record IsDrawn (g : Graph) (trails : List Trail) : Type 0 where
   pub entries : (q : ℕ) → q < length trails → SuitsLast (trail_at trails q) (entry_of g q)
   pub all_there : (q : ℕ) (source : Trail) → q < length trails → Contains (sources (trail_at trails q)) source → Contains trails source
   pub within : (q r : ℕ) → Leads g q r → (q < length trails) × (r < length trails)
+  pub later : (q r : ℕ) → Leads g q r → q < r
   pub ways : (q r : ℕ) → q < length trails → r < length trails → (Leads g q r ↔ Contains (sources (trail_at trails r)) (trail_at trails q))
 
 -- the states from which ways are to lead to a trail: their trails are its sources, in whatever order

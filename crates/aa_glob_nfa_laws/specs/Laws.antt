@@ -4,16 +4,12 @@ use Rattle.std.specs.List.{All}
 use Rattle.aa_glob_syntax.specs.Elements.{Element}
 use Rattle.aa_glob_syntax.specs.Matching.{matches}
 use Rattle.aa_glob_syntax.specs.Reading.{items_of, reading}
-use Rattle.aa_glob_nfa.specs.Graphs.{Graph, Leads, Reaches}
+use Rattle.aa_glob_nfa.specs.Graphs.{AreBytes, Graph, Leads, Reaches}
 use Rattle.aa_glob_nfa.specs.declared.entry.Entry.{Entry}
 use Rattle.aa_glob_nfa.specs.declared.entry.Entry.TheVariants.{Free}
 use Rattle.aa_glob_nfa_laws.specs.Drawn.{AddsState, AddsWay, HaveSources, IsDrawn, Suits, trail_at}
 use Rattle.aa_glob_prefixes.specs.Reads.{reads}
 use Rattle.aa_glob_prefixes.specs.Trails.{Trail, trail_of}
-
--- each number of a text is a byte
-abbrev pub AreBytes : List ℕ → Type 0
-AreBytes text = All (λ c. c < 2 ^ 8) text
 
 -- a state is reached behind the texts that read its trail
 abbrev pub ReachingIsReading : Type 0

@@ -1,16 +1,19 @@
 //! Finished automata.
 
-ghost use Rattle.std.specs.Prelude.{◌≡◌, length, IfOk, OnOk};
+ghost use Rattle.std.specs.Prelude.{◌≡◌, ◌<◌, ℕ, length, IfOk, OnOk};
 ghost use Rattle.std.specs.List.Sorted.{IsStrictlyIncreasing};
-ghost use Rattle.aa_glob_nfa.specs.Graphs.{IsFound, SameGraph};
+ghost use Rattle.aa_glob_nfa.specs.Graphs.{EndsAt, IsFound, SameGraph};
 ghost use Rattle.aa_glob_run.specs.Steps.{IsCounted, most_visits};
 ghost use Rattle.aa_glob_nfa.specs.OfTables.{AreSound, graph_of};
+ghost use Rattle.aa_glob_pairs.specs.Clashes.{IsLeast};
+ghost use Rattle.aa_glob_pairs.specs.Graphs.{ClashesAt, IsLaid};
 
 use crate::front::Front;
 use crate::patterns::patterns_of;
 use crate::run::run;
 use crate::steps::Steps;
 use aa_glob_nfa::Tables;
+use aa_glob_pairs::first_clash;
 use std::alloc::{AllocError, Global};
 use std::marker::Model;
 
@@ -61,6 +64,20 @@ impl States {
         Ok(States {
             tables: self.tables.try_copy(alloc)?,
         })
+    }
+
+    /// The least pattern that clashes with one of a smaller number: some text leads to ends of both, and their classes differ. `classes` has the
+    /// class of each pattern, by its number.
+    ///
+    /// # Errors
+    ///
+    /// Where memory runs out.
+    pub fn first_clash(&self, alloc: Global, classes: &[u32]) -> Result<Option<u32>, AllocError>
+        requires later { IsLaid self.now }
+        requires classes { (q p : ℕ) → EndsAt self.now q p → p < length classes.now }
+        ensures { IfOk result (λ found. IsLeast found (ClashesAt self.now classes.now)) }
+    {
+        first_clash(alloc, &self.tables, classes)
     }
 
     /// The patterns of which an end is reached behind a text, each once, in rising order.

@@ -6,6 +6,7 @@ pub mod Faults
 pub mod Items
 pub mod Matching
 pub mod PatternError
+pub mod Overlap
 pub mod Patterns
 pub mod Reading
 pub mod Symbols

@@ -1,6 +1,6 @@
 use Rattle.std.proofs.Common.{◌≡◌, ◌&&◌, nat_lt, sym, ◌∙◌, ap, arith}
 use Rattle.aa_bytes.specs.ByteSets.{has}
-use Rattle.aa_glob_automaton.proofs.MapLemmas.{above, below, up_to-next}
+use Rattle.aa_glob_nfa.proofs.MapLemmas.{above, below, up_to-next}
 use Rattle.aa_glob_automaton.proofs.element.map_of.Goals as goal
 
 pub loop-byte-init : goal.loop-byte-init

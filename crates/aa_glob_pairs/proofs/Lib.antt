@@ -1,0 +1,7 @@
+pub mod ClashLemmas
+pub mod EndLemmas
+pub mod GainLemmas
+pub mod LeastLemmas
+pub mod MeetLemmas
+pub mod MoveLemmas
+pub mod ProgressLemmas

@@ -1,0 +1,171 @@
+-- Moves that are gathered one after the other.
+use Rattle.std.proofs.Common.{◌≡◌, ◌⊎◌, ◌↔◌, ℕ, zero, suc, ◌+◌, ◌^◌, ◌<◌, ◌≤◌, true, false, Bool, List, [], ◌∷◌, ◌++◌, length, take, get_or, refl, sym, ap, subst, ◌∙◌, inl, inr, arith}
+use Rattle.std.proofs.lemmas.List.{take_more}
+use Rattle.std.proofs.lemmas.List.Elements.{All-nil, All-push, All-same, Contains-append_cases, Contains-append_left, Contains-append_right, Contains-push, Contains-push_cases}
+use Rattle.std.specs.Prelude.{All, Contains, slice_get, Some}
+use Rattle.aa_glob_nfa.proofs.TableLemmas.{Leads-cases, Leads-on, Leads-way}
+use Rattle.aa_bytes.specs.ByteMaps.{in_map}
+use Rattle.aa_glob_nfa.specs.Graphs.{Graph, IsFree, Leads, Stays, Takes}
+use Rattle.aa_glob_nfa.specs.OfTables.{graph_of}
+use Rattle.aa_bytes.specs.declared.byte_map.ByteMap.{ByteMap}
+use Rattle.aa_glob_nfa.specs.declared.state.Way.{Way}
+use Rattle.aa_glob_nfa.specs.declared.tables.Tables.{Tables}
+use Rattle.aa_glob_pairs.proofs.GainLemmas.{nothing_there, steps_append}
+use Rattle.aa_glob_pairs.specs.Graphs.{AreMoves, Goes, IsLaid}
+use Rattle.aa_glob_pairs.specs.Nodes.{HasStep, IsLaidOut}
+use Rattle.aa_glob_pairs.specs.code.Gathered.{Gets, GetsLed, GetsStay, IsAway, IsOn}
+use Rattle.aa_glob_pairs.specs.declared.moves.Moves.{Moves}
+use Rattle.aa_glob_pairs.specs.declared.moves.Step.{Step}
+use Rattle.aa_glob_pairs.specs.declared.nodes.Node.{Node}
+
+pub gets_then : (old mid new : Moves) (F G H : ℕ → Type 0) (S T U : ℕ → ℕ → Type 0) (L M N : ℕ → Type 0) → Gets old mid F S L → Gets mid new G T M
+    → ((x : ℕ) → (H x ↔ (F x ⊎ G x))) → ((c x : ℕ) → (U c x ↔ (S c x ⊎ T c x))) → ((x : ℕ) → (N x ↔ (L x ⊎ M x))) → Gets old new H U N
+gets_then old mid new F G H S T U L M N one two free steps led = record {
+  free = λ x. (
+    λ has. elim ((two.free x).0 has) [
+      | inl before ↦ elim ((one.free x).0 before) [ inl old ↦ inl old | inr first ↦ inr ((free x).1 (inl first)) ]
+      | inr second ↦ inr ((free x).1 (inr second))
+    ],
+    λ h. elim h [
+      | inl old ↦ (two.free x).1 (inl ((one.free x).1 (inl old)))
+      | inr both ↦ elim ((free x).0 both) [ inl first ↦ (two.free x).1 (inl ((one.free x).1 (inr first))) | inr second ↦ (two.free x).1 (inr second) ]
+    ],
+  );
+  steps = λ c x small. (
+    λ has. elim ((two.steps c x small).0 has) [
+      | inl before ↦ elim ((one.steps c x small).0 before) [ inl old ↦ inl old | inr first ↦ inr ((steps c x).1 (inl first)) ]
+      | inr second ↦ inr ((steps c x).1 (inr second))
+    ],
+    λ h. elim h [
+      | inl old ↦ (two.steps c x small).1 (inl ((one.steps c x small).1 (inl old)))
+      | inr both ↦ elim ((steps c x).0 both) [ inl first ↦ (two.steps c x small).1 (inl ((one.steps c x small).1 (inr first))) | inr second ↦ (two.steps c x small).1 (inr second) ]
+    ],
+  );
+  laid = λ n q all laid. two.laid n q (λ x m. all x ((led x).1 (inr m))) (one.laid n q (λ x l. all x ((led x).1 (inl l))) laid);
+}
+
+-- what holds of either kind, with something more
+both_kinds : (L M N P : ℕ → Type 0) → ((x : ℕ) → (N x ↔ (L x ⊎ M x))) → (x : ℕ) → ((N x × P x) ↔ ((L x × P x) ⊎ (M x × P x)))
+both_kinds L M N P led x = (
+  λ h. elim ((led x).0 h.0) [ inl l ↦ inl (l, h.1) | inr m ↦ inr (m, h.1) ],
+  λ h. elim h [ inl l ↦ ((led x).1 (inl l.0), l.1) | inr m ↦ ((led x).1 (inr m.0), m.1) ],
+)
+
+pub gets_led_then : (g : Graph) (old mid new : Moves) (L M N : ℕ → Type 0) → GetsLed g old mid L → GetsLed g mid new M → ((x : ℕ) → (N x ↔ (L x ⊎ M x))) → GetsLed g old new N
+gets_led_then g old mid new L M N one two led =
+    gets_then old mid new (λ x. L x × IsFree g x) (λ x. M x × IsFree g x) (λ x. N x × IsFree g x) (λ c x. L x × Takes g x c) (λ c x. M x × Takes g x c) (λ c x. N x × Takes g x c) L M N one two
+    (both_kinds L M N (IsFree g) led) (λ c. both_kinds L M N (λ x. Takes g x c) led) led
+
+-- moves that get none
+pub gets_led_none : (g : Graph) (m : Moves) (L : ℕ → Type 0) → ((x : ℕ) → L x → ⊥) → GetsLed g m m L
+gets_led_none g m L none = record {
+  free = λ x. (inl, λ h. elim h [ inl old ↦ old | inr new ↦ absurd (none x new.0) ]);
+  steps = λ c x small. (inl, λ h. elim h [ inl old ↦ old | inr new ↦ absurd (none x new.0) ]);
+  laid = λ n q all laid. laid;
+}
+
+-- the same kind by another name
+pub gets_led_as : (g : Graph) (old new : Moves) (L M : ℕ → Type 0) → GetsLed g old new L → ((x : ℕ) → (M x ↔ L x)) → GetsLed g old new M
+gets_led_as g old new L M gets same = record {
+  free = λ x. (
+    λ has. elim ((gets.free x).0 has) [ inl before ↦ inl before | inr new ↦ inr ((same x).1 new.0, new.1) ],
+    λ h. elim h [ inl before ↦ (gets.free x).1 (inl before) | inr new ↦ (gets.free x).1 (inr ((same x).0 new.0, new.1)) ],
+  );
+  steps = λ c x small. (
+    λ has. elim ((gets.steps c x small).0 has) [ inl before ↦ inl before | inr new ↦ inr ((same x).1 new.0, new.1) ],
+    λ h. elim h [ inl before ↦ (gets.steps c x small).1 (inl before) | inr new ↦ (gets.steps c x small).1 (inr ((same x).0 new.0, new.1)) ],
+  );
+  laid = λ n q all laid. gets.laid n q (λ x l. all x ((same x).1 l)) laid;
+}
+
+-- one more of some ways
+pub away_more : (ways : List Way) (i : ℕ) (d : Way) (q x : ℕ) → i < length ways
+    → (IsAway (take (i + 1) ways) q x ↔ (IsAway (take i ways) q x ⊎ (((get_or ways i d).from ≡ q) × (x ≡ (get_or ways i d).to))))
+away_more ways i d q x within = rw (take_more ways i d within) (
+  λ h. elim (Contains-push_cases (take i ways) (get_or ways i d) h.0 h.1) [
+    | inl early ↦ inl (h.0, early, h.2, h.3)
+    | inr last ↦ inr (ap (λ w. w.from) last ∙ h.2, sym (ap (λ w. w.to) last ∙ h.3))
+  ],
+  λ h. elim h [
+    | inl early ↦ (early.0, Contains-append_left (take i ways) (get_or ways i d ∷ []) early.0 early.1, early.2, early.3)
+    | inr last ↦ (get_or ways i d, Contains-push (take i ways) (get_or ways i d), last.0, sym last.1)
+  ],
+)
+
+-- the ways of the table around a state are those that lead from it
+pub away_around : (all ways : List Way) (q x : ℕ) → All (Contains all) ways → ((way : Way) → Contains all way → way.from ≡ q → Contains ways way) → (IsAway all q x ↔ IsAway ways q x)
+away_around all ways q x only each = (
+  λ h. (h.0, each h.0 h.1 h.2, h.2, h.3),
+  λ h. (h.0, All-has all ways h.0 only h.1, h.2, h.3),
+)
+  where
+    All-has : (all ways : List Way) (way : Way) → All (Contains all) ways → Contains ways way → Contains all way
+    All-has all ways way only has = subst (λ w. Contains all w) has.2 (only has.0 way has.1)
+
+-- a state is led to by the way that leads on or by one of the table
+pub leads_both : (t : Tables) (q x : ℕ) → q < length t.states → (Leads (graph_of t) q x ↔ (IsOn t q x ⊎ IsAway t.ways.items q x))
+leads_both t q x within = (
+  λ leads. elim (Leads-cases t.states t.ways.items t.classes.items t.ends.items q x leads) [
+    | inl on ↦ inl (on.1, on.2)
+    | inr away ↦ inr away
+  ],
+  λ h. elim h [
+    | inl on ↦ subst (λ n. Leads (graph_of t) q n) (sym on.1) (Leads-on t.states t.ways.items t.classes.items t.ends.items q within on.0)
+    | inr away ↦ subst (λ n. Leads (graph_of t) q n) away.3 (subst (λ n. Leads (graph_of t) n away.0.to) away.2 (Leads-way t.states t.ways.items t.classes.items t.ends.items away.0 away.1))
+  ],
+)
+
+-- no moves, and then those that lead away and that stay
+pub moves_gathered : (g : Graph) (n q : ℕ) (none mid new : Moves) → none.free.items ≡ [] → none.steps.items ≡ [] → GetsLed g none mid (Leads g q) → GetsStay g mid new q
+    → AreMoves g q new
+moves_gathered g n q none mid new free steps led stay = record {
+  free = λ x. (
+    λ has. elim ((stay.free x).0 has) [
+      | inl before ↦ elim ((led.free x).0 before) [ inl old ↦ absurd (nothing_there x (subst (λ l. Contains l x) free old)) | inr entered ↦ entered ]
+      | inr never ↦ absurd never
+    ],
+    λ entered. (stay.free x).1 (inl ((led.free x).1 (inr entered))),
+  );
+  steps = λ c x small. (
+    λ has. elim ((stay.steps c x small).0 has) [
+      | inl before ↦ elim ((led.steps c x small).0 before) [ inl old ↦ absurd (nothing_there old.0 (subst (λ l. Contains l old.0) steps old.1)) | inr taken ↦ inl taken ]
+      | inr stayed ↦ inr stayed
+    ],
+    λ h. elim h [
+      | inl taken ↦ (stay.steps c x small).1 (inl ((led.steps c x small).1 (inr taken)))
+      | inr stayed ↦ (stay.steps c x small).1 (inr stayed)
+    ],
+  );
+}
+
+-- a step more
+pub step_pushed : (steps : List Step) (to : ℕ) (bytes : ByteMap) (c x : ℕ)
+    → (HasStep (steps ++ record { to = to; bytes = bytes } ∷ []) c x ↔ (HasStep steps c x ⊎ ((x ≡ to) × (in_map bytes c ≡ true))))
+step_pushed steps to bytes c x = (
+  λ h. elim (Contains-push_cases steps (record { to = to; bytes = bytes }) h.0 h.1) [
+    | inl early ↦ inl (h.0, early, h.2, h.3)
+    | inr last ↦ inr (sym (ap (λ s. s.to) last ∙ h.2), ap (λ s. in_map s.bytes c) last ∙ h.3)
+  ],
+  λ h. elim h [
+    | inl early ↦ (early.0, Contains-append_left steps (record { to = to; bytes = bytes } ∷ []) early.0 early.1, early.2, early.3)
+    | inr new ↦ (record { to = to; bytes = bytes }, Contains-push steps (record { to = to; bytes = bytes }), sym new.0, new.1)
+  ],
+)
+
+-- no moves are laid out
+pub laid_none : (n q : ℕ) (m : Moves) → m.free.items ≡ [] → m.steps.items ≡ [] → IsLaidOut n q m
+laid_none n q m free steps = record {
+  free = All-same (λ x. (q ≤ x) × (x < n)) m.free.items [] free (All-nil (λ x. (q ≤ x) × (x < n)));
+  steps = All-same (λ s. (q ≤ s.to) × (s.to < n)) m.steps.items [] steps (All-nil (λ s. (q ≤ s.to) × (s.to < n)));
+}
+
+same_nodes : (n o : Node) → Some n ≡ Some o → n ≡ o
+same_nodes n o e = cc
+
+-- what holds of each state, and of one more
+pub each_pushed : (all : List Node) (new : Node) (P : ℕ → Node → Type 0) → ((q : ℕ) (n : Node) → slice_get all q ≡ Some n → P q n) → P (length all) new
+    → (q : ℕ) (n : Node) → slice_get (all ++ new ∷ []) q ≡ Some n → P q n
+each_pushed [] new P each last zero n e = subst (λ (x : Node). P 0 x) (same_nodes new n e) last
+each_pushed [] new P each last (suc q) n e = absurd cc
+each_pushed (a ∷ all) new P each last zero n e = each 0 n e
+each_pushed (a ∷ all) new P each last (suc q) n e = each_pushed all new (λ k. P (suc k)) (λ k o is. each (suc k) o is) last q n e

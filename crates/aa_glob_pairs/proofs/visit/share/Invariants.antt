@@ -1,0 +1,6 @@
+use Rattle.std.proofs.Common.{ℕ, ◌<◌}
+use Rattle.aa_glob_pairs.specs.Nodes.{BothHave}
+use Rattle.aa_glob_pairs.proofs.visit.share.Given as goal
+
+abbrev pub invariant-loop-byte : goal.invariant-loop-byte
+invariant-loop-byte l = (c : ℕ) → c < l.byte → BothHave l.first l.second c → ⊥

@@ -1,0 +1,5 @@
+pub mod code
+pub mod Clashes
+pub mod Graphs
+pub mod Nodes
+pub mod Waiting

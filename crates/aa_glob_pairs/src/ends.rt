@@ -1,0 +1,79 @@
+//! The patterns that end at a state, with their classes, and the least that clashes with an earlier one.
+
+ghost use Rattle.std.specs.Prelude.{◌≡◌, ◌<◌, ◌∷◌, [], ℕ, length, IfOk, OnOk};
+ghost use Rattle.aa_glob_nfa.specs.Graphs.{EndsAt};
+ghost use Rattle.aa_glob_nfa.specs.OfTables.{AreSorted, AreSound, graph_of};
+ghost use Rattle.aa_glob_pairs.specs.Graphs.{AreEndingsOf};
+ghost use Rattle.aa_glob_pairs.specs.Clashes.{Clash, Lowers};
+
+use aa_glob_nfa::Tables;
+use std::alloc::{AllocError, Global};
+
+/// A pattern that ends at a state.
+#[derive(Clone, Copy, Debug)]
+pub struct Ending {
+    /// Its place among the patterns.
+    pub pattern: u32,
+    /// Its class.
+    pub class: u32,
+}
+
+/// The patterns that end at a state.
+pub fn endings_at(
+    alloc: Global,
+    tables: &Tables,
+    classes: &[u32],
+    state: u32,
+) -> Result<Vec<Ending>, AllocError>
+    requires sound { AreSound tables.now }
+    requires sorted { AreSorted tables.now }
+    requires classes { (q p : ℕ) → EndsAt (graph_of tables.now) q p → p < length classes.now }
+    requires is_state { state < length tables.now.states }
+    ensures { IfOk result (λ endings. AreEndingsOf (graph_of tables.now) classes.now state endings.items) }
+{
+    let mut endings = Vec::new(alloc);
+    for end in tables.ends_of(state) {
+        endings.push(Ending {
+            pattern: end.pattern,
+            class: classes[end.pattern as usize],
+        })?;
+    }
+    Ok(endings)
+}
+
+/// Lowers what was found to the least pattern of the second state that clashes with an earlier one of the first.
+pub fn lower(first: &[Ending], second: &[Ending], found: &mut Option<u32>)
+    ensures { Lowers found.old found.new (Clash first.now second.now) }
+{
+    for ending in first {
+        lower_beside(ending, second, found);
+    }
+}
+
+// The same by one pattern of the first.
+fn lower_beside(ending: &Ending, second: &[Ending], found: &mut Option<u32>)
+    ensures { Lowers found.old found.new (Clash (ending.now ∷ []) second.now) }
+{
+    for other in second {
+        lower_if_clash(ending, other, found);
+    }
+}
+
+// The same by one pattern of each.
+fn lower_if_clash(ending: &Ending, other: &Ending, found: &mut Option<u32>)
+    ensures { Lowers found.old found.new (Clash (ending.now ∷ []) (other.now ∷ [])) }
+{
+    if ending.class != other.class && ending.pattern < other.pattern {
+        lower_to(other.pattern, found);
+    }
+}
+
+// Lowers what was found to a number.
+fn lower_to(number: u32, found: &mut Option<u32>)
+    ensures { Lowers found.old found.new (λ k. k ≡ number) }
+{
+    match *found {
+        Some(least) if least <= number => {}
+        _ => *found = Some(number),
+    }
+}

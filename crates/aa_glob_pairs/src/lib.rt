@@ -1,0 +1,12 @@
+//! One graph run along two texts at once: which pairs of states one text reaches, and where patterns of different classes meet so.
+#![tactic(auto)]
+
+mod clash;
+mod ends;
+mod meeting;
+mod moves;
+mod nodes;
+mod visit;
+mod waiting;
+
+pub use clash::first_clash;

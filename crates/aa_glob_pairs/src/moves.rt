@@ -1,0 +1,156 @@
+//! What leads away from the states of a graph, as lists.
+
+ghost use Rattle.std.specs.Prelude.{◌≡◌, ℕ, ◌+◌, ◌<◌, ◌^◌, ◌==◌, ◌&&◌, ◌||◌, [], length, IfOk, OnOk, true};
+ghost use Rattle.aa_bytes.specs.ByteMaps.{in_map};
+ghost use Rattle.aa_glob_nfa.specs.Entries.{stays_at, takes_byte};
+ghost use Rattle.aa_glob_nfa.specs.Graphs.{entry_of, Leads};
+ghost use Rattle.aa_glob_nfa.specs.OfTables.{AreSorted, AreSound, graph_of};
+ghost use Rattle.aa_glob_nfa.specs.Tables.{state_at};
+ghost use Rattle.aa_glob_nfa.specs.declared.state.Way.{Way};
+ghost use Rattle.aa_glob_pairs.specs.Graphs.{AreMoves, IsLaid};
+ghost use Rattle.aa_glob_pairs.specs.Nodes.{IsLaidOut};
+ghost use Rattle.aa_glob_pairs.specs.code.Gathered.{GetsLed, GetsStay, IsAway, IsOn};
+
+use aa_bytes::ByteMap;
+use aa_glob_nfa::{Tables, Way};
+use std::alloc::{AllocError, Global};
+
+/// The bytes that bring a state from another, or leave it as it is.
+#[derive(Clone, Copy, Debug)]
+pub struct Step {
+    /// The state to which they lead.
+    pub to: u32,
+    /// The bytes.
+    pub bytes: ByteMap,
+}
+
+/// What leads away from a state.
+#[derive(Debug, Drop)]
+pub struct Moves {
+    /// The states that are entered from it without a byte.
+    pub free: Vec<u32>,
+    /// The steps that take a byte.
+    pub steps: Vec<Step>,
+}
+
+/// What leads away from a state, where ways lead to later states.
+pub fn moves_at(alloc: Global, tables: &Tables, state: u32) -> Result<Moves, AllocError>
+    requires sound { AreSound tables.now }
+    requires sorted { AreSorted tables.now }
+    requires later { IsLaid (graph_of tables.now) }
+    requires is_state { state < length tables.now.states }
+    ensures moves { IfOk result (λ m. AreMoves (graph_of tables.now) state m) }
+    ensures laid { IfOk result (λ m. IsLaidOut (length tables.now.states) state m) }
+{
+    let mut moves = Moves {
+        free: Vec::new(alloc),
+        steps: Vec::new(alloc),
+    };
+    lead_on(tables, state, &mut moves)?;
+    lead_away(tables, state, &mut moves)?;
+    stay(tables, state, &mut moves)?;
+    Ok(moves)
+}
+
+// Adds the way that leads on.
+fn lead_on(tables: &Tables, state: u32, moves: &mut Moves) -> Result<(), AllocError>
+    requires sound { AreSound tables.now }
+    requires is_state { state < length tables.now.states }
+    ensures { OnOk result (GetsLed (graph_of tables.now) moves.old moves.new (IsOn tables.now state)) }
+{
+    if tables.states.leads_on(state) {
+        add(tables, state + 1, moves)
+    } else {
+        Ok(())
+    }
+}
+
+// Adds the ways of the table.
+fn lead_away(tables: &Tables, state: u32, moves: &mut Moves) -> Result<(), AllocError>
+    requires sound { AreSound tables.now }
+    requires sorted { AreSorted tables.now }
+    ensures { OnOk result (GetsLed (graph_of tables.now) moves.old moves.new (IsAway tables.now.ways.items state)) }
+{
+    for way in tables.ways_around(state) {
+        add_if_from(tables, way, state, moves)?;
+    }
+    Ok(())
+}
+
+// Adds a way, if it leads from the state.
+fn add_if_from(tables: &Tables, way: &Way, state: u32, moves: &mut Moves) -> Result<(), AllocError>
+    requires sound { AreSound tables.now }
+    requires to { way.now.to < length tables.now.states }
+    ensures { OnOk result (GetsLed (graph_of tables.now) moves.old moves.new (λ x. (way.now.from ≡ state) × (x ≡ way.now.to))) }
+{
+    if way.from == state {
+        add(tables, way.to, moves)
+    } else {
+        Ok(())
+    }
+}
+
+// Adds a way to a state.
+fn add(tables: &Tables, to: u32, moves: &mut Moves) -> Result<(), AllocError>
+    requires sound { AreSound tables.now }
+    requires to { to < length tables.now.states }
+    ensures { OnOk result (GetsLed (graph_of tables.now) moves.old moves.new (λ x. x ≡ to)) }
+{
+    if tables.is_free(to) {
+        moves.free.push(to)?;
+    } else {
+        moves.steps.push(Step {
+            to,
+            bytes: taken(tables, to),
+        })?;
+    }
+    Ok(())
+}
+
+// Adds that the state stays.
+fn stay(tables: &Tables, state: u32, moves: &mut Moves) -> Result<(), AllocError>
+    requires is_state { state < length tables.now.states }
+    ensures { OnOk result (GetsStay (graph_of tables.now) moves.old moves.new state) }
+{
+    moves.steps.push(Step {
+        to: state,
+        bytes: staying(tables, state),
+    })?;
+    Ok(())
+}
+
+// The bytes that are taken to come into a state.
+fn taken(tables: &Tables, state: u32) -> ByteMap
+    requires sound { AreSound tables.now }
+    requires is_state { state < length tables.now.states }
+    ensures { (byte : ℕ) → byte < 2 ^ 8 → in_map result byte ≡ takes_byte (entry_of (graph_of tables.now) state) byte }
+{
+    let mut map = ByteMap::new();
+    for byte in 0..255 {
+        put_if(tables.takes_if(state, Some(byte)), byte, &mut map);
+    }
+    put_if(tables.takes_if(state, Some(255)), 255, &mut map);
+    map
+}
+
+// The bytes that leave a state as it is.
+fn staying(tables: &Tables, state: u32) -> ByteMap
+    requires is_state { state < length tables.now.states }
+    ensures { (byte : ℕ) → byte < 2 ^ 8 → in_map result byte ≡ stays_at (entry_of (graph_of tables.now) state) byte }
+{
+    let mut map = ByteMap::new();
+    for byte in 0..255 {
+        put_if(tables.stays(state, byte), byte, &mut map);
+    }
+    put_if(tables.stays(state, 255), 255, &mut map);
+    map
+}
+
+// Puts a byte into a map, where it is told to.
+fn put_if(told: bool, byte: u8, map: &mut ByteMap)
+    ensures { (other : ℕ) → in_map map.new other ≡ (other == byte && told || in_map map.old other) }
+{
+    if told {
+        map.insert(byte);
+    }
+}

@@ -1,0 +1,102 @@
+//! What follows from a pair of states: the pairs to which one of them goes freely, or both by one byte.
+
+ghost use Rattle.std.specs.Prelude.{◌≡◌, ◌∷◌, [], ◌<◌, All, Contains, Decides, length, OnOk};
+ghost use Rattle.aa_glob_pairs.specs.Nodes.{AreShared, BothHave, FollowsBy, IsShared, IsWithin};
+ghost use Rattle.aa_glob_pairs.specs.Waiting.{Gains};
+
+use crate::moves::{Moves, Step};
+use crate::waiting::Waiting;
+use aa_bytes::ByteMap;
+use std::alloc::AllocError;
+
+/// The pairs that follow from one wait, too; `AllocError` where memory ran out.
+pub fn visit(
+    first: &Moves,
+    second: &Moves,
+    row: u32,
+    column: u32,
+    waiting: &mut Waiting,
+) -> Result<(), AllocError>
+    requires row { row < length waiting.old }
+    requires first { IsWithin (length waiting.old) first.now }
+    ensures { OnOk result (Gains waiting.old waiting.new (FollowsBy first.now second.now row column)) }
+{
+    go_first(&first.free, column, waiting)?;
+    go_second(row, &second.free, waiting)?;
+    go_both(&first.steps, &second.steps, waiting)
+}
+
+// The first state goes freely.
+fn go_first(free: &[u32], column: u32, waiting: &mut Waiting) -> Result<(), AllocError>
+    requires within { All (λ x. x < length waiting.old) free.now }
+    ensures { OnOk result (Gains waiting.old waiting.new (λ x y. Contains free.now x × (y ≡ column))) }
+{
+    for state in free {
+        waiting.insert(*state, column)?;
+    }
+    Ok(())
+}
+
+// The second state goes freely.
+fn go_second(row: u32, free: &[u32], waiting: &mut Waiting) -> Result<(), AllocError>
+    requires row { row < length waiting.old }
+    ensures { OnOk result (Gains waiting.old waiting.new (λ x y. (x ≡ row) × Contains free.now y)) }
+{
+    for state in free {
+        waiting.insert(row, *state)?;
+    }
+    Ok(())
+}
+
+// Both go by one byte.
+fn go_both(first: &[Step], second: &[Step], waiting: &mut Waiting) -> Result<(), AllocError>
+    requires within { All (λ s. s.to < length waiting.old) first.now }
+    ensures { OnOk result (Gains waiting.old waiting.new (AreShared first.now second.now)) }
+{
+    for step in first {
+        go_beside(step, second, waiting)?;
+    }
+    Ok(())
+}
+
+// The same by one step of the first.
+fn go_beside(step: &Step, second: &[Step], waiting: &mut Waiting) -> Result<(), AllocError>
+    requires within { step.now.to < length waiting.old }
+    ensures { OnOk result (Gains waiting.old waiting.new (AreShared (step.now ∷ []) second.now)) }
+{
+    for other in second {
+        go_if_shared(step, other, waiting)?;
+    }
+    Ok(())
+}
+
+// The same by one step of each.
+fn go_if_shared(step: &Step, other: &Step, waiting: &mut Waiting) -> Result<(), AllocError>
+    requires within { step.now.to < length waiting.old }
+    ensures { OnOk result (Gains waiting.old waiting.new (AreShared (step.now ∷ []) (other.now ∷ []))) }
+{
+    if share(&step.bytes, &other.bytes) {
+        waiting.insert(step.to, other.to)
+    } else {
+        Ok(())
+    }
+}
+
+// Whether two sets share a byte.
+fn share(first: &ByteMap, second: &ByteMap) -> bool
+    ensures { Decides result (IsShared first.now second.now) }
+{
+    for byte in 0..255 {
+        if both_have(first, second, byte) {
+            return true;
+        }
+    }
+    both_have(first, second, 255)
+}
+
+// Whether both have the byte.
+fn both_have(first: &ByteMap, second: &ByteMap, byte: u8) -> bool
+    ensures { Decides result (BothHave first.now second.now byte) }
+{
+    first.has(byte) && second.has(byte)
+}
