@@ -1,11 +1,9 @@
 -- Patterns clash at a pair of states that is met exactly where one text reaches ends of both.
-use Rattle.std.proofs.Common.{◌≡◌, ◌↔◌, ℕ, ◌<◌, List, length, Some, refl, sym, subst, ◌∙◌}
-use Rattle.std.specs.Prelude.{Contains, slice_get}
-use Rattle.aa_glob_nfa.specs.Graphs.{EndsAt, Graph}
+use Rattle.std.proofs.Common.{◌↔◌, ℕ, List, refl, sym, subst, ◌∙◌}
+use Rattle.aa_glob_nfa.specs.Graphs.{Graph}
 use Rattle.aa_glob_pairs.proofs.MeetLemmas.{met-reached, node_there, reached-met, there}
-use Rattle.aa_glob_pairs.specs.Clashes.{Clash}
 use Rattle.aa_glob_pairs.specs.Graphs.{AreNodesOf, class_at, ClashesAt, IsLaid}
-use Rattle.aa_glob_pairs.specs.Nodes.{ClashOf, MeetsAt, Met}
+use Rattle.aa_glob_pairs.specs.Nodes.{MeetsAt}
 use Rattle.aa_glob_pairs.specs.declared.nodes.Node.{Node}
 
 pub meets_clashes : (g : Graph) (classes : List ℕ) (nodes : List Node) → IsLaid g → AreNodesOf g classes nodes → (k : ℕ) → (MeetsAt nodes k ↔ ClashesAt g classes k)

@@ -1,10 +1,11 @@
 -- More pairs that wait.
-use Rattle.std.proofs.Common.{◌≡◌, ◌⊎◌, ◌↔◌, ℕ, ◌+◌, ◌<◌, ◌==◌, Bool, true, false, List, [], ◌∷◌, ◌++◌, length, take, get_or, set, replicate, refl, sym, ap, subst, ◌∙◌, inl, inr, arith}
+use Rattle.std.proofs.Common.{◌≡◌, ◌⊎◌, ◌↔◌, ℕ, ◌+◌, ◌<◌, ◌==◌, List, [], ◌∷◌, ◌++◌, length, take, get_or, set, refl, sym, ap, subst, ◌∙◌, inl, inr}
 use Rattle.std.proofs.lemmas.Bool.{cases_Bool, eqb-true, eqb-false}
 use Rattle.std.proofs.lemmas.List.{append-nil, append_assoc, get_or-set_other, get_or-set_same, length-set, take_more}
 use Rattle.std.proofs.lemmas.List.Elements.{All-contains, All-nil, Contains-append_cases, Contains-append_left, Contains-append_right, Contains-push, Contains-push_cases}
 use Rattle.std.specs.Prelude.{Contains}
-use Rattle.aa_glob_pairs.specs.Nodes.{AreShared, FollowsBy, HasStep, IsShared}
+use Rattle.aa_glob_pairs.specs.Bytes.{IsShared}
+use Rattle.aa_glob_pairs.specs.Nodes.{AreShared, FollowsBy, HasStep}
 use Rattle.aa_glob_pairs.specs.Waiting.{Gains, IsFrontOf, row_at, Waits}
 use Rattle.aa_glob_pairs.specs.declared.moves.Moves.{Moves}
 use Rattle.aa_glob_pairs.specs.declared.moves.Step.{Step}

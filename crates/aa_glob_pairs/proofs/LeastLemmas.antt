@@ -1,10 +1,10 @@
 -- The least number of some kinds.
-use Rattle.std.proofs.Common.{◌≡◌, ◌⊎◌, ◌↔◌, ℕ, ◌+◌, ◌<◌, ◌≤◌, List, [], ◌∷◌, ◌++◌, length, take, get_or, refl, sym, ap, subst, ◌∙◌, inl, inr, arith, Option, None, Some}
+use Rattle.std.proofs.Common.{◌≡◌, ◌⊎◌, ◌↔◌, ℕ, ◌+◌, ◌<◌, List, [], ◌∷◌, ◌++◌, length, take, get_or, sym, ap, subst, ◌∙◌, inl, inr, Option, None, Some}
 use Rattle.std.proofs.lemmas.List.{take_more}
 use Rattle.std.proofs.lemmas.List.Elements.{Contains-append_cases, Contains-append_left, Contains-append_right, Contains-push, Contains-push_cases}
 use Rattle.std.specs.Prelude.{Contains}
 use Rattle.aa_glob_pairs.proofs.GainLemmas.{nothing_there}
-use Rattle.aa_glob_pairs.specs.Clashes.{Clash, IsAtMost, IsLeast, Lowers}
+use Rattle.aa_glob_pairs.specs.Clashes.{Clash, IsLeast, Lowers}
 use Rattle.aa_glob_pairs.specs.declared.ends.Ending.{Ending}
 
 -- nothing of a kind that nothing is of

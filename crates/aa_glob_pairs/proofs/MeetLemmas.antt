@@ -1,9 +1,9 @@
 -- A pair of states is met exactly where one text reaches both.
-use Rattle.std.proofs.Common.{◌≡◌, ◌⊎◌, ◌↔◌, ℕ, ◌^◌, ◌<◌, true, List, [], ◌∷◌, length, get_or, Some, refl, sym, ap, subst, ◌∙◌, inl, inr, arith}
+use Rattle.std.proofs.Common.{◌≡◌, ℕ, ◌^◌, ◌<◌, List, [], ◌∷◌, length, get_or, Some, refl, sym, ap, subst, inl, inr, arith}
 use Rattle.std.proofs.lemmas.List.Elements.{All-cons, All-head, All-nil, All-tail}
 use Rattle.std.proofs.lemmas.Option.{slice_get-get_or}
-use Rattle.std.specs.Prelude.{All, Contains, slice_get}
-use Rattle.aa_glob_nfa.specs.Graphs.{AreBytes, begins, comes, Graph, Leads, Reaches, stays, takes, Takes, Stays}
+use Rattle.std.specs.Prelude.{slice_get}
+use Rattle.aa_glob_nfa.specs.Graphs.{AreBytes, begins, comes, Graph, Reaches, stays, takes, Takes, Stays}
 use Rattle.aa_glob_pairs.specs.Graphs.{AreMoves, AreNodesOf, Goes, GoesFreely, IsLaid, IsNodeOf, ReachTogether}
 use Rattle.aa_glob_pairs.specs.Nodes.{FollowsBy, goes, Met, start}
 use Rattle.aa_glob_pairs.specs.declared.moves.Moves.{Moves}

@@ -1,19 +1,22 @@
 -- Moves that are gathered one after the other.
-use Rattle.std.proofs.Common.{◌≡◌, ◌⊎◌, ◌↔◌, ℕ, zero, suc, ◌+◌, ◌^◌, ◌<◌, ◌≤◌, true, false, Bool, List, [], ◌∷◌, ◌++◌, length, take, get_or, refl, sym, ap, subst, ◌∙◌, inl, inr, arith}
+use Rattle.std.proofs.Common.{◌≡◌, ◌⊎◌, ◌↔◌, ℕ, zero, suc, ◌+◌, ◌<◌, ◌≤◌, true, false, Bool, List, [], ◌∷◌, ◌++◌, length, take, get_or, refl, sym, ap, subst, ◌∙◌, inl, inr}
 use Rattle.std.proofs.lemmas.List.{take_more}
-use Rattle.std.proofs.lemmas.List.Elements.{All-nil, All-push, All-same, Contains-append_cases, Contains-append_left, Contains-append_right, Contains-push, Contains-push_cases}
-use Rattle.std.specs.Prelude.{All, Contains, slice_get, Some}
-use Rattle.aa_glob_nfa.proofs.TableLemmas.{Leads-cases, Leads-on, Leads-way}
-use Rattle.aa_bytes.specs.ByteMaps.{in_map}
-use Rattle.aa_glob_nfa.specs.Graphs.{Graph, IsFree, Leads, Stays, Takes}
+use Rattle.std.proofs.lemmas.List.Elements.{All-nil, All-push, All-same, Contains-append_left, Contains-push, Contains-push_cases}
+use Rattle.std.specs.Prelude.{All, Contains, None, Option, slice_get, Some}
+use Rattle.aa_glob_nfa.proofs.TableLemmas.{entry_of-graph_in, Leads-cases, Leads-on, Leads-way}
+use Rattle.aa_glob_nfa.specs.Entries.{stays_at}
+use Rattle.aa_glob_nfa.specs.Graphs.{entry_of, Graph, IsFree, Leads, Takes}
+use Rattle.aa_glob_nfa.specs.Tables.{entry_behind, set_of, state_at}
+use Rattle.aa_glob_nfa.specs.declared.state.Gate.{Gate}
 use Rattle.aa_glob_nfa.specs.OfTables.{graph_of}
-use Rattle.aa_bytes.specs.declared.byte_map.ByteMap.{ByteMap}
 use Rattle.aa_glob_nfa.specs.declared.state.Way.{Way}
 use Rattle.aa_glob_nfa.specs.declared.tables.Tables.{Tables}
-use Rattle.aa_glob_pairs.proofs.GainLemmas.{nothing_there, steps_append}
-use Rattle.aa_glob_pairs.specs.Graphs.{AreMoves, Goes, IsLaid}
+use Rattle.aa_glob_pairs.proofs.GainLemmas.{nothing_there}
+use Rattle.aa_glob_pairs.specs.Bytes.{in_bytes, is_among}
+use Rattle.aa_glob_pairs.specs.Graphs.{AreMoves}
 use Rattle.aa_glob_pairs.specs.Nodes.{HasStep, IsLaidOut}
 use Rattle.aa_glob_pairs.specs.code.Gathered.{Gets, GetsLed, GetsStay, IsAway, IsOn}
+use Rattle.aa_glob_pairs.specs.declared.bytes.Bytes.{Bytes}
 use Rattle.aa_glob_pairs.specs.declared.moves.Moves.{Moves}
 use Rattle.aa_glob_pairs.specs.declared.moves.Step.{Step}
 use Rattle.aa_glob_pairs.specs.declared.nodes.Node.{Node}
@@ -139,12 +142,12 @@ moves_gathered g n q none mid new free steps led stay = record {
 }
 
 -- a step more
-pub step_pushed : (steps : List Step) (to : ℕ) (bytes : ByteMap) (c x : ℕ)
-    → (HasStep (steps ++ record { to = to; bytes = bytes } ∷ []) c x ↔ (HasStep steps c x ⊎ ((x ≡ to) × (in_map bytes c ≡ true))))
+pub step_pushed : (steps : List Step) (to : ℕ) (bytes : Bytes) (c x : ℕ)
+    → (HasStep (steps ++ record { to = to; bytes = bytes } ∷ []) c x ↔ (HasStep steps c x ⊎ ((x ≡ to) × (in_bytes bytes c ≡ true))))
 step_pushed steps to bytes c x = (
   λ h. elim (Contains-push_cases steps (record { to = to; bytes = bytes }) h.0 h.1) [
     | inl early ↦ inl (h.0, early, h.2, h.3)
-    | inr last ↦ inr (sym (ap (λ s. s.to) last ∙ h.2), ap (λ s. in_map s.bytes c) last ∙ h.3)
+    | inr last ↦ inr (sym (ap (λ s. s.to) last ∙ h.2), ap (λ s. in_bytes s.bytes c) last ∙ h.3)
   ],
   λ h. elim h [
     | inl early ↦ (early.0, Contains-append_left steps (record { to = to; bytes = bytes } ∷ []) early.0 early.1, early.2, early.3)
@@ -169,3 +172,45 @@ each_pushed [] new P each last zero n e = subst (λ (x : Node). P 0 x) (same_nod
 each_pushed [] new P each last (suc q) n e = absurd cc
 each_pushed (a ∷ all) new P each last zero n e = each 0 n e
 each_pushed (a ∷ all) new P each last (suc q) n e = each_pushed all new (λ k. P (suc k)) (λ k o is. each (suc k) o is) last q n e
+
+-- what it takes to come into a state, and to stay there, by its gate
+pub entry_by_gate : (t : Tables) (q : ℕ) (gate : Gate) → q < length t.states → gate ≡ (state_at t.states q).gate
+    → entry_of (graph_of t) q ≡ entry_behind gate (set_of t.classes.items q)
+entry_by_gate t q gate within is =
+    entry_of-graph_in t.states t.ways.items t.classes.items t.ends.items q within ∙ ap (λ g. entry_behind g (set_of t.classes.items q)) (sym is)
+
+-- a step that stays
+pub gets_stay_step : (g : Graph) (old new : Moves) (q : ℕ) (bytes : Bytes) → new.free.items ≡ old.free.items
+    → new.steps.items ≡ old.steps.items ++ record { to = q; bytes = bytes } ∷ [] → ((c : ℕ) → stays_at (entry_of g q) c ≡ in_bytes bytes c) → GetsStay g old new q
+gets_stay_step g old new q bytes free steps stays = record {
+  free = λ x. (
+    λ has. inl (subst (λ (l : List ℕ). Contains l x) free has),
+    λ h. elim h [ inl before ↦ subst (λ (l : List ℕ). Contains l x) (sym free) before | inr never ↦ absurd never ],
+  );
+  steps = λ c x small. rw steps (
+    λ has. elim ((step_pushed old.steps.items q bytes c x).0 has) [ inl before ↦ inl before | inr new ↦ inr (new.0, stays c ∙ new.1) ],
+    λ h. (step_pushed old.steps.items q bytes c x).1 (elim h [ inl before ↦ inl before | inr stayed ↦ inr (stayed.0, sym (stays c) ∙ stayed.1) ]),
+  );
+  laid = λ n k all laid. record {
+    free = All-same (λ x. (k ≤ x) × (x < n)) new.free.items old.free.items free laid.free;
+    steps =
+      All-same (λ s. (k ≤ s.to) × (s.to < n)) new.steps.items (old.steps.items ++ record { to = q; bytes = bytes } ∷ []) steps
+      (All-push (λ s. (k ≤ s.to) × (s.to < n)) old.steps.items (record { to = q; bytes = bytes }) laid.steps (all q refl));
+  };
+}
+
+-- a state that no byte leaves as it is
+pub gets_stay_none : (g : Graph) (m : Moves) (q : ℕ) → ((c : ℕ) → stays_at (entry_of g q) c ≡ false) → GetsStay g m m q
+gets_stay_none g m q never = record {
+  free = λ x. (λ has. inl has, λ h. elim h [ inl before ↦ before | inr none ↦ absurd none ]);
+  steps = λ c x small. (λ has. inl has, λ h. elim h [ inl before ↦ before | inr stayed ↦ absurd (apart (stays_at (entry_of g q) c) (never c) stayed.1) ]);
+  laid = λ n k all laid. laid;
+}
+  where
+    apart : (b : Bool) → b ≡ false → b ≡ true → ⊥
+    apart b off on = absurd cc
+
+-- no byte is among none
+pub no_bytes_stay : (bytes : Option Bytes) (c : ℕ) → ((some : Bytes) → bytes ≡ Some some → ⊥) → is_among bytes c ≡ false
+no_bytes_stay None c none = refl
+no_bytes_stay (Some bytes) c none = absurd (none bytes refl)

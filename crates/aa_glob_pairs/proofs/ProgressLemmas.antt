@@ -1,13 +1,13 @@
 -- Pair after pair is looked at: at last all that are met were.
-use Rattle.std.proofs.Common.{◌≡◌, ◌⊎◌, ◌↔◌, ℕ, ◌+◌, ◌<◌, ◌≤◌, List, [], ◌∷◌, ◌++◌, length, take, get_or, set, replicate, Option, None, Some, zero, suc, refl, sym, ap, subst, ◌∙◌, inl, inr, arith}
+use Rattle.std.proofs.Common.{◌≡◌, ◌⊎◌, ℕ, ◌+◌, ◌<◌, ◌≤◌, List, [], ◌∷◌, ◌++◌, length, take, get_or, set, Option, None, Some, zero, suc, refl, sym, ap, subst, ◌∙◌, inl, inr, arith}
 use Rattle.std.proofs.lemmas.Bool.{cases_lt}
-use Rattle.std.proofs.lemmas.List.{get_or-replicate, get_or-set_other, get_or-set_same, length-replicate, length-set, take-append-le, take_all, take_more}
-use Rattle.std.proofs.lemmas.List.Elements.{All-contains, All-nil, All-push, All-same, All-weaker, Contains-get_or}
+use Rattle.std.proofs.lemmas.List.{get_or-set_other, get_or-set_same, length-replicate, length-set, take-append-le, take_all, take_more}
+use Rattle.std.proofs.lemmas.List.Elements.{All-contains, All-nil, All-push, All-weaker, Contains-get_or}
 use Rattle.std.proofs.lemmas.Option.{get_or_from_slice_get, slice_get-get_or, slice_get_within}
-use Rattle.std.specs.Prelude.{All, Contains, slice_get, slice_index_or}
+use Rattle.std.specs.Prelude.{All, slice_get, slice_index_or}
 use Rattle.aa_glob_pairs.proofs.GainLemmas.{passed_other, passed_there, same_or_not}
 use Rattle.aa_glob_pairs.specs.Clashes.{Clash, IsAtMost, IsLeast, Lowers}
-use Rattle.aa_glob_pairs.specs.Nodes.{AreLaidOut, AreShared, ClashOf, Follows, FollowsBy, goes, HasStep, IsLaidOut, MeetsAt, Met, start}
+use Rattle.aa_glob_pairs.specs.Nodes.{AreLaidOut, ClashOf, Follows, FollowsBy, goes, HasStep, IsLaidOut, MeetsAt, Met, start}
 use Rattle.aa_glob_pairs.specs.Waiting.{Gains, IsNone, row_at, Waits}
 use Rattle.aa_glob_pairs.specs.code.Progress.{IsDone, IsMeeting, IsSeen, no_marks}
 use Rattle.aa_glob_pairs.specs.declared.meeting.Meeting.{Meeting}

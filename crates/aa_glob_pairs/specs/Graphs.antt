@@ -1,5 +1,5 @@
 -- A graph that is run twice along one text.
-use Rattle.std.specs.Prelude.{◌≡◌, ◌↔◌, ◌⊎◌, ℕ, ◌^◌, ◌<◌, All, Contains, List, length, Some, slice_get, slice_index_or}
+use Rattle.std.specs.Prelude.{◌≡◌, ◌↔◌, ◌⊎◌, ℕ, ◌^◌, ◌<◌, Contains, List, length, Some, slice_get, slice_index_or}
 use Rattle.aa_glob_nfa.specs.Graphs.{AreBytes, EndsAt, Graph, IsFree, Leads, Reaches, Stays, Takes}
 use Rattle.aa_glob_pairs.specs.Nodes.{HasStep}
 use Rattle.aa_glob_pairs.specs.declared.ends.Ending.{Ending}

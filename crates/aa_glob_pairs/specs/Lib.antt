@@ -1,4 +1,5 @@
 pub mod code
+pub mod Bytes
 pub mod Clashes
 pub mod Graphs
 pub mod Nodes

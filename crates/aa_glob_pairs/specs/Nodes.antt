@@ -1,23 +1,14 @@
 -- What leads away from the states of a graph, as lists, and the pairs of states that come of going along twice by one text.
 use Rattle.std.specs.Prelude.{◌≡◌, ◌⊎◌, ℕ, ◌^◌, ◌<◌, ◌≤◌, true, All, Contains, List, length, Some, slice_get}
-use Rattle.aa_bytes.specs.ByteMaps.{in_map}
-use Rattle.aa_bytes.specs.declared.byte_map.ByteMap.{ByteMap}
+use Rattle.aa_glob_pairs.specs.Bytes.{in_bytes}
 use Rattle.aa_glob_pairs.specs.Clashes.{Clash}
 use Rattle.aa_glob_pairs.specs.declared.moves.Moves.{Moves}
 use Rattle.aa_glob_pairs.specs.declared.moves.Step.{Step}
 use Rattle.aa_glob_pairs.specs.declared.nodes.Node.{Node}
 
--- a byte is in both sets
-abbrev pub BothHave : ByteMap → ByteMap → ℕ → Type 0
-BothHave first second c = (in_map first c ≡ true) × (in_map second c ≡ true)
-
--- two sets share a byte
-abbrev pub IsShared : ByteMap → ByteMap → Type 0
-IsShared first second = (c : ℕ) × (c < 2 ^ 8) × BothHave first second c
-
 -- a byte leads along one of some steps to a state
 abbrev pub HasStep : List Step → ℕ → ℕ → Type 0
-HasStep steps c x = (step : Step) × Contains steps step × (step.to ≡ x) × (in_map step.bytes c ≡ true)
+HasStep steps c x = (step : Step) × Contains steps step × (step.to ≡ x) × (in_bytes step.bytes c ≡ true)
 
 -- one byte leads along one of some steps to a state, and along one of others to another
 abbrev pub AreShared : List Step → List Step → ℕ → ℕ → Type 0

@@ -5,14 +5,17 @@ ghost use Rattle.aa_bytes.specs.ByteMaps.{in_map};
 ghost use Rattle.aa_glob_nfa.specs.Entries.{stays_at, takes_byte};
 ghost use Rattle.aa_glob_nfa.specs.Graphs.{entry_of, Leads};
 ghost use Rattle.aa_glob_nfa.specs.OfTables.{AreSorted, AreSound, graph_of};
-ghost use Rattle.aa_glob_nfa.specs.Tables.{state_at};
+ghost use Rattle.aa_bytes.specs.declared.byte_map.ByteMap.{ByteMap};
+ghost use Rattle.aa_glob_nfa.specs.Tables.{entry_behind, state_at};
+ghost use Rattle.aa_glob_pairs.specs.Bytes.{in_bytes, is_among};
 ghost use Rattle.aa_glob_nfa.specs.declared.state.Way.{Way};
 ghost use Rattle.aa_glob_pairs.specs.Graphs.{AreMoves, IsLaid};
 ghost use Rattle.aa_glob_pairs.specs.Nodes.{IsLaidOut};
 ghost use Rattle.aa_glob_pairs.specs.code.Gathered.{GetsLed, GetsStay, IsAway, IsOn};
 
+use crate::bytes::Bytes;
 use aa_bytes::ByteMap;
-use aa_glob_nfa::{Tables, Way};
+use aa_glob_nfa::{Gate, Tables, Way};
 use std::alloc::{AllocError, Global};
 
 /// The bytes that bring a state from another, or leave it as it is.
@@ -21,7 +24,7 @@ pub struct Step {
     /// The state to which they lead.
     pub to: u32,
     /// The bytes.
-    pub bytes: ByteMap,
+    pub bytes: Bytes,
 }
 
 /// What leads away from a state.
@@ -101,25 +104,48 @@ fn add(tables: &Tables, to: u32, moves: &mut Moves) -> Result<(), AllocError>
     } else {
         moves.steps.push(Step {
             to,
-            bytes: taken(tables, to),
+            bytes: bytes_taken(tables, to),
         })?;
     }
     Ok(())
 }
 
-// Adds that the state stays.
+// Adds that the state stays, if a byte leaves it as it is.
 fn stay(tables: &Tables, state: u32, moves: &mut Moves) -> Result<(), AllocError>
     requires is_state { state < length tables.now.states }
     ensures { OnOk result (GetsStay (graph_of tables.now) moves.old moves.new state) }
 {
-    moves.steps.push(Step {
-        to: state,
-        bytes: staying(tables, state),
-    })?;
+    if let Some(bytes) = bytes_staying(tables.states.gate(state)) {
+        moves.steps.push(Step { to: state, bytes })?;
+    }
     Ok(())
 }
 
 // The bytes that are taken to come into a state.
+fn bytes_taken(tables: &Tables, state: u32) -> Bytes
+    requires sound { AreSound tables.now }
+    requires is_state { state < length tables.now.states }
+    ensures { (byte : ℕ) → byte < 2 ^ 8 → in_bytes result byte ≡ takes_byte (entry_of (graph_of tables.now) state) byte }
+{
+    match tables.states.gate(state) {
+        Gate::Byte(byte) => Bytes::One(byte),
+        Gate::Inside => Bytes::Inside,
+        _ => Bytes::Set(taken(tables, state)),
+    }
+}
+
+// The bytes that leave a state with this gate as it is, if there are some.
+fn bytes_staying(gate: Gate) -> Option<Bytes>
+    ensures { (set : ByteMap) (byte : ℕ) → stays_at (entry_behind gate set) byte ≡ is_among result byte }
+{
+    match gate {
+        Gate::Star => Some(Bytes::Inside),
+        Gate::DoubleStar => Some(Bytes::Any),
+        Gate::Free | Gate::Byte(_) | Gate::Inside | Gate::Class => None,
+    }
+}
+
+// The bytes that are taken to come into a state, byte by byte.
 fn taken(tables: &Tables, state: u32) -> ByteMap
     requires sound { AreSound tables.now }
     requires is_state { state < length tables.now.states }
@@ -130,19 +156,6 @@ fn taken(tables: &Tables, state: u32) -> ByteMap
         put_if(tables.takes_if(state, Some(byte)), byte, &mut map);
     }
     put_if(tables.takes_if(state, Some(255)), 255, &mut map);
-    map
-}
-
-// The bytes that leave a state as it is.
-fn staying(tables: &Tables, state: u32) -> ByteMap
-    requires is_state { state < length tables.now.states }
-    ensures { (byte : ℕ) → byte < 2 ^ 8 → in_map result byte ≡ stays_at (entry_of (graph_of tables.now) state) byte }
-{
-    let mut map = ByteMap::new();
-    for byte in 0..255 {
-        put_if(tables.stays(state, byte), byte, &mut map);
-    }
-    put_if(tables.stays(state, 255), 255, &mut map);
     map
 }
 

@@ -1,12 +1,12 @@
 //! What follows from a pair of states: the pairs to which one of them goes freely, or both by one byte.
 
-ghost use Rattle.std.specs.Prelude.{◌≡◌, ◌∷◌, [], ◌<◌, All, Contains, Decides, length, OnOk};
-ghost use Rattle.aa_glob_pairs.specs.Nodes.{AreShared, BothHave, FollowsBy, IsShared, IsWithin};
+ghost use Rattle.std.specs.Prelude.{◌≡◌, ◌∷◌, [], ◌<◌, All, Contains, length, OnOk};
+ghost use Rattle.aa_glob_pairs.specs.Nodes.{AreShared, FollowsBy, IsWithin};
 ghost use Rattle.aa_glob_pairs.specs.Waiting.{Gains};
 
+use crate::bytes::share;
 use crate::moves::{Moves, Step};
 use crate::waiting::Waiting;
-use aa_bytes::ByteMap;
 use std::alloc::AllocError;
 
 /// The pairs that follow from one wait, too; `AllocError` where memory ran out.
@@ -80,23 +80,4 @@ fn go_if_shared(step: &Step, other: &Step, waiting: &mut Waiting) -> Result<(), 
     } else {
         Ok(())
     }
-}
-
-// Whether two sets share a byte.
-fn share(first: &ByteMap, second: &ByteMap) -> bool
-    ensures { Decides result (IsShared first.now second.now) }
-{
-    for byte in 0..255 {
-        if both_have(first, second, byte) {
-            return true;
-        }
-    }
-    both_have(first, second, 255)
-}
-
-// Whether both have the byte.
-fn both_have(first: &ByteMap, second: &ByteMap, byte: u8) -> bool
-    ensures { Decides result (BothHave first.now second.now byte) }
-{
-    first.has(byte) && second.has(byte)
 }

@@ -1,5 +1,5 @@
 -- How far the pairs have been looked at, first state by first state.
-use Rattle.std.specs.Prelude.{◌≡◌, ◌⊎◌, ℕ, suc, ◌+◌, ◌<◌, ◌≤◌, List, length, replicate, take, Some, All, slice_index_or}
+use Rattle.std.specs.Prelude.{◌≡◌, ◌⊎◌, ℕ, ◌+◌, ◌<◌, ◌≤◌, List, length, replicate, take, Some, All, slice_index_or}
 use Rattle.aa_glob_pairs.specs.Clashes.{IsAtMost}
 use Rattle.aa_glob_pairs.specs.Nodes.{ClashOf, Follows, MeetsAt, Met}
 use Rattle.aa_glob_pairs.specs.Waiting.{row_at, Waits}

@@ -1,4 +1,4 @@
-use Rattle.std.proofs.Common.{◌≡◌, ◌<◌, ◌^◌, arith, ap, length, subst, sym, List}
+use Rattle.std.proofs.Common.{arith, ap, length, subst, sym, List}
 use Rattle.std.proofs.lemmas.Result.{IfOk-weaker}
 use Rattle.aa_glob_nfa.proofs.TableLemmas.{length-entries_in}
 use Rattle.aa_glob_nfa.specs.OfTables.{graph_of}

@@ -1,6 +1,5 @@
-use Rattle.std.proofs.Common.{◌≡◌, ◌≤◌, ◌∙◌, List, length, refl, sym, subst, arith}
+use Rattle.std.proofs.Common.{◌≤◌, List, length, refl, subst, arith}
 use Rattle.std.proofs.lemmas.List.{take_all}
-use Rattle.std.proofs.lemmas.Option.{get_or_from_slice_get, slice_get_read}
 use Rattle.aa_glob_nfa.specs.declared.state.End.{End}
 use Rattle.aa_glob_pairs.proofs.EndLemmas.{end_among, told_all, told_more, told_none}
 use Rattle.aa_glob_pairs.specs.code.Gathered.{AreTold}

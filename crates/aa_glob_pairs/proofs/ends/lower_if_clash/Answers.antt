@@ -1,4 +1,4 @@
-use Rattle.aa_glob_pairs.proofs.LeastLemmas.{lower_apart, lower_clash}
+use Rattle.aa_glob_pairs.proofs.LeastLemmas.{lower_clash}
 use Rattle.aa_glob_pairs.proofs.ends.lower_if_clash.Goals as goal
 
 pub returns-then-ending-other-2 : goal.returns-then-ending-other-2

@@ -1,4 +1,4 @@
-use Rattle.std.proofs.Common.{◌≡◌, refl, None}
+use Rattle.std.proofs.Common.{refl, None}
 use Rattle.aa_glob_pairs.proofs.ProgressLemmas.{meeting_begins}
 use Rattle.aa_glob_pairs.proofs.meeting.begin.Goals as goal
 

@@ -1,4 +1,4 @@
-use Rattle.std.proofs.Common.{◌≡◌, ◌≤◌, arith, length, refl}
+use Rattle.std.proofs.Common.{◌≤◌, arith, length}
 use Rattle.aa_glob_pairs.proofs.ProgressLemmas.{meeting_ends}
 use Rattle.aa_glob_pairs.proofs.meeting.least_clash.Goals as goal
 

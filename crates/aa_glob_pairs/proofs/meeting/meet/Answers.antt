@@ -1,7 +1,6 @@
-use Rattle.std.proofs.Common.{◌≡◌, ◌∙◌, ◌<◌, ◌≤◌, arith, length, refl, subst, List, Some}
+use Rattle.std.proofs.Common.{◌∙◌, ◌<◌, ◌≤◌, arith, length, refl, subst, List}
 use Rattle.std.proofs.lemmas.Option.{get_or_from_slice_get, slice_get_read}
 use Rattle.std.proofs.lemmas.List.Elements.{All-weaker}
-use Rattle.std.specs.Prelude.{slice_get}
 use Rattle.aa_glob_pairs.proofs.ProgressLemmas.{column_within, meeting_passed, meeting_visited}
 use Rattle.aa_glob_pairs.specs.Clashes.{Clash, Lowers}
 use Rattle.aa_glob_pairs.specs.declared.ends.Ending.{Ending}

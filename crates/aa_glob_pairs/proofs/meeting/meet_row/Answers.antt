@@ -1,4 +1,4 @@
-use Rattle.std.proofs.Common.{◌≡◌, ◌<◌, arith, length, refl, sym, subst}
+use Rattle.std.proofs.Common.{◌<◌, arith, length, refl}
 use Rattle.aa_glob_pairs.proofs.ProgressLemmas.{all_looked_at, meeting_next_row}
 use Rattle.aa_glob_pairs.specs.Waiting.{row_at}
 use Rattle.aa_glob_pairs.proofs.meeting.meet_row.Goals as goal

@@ -1,4 +1,4 @@
-use Rattle.std.proofs.Common.{ℕ, ◌-◌, ◌^◌}
+use Rattle.std.proofs.Common.{◌-◌, ◌^◌}
 use Rattle.aa_glob_pairs.specs.code.Progress.{IsMeeting}
 use Rattle.aa_glob_pairs.proofs.meeting.meet_row.Given as goal
 

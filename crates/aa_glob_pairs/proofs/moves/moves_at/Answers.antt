@@ -1,4 +1,4 @@
-use Rattle.std.proofs.Common.{◌≡◌, length, arith, []}
+use Rattle.std.proofs.Common.{length, arith}
 use Rattle.aa_glob_nfa.specs.Graphs.{Leads}
 use Rattle.aa_glob_nfa.specs.OfTables.{graph_of}
 use Rattle.aa_glob_nfa.proofs.SoundLemmas.{is_in_table}

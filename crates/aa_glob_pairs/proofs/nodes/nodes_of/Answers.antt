@@ -1,13 +1,11 @@
-use Rattle.std.proofs.Common.{◌≡◌, ◌<◌, ◌∙◌, ℕ, length, arith, ap, sym, subst, Some}
+use Rattle.std.proofs.Common.{◌≡◌, ◌∙◌, ℕ, length, arith, ap, sym, subst}
 use Rattle.std.proofs.lemmas.List.{length_push}
-use Rattle.std.proofs.lemmas.Option.{slice_get_within}
 use Rattle.std.specs.Prelude.{slice_get}
 use Rattle.aa_glob_nfa.specs.OfTables.{graph_of}
 use Rattle.aa_glob_nfa.proofs.TableLemmas.{length-entries_in}
 use Rattle.aa_glob_pairs.proofs.MoveLemmas.{each_pushed}
 use Rattle.aa_glob_pairs.specs.Graphs.{IsNodeOf}
 use Rattle.aa_glob_pairs.specs.Nodes.{IsLaidOut}
-use Rattle.aa_glob_pairs.specs.declared.nodes.Node.{Node}
 use Rattle.aa_glob_pairs.proofs.nodes.nodes_of.Goals as goal
 
 pub loop-state-preserved : goal.loop-state-preserved

@@ -1,6 +1,6 @@
 use Rattle.std.proofs.Common.{ℕ, ◌<◌}
-use Rattle.aa_glob_pairs.specs.Nodes.{BothHave}
-use Rattle.aa_glob_pairs.proofs.visit.share.Given as goal
+use Rattle.aa_glob_pairs.specs.Bytes.{BothHave}
+use Rattle.aa_glob_pairs.proofs.bytes.share_any.Given as goal
 
 abbrev pub invariant-loop-byte : goal.invariant-loop-byte
 invariant-loop-byte l = (c : ℕ) → c < l.byte → BothHave l.first l.second c → ⊥
