@@ -1,6 +1,6 @@
 //! The lines that log answers, as the kernel's log shows them.
 
-ghost use Rattle.std.specs.Prelude.{◌≡◌, ◌++◌, IfOk, OnOk};
+ghost use Rattle.std.specs.Prelude.{◌≡◌, ◌++◌, IfOk, IsSome, OnErr, OnOk};
 ghost use Rattle.aa_profile_access.specs.Access.{letters_of};
 ghost use Rattle.aa_decide_audit.specs.LogLines.{beginning, capability_subject, exec_line, file_subject, log_line, mask_key, operation, socket_subject, subject, tag_word};
 ghost use Rattle.aa_profile_access.specs.SeenRequests.{request_of};
@@ -178,14 +178,15 @@ fn most_bytes(name: &[u8], request: &Request<'_>) -> usize {
 ///
 /// # Errors
 ///
-/// Where memory runs out.
+/// Where memory runs out for a verdict with a tag; for one without there is no error.
 pub fn log_line(
     alloc: Global,
     name: &[u8],
     request: &Request<'_>,
     verdict: &Verdict,
 ) -> Result<Vec<u8>, AllocError>
-    ensures { IfOk result (λ line. line.items ≡ log_line name.now (request_of request.entry.now) verdict.now) }
+    ensures line { IfOk result (λ line. line.items ≡ log_line name.now (request_of request.entry.now) verdict.now) }
+    ensures memory { OnErr result (IsSome verdict.now.tag) }
 {
     let Some(tag) = verdict.tag else {
         return Ok(Vec::new(alloc));
@@ -202,14 +203,15 @@ pub fn log_line(
 ///
 /// # Errors
 ///
-/// Where memory runs out.
+/// Where memory runs out for a verdict with a tag; for one without there is no error.
 pub fn exec_line(
     alloc: Global,
     name: &[u8],
     path: &[u8],
     verdict: &ExecVerdict,
 ) -> Result<Vec<u8>, AllocError>
-    ensures { IfOk result (λ line. line.items ≡ exec_line name.now path.now verdict.now.verdict) }
+    ensures line { IfOk result (λ line. line.items ≡ exec_line name.now path.now verdict.now.verdict) }
+    ensures memory { OnErr result (IsSome verdict.now.verdict.tag) }
 {
     let Some(tag) = verdict.verdict.tag else {
         return Ok(Vec::new(alloc));
