@@ -1,6 +1,6 @@
 -- What rules say of a request: cover, applicability, masks and the verdict (apparmor.d(5), "Rule Qualifiers", "Access Permission
 -- Accumulation", "Capability Rules" and "Network Rules"; see docs/policy.md). Requests of all kinds are decided alike, by sets of needs.
-use Rattle.std.specs.Prelude.{ℕ, Bool, false, not, ◌-◌, ◌&&◌, ◌||◌, ◌==◌, if◌then◌else◌, List, fold, None, Some, is_some}
+use Rattle.std.specs.Prelude.{ℕ, Bool, false, true, not, ◌-◌, ◌&&◌, ◌||◌, ◌==◌, if◌then◌else◌, List, fold, None, Some, is_some}
 use Rattle.aa_profile_access.specs.Request.{Request, ForCapability, ForFile, ForSockets}
 use Rattle.aa_glob_syntax.specs.Matching.{matches}
 use Rattle.aa_glob_syntax.specs.Reading.{items_of}
@@ -26,6 +26,12 @@ abbrev pub needs : Request → ℕ
 needs (ForFile letters owned path) = letters
 needs (ForCapability number) = the_need
 needs (ForSockets domain kind) = the_need
+
+-- a request is for a file
+abbrev pub is_for_file : Request → Bool
+is_for_file (ForFile letters owned path) = true
+is_for_file (ForCapability number) = false
+is_for_file (ForSockets domain kind) = false
 
 -- A rule on files applies where its pattern matches the path and, if it is an owner's rule, the file is owned. A rule on capabilities or sockets
 -- applies where it covers what is asked for. No other rule applies.

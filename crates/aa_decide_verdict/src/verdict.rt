@@ -1,7 +1,7 @@
 //! What rules say of a request, and how that is logged.
 
-ghost use Rattle.std.specs.Prelude.{◌≡◌};
-ghost use Rattle.aa_decide_verdict.specs.Verdict.{allows, allows_aloud, applies, audited, covered_by, covered_by_file, covers, denied, denies, denies_aloud, granted, is_audited, letters_among, logged, loud, needs, the_need, verdict, with_rule};
+ghost use Rattle.std.specs.Prelude.{◌≡◌, false};
+ghost use Rattle.aa_decide_verdict.specs.Verdict.{allows, allows_aloud, applies, audited, covered_by_file, covers, denied, denies, denies_aloud, granted, is_audited, is_for_file, letters_among, logged, loud, needs, the_need, verdict, with_rule};
 ghost use Rattle.aa_decide_verdict.specs.code.Masks.{verdict_by};
 ghost use Rattle.aa_decide_verdict.specs.code.Found.{covers_found, found_mask, found_verdict, put_if};
 ghost use Rattle.aa_profile_data.specs.Picked.{picked};
@@ -77,9 +77,10 @@ fn verdict_by(mode: Mode, masks: Masks, request: &Request<'_>) -> Verdict
     }
 }
 
-/// What rules say of a request, in a mode. `audit` says whether each of the rules is audited, whatever its own words are: that is the flag of
-/// their profile. It goes over the rules once, and takes no memory.
+/// What rules say of a request that isn't for a file, in a mode. `audit` says whether each of the rules is audited, whatever its own words
+/// are: that is the flag of their profile. It goes over the rules once, and takes no memory.
 pub fn rules_verdict(mode: Mode, audit: bool, rules: &[Rule], request: &Request<'_>) -> Verdict
+    requires { is_for_file (request_of request.now) ≡ false }
     ensures { result ≡ verdict mode audit rules.now (request_of request.entry.now) }
 {
     verdict_by(mode, masks_of(audit, rules, request), request)
@@ -116,8 +117,9 @@ fn no_masks() -> Masks
     }
 }
 
-// The needs that rules cover.
+// The needs that rules cover of a request that isn't for a file.
 fn masks_of(audit: bool, rules: &[Rule], request: &Request<'_>) -> Masks
+    requires { is_for_file (request_of request.now) ≡ false }
     ensures denied { result.denied.0 ≡ denied (request_of request.entry.now) rules.now }
     ensures loud { result.loud.0 ≡ loud audit (request_of request.entry.now) rules.now }
     ensures granted { result.granted.0 ≡ granted (request_of request.entry.now) rules.now }
@@ -150,6 +152,7 @@ fn found_masks(audit: bool, rules: &[Rule], places: &[usize], needs: Perms, owne
 
 // The same with one rule more.
 fn with_rule(masks: Masks, audit: bool, rule: &Rule, request: &Request<'_>) -> Masks
+    requires { is_for_file (request_of request.now) ≡ false }
     ensures denied { result.denied.0 ≡ with_rule (request_of request.entry.now) denies masks.denied.0 rule.now }
     ensures loud { result.loud.0 ≡ with_rule (request_of request.entry.now) (denies_aloud audit) masks.loud.0 rule.now }
     ensures granted { result.granted.0 ≡ with_rule (request_of request.entry.now) allows masks.granted.0 rule.now }
@@ -196,23 +199,24 @@ fn covers_found(rule: &Rule, needs: Perms, owned: bool) -> Perms
     }
 }
 
-// The needs of a request that a rule covers: none, where it doesn't apply.
+// The need of a request that isn't for a file, if a rule covers it: none, where it doesn't apply.
 fn covers(rule: &Rule, request: &Request<'_>) -> Perms
+    requires { is_for_file (request_of request.now) ≡ false }
     ensures { result.0 ≡ covers (request_of request.entry.now) rule.now }
 {
-    if !is_applying(rule, request) {
-        return Perms::empty();
+    if is_applying(rule, request) {
+        the_need()
+    } else {
+        Perms::empty()
     }
-    needs(request).intersection(covered_by(rule))
 }
 
+// Whether a rule covers the capability or the sockets that are asked for.
 fn is_applying(rule: &Rule, request: &Request<'_>) -> bool
+    requires { is_for_file (request_of request.now) ≡ false }
     ensures { result ≡ applies (request_of request.entry.now) rule.now }
 {
     match (request, rule) {
-        (Request::File { owned, path, .. }, Rule::File(rule)) => {
-            rule.pattern.matches(path) && (!rule.owner || *owned)
-        }
         (Request::Cap(number), Rule::Cap(rule)) => rule.covers(*number),
         (Request::Net { domain, kind }, Rule::Net(rule)) => rule.covers(*domain, *kind),
         _ => false,
@@ -228,18 +232,6 @@ fn covered_by_file(rule: &FileRule) -> Perms
         covered.union(Perms::EXEC)
     } else {
         covered
-    }
-}
-
-// The needs that a rule covers.
-fn covered_by(rule: &Rule) -> Perms
-    ensures { result.0 ≡ covered_by rule.now }
-{
-    match rule {
-        Rule::File(rule) => covered_by_file(rule),
-        Rule::Cap(_) => the_need(),
-        Rule::Net(_) => the_need(),
-        Rule::Other(_) => Perms::empty(),
     }
 }
 
