@@ -1,6 +1,6 @@
 //! Profiles that requests are decided by.
 
-ghost use Rattle.std.specs.Prelude.{◌≡◌, IfOk, MatchOption};
+ghost use Rattle.std.specs.Prelude.{◌≡◌, true, IfOk, MatchOption, OnErr};
 ghost use Rattle.std.specs.List.Sorted.{IsStrictlyIncreasing};
 ghost use Rattle.aa_glob_syntax.specs.Patterns.{AreMatching};
 ghost use Rattle.aa_glob_prefixes.specs.Beginnings.{HasStates};
@@ -8,6 +8,7 @@ ghost use Rattle.aa_decide_verdict.specs.Visits.{AreFewStates, AreStepsOf, AreVi
 ghost use Rattle.aa_profile_data.specs.FileRules.{file_patterns};
 ghost use Rattle.aa_profile_data.specs.Matching.{AreMatchingRules};
 ghost use Rattle.aa_decide_verdict.specs.Ready.{audits, decided, rules_at};
+ghost use Rattle.aa_decide_verdict.specs.Verdict.{is_for_file};
 ghost use Rattle.aa_decide_verdict.specs.code.Parts.{HasNothingAt, IsPartOf};
 ghost use Rattle.aa_profile_access.specs.SeenRequests.{request_of};
 
@@ -197,7 +198,7 @@ impl Ready {
     ///
     /// # Errors
     ///
-    /// Where memory runs out.
+    /// Where memory runs out for a request for a file; for any other there is no error.
     pub fn decide(
         &self,
         alloc: Global,
@@ -208,6 +209,7 @@ impl Ready {
     ) -> Result<Verdict, AllocError>
         ensures verdict { IfOk result (λ verdict. verdict ≡ decided self.now child mode (request_of request.entry.now)) }
         ensures steps { AreStepsOf (rules_at self.now child) (request_of request.entry.now) steps.old steps.new }
+        ensures memory { OnErr result (is_for_file (request_of request.entry.now) ≡ true) }
     {
         which_rules_match();
         let (audit, rules) = (self.audits(child), self.rules_at(child));
