@@ -1,11 +1,19 @@
--- The table of capabilities (docs/policy.md, "Tables").
-use Rattle.std.specs.Prelude.{ℕ, List, map, Option, slice_get}
+-- The table of capabilities (capabilities(7); docs/policy.md, "Tables").
+use Rattle.std.specs.Prelude.{ℕ, List, [], ◌∷◌, Option, codes, slice_get}
 use Rattle.aa_profile_tables.specs.Names.{number_in}
-use Rattle.aa_profile_tables.specs.declared.capabilities.TheConstants.{CAPABILITIES}
 
--- their names, each at its number
+-- Their names, each at its number: capabilities(7) names them, and the kernel numbers them so (linux/capability.h).
 abbrev pub names : List (List ℕ)
-names = map (λ name. name.now) CAPABILITIES
+names =
+    codes "chown" ∷ codes "dac_override" ∷ codes "dac_read_search" ∷ codes "fowner" ∷ codes "fsetid" ∷
+    codes "kill" ∷ codes "setgid" ∷ codes "setuid" ∷ codes "setpcap" ∷ codes "linux_immutable" ∷
+    codes "net_bind_service" ∷ codes "net_broadcast" ∷ codes "net_admin" ∷ codes "net_raw" ∷ codes "ipc_lock" ∷
+    codes "ipc_owner" ∷ codes "sys_module" ∷ codes "sys_rawio" ∷ codes "sys_chroot" ∷ codes "sys_ptrace" ∷
+    codes "sys_pacct" ∷ codes "sys_admin" ∷ codes "sys_boot" ∷ codes "sys_nice" ∷ codes "sys_resource" ∷
+    codes "sys_time" ∷ codes "sys_tty_config" ∷ codes "mknod" ∷ codes "lease" ∷ codes "audit_write" ∷
+    codes "audit_control" ∷ codes "setfcap" ∷ codes "mac_override" ∷ codes "mac_admin" ∷ codes "syslog" ∷
+    codes "wake_alarm" ∷ codes "block_suspend" ∷ codes "audit_read" ∷ codes "perfmon" ∷ codes "bpf" ∷
+    codes "checkpoint_restore" ∷ []
 
 abbrev pub capability_number : List ℕ → Option ℕ
 capability_number name = number_in names name

@@ -1,11 +1,18 @@
 -- The table of domains (docs/policy.md, "Tables").
-use Rattle.std.specs.Prelude.{ℕ, Bool, ◌==◌, ◌||◌, List, map, Option, slice_get}
+use Rattle.std.specs.Prelude.{ℕ, Bool, ◌==◌, ◌||◌, List, [], ◌∷◌, Option, codes, slice_get}
 use Rattle.aa_profile_tables.specs.Names.{number_in}
-use Rattle.aa_profile_tables.specs.declared.domains.TheConstants.{DOMAINS}
 
--- their names, each at its number
+-- Their names, each at its number: those of apparmor.d(5), "Network Rules", by this project's own numbers.
 abbrev pub names : List (List ℕ)
-names = map (λ name. name.now) DOMAINS
+names =
+    codes "unix" ∷ codes "inet" ∷ codes "ax25" ∷ codes "ipx" ∷ codes "appletalk" ∷ codes "netrom" ∷
+    codes "bridge" ∷ codes "atmpvc" ∷ codes "x25" ∷ codes "inet6" ∷ codes "rose" ∷ codes "netbeui" ∷
+    codes "security" ∷ codes "key" ∷ codes "netlink" ∷ codes "packet" ∷ codes "ash" ∷ codes "econet" ∷
+    codes "atmsvc" ∷ codes "rds" ∷ codes "sna" ∷ codes "irda" ∷ codes "pppox" ∷ codes "wanpipe" ∷
+    codes "llc" ∷ codes "ib" ∷ codes "mpls" ∷ codes "can" ∷ codes "tipc" ∷ codes "bluetooth" ∷
+    codes "iucv" ∷ codes "rxrpc" ∷ codes "isdn" ∷ codes "phonet" ∷ codes "ieee802154" ∷ codes "caif" ∷
+    codes "alg" ∷ codes "nfc" ∷ codes "vsock" ∷ codes "kcm" ∷ codes "qipcrtr" ∷ codes "smc" ∷
+    codes "xdp" ∷ codes "mctp" ∷ []
 
 abbrev pub domain_number : List ℕ → Option ℕ
 domain_number name = number_in names name

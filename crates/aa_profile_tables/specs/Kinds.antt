@@ -1,11 +1,12 @@
 -- The table of kinds (docs/policy.md, "Tables").
-use Rattle.std.specs.Prelude.{ℕ, Bool, nat_le, ◌==◌, if◌then◌else◌, List, map, Option, slice_get}
+use Rattle.std.specs.Prelude.{ℕ, Bool, nat_le, ◌==◌, if◌then◌else◌, List, [], ◌∷◌, Option, codes, slice_get}
 use Rattle.aa_profile_tables.specs.Names.{number_in}
-use Rattle.aa_profile_tables.specs.declared.kinds.TheConstants.{KINDS}
 
--- their names, each at its number
+-- Their names, each at its number: six types, and behind them three protocols (apparmor.d(5), "Network Rules").
 abbrev pub names : List (List ℕ)
-names = map (λ name. name.now) KINDS
+names =
+    codes "stream" ∷ codes "dgram" ∷ codes "seqpacket" ∷ codes "rdm" ∷ codes "raw" ∷ codes "packet" ∷
+    codes "tcp" ∷ codes "udp" ∷ codes "icmp" ∷ []
 
 abbrev pub kind_number : List ℕ → Option ℕ
 kind_number name = number_in names name
