@@ -1,2 +1,3 @@
 pub mod AccessLemmas
+pub mod PartLemmas
 pub mod WrittenLemmas

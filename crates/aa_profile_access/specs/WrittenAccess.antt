@@ -1,4 +1,5 @@
--- The access of a file rule, as its text says it (apparmor.d(5), "File Permission Access Modes"; docs/policy.md, "Rules").
+-- The access of a file rule, as its text says it (apparmor.d(5), "File Permission Access Modes"; docs/policy.md, "Rules"). The law
+-- `what_accesses_say` says the same by the parts of which the text is written (AccessText.antt).
 use Rattle.std.specs.Prelude.{ℕ, Bool, false, not, ◌&&◌, ◌||◌, List, [], ◌∷◌, Option, None, Some, is_some, option_and_then}
 use Rattle.aa_profile_access.specs.Access.{EXEC, has, told_bit, union}
 use Rattle.aa_profile_access.specs.ExecWords.{exec_word, same_word}

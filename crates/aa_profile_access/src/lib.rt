@@ -3,10 +3,12 @@
 
 mod access;
 mod exec_word;
+mod laws;
 mod request;
 mod written;
 
 pub use access::Perms;
 pub use exec_word::{Destination, ExecWord};
+pub use laws::what_accesses_say;
 pub use request::Request;
 pub use written::WrittenAccess;

@@ -93,7 +93,8 @@ impl WrittenAccess {
         }
     }
 
-    /// What a text says, from the left: exec words, each the longest that fits, access letters, and bare `x`. None where something else stands in it.
+    /// What a text says: the letters, bare `x` and exec words of which it is written, one behind the other. None where it is written of no such
+    /// parts. `what_accesses_say` says the same of the parts, and that no text is written of them in two ways.
     #[tactic(auto, using(crate::proofs::WrittenLemmas::read_first, crate::proofs::WrittenLemmas::letter_first))]
     pub fn of_text(text: &[u8]) -> Option<WrittenAccess>
         ensures { result ≡ access_with nothing_written text.now }
