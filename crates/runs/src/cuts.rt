@@ -1,9 +1,10 @@
 //! Runs whose streams are cut at each place.
 
 use crate::failing::{ask_pieces, ask_takes, stopped};
+use crate::outcome::outcome_of;
 use crate::streams::Calls;
 use crate::wanted::{Wanted, compare};
-use aa_set::{FromRead, ToWrite, run};
+use aa_set::{FromRead, ToWrite};
 use aa_text::Files;
 use row_texts::{RowError, Tally, number_of};
 use std::alloc::Global;
@@ -89,13 +90,7 @@ fn ask_full(
     let mut taken = vec![in tally.alloc(); 0u8; room]?;
     let mut writer = ToWrite::new(taken.as_mut_slice());
     let mut reader = FromRead::new(wanted.input);
-    let outcome = run(
-        tally.alloc(),
-        files,
-        wanted.force_complain,
-        &mut reader,
-        &mut writer,
-    );
+    let outcome = outcome_of(tally.alloc(), files, wanted, &mut reader, &mut writer);
     compare(tally, wanted, outcome, taken.as_slice())
 }
 

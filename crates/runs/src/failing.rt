@@ -1,8 +1,9 @@
 //! Runs with streams that fail, and with few reads.
 
+use crate::outcome::outcome_of;
 use crate::streams::{Calls, Pieces, Takes};
 use crate::wanted::{Wanted, compare};
-use aa_set::{FromRead, ToWrite, run, run_with};
+use aa_set::{FromRead, ToWrite, run_with};
 use aa_text::Files;
 use row_texts::{RowError, Tally, number_of, split_at};
 
@@ -36,13 +37,7 @@ pub fn ask_pieces(
 ) -> Result<(), RowError> {
     let mut writer = ToWrite::new(Vec::new(tally.alloc()));
     let mut reader = Pieces::new(wanted.input, calls);
-    let outcome = run(
-        tally.alloc(),
-        files,
-        wanted.force_complain,
-        &mut reader,
-        &mut writer,
-    );
+    let outcome = outcome_of(tally.alloc(), files, wanted, &mut reader, &mut writer);
     compare(tally, wanted, outcome, &writer.into_inner())
 }
 
@@ -55,13 +50,7 @@ pub fn ask_takes(
 ) -> Result<(), RowError> {
     let mut writer = Takes::new(Vec::new(tally.alloc()), calls);
     let mut reader = FromRead::new(wanted.input);
-    let outcome = run(
-        tally.alloc(),
-        files,
-        wanted.force_complain,
-        &mut reader,
-        &mut writer,
-    );
+    let outcome = outcome_of(tally.alloc(), files, wanted, &mut reader, &mut writer);
     compare(tally, wanted, outcome, writer.written())
 }
 

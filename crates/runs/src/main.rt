@@ -3,6 +3,7 @@
 
 mod cuts;
 mod failing;
+mod outcome;
 mod refusals;
 mod runs;
 mod streams;

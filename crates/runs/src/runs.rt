@@ -2,9 +2,10 @@
 
 use crate::cuts::ask_cuts;
 use crate::failing::{ask_failing, ask_pieces, ask_within};
+use crate::outcome::outcome_of;
 use crate::streams::Calls;
 use crate::wanted::{Wanted, compare, read_wanted};
-use aa_set::{FromRead, ToWrite, run};
+use aa_set::{FromRead, ToWrite};
 use aa_text::Files;
 use row_texts::{Part, RowError, Tally, take_files};
 
@@ -12,13 +13,7 @@ use row_texts::{Part, RowError, Tally, take_files};
 fn ask_whole(tally: &mut Tally, files: &Files, wanted: Wanted<'_>) -> Result<(), RowError> {
     let mut writer = ToWrite::new(Vec::new(tally.alloc()));
     let mut reader = FromRead::new(wanted.input);
-    let outcome = run(
-        tally.alloc(),
-        files,
-        wanted.force_complain,
-        &mut reader,
-        &mut writer,
-    );
+    let outcome = outcome_of(tally.alloc(), files, wanted, &mut reader, &mut writer);
     compare(tally, wanted, outcome, &writer.into_inner())
 }
 
