@@ -11,7 +11,7 @@ mod words;
 
 pub use asking::{Asks, ask_files};
 pub use bytes::put_number;
-pub use lines::{question_of, split_at, turns_of, yes_or_no};
+pub use lines::{answer_of, question_of, split_at, turns_of, yes_or_no};
 pub use paragraph::{Part, find, put_lines, take_files};
 pub use row_error::RowError;
 pub use tally::Tally;

@@ -34,3 +34,12 @@ pub fn turns_of(line: &str) -> Result<(usize, &str), RowError> {
 pub fn yes_or_no(answer: bool) -> &'static [u8] {
     if answer { b"yes" } else { b"no" }
 }
+
+/// The answer that a word is: `yes` or `no`, or none.
+pub fn answer_of(word: &[u8]) -> Option<&'static [u8]> {
+    match word {
+        b"yes" => Some(b"yes"),
+        b"no" => Some(b"no"),
+        _ => None,
+    }
+}

@@ -2,8 +2,8 @@
 
 use aa_glob::Pattern;
 use row_texts::{
-    Part, RowError, Tally, put_all, put_each, put_number_word, put_word, split_at, words_of,
-    yes_or_no,
+    Part, RowError, Tally, answer_of, put_all, put_each, put_number_word, put_word, split_at,
+    words_of, yes_or_no,
 };
 
 // What is told of a pattern but its matches: whether it is exact, how many items stand before the first that isn't a byte for itself, and
@@ -35,10 +35,9 @@ fn ask_texts(
 ) -> Result<(), RowError> {
     let mut wanted = b"yes".as_slice();
     for word in words {
-        match word.as_slice() {
-            b"yes" => wanted = b"yes".as_slice(),
-            b"no" => wanted = b"no".as_slice(),
-            text => ask_text(tally, pattern, copy, wanted, text)?,
+        match answer_of(word) {
+            Some(answer) => wanted = answer,
+            None => ask_text(tally, pattern, copy, wanted, word)?,
         }
     }
     Ok(())
