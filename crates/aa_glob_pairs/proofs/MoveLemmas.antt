@@ -194,8 +194,8 @@ gets_stay_step g old new q bytes free steps stays = record {
   laid = λ n k all laid. record {
     free = All-same (λ x. (k ≤ x) × (x < n)) new.free.items old.free.items free laid.free;
     steps =
-      All-same (λ s. (k ≤ s.to) × (s.to < n)) new.steps.items (old.steps.items ++ record { to = q; bytes = bytes } ∷ []) steps
-      (All-push (λ s. (k ≤ s.to) × (s.to < n)) old.steps.items (record { to = q; bytes = bytes }) laid.steps (all q refl));
+        All-same (λ s. (k ≤ s.to) × (s.to < n)) new.steps.items (old.steps.items ++ record { to = q; bytes = bytes } ∷ []) steps
+        (All-push (λ s. (k ≤ s.to) × (s.to < n)) old.steps.items (record { to = q; bytes = bytes }) laid.steps (all q refl));
   };
 }
 
