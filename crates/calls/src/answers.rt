@@ -15,12 +15,14 @@ use std::alloc::Global;
 // A call, and whether it answers as it should; none where what it wants isn't there.
 type Row = (&'static str, Option<bool>);
 
-fn pattern_rows(alloc: Global) -> [Row; 7] {
+fn pattern_rows(alloc: Global) -> [Row; 9] {
     [
         ("Pattern::read", patterns::is_read(alloc)),
         ("Pattern::try_copy", patterns::is_copied(alloc)),
+        ("overlap", patterns::overlaps(alloc)),
         ("Automaton::build", patterns::automaton_is_built(alloc)),
         ("Automaton::try_copy", patterns::automaton_is_copied(alloc)),
+        ("Automaton::first_clash", patterns::clash_is_found(alloc)),
         ("Automaton::matching", patterns::automaton_matches(alloc)),
         ("AutomatonBuilder::new", patterns::builder_is_new(alloc)),
         ("AutomatonBuilder::add", patterns::builder_adds(alloc)),

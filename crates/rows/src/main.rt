@@ -3,6 +3,7 @@
 
 mod automata;
 mod files;
+mod overlaps;
 mod patterns;
 mod splicings;
 mod tables;
@@ -24,7 +25,7 @@ impl Asks for Texts {
         parts: &[Part<'_>],
     ) -> Result<(), RowError> {
         match kind {
-            "patterns" => patterns::ask(tally, parts),
+            "patterns" | "overlaps" => patterns::ask(tally, parts),
             "automata" => automata::ask(tally, parts),
             "tokens" => tokens::ask(tally, parts),
             "splicings" => splicings::ask(tally, common, parts),

@@ -1,5 +1,6 @@
 //! Rows of patterns.
 
+use crate::overlaps;
 use aa_glob::Pattern;
 use row_texts::{
     Part, RowError, Tally, answer_of, put_all, put_each, put_number_word, put_word, split_at,
@@ -193,6 +194,7 @@ fn ask_words(
 ) -> Result<(), RowError> {
     match kind {
         "match" => ask_match(tally, first, words),
+        "overlap" => overlaps::ask(tally, first, words),
         "exact" => ask_exact(tally, first, words),
         "refuse" => ask_refusals(tally, first, words),
         "only" => ask_only(tally, first, words),

@@ -1,6 +1,6 @@
 //! Patterns and their automata: `/tmp/*` matches `/tmp/x`, but neither `/tmp/` nor `/tmp/x/y`, and `/tmp/**` matches `/tmp/x/y` too.
 
-use aa_glob::{Automaton, AutomatonBuilder, Pattern, Steps};
+use aa_glob::{Automaton, AutomatonBuilder, Pattern, Steps, overlap};
 use std::alloc::Global;
 
 const STAR: &[u8] = b"/tmp/*";
@@ -24,6 +24,19 @@ pub fn is_copied(alloc: Global) -> Option<bool> {
     Some(is_star(&copy))
 }
 
+// Whether a text matches both `/tmp/*` and the pattern of a text.
+fn meets_star(alloc: Global, text: &[u8]) -> Option<bool> {
+    let star = Pattern::read(alloc, STAR).ok()?;
+    let other = Pattern::read(alloc, text).ok()?;
+    overlap(alloc, &star, &other).ok()
+}
+
+// Some text matches both where both match `/tmp/x`, and none where the other matches `/tmp/` and `/tmp/x/` alone.
+pub fn overlaps(alloc: Global) -> Option<bool> {
+    let met = meets_star(alloc, STARS)?;
+    Some(met && !meets_star(alloc, b"/tmp/{,x/}")?)
+}
+
 // Whether the places of the patterns that match a path are these.
 fn finds(alloc: Global, automaton: &Automaton, path: &[u8], places: &[usize]) -> bool {
     match automaton.matching(alloc, path, &mut Steps::new()) {
@@ -43,6 +56,14 @@ fn built(alloc: Global) -> Option<Automaton> {
     patterns.push(Pattern::read(alloc, STAR).ok()?).ok()?;
     patterns.push(Pattern::read(alloc, STARS).ok()?).ok()?;
     Automaton::build(alloc, &patterns).ok()
+}
+
+// Both match `/tmp/x`, so that the second clashes with the first where their classes differ.
+pub fn clash_is_found(alloc: Global) -> Option<bool> {
+    let automaton = built(alloc)?;
+    let apart = automaton.first_clash(alloc, &[0, 1]).ok()?;
+    let alike = automaton.first_clash(alloc, &[7, 7]).ok()?;
+    Some(apart == Some(1) && alike.is_none())
 }
 
 pub fn automaton_is_built(alloc: Global) -> Option<bool> {
