@@ -1,0 +1,4 @@
+pub mod OverlapLemmas
+pub mod ReadLemmas
+pub mod SharedLemmas
+pub mod TestLemmas

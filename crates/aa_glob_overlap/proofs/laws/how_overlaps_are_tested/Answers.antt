@@ -1,0 +1,6 @@
+use Rattle.aa_glob_overlap.proofs.OverlapLemmas.{overlaps-tested}
+use Rattle.aa_glob_overlap.proofs.laws.how_overlaps_are_tested.Goals as goal
+
+pub returns : goal.returns
+returns c =
+    overlaps-tested c.how_trails_are_read.ensures.behind_sources c.how_trails_are_read.ensures.some c.how_trails_are_read.ensures.shorter c.what_reads_to_the_end_matches.ensures
