@@ -8,7 +8,7 @@ ghost use Rattle.aa_profile_tables.specs.Names.{name_or_none};
 
 use aa_glob_pattern::Pattern;
 use aa_profile_data::{CapRule, FileRule, NetRule, OtherRule, Rule, Transition};
-use aa_profile_tables::{CAPABILITIES, domain_name, kind_name};
+use aa_profile_tables::{CAPABILITIES, domain_name, kind_name, which_names_tables_hold};
 use aa_quoting::push_text;
 use aa_shared_bytes::SharedBytes;
 use std::alloc::AllocError;
@@ -135,6 +135,7 @@ fn push_capabilities(text: &mut Vec<u8>, rule: &CapRule) -> Result<(), AllocErro
     if has_all(rule.caps) {
         text.extend_from_slice(b" all")
     } else {
+        which_names_tables_hold();
         push_names(text, rule, &CAPABILITIES)
     }
 }
