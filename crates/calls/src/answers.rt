@@ -22,7 +22,8 @@ fn pattern_rows(alloc: Global) -> [Row; 9] {
         ("overlap", patterns::overlaps(alloc)),
         ("Automaton::build", patterns::automaton_is_built(alloc)),
         ("Automaton::try_copy", patterns::automaton_is_copied(alloc)),
-        ("Automaton::first_clash", patterns::clash_is_found(alloc)),
+        // `overlap` asks it of the automaton of both patterns.
+        ("Automaton::first_clash", patterns::overlaps(alloc)),
         ("Automaton::matching", patterns::automaton_matches(alloc)),
         ("AutomatonBuilder::new", patterns::builder_is_new(alloc)),
         ("AutomatonBuilder::add", patterns::builder_adds(alloc)),

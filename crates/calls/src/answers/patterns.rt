@@ -58,14 +58,6 @@ fn built(alloc: Global) -> Option<Automaton> {
     Automaton::build(alloc, &patterns).ok()
 }
 
-// Both match `/tmp/x`, so that the second clashes with the first where their classes differ.
-pub fn clash_is_found(alloc: Global) -> Option<bool> {
-    let automaton = built(alloc)?;
-    let apart = automaton.first_clash(alloc, &[0, 1]).ok()?;
-    let alike = automaton.first_clash(alloc, &[7, 7]).ok()?;
-    Some(apart == Some(1) && alike.is_none())
-}
-
 pub fn automaton_is_built(alloc: Global) -> Option<bool> {
     let automaton = built(alloc)?;
     Some(is_of_both(alloc, &automaton))
