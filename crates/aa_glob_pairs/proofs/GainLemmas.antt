@@ -1,12 +1,12 @@
 -- More pairs that wait.
-use Rattle.std.proofs.Common.{◌≡◌, ◌⊎◌, ◌↔◌, ℕ, ◌+◌, ◌<◌, ◌==◌, List, [], ◌∷◌, ◌++◌, length, take, get_or, set, refl, sym, ap, subst, ◌∙◌, inl, inr}
+use Rattle.std.proofs.Common.{◌≡◌, ◌⊎◌, ◌↔◌, ℕ, ◌+◌, ◌<◌, ◌≤◌, ◌==◌, List, [], ◌∷◌, ◌++◌, length, take, get_or, set, refl, sym, ap, subst, ◌∙◌, inl, inr, arith}
 use Rattle.std.proofs.lemmas.Bool.{cases_Bool, eqb-true, eqb-false}
 use Rattle.std.proofs.lemmas.List.{append-nil, append_assoc, get_or-set_other, get_or-set_same, length-set, take_more}
 use Rattle.std.proofs.lemmas.List.Elements.{All-contains, All-nil, Contains-append_cases, Contains-append_left, Contains-append_right, Contains-push, Contains-push_cases}
 use Rattle.std.specs.Prelude.{Contains}
 use Rattle.aa_glob_pairs.specs.Bytes.{IsShared}
 use Rattle.aa_glob_pairs.specs.Nodes.{AreShared, FollowsBy, HasStep}
-use Rattle.aa_glob_pairs.specs.Waiting.{Gains, IsFrontOf, row_at, Waits}
+use Rattle.aa_glob_pairs.specs.Waiting.{Gains, IsFrontOf, Ordered, row_at, Waits}
 use Rattle.aa_glob_pairs.specs.declared.moves.Moves.{Moves}
 use Rattle.aa_glob_pairs.specs.declared.moves.Step.{Step}
 
@@ -127,6 +127,46 @@ gains_then old mid new First Second Both one two both = record {
       | inr second ↦ (two.each q r).1 (inr second)
     ]
 
+-- the same pairs by another name, with the lesser state first
+pub ordered_as : (Kind Other : ℕ → ℕ → Type 0) → ((q r : ℕ) → (Kind q r ↔ Other q r)) → (q r : ℕ) → (Ordered Kind q r ↔ Ordered Other q r)
+ordered_as Kind Other same q r = (
+  λ h. (h.0, elim h.1 [ inl kind ↦ inl ((same q r).0 kind) | inr turned ↦ inr ((same r q).0 turned) ]),
+  λ h. (h.0, elim h.1 [ inl other ↦ inl ((same q r).1 other) | inr turned ↦ inr ((same r q).1 turned) ]),
+)
+
+pub pairs_as : (old new : Rows) (Kind Other : ℕ → ℕ → Type 0) → Gains old new (Ordered Kind) → ((q r : ℕ) → (Kind q r ↔ Other q r)) → Gains old new (Ordered Other)
+pairs_as old new Kind Other gains same = gains_as old new (Ordered Kind) (Ordered Other) gains (ordered_as Kind Other same)
+
+pub pairs_then : (old mid new : Rows) (First Second Both : ℕ → ℕ → Type 0) → Gains old mid (Ordered First) → Gains mid new (Ordered Second)
+    → ((q r : ℕ) → (Both q r ↔ (First q r ⊎ Second q r))) → Gains old new (Ordered Both)
+pairs_then old mid new First Second Both one two both = gains_then old mid new (Ordered First) (Ordered Second) (Ordered Both) one two (λ q r. (there q r, back q r))
+  where
+    there : (q r : ℕ) → Ordered Both q r → Ordered First q r ⊎ Ordered Second q r
+    there q r h = elim h.1 [
+      | inl kind ↦ elim ((both q r).0 kind) [ inl first ↦ inl (h.0, inl first) | inr second ↦ inr (h.0, inl second) ]
+      | inr turned ↦ elim ((both r q).0 turned) [ inl first ↦ inl (h.0, inr first) | inr second ↦ inr (h.0, inr second) ]
+    ]
+
+    back : (q r : ℕ) → Ordered First q r ⊎ Ordered Second q r → Ordered Both q r
+    back q r (inl first) = (first.0, elim first.1 [ inl kind ↦ inl ((both q r).1 (inl kind)) | inr turned ↦ inr ((both r q).1 (inl turned)) ])
+    back q r (inr second) = (second.0, elim second.1 [ inl kind ↦ inl ((both q r).1 (inr kind)) | inr turned ↦ inr ((both r q).1 (inr turned)) ])
+
+pub pairs_nothing : (p : Rows) (Kind : ℕ → ℕ → Type 0) → ((q r : ℕ) → Kind q r → ⊥) → Gains p p (Ordered Kind)
+pairs_nothing p Kind none = gains_nothing p (Ordered Kind) (λ q r h. elim h.1 [ inl kind ↦ none q r kind | inr turned ↦ none r q turned ])
+
+-- one pair, in either order
+pub pair_gained : (old new : Rows) (one other : ℕ) → one ≤ other → Gains old new (λ q r. (q ≡ one) × (r ≡ other)) → Gains old new (Ordered (λ q r. (q ≡ one) × (r ≡ other)))
+pair_gained old new one other rising gains = gains_as old new (λ q r. (q ≡ one) × (r ≡ other)) (Ordered (λ q r. (q ≡ one) × (r ≡ other))) gains (λ q r. (
+  λ pair. (omega (arith, pair.0, pair.1, rising), inl pair),
+  λ h. elim h.1 [ inl pair ↦ pair | inr turned ↦ (omega (arith, turned.0, turned.1, rising, h.0), omega (arith, turned.0, turned.1, rising, h.0)) ],
+))
+
+pub pair_turned : (old new : Rows) (one other : ℕ) → other < one → Gains old new (λ q r. (q ≡ other) × (r ≡ one)) → Gains old new (Ordered (λ q r. (q ≡ one) × (r ≡ other)))
+pair_turned old new one other falling gains = gains_as old new (λ q r. (q ≡ other) × (r ≡ one)) (Ordered (λ q r. (q ≡ one) × (r ≡ other))) gains (λ q r. (
+  λ pair. (omega (arith, pair.0, pair.1, falling), inr (pair.1, pair.0)),
+  λ h. elim h.1 [ inl pair ↦ absurd (omega (arith, pair.0, pair.1, falling, h.0)) | inr turned ↦ (turned.1, turned.0) ],
+))
+
 -- one more of some is there
 pub more_there : (xs : List ℕ) (i d x : ℕ) → i < length xs → (Contains (take (i + 1) xs) x ↔ (Contains (take i xs) x ⊎ (x ≡ get_or xs i d)))
 more_there xs i d x within = rw (take_more xs i d within) (
@@ -166,37 +206,37 @@ shared_append_other steps others more x y = (
 )
 
 -- one more free way of the first
-pub go_first_more : (old mid new : Rows) (xs : List ℕ) (i d column : ℕ) → i < length xs → Gains old mid (λ x y. Contains (take i xs) x × (y ≡ column))
-    → Gains mid new (λ q r. (q ≡ get_or xs i d) × (r ≡ column)) → Gains old new (λ x y. Contains (take (i + 1) xs) x × (y ≡ column))
+pub go_first_more : (old mid new : Rows) (xs : List ℕ) (i d column : ℕ) → i < length xs → Gains old mid (Ordered (λ x y. Contains (take i xs) x × (y ≡ column)))
+    → Gains mid new (Ordered (λ q r. (q ≡ get_or xs i d) × (r ≡ column))) → Gains old new (Ordered (λ x y. Contains (take (i + 1) xs) x × (y ≡ column)))
 go_first_more old mid new xs i d column within one two =
-    gains_then old mid new (λ x y. Contains (take i xs) x × (y ≡ column)) (λ q r. (q ≡ get_or xs i d) × (r ≡ column)) (λ x y. Contains (take (i + 1) xs) x × (y ≡ column)) one two (λ x y. (
+    pairs_then old mid new (λ x y. Contains (take i xs) x × (y ≡ column)) (λ q r. (q ≡ get_or xs i d) × (r ≡ column)) (λ x y. Contains (take (i + 1) xs) x × (y ≡ column)) one two (λ x y. (
       λ h. elim ((more_there xs i d x within).0 h.0) [ inl early ↦ inl (early, h.1) | inr last ↦ inr (last, h.1) ],
       λ h. elim h [ inl early ↦ ((more_there xs i d x within).1 (inl early.0), early.1) | inr last ↦ ((more_there xs i d x within).1 (inr last.0), last.1) ],
     ))
 
 -- one more of the second
-pub go_second_more : (old mid new : Rows) (xs : List ℕ) (i d row : ℕ) → i < length xs → Gains old mid (λ x y. (x ≡ row) × Contains (take i xs) y)
-    → Gains mid new (λ q r. (q ≡ row) × (r ≡ get_or xs i d)) → Gains old new (λ x y. (x ≡ row) × Contains (take (i + 1) xs) y)
+pub go_second_more : (old mid new : Rows) (xs : List ℕ) (i d row : ℕ) → i < length xs → Gains old mid (Ordered (λ x y. (x ≡ row) × Contains (take i xs) y))
+    → Gains mid new (Ordered (λ q r. (q ≡ row) × (r ≡ get_or xs i d))) → Gains old new (Ordered (λ x y. (x ≡ row) × Contains (take (i + 1) xs) y))
 go_second_more old mid new xs i d row within one two =
-    gains_then old mid new (λ x y. (x ≡ row) × Contains (take i xs) y) (λ q r. (q ≡ row) × (r ≡ get_or xs i d)) (λ x y. (x ≡ row) × Contains (take (i + 1) xs) y) one two (λ x y. (
+    pairs_then old mid new (λ x y. (x ≡ row) × Contains (take i xs) y) (λ q r. (q ≡ row) × (r ≡ get_or xs i d)) (λ x y. (x ≡ row) × Contains (take (i + 1) xs) y) one two (λ x y. (
       λ h. elim ((more_there xs i d y within).0 h.1) [ inl early ↦ inl (h.0, early) | inr last ↦ inr (h.0, last) ],
       λ h. elim h [ inl early ↦ (early.0, (more_there xs i d y within).1 (inl early.1)) | inr last ↦ (last.0, (more_there xs i d y within).1 (inr last.1)) ],
     ))
 
 -- one more step of the first
-pub go_both_more : (old mid new : Rows) (steps : List Step) (i : ℕ) (d : Step) (others : List Step) → i < length steps → Gains old mid (AreShared (take i steps) others)
-    → Gains mid new (AreShared (get_or steps i d ∷ []) others) → Gains old new (AreShared (take (i + 1) steps) others)
+pub go_both_more : (old mid new : Rows) (steps : List Step) (i : ℕ) (d : Step) (others : List Step) → i < length steps → Gains old mid (Ordered (AreShared (take i steps) others))
+    → Gains mid new (Ordered (AreShared (get_or steps i d ∷ []) others)) → Gains old new (Ordered (AreShared (take (i + 1) steps) others))
 go_both_more old mid new steps i d others within one two =
     rw (take_more steps i d within)
-    (gains_then old mid new (AreShared (take i steps) others) (AreShared (get_or steps i d ∷ []) others) (AreShared (take i steps ++ get_or steps i d ∷ []) others) one two
+    (pairs_then old mid new (AreShared (take i steps) others) (AreShared (get_or steps i d ∷ []) others) (AreShared (take i steps ++ get_or steps i d ∷ []) others) one two
     (shared_append (take i steps) (get_or steps i d ∷ []) others))
 
 -- one more of the second
-pub go_beside_more : (old mid new : Rows) (steps others : List Step) (i : ℕ) (d : Step) → i < length others → Gains old mid (AreShared steps (take i others))
-    → Gains mid new (AreShared steps (get_or others i d ∷ [])) → Gains old new (AreShared steps (take (i + 1) others))
+pub go_beside_more : (old mid new : Rows) (steps others : List Step) (i : ℕ) (d : Step) → i < length others → Gains old mid (Ordered (AreShared steps (take i others)))
+    → Gains mid new (Ordered (AreShared steps (get_or others i d ∷ []))) → Gains old new (Ordered (AreShared steps (take (i + 1) others)))
 go_beside_more old mid new steps others i d within one two =
     rw (take_more others i d within)
-    (gains_then old mid new (AreShared steps (take i others)) (AreShared steps (get_or others i d ∷ [])) (AreShared steps (take i others ++ get_or others i d ∷ [])) one two
+    (pairs_then old mid new (AreShared steps (take i others)) (AreShared steps (get_or others i d ∷ [])) (AreShared steps (take i others ++ get_or others i d ∷ [])) one two
     (shared_append_other steps (take i others) (get_or others i d ∷ [])))
 
 -- the one step
@@ -204,18 +244,18 @@ alone : (s t : Step) → Contains (s ∷ []) t → s ≡ t
 alone s t h = elim (Contains-push_cases [] s t h) [ inl none ↦ absurd (nothing_there t none) | inr same ↦ same ]
 
 -- two steps that share a byte
-pub go_shared : (old new : Rows) (s t : Step) → IsShared s.bytes t.bytes → Gains old new (λ q r. (q ≡ s.to) × (r ≡ t.to)) → Gains old new (AreShared (s ∷ []) (t ∷ []))
+pub go_shared : (old new : Rows) (s t : Step) → IsShared s.bytes t.bytes → Gains old new (Ordered (λ q r. (q ≡ s.to) × (r ≡ t.to))) → Gains old new (Ordered (AreShared (s ∷ []) (t ∷ [])))
 go_shared old new s t shared gains =
-    gains_as old new (λ q r. (q ≡ s.to) × (r ≡ t.to)) (AreShared (s ∷ []) (t ∷ [])) gains (λ x y. (
+    pairs_as old new (λ q r. (q ≡ s.to) × (r ≡ t.to)) (AreShared (s ∷ []) (t ∷ [])) gains (λ x y. (
       λ e. (shared.0, shared.1, (s, Contains-push [] s, sym e.0, shared.2.0), (t, Contains-push [] t, sym e.1, shared.2.1)),
       λ a. (sym a.2.2 ∙ ap (λ w. w.to) (sym (alone s a.2.0 a.2.1)), sym a.3.2 ∙ ap (λ w. w.to) (sym (alone t a.3.0 a.3.1))),
     ))
 
 -- the three ways in which a pair follows
-pub go_all : (m k : Moves) (q r : ℕ) (a b c d : Rows) → Gains a b (λ x y. Contains m.free.items x × (y ≡ r)) → Gains b c (λ x y. (x ≡ q) × Contains k.free.items y)
-    → Gains c d (AreShared m.steps.items k.steps.items) → Gains a d (FollowsBy m k q r)
+pub go_all : (m k : Moves) (q r : ℕ) (a b c d : Rows) → Gains a b (Ordered (λ x y. Contains m.free.items x × (y ≡ r))) → Gains b c (Ordered (λ x y. (x ≡ q) × Contains k.free.items y))
+    → Gains c d (Ordered (AreShared m.steps.items k.steps.items)) → Gains a d (Ordered (FollowsBy m k q r))
 go_all m k q r a b c d one two three =
-    gains_then a b d (λ x y. Contains m.free.items x × (y ≡ r)) (λ x y. ((x ≡ q) × Contains k.free.items y) ⊎ AreShared m.steps.items k.steps.items x y) (FollowsBy m k q r) one
-    (gains_then b c d (λ x y. (x ≡ q) × Contains k.free.items y) (AreShared m.steps.items k.steps.items) (λ x y. ((x ≡ q) × Contains k.free.items y) ⊎ AreShared m.steps.items k.steps.items x y) two three
+    pairs_then a b d (λ x y. Contains m.free.items x × (y ≡ r)) (λ x y. ((x ≡ q) × Contains k.free.items y) ⊎ AreShared m.steps.items k.steps.items x y) (FollowsBy m k q r) one
+    (pairs_then b c d (λ x y. (x ≡ q) × Contains k.free.items y) (AreShared m.steps.items k.steps.items) (λ x y. ((x ≡ q) × Contains k.free.items y) ⊎ AreShared m.steps.items k.steps.items x y) two three
     (λ x y. (λ h. h, λ h. h)))
     (λ x y. (λ h. h, λ h. h))

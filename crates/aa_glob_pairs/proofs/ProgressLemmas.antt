@@ -7,8 +7,8 @@ use Rattle.std.proofs.lemmas.Option.{get_or_from_slice_get, slice_get-get_or, sl
 use Rattle.std.specs.Prelude.{All, slice_get, slice_index_or}
 use Rattle.aa_glob_pairs.proofs.GainLemmas.{passed_other, passed_there, same_or_not}
 use Rattle.aa_glob_pairs.specs.Clashes.{Clash, IsAtMost, IsLeast, Lowers}
-use Rattle.aa_glob_pairs.specs.Nodes.{AreLaidOut, ClashOf, Follows, FollowsBy, goes, HasStep, IsLaidOut, MeetsAt, Met, start}
-use Rattle.aa_glob_pairs.specs.Waiting.{Gains, IsNone, row_at, Waits}
+use Rattle.aa_glob_pairs.specs.Nodes.{AreLaidOut, ClashOf, Follows, FollowsBy, goes, HasStep, IsLaidOut, IsWithin, MeetsAt, Met, start}
+use Rattle.aa_glob_pairs.specs.Waiting.{Gains, IsNone, Ordered, row_at, Waits}
 use Rattle.aa_glob_pairs.specs.code.Progress.{IsDone, IsMeeting, IsSeen, no_marks}
 use Rattle.aa_glob_pairs.specs.declared.meeting.Meeting.{Meeting}
 use Rattle.aa_glob_pairs.specs.declared.moves.Moves.{Moves}
@@ -52,6 +52,19 @@ met_within nodes laid some (goes {q = q} {r = r} {x = x} {y = y} at follows) =
 no_marks_are : (states : ℕ) → length (no_marks states) ≡ states
 no_marks_are states = length-replicate states 0
 
+-- A pair that is met is met turned round.
+follows_turned : (nodes : List Node) (q r x y : ℕ) → Follows nodes q r x y → Follows nodes r q y x
+follows_turned nodes q r x y follows = (follows.1, follows.0, follows.3, follows.2, turned follows.4)
+  where
+    turned : FollowsBy (follows.0).moves (follows.1).moves q r x y → FollowsBy (follows.1).moves (follows.0).moves r q y x
+    turned (inl free) = inr (inl (free.1, free.0))
+    turned (inr (inl free)) = inl (free.1, free.0)
+    turned (inr (inr shared)) = inr (inr (shared.0, shared.1, shared.3, shared.2))
+
+met_turned : (nodes : List Node) {q r : ℕ} → Met nodes q r → Met nodes r q
+met_turned nodes start = start
+met_turned nodes (goes {q = q} {r = r} {x = x} {y = y} at follows) = goes (met_turned nodes at) (follows_turned nodes q r x y follows)
+
 -- the pair of starts waits
 pub meeting_begins : (nodes : List Node) (none one : List (List ℕ)) (meeting : Meeting) → IsNone (length nodes) none → Gains none one (λ q r. (q ≡ 0) × (r ≡ 0))
     → meeting.waiting ≡ one → meeting.seen.items ≡ no_marks (length nodes) → meeting.found ≡ None → IsMeeting nodes 0 0 meeting
@@ -61,7 +74,7 @@ meeting_begins nodes none one meeting empty gains waiting seen found = record {
   begun = λ first. subst (λ w. Waits w 0 0) (sym waiting) ((gains.each 0 0).1 (inr (refl, refl)));
   sound = λ q r waits. elim ((gains.each q r).0 (subst (λ w. Waits w q r) waiting waits)) [
     | inl old ↦ absurd (empty.none q r old)
-    | inr at ↦ subst (λ x. Met nodes x r) (sym at.0) (subst (λ y. Met nodes 0 y) (sym at.1) start)
+    | inr at ↦ (omega (arith, at.0, at.1), subst (λ x. Met nodes x r) (sym at.0) (subst (λ y. Met nodes 0 y) (sym at.1) start))
   ];
   looked = All-nil (IsSeen meeting.seen.items 0);
   unseen = λ r. omega (arith, zeros r);
@@ -79,8 +92,7 @@ meeting_begins nodes none one meeting empty gains waiting seen found = record {
         all_zero (suc n) (suc r) = all_zero n r
 
     none_done : (q r : ℕ) → IsDone nodes meeting.seen.items 0 q r → ⊥
-    none_done q r (inl less) = omega (arith, less.0)
-    none_done q r (inr here) = omega (arith, here.1, zeros r)
+    none_done q r done = elim done.1 [ inl less ↦ omega (arith, less.0) | inr here ↦ omega (arith, here.1, zeros r) ]
 
     no_number : (k : ℕ) → None ≡ Some k → ⊥
     no_number k e = absurd cc
@@ -116,15 +128,21 @@ meeting_passed nodes row at column meeting is met seen = record {
 -- a pair is looked at
 pub meeting_visited : (nodes : List Node) (row at column : ℕ) (n o : Node) (old new : Meeting)
     → slice_get nodes row ≡ Some n → slice_get nodes column ≡ Some o → slice_get (row_at old.waiting row) at ≡ Some column → column < length nodes
-    → IsMeeting nodes row at old → Gains old.waiting new.waiting (FollowsBy n.moves o.moves row column) → new.seen.items ≡ set old.seen.items column (row + 1)
-    → Lowers old.found new.found (Clash n.ends.items o.ends.items) → IsMeeting nodes row (at + 1) new
+    → IsMeeting nodes row at old → Gains old.waiting new.waiting (Ordered (FollowsBy n.moves o.moves row column)) → new.seen.items ≡ set old.seen.items column (row + 1)
+    → Lowers old.found new.found (λ k. Clash n.ends.items o.ends.items k ⊎ Clash o.ends.items n.ends.items k) → IsMeeting nodes row (at + 1) new
 meeting_visited nodes row at column n o old new first second is within met gains seen lowers = record {
   states = gains.states ∙ met.states;
   marks = ap length seen ∙ length-set old.seen.items column (row + 1) ∙ met.marks;
   begun = λ zero. (gains.each 0 0).1 (inl (met.begun zero));
   sound = λ q r waits. elim ((gains.each q r).0 waits) [
     | inl before ↦ met.sound q r before
-    | inr follows ↦ goes here (n, o, first, second, follows)
+    | inr pair ↦ (
+      pair.0,
+      elim pair.1 [
+        | inl follows ↦ goes here (n, o, first, second, follows)
+        | inr turned ↦ met_turned nodes (goes here (n, o, first, second, turned))
+      ],
+    )
   ];
   looked =
       subst (λ (l : List ℕ). All (IsSeen new.seen.items row) l) (sym front)
@@ -136,15 +154,18 @@ meeting_visited nodes row at column n o old new first second is within met gains
   ];
   closed = λ q r x y on done follows. elim (done_before q r done) [
     | inl before ↦ (gains.each x y).1 (inl (met.closed q r x y on before follows))
-    | inr pair ↦ (gains.each x y).1 (inr (moved q r x y pair follows))
+    | inr pair ↦ (gains.each x y).1 (inr (follows.0, elim follows.1 [ inl on ↦ inl (moved q r x y pair on) | inr turned ↦ inr (moved q r y x pair turned) ]))
   ];
   there = λ k e. elim (lowers.there k e) [
     | inl before ↦ met.there k before
-    | inr clash ↦ (row, column, here, (n, o, first, second, clash))
+    | inr clash ↦ elim clash [
+      | inl one ↦ (row, column, here, (n, o, first, second, one))
+      | inr other ↦ (column, row, met_turned nodes here, (o, n, second, first, other))
+    ]
   ];
   least = λ q r k done clash. elim (done_before q r done) [
     | inl before ↦ lowers.kept k (met.least q r k before clash)
-    | inr pair ↦ lowers.least k (clashed q r k pair clash)
+    | inr pair ↦ lowers.least k (elim clash [ inl one ↦ inl (clashed q r k pair one) | inr other ↦ inr (clashed_too q r k pair other) ])
   ];
 }
   where
@@ -152,7 +173,7 @@ meeting_visited nodes row at column n o old new first second is within met gains
     marks = old.seen.items
 
     here : Met nodes row column
-    here = met.sound row column (waits_next old.waiting row at column is)
+    here = (met.sound row column (waits_next old.waiting row at column is)).1
 
     at_column : (r : ℕ) → r ≡ column → slice_index_or new.seen.items r 0 ≡ row + 1
     at_column r same =
@@ -177,10 +198,12 @@ meeting_visited nodes row at column n o old new first second is within met gains
 
     -- what was looked at now, and before
     done_before : (q r : ℕ) → IsDone nodes new.seen.items row q r → IsDone nodes marks row q r ⊎ ((q ≡ row) × (r ≡ column))
-    done_before q r (inl less) = inl (inl less)
-    done_before q r (inr same) = elim (same_or_not r column) [
-      | inl pair ↦ inr (same.0, pair)
-      | inr apart ↦ inl (inr (same.0, sym (elsewhere r apart) ∙ same.1))
+    done_before q r done = elim done.1 [
+      | inl less ↦ inl (done.0, inl less)
+      | inr same ↦ elim (same_or_not r column) [
+        | inl pair ↦ inr (same.0, pair)
+        | inr apart ↦ inl (done.0, inr (same.0, sym (elsewhere r apart) ∙ same.1))
+      ]
     ]
 
     node_is : (q : ℕ) (m k : Node) → q ≡ q → slice_get nodes q ≡ Some m → slice_get nodes q ≡ Some k → m ≡ k
@@ -202,6 +225,14 @@ meeting_visited nodes row at column n o old new first second is within met gains
             subst (λ (m : Node). Clash m.ends.items o.ends.items k) (node_is row clash.0 n refl clash.2 first)
             (subst (λ (z : Node). Clash (clash.0).ends.items z.ends.items k) (node_is column clash.1 o refl clash.3 second) clash.4)
 
+    clashed_too : (q r k : ℕ) → (q ≡ row) × (r ≡ column) → ClashOf nodes r q k → Clash o.ends.items n.ends.items k
+    clashed_too q r k pair clash = at_pair (subst (λ i. ClashOf nodes column i k) pair.0 (subst (λ j. ClashOf nodes j q k) pair.1 clash))
+      where
+        at_pair : ClashOf nodes column row k → Clash o.ends.items n.ends.items k
+        at_pair clash =
+            subst (λ (m : Node). Clash m.ends.items n.ends.items k) (node_is column clash.0 o refl clash.2 second)
+            (subst (λ (z : Node). Clash (clash.0).ends.items z.ends.items k) (node_is row clash.1 n refl clash.3 first) clash.4)
+
 -- where all pairs of a row were looked at, all that are met there wait, and were looked at
 module _ (nodes : List Node) (row at : ℕ) (meeting : Meeting) (laid : AreLaidOut nodes) (met : IsMeeting nodes row at meeting)
     (all : length (row_at meeting.waiting row) ≤ at) where
@@ -210,25 +241,49 @@ module _ (nodes : List Node) (row at : ℕ) (meeting : Meeting) (laid : AreLaidO
       All-contains (IsSeen meeting.seen.items row) (row_at meeting.waiting row) r
       (subst (λ (l : List ℕ). All (IsSeen meeting.seen.items row) l) (take_all at (row_at meeting.waiting row) all) met.looked) waits
 
-  met_waits : {q r : ℕ} → Met nodes q r → q ≡ row → Waits meeting.waiting row r
-  met_waits start e = subst (λ i. Waits meeting.waiting i 0) e (met.begun (sym e))
-  met_waits (goes {q = q} {r = r} {x = x} {y = y} at_it follows) e =
-      let on = follows_later nodes q r x y laid follows in
-      subst (λ i. Waits meeting.waiting i y) e (met.closed q r x y (omega (arith, e)) (elim (cases_lt q row) [
-        | inl less ↦ inl (less, at_it)
-        | inr not ↦ let here : q ≡ row = omega (arith, on.0, e, not) in inr (here, looked_at r (met_waits at_it here))
-      ]) follows)
+  -- a pair that is met, in either order, whose lesser state is of this row
+  abbrev HereWaits : ℕ → ℕ → Type 0
+  HereWaits q r = (q ≤ r → q ≡ row → Waits meeting.waiting row r) × (r ≤ q → r ≡ row → Waits meeting.waiting row q)
 
-  done_now : (q r : ℕ) → q ≤ row → Met nodes q r → IsDone nodes meeting.seen.items row q r
-  done_now q r up pair = elim (cases_lt q row) [
-    | inl less ↦ inl (less, pair)
-    | inr not ↦ let here : q ≡ row = omega (arith, up, not) in inr (here, looked_at r (met_waits pair here))
-  ]
+  done_of : (q r : ℕ) → q ≤ r → q ≤ row → Met nodes q r → (q ≡ row → Waits meeting.waiting row r) → IsDone nodes meeting.seen.items row q r
+  done_of q r rising up pair waits = (
+    rising,
+    elim (cases_lt q row) [
+      | inl less ↦ inl (less, pair)
+      | inr not ↦ let here : q ≡ row = omega (arith, up, not) in inr (here, looked_at r (waits here))
+    ],
+  )
+
+  met_waits : {q r : ℕ} → Met nodes q r → HereWaits q r
+  met_waits start = (
+    (λ up e. subst (λ i. Waits meeting.waiting i 0) e (met.begun (sym e))),
+    (λ up e. subst (λ i. Waits meeting.waiting i 0) e (met.begun (sym e))),
+  )
+  met_waits (goes {q = q} {r = r} {x = x} {y = y} pair follows) =
+      let on = follows_later nodes q r x y laid follows in
+      let before = met_waits pair in
+      let turned = follows_turned nodes q r x y follows in (
+        (λ up e. subst (λ i. Waits meeting.waiting i y) e (elim (cases_lt r q) [
+          | inl falling ↦
+              met.closed r q x y (omega (arith, e))
+              (done_of r q (omega (arith, falling)) (omega (arith, falling, e, on.0)) (met_turned nodes pair) (λ here. before.1 (omega (arith, falling)) here)) (up, inr turned)
+          | inr rising ↦ met.closed q r x y (omega (arith, e)) (done_of q r rising (omega (arith, e, on.0)) pair (λ here. before.0 rising here)) (up, inl follows)
+        ])),
+        (λ up e. subst (λ i. Waits meeting.waiting i x) e (elim (cases_lt r q) [
+          | inl falling ↦
+              met.closed r q y x (omega (arith, e))
+              (done_of r q (omega (arith, falling)) (omega (arith, e, on.1)) (met_turned nodes pair) (λ here. before.1 (omega (arith, falling)) here)) (up, inl turned)
+          | inr rising ↦
+              met.closed q r y x (omega (arith, e)) (done_of q r rising (omega (arith, rising, e, on.1)) pair (λ here. before.0 rising here)) (up, inr follows)
+        ])),
+      )
 
   -- those of later rows
   done_next : (q r : ℕ) → IsDone nodes meeting.seen.items (row + 1) q r → IsDone nodes meeting.seen.items row q r
-  done_next q r (inl less) = done_now q r (omega (arith, less.0)) less.1
-  done_next q r (inr here) = absurd (omega (arith, here.1, met.unseen r))
+  done_next q r done = elim done.1 [
+    | inl less ↦ done_of q r done.0 (omega (arith, less.0)) less.1 (λ here. (met_waits less.1).0 done.0 here)
+    | inr here ↦ absurd (omega (arith, here.1, met.unseen r))
+  ]
 
   -- the next row
   pub meeting_next_row : (new : Meeting) → row < length meeting.waiting → new.waiting ≡ set meeting.waiting row [] → new.seen.items ≡ meeting.seen.items
@@ -255,7 +310,12 @@ pub meeting_ends : (nodes : List Node) (meeting : Meeting) (row : ℕ) → AreLa
 meeting_ends nodes meeting row laid some end met = by_found meeting.found met.there least
   where
     least : (k : ℕ) → MeetsAt nodes k → IsAtMost meeting.found k
-    least k h = met.least h.0 h.1 k (inl (omega (arith, (met_within nodes laid some h.2).0, end), h.2)) h.3
+    least k h =
+        let within = met_within nodes laid some h.2 in
+        elim (cases_lt h.1 h.0) [
+          | inl falling ↦ met.least h.1 h.0 k (omega (arith, falling), inl (omega (arith, within.1, end), met_turned nodes h.2)) (inr h.3)
+          | inr rising ↦ met.least h.0 h.1 k (rising, inl (omega (arith, within.0, end), h.2)) (inl h.3)
+        ]
 
     by_found : (found : Option ℕ) → ((k : ℕ) → found ≡ Some k → MeetsAt nodes k) → ((k : ℕ) → MeetsAt nodes k → IsAtMost found k) → IsLeast found (MeetsAt nodes)
     by_found None there least = λ k h. let at = least k h in absurd (none at.0 at.1)
@@ -271,7 +331,7 @@ meeting_ends nodes meeting row laid some end met = by_found meeting.found met.th
 pub column_within : (nodes : List Node) (row at column : ℕ) (meeting : Meeting) → AreLaidOut nodes → row < length nodes
     → slice_get (row_at meeting.waiting row) at ≡ Some column → IsMeeting nodes row at meeting → column < length nodes
 column_within nodes row at column meeting laid within is met =
-    (met_within nodes laid (omega (arith, within)) (met.sound row column (waits_next meeting.waiting row at column is))).1
+    (met_within nodes laid (omega (arith, within)) (met.sound row column (waits_next meeting.waiting row at column is)).1).1
 
 -- where no pair is at a place of a row, there are none behind it
 pub all_looked_at : (xs : List ℕ) (i : ℕ) (found : Option ℕ) → found ≡ slice_get xs i → ((x : ℕ) → found ≡ Some x → ⊥) → length xs ≤ i
@@ -279,3 +339,10 @@ all_looked_at xs i found is none = elim (cases_lt i (length xs)) [
   | inl within ↦ absurd (none (get_or xs i 0) (is ∙ slice_get-get_or xs i 0 within))
   | inr past ↦ past
 ]
+
+-- moves that are laid out are within
+pub laid_within : (states room q : ℕ) (m : Moves) → room ≡ states → IsLaidOut states q m → IsWithin room m
+laid_within states room q m same laid = record {
+  free = All-weaker (λ x. (q ≤ x) × (x < states)) (λ x. x < room) (λ x at. omega (arith, at.1, same)) m.free.items laid.free;
+  steps = All-weaker (λ s. (q ≤ s.to) × (s.to < states)) (λ s. s.to < room) (λ s at. omega (arith, at.1, same)) m.steps.items laid.steps;
+}

@@ -1,6 +1,6 @@
 //! The patterns that end at a state, with their classes, and the least that clashes with an earlier one.
 
-ghost use Rattle.std.specs.Prelude.{◌≡◌, ◌<◌, ◌∷◌, [], ℕ, length, IfOk, OnOk};
+ghost use Rattle.std.specs.Prelude.{◌≡◌, ◌⊎◌, ◌<◌, ◌∷◌, [], ℕ, length, IfOk, OnOk};
 ghost use Rattle.aa_glob_nfa.specs.Graphs.{EndsAt};
 ghost use Rattle.aa_glob_nfa.specs.OfTables.{AreSorted, AreSound, graph_of};
 ghost use Rattle.aa_glob_pairs.specs.Graphs.{AreEndingsOf};
@@ -41,8 +41,16 @@ pub fn endings_at(
     Ok(endings)
 }
 
-/// Lowers what was found to the least pattern of the second state that clashes with an earlier one of the first.
-pub fn lower(first: &[Ending], second: &[Ending], found: &mut Option<u32>)
+/// Lowers what was found to the least pattern of either state that clashes with an earlier one of the other.
+pub fn lower_both(first: &[Ending], second: &[Ending], found: &mut Option<u32>)
+    ensures { Lowers found.old found.new (λ k. Clash first.now second.now k ⊎ Clash second.now first.now k) }
+{
+    lower(first, second, found);
+    lower(second, first, found);
+}
+
+// Lowers what was found to the least pattern of the second state that clashes with an earlier one of the first.
+fn lower(first: &[Ending], second: &[Ending], found: &mut Option<u32>)
     ensures { Lowers found.old found.new (Clash first.now second.now) }
 {
     for ending in first {

@@ -6,7 +6,7 @@ ghost use Rattle.aa_glob_pairs.specs.Nodes.{AreLaidOut, MeetsAt};
 ghost use Rattle.aa_glob_pairs.specs.Waiting.{row_at};
 ghost use Rattle.aa_glob_pairs.specs.code.Progress.{IsMeeting, no_marks};
 
-use crate::ends::lower;
+use crate::ends::lower_both;
 use crate::nodes::Node;
 use crate::visit::visit;
 use crate::waiting::Waiting;
@@ -110,6 +110,6 @@ fn meet(
         column,
         &mut meeting.waiting,
     )?;
-    lower(&first.ends, &second.ends, &mut meeting.found);
+    lower_both(&first.ends, &second.ends, &mut meeting.found);
     Ok(())
 }

@@ -2,7 +2,7 @@
 
 ghost use Rattle.std.specs.Prelude.{◌≡◌, ◌∷◌, [], ◌<◌, All, Contains, length, OnOk};
 ghost use Rattle.aa_glob_pairs.specs.Nodes.{AreShared, FollowsBy, IsWithin};
-ghost use Rattle.aa_glob_pairs.specs.Waiting.{Gains};
+ghost use Rattle.aa_glob_pairs.specs.Waiting.{Gains, Ordered};
 
 use crate::bytes::share;
 use crate::moves::{Moves, Step};
@@ -18,8 +18,10 @@ pub fn visit(
     waiting: &mut Waiting,
 ) -> Result<(), AllocError>
     requires row { row < length waiting.old }
+    requires column { column < length waiting.old }
     requires first { IsWithin (length waiting.old) first.now }
-    ensures { OnOk result (Gains waiting.old waiting.new (FollowsBy first.now second.now row column)) }
+    requires second { IsWithin (length waiting.old) second.now }
+    ensures { OnOk result (Gains waiting.old waiting.new (Ordered (FollowsBy first.now second.now row column))) }
 {
     go_first(&first.free, column, waiting)?;
     go_second(row, &second.free, waiting)?;
@@ -28,11 +30,12 @@ pub fn visit(
 
 // The first state goes freely.
 fn go_first(free: &[u32], column: u32, waiting: &mut Waiting) -> Result<(), AllocError>
+    requires column { column < length waiting.old }
     requires within { All (λ x. x < length waiting.old) free.now }
-    ensures { OnOk result (Gains waiting.old waiting.new (λ x y. Contains free.now x × (y ≡ column))) }
+    ensures { OnOk result (Gains waiting.old waiting.new (Ordered (λ x y. Contains free.now x × (y ≡ column)))) }
 {
     for state in free {
-        waiting.insert(*state, column)?;
+        waiting.insert_pair(*state, column)?;
     }
     Ok(())
 }
@@ -40,18 +43,20 @@ fn go_first(free: &[u32], column: u32, waiting: &mut Waiting) -> Result<(), Allo
 // The second state goes freely.
 fn go_second(row: u32, free: &[u32], waiting: &mut Waiting) -> Result<(), AllocError>
     requires row { row < length waiting.old }
-    ensures { OnOk result (Gains waiting.old waiting.new (λ x y. (x ≡ row) × Contains free.now y)) }
+    requires within { All (λ y. y < length waiting.old) free.now }
+    ensures { OnOk result (Gains waiting.old waiting.new (Ordered (λ x y. (x ≡ row) × Contains free.now y))) }
 {
     for state in free {
-        waiting.insert(row, *state)?;
+        waiting.insert_pair(row, *state)?;
     }
     Ok(())
 }
 
 // Both go by one byte.
 fn go_both(first: &[Step], second: &[Step], waiting: &mut Waiting) -> Result<(), AllocError>
-    requires within { All (λ s. s.to < length waiting.old) first.now }
-    ensures { OnOk result (Gains waiting.old waiting.new (AreShared first.now second.now)) }
+    requires first { All (λ s. s.to < length waiting.old) first.now }
+    requires second { All (λ s. s.to < length waiting.old) second.now }
+    ensures { OnOk result (Gains waiting.old waiting.new (Ordered (AreShared first.now second.now))) }
 {
     for step in first {
         go_beside(step, second, waiting)?;
@@ -61,8 +66,9 @@ fn go_both(first: &[Step], second: &[Step], waiting: &mut Waiting) -> Result<(),
 
 // The same by one step of the first.
 fn go_beside(step: &Step, second: &[Step], waiting: &mut Waiting) -> Result<(), AllocError>
-    requires within { step.now.to < length waiting.old }
-    ensures { OnOk result (Gains waiting.old waiting.new (AreShared (step.now ∷ []) second.now)) }
+    requires first { step.now.to < length waiting.old }
+    requires second { All (λ s. s.to < length waiting.old) second.now }
+    ensures { OnOk result (Gains waiting.old waiting.new (Ordered (AreShared (step.now ∷ []) second.now))) }
 {
     for other in second {
         go_if_shared(step, other, waiting)?;
@@ -72,11 +78,12 @@ fn go_beside(step: &Step, second: &[Step], waiting: &mut Waiting) -> Result<(), 
 
 // The same by one step of each.
 fn go_if_shared(step: &Step, other: &Step, waiting: &mut Waiting) -> Result<(), AllocError>
-    requires within { step.now.to < length waiting.old }
-    ensures { OnOk result (Gains waiting.old waiting.new (AreShared (step.now ∷ []) (other.now ∷ []))) }
+    requires first { step.now.to < length waiting.old }
+    requires second { other.now.to < length waiting.old }
+    ensures { OnOk result (Gains waiting.old waiting.new (Ordered (AreShared (step.now ∷ []) (other.now ∷ [])))) }
 {
     if share(&step.bytes, &other.bytes) {
-        waiting.insert(step.to, other.to)
+        waiting.insert_pair(step.to, other.to)
     } else {
         Ok(())
     }

@@ -1,7 +1,7 @@
 //! Pairs of states that wait to be looked at.
 
 ghost use Rattle.std.specs.Prelude.{◌≡◌, ◌⊎◌, ◌++◌, ◌∷◌, [], ◌<◌, ◌+◌, ◌^◌, length, set, slice_get, slice_index_or, Some, None, IfOk, OnOk};
-ghost use Rattle.aa_glob_pairs.specs.Waiting.{Gains, IsNone, row_at};
+ghost use Rattle.aa_glob_pairs.specs.Waiting.{Gains, IsNone, Ordered, row_at};
 
 use std::alloc::{AllocError, Global};
 use std::marker::Model;
@@ -79,6 +79,19 @@ impl Waiting {
         ensures { OnOk result (Gains self.old self.new (λ q r. (q ≡ first) × (r ≡ second))) }
     {
         self.rows[first as usize].push(second)
+    }
+
+    /// The same for a pair in either order: the lesser state is the first.
+    pub fn insert_pair(&mut self, one: u32, other: u32) -> Result<(), AllocError>
+        requires one { one < length self.old }
+        requires other { other < length self.old }
+        ensures { OnOk result (Gains self.old self.new (Ordered (λ q r. (q ≡ one) × (r ≡ other)))) }
+    {
+        if one <= other {
+            self.insert(one, other)
+        } else {
+            self.insert(other, one)
+        }
     }
 
     /// The second state of the pair at a place among those of a first state, if there is one.

@@ -1,7 +1,6 @@
-use Rattle.std.proofs.Common.{◌∙◌, ◌<◌, ◌≤◌, arith, length, refl, subst, List}
+use Rattle.std.proofs.Common.{◌∙◌, ◌⊎◌, ◌<◌, arith, length, refl, subst, List}
 use Rattle.std.proofs.lemmas.Option.{get_or_from_slice_get, slice_get_read}
-use Rattle.std.proofs.lemmas.List.Elements.{All-weaker}
-use Rattle.aa_glob_pairs.proofs.ProgressLemmas.{column_within, meeting_passed, meeting_visited}
+use Rattle.aa_glob_pairs.proofs.ProgressLemmas.{column_within, laid_within, meeting_passed, meeting_visited}
 use Rattle.aa_glob_pairs.specs.Clashes.{Clash, Lowers}
 use Rattle.aa_glob_pairs.specs.declared.ends.Ending.{Ending}
 use Rattle.aa_glob_pairs.proofs.meeting.meet.Goals as goal
@@ -34,19 +33,25 @@ returns-then-index-row c =
     in
     meeting_passed nodes c.args.row c.args.at c.args.column old c.requires.column c.requires.met (seen ∙ c.if-index-row.true)
 
+pub visit-requires-clause-column : goal.visit-requires-clause-column
+visit-requires-clause-column c =
+    let column = column_within c.args.nodes.now c.args.row c.args.at c.args.column c.args.meeting.now c.requires.laid c.requires.row c.requires.column c.requires.met in
+    omega (arith, column, c.requires.met.states)
+
 pub visit-requires-clause-first : goal.visit-requires-clause-first
 visit-requires-clause-first c =
     let nodes = c.args.nodes.now in
     let node = c.index-nodes-row.result in
-    let laid = c.requires.laid c.args.row node (slice_get_read nodes (length nodes) c.args.row node refl c.requires.row c.index-nodes-row.is) in
-    record {
-      free =
-          All-weaker (λ x. (c.args.row ≤ x) × (x < length nodes)) (λ x. x < length c.args.meeting.now.waiting) (λ x at. omega (arith, at.1, c.requires.met.states))
-          node.moves.free.items laid.free;
-      steps =
-          All-weaker (λ s. (c.args.row ≤ s.to) × (s.to < length nodes)) (λ s. s.to < length c.args.meeting.now.waiting) (λ s at. omega (arith, at.1, c.requires.met.states))
-          node.moves.steps.items laid.steps;
-    }
+    laid_within (length nodes) (length c.args.meeting.now.waiting) c.args.row node.moves c.requires.met.states
+    (c.requires.laid c.args.row node (slice_get_read nodes (length nodes) c.args.row node refl c.requires.row c.index-nodes-row.is))
+
+pub visit-requires-clause-second : goal.visit-requires-clause-second
+visit-requires-clause-second c =
+    let nodes = c.args.nodes.now in
+    let node = c.index-nodes-column.result in
+    let column = column_within nodes c.args.row c.args.at c.args.column c.args.meeting.now c.requires.laid c.requires.row c.requires.column c.requires.met in
+    laid_within (length nodes) (length c.args.meeting.now.waiting) c.args.column node.moves c.requires.met.states
+    (c.requires.laid c.args.column node (slice_get_read nodes (length nodes) c.args.column node refl column c.index-nodes-column.is))
 
 pub returns : goal.returns
 returns c =
@@ -58,5 +63,6 @@ returns c =
     (slice_get_read nodes (length nodes) c.args.row n refl c.requires.row c.index-nodes-row.is)
     (slice_get_read nodes (length nodes) c.args.column o refl column c.index-nodes-column.is)
     c.requires.column column c.requires.met c.in_ok-visit.ensures refl
-    (subst (λ (l : List Ending). Lowers c.args.meeting.now.found c.lower.new.found (Clash l o.ends.items)) c.deref.ensures.value
-    (subst (λ (l : List Ending). Lowers c.args.meeting.now.found c.lower.new.found (Clash c.deref.result.now l)) c.deref-2.ensures.value c.lower.ensures))
+    (subst (λ (l : List Ending). Lowers c.args.meeting.now.found c.lower_both.new.found (λ k. Clash l o.ends.items k ⊎ Clash o.ends.items l k)) c.deref.ensures.value
+    (subst (λ (l : List Ending). Lowers c.args.meeting.now.found c.lower_both.new.found (λ k. Clash c.deref.result.now l k ⊎ Clash l c.deref.result.now k)) c.deref-2.ensures.value
+    c.lower_both.ensures))

@@ -4,4 +4,4 @@ use Rattle.aa_glob_pairs.proofs.visit.go_if_shared.Goals as goal
 
 pub returns-then-share : goal.returns-then-share
 returns-then-share c =
-    on_ok_weaker c.insert.result (λ gains. go_shared c.args.waiting.now c.insert.new.self c.args.step.now c.args.other.now (c.share.ensures.0 c.if-share.true) gains) c.insert.ensures
+    on_ok_weaker c.insert_pair.result (λ gains. go_shared c.args.waiting.now c.insert_pair.new.self c.args.step.now c.args.other.now (c.share.ensures.0 c.if-share.true) gains) c.insert_pair.ensures
