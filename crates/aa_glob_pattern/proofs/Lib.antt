@@ -1,1 +1,1 @@
-pub mod FirstFaultLemmas
+pub mod ErrorLemmas

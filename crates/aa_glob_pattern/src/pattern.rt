@@ -3,7 +3,7 @@
 ghost use Rattle.std.specs.Prelude.{◌≡◌, ◌≢◌, ◌↔◌, Ok, Err, IfOk, IfErr, IsTrue};
 ghost use Rattle.aa_glob_syntax.specs.Exactness.{is_exact, literal_prefix};
 ghost use Rattle.aa_glob_syntax.specs.Matching.{Matches, matches};
-ghost use Rattle.aa_glob_syntax.specs.Reading.{HasNoFirstFault, items_of, reading};
+ghost use Rattle.aa_glob_syntax.specs.Reading.{items_of, reading};
 ghost use Rattle.aa_glob_syntax.specs.declared.pattern_error.PatternError.TheVariants.{Memory};
 
 use aa_glob_match::matches_text;
@@ -40,14 +40,17 @@ impl Pattern {
     /// Refused are, in this order: a text of more than 4,096 bytes (`TooLong`), a zero byte in it (`ZeroByte`), one that
     /// doesn't begin with `/` (`NotAbsolute`), and then the first fault from the left: `EmptyClass`, `BadRange`,
     /// `StrayClose`, `FewAlternatives`, `BadEscape` and `TooDeep` where they are met, `UnclosedClass` and `UnclosedGroup`
-    /// at the text's end, a class before a group. `Memory` may come at any time. The rules are those of apparmor.d(5),
-    /// "Globbing"; `docs/policy.md` has them whole.
+    /// at the text's end, a class before a group. The rules are those of apparmor.d(5), "Globbing"; `docs/policy.md` has
+    /// them whole.
+    ///
+    /// None of these takes memory: each is told, whatever memory there is. `Memory` is told of a text alone that reads
+    /// as a pattern, of which memory has no copy.
     pub fn read(alloc: Global, text: &[u8]) -> Result<Pattern, PatternError>
         ensures text { IfOk result (λ pattern. pattern ≡ text.now) }
         ensures read { IfOk result (λ pattern. reading text.now ≡ Ok (items_of text.now)) }
         ensures refused { IfErr result (λ error. error ≢ Memory → reading text.now ≡ Err error) }
-        // What is told before anything is read takes no memory.
-        ensures memory { IfErr result (λ error. error ≡ Memory → HasNoFirstFault text.now) }
+        // A text that is refused is told so without memory.
+        ensures memory { IfErr result (λ error. error ≡ Memory → reading text.now ≡ Ok (items_of text.now)) }
     {
         let facts = check_pattern(text)?;
         let text = Vec::from_slice(alloc, text)?;

@@ -61,7 +61,7 @@ fn read_written(alloc: Global, file: &File<'_>) -> Result<Vec<Profile>, ProfileE
 ///
 /// Each phase goes over the whole file, and the first that refuses decides.
 /// - As `aa_text_splicing::spliced` refuses the file's text and its includes, at the same place.
-/// - As `aa_profile_grammar::read_file` refuses its tokens, at the first token at which nothing that could follow would be accepted.
+/// - As `aa_profile_grammar::read_file` refuses its tokens, at the first token, from the left, that the grammar doesn't take at its place.
 /// - `Redefined` and `AppendUndefined`, at the first assignment that is refused so; then `Undefined`, at the first value, attachment or
 ///   pattern that names a variable that isn't defined, or doesn't close a name; then `Cycle`, at the first assignment of the first variable
 ///   that leads to itself or to one that does.

@@ -1,3 +1,4 @@
 pub mod FlagLemmas
 pub mod FlagListLemmas
+pub mod FlagRefusalLemmas
 pub mod FlagTextLemmas

@@ -1,3 +1,4 @@
+pub mod FlagRefusals
 pub mod FlagText
 pub mod Flags
 pub mod code

@@ -252,10 +252,10 @@ fn finished(read: FlagsSoFar) -> Option<Flags>
 ///
 /// # Errors
 ///
-/// Each at the first token behind which nothing that could follow would be accepted (docs/policy.md, "Flags").
+/// Each at the first token with which nothing that could follow would be accepted (the law `where_flags_are_refused`; docs/policy.md, "Flags").
 /// - `BadFlag`: a word of the list is no flag, or `enforce` stands beside `complain`.
 /// - `BadToken`: any other fault.
-/// - `RanOut`: the tokens end before the brace.
+/// - `RanOut`: the tokens end before the brace, and could go on.
 pub fn read_flags<'a>(
     tokens: &'a [Spliced<'a>],
 ) -> Result<(Flags, Spliced<'a>, &'a [Spliced<'a>]), Fault>

@@ -6,6 +6,7 @@ ghost use Rattle.aa_bytes.specs.Bytes.{is_blank, opening_parenthesis};
 ghost use Rattle.aa_bytes.specs.Texts.{is_empty};
 ghost use Rattle.aa_text_splicing.specs.Splicing.{Placed};
 ghost use Rattle.aa_text_tokens.specs.declared.cut.TokenKind.TheVariants.{OpenBrace};
+ghost use Rattle.aa_profile_flags.specs.FlagRefusals.{FaultsAreTheFirst};
 ghost use Rattle.aa_profile_flags.specs.Flags.{flags, separates};
 ghost use Rattle.aa_profile_flags.specs.FlagText.{IsReadAs, flags_of, has_words, is_flag_token, said, spaced, with_keyword, words_of};
 
@@ -29,4 +30,10 @@ pub fn what_flags_say()
         → has_words words others ≡ true
         → has_words others words ≡ true
         → flags_of words ≡ flags_of others }
+{}
+
+/// FLAGS are refused at the first token with which nothing that could follow would be accepted: the tokens before it can go on to FLAGS that are
+/// read, and with it the same is told whatever stands behind it. Tokens run out only where they can go on so.
+pub fn where_flags_are_refused()
+    ensures { FaultsAreTheFirst }
 {}

@@ -5,4 +5,4 @@ mod flags;
 mod laws;
 
 pub use flags::{Flags, read_flags};
-pub use laws::what_flags_say;
+pub use laws::{what_flags_say, where_flags_are_refused};

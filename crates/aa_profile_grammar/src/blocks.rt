@@ -296,7 +296,7 @@ fn next_profile<'a>(
 ///
 /// # Errors
 ///
-/// Each at the first token at which nothing that could follow would be accepted (docs/policy.md, "Files"); `Memory`: memory ran out.
+/// Each at the first token, from the left, that the grammar doesn't take at its place (docs/policy.md, "Files"); `Memory`: memory ran out.
 pub fn read_profiles<'a>(
     alloc: Global,
     tokens: &'a [Spliced<'a>],

@@ -25,7 +25,7 @@ pub struct File<'a> {
 ///
 /// # Errors
 ///
-/// The first fault from the left, at the first token at which nothing that could follow would be accepted (docs/policy.md, "Files").
+/// The first fault, at the first token, from the left, that the grammar doesn't take at its place (docs/policy.md, "Files").
 /// - `BadToken`: a token that can't stand there; without a place where the tokens run out outside of a block.
 /// - `OpenBlock`: the tokens run out in a block; at the innermost brace that isn't closed.
 /// - `BadFlag`, `BadAccess`, `TwoExec`, `ExecQualifier`, `WriteAppend`, `BadName`: the token that holds the flag, the access, the name or the

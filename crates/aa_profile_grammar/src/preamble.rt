@@ -112,7 +112,7 @@ fn next_assignment<'a>(rest: Rest<'a>) -> Result<(Next<Assignment<'a>>, Rest<'a>
 ///
 /// # Errors
 ///
-/// Each at the first token at which nothing that could follow would be accepted.
+/// Each at the first token, from the left, that the grammar doesn't take at its place.
 /// - `BadToken`: an assignment without a value, or a version of the language that isn't a text and a Comma.
 /// - `RanOut`: the tokens end within an assignment or a version.
 /// - `Memory`: memory ran out.

@@ -1,6 +1,5 @@
 -- Parts of a file's grammar. A part is a function from tokens to what it reads and the tokens behind it, or to a fault: a refusal at the
--- first token at which nothing that could follow would be accepted, or that the tokens ran out. What stands behind a refused token
--- changes nothing of what is told.
+-- first token, from the left, that the grammar doesn't take at its place, or that the tokens ran out.
 use Rattle.std.specs.Prelude.{Bool, if◌then◌else◌, List, [], ◌∷◌, Result, Ok, Err}
 use Rattle.aa_text_splicing.specs.Splicing.{Placed}
 use Rattle.aa_profile_parsing.specs.Tokens.{is_comma, place_of}

@@ -50,7 +50,7 @@ pub enum GrammarRefusal {
 /// Why a part of a file can't be read.
 #[derive(Clone, Copy, Debug, PartialEq, Eq)]
 pub enum Fault {
-    /// A refusal, at the first token at which nothing that could follow would be accepted.
+    /// A refusal, at the first token, from the left, that the grammar doesn't take at its place.
     At {
         /// What is wrong.
         refusal: GrammarRefusal,

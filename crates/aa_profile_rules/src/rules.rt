@@ -304,7 +304,7 @@ fn read_behind<'a>(
 ///
 /// # Errors
 ///
-/// Each at the first token at which nothing that could follow would be accepted (docs/policy.md, "Rules").
+/// Each at the first token, from the left, that the grammar doesn't take at its place (docs/policy.md, "Rules").
 /// - `BadToken`: `allow` with `deny`, `owner` before `capability` or `network` (told at this word), a token that no rule has there, or a
 ///   missing Comma.
 /// - `BadAccess`: an access with what is neither a letter of `r w a l k m` nor an exec word. Else `TwoExec`: one with two different exec words,

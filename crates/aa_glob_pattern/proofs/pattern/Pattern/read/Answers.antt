@@ -1,9 +1,10 @@
-use Rattle.aa_glob_syntax.specs.Reading.{HasNoFirstFault, items_of}
-use Rattle.aa_glob_pattern.proofs.FirstFaultLemmas.{err_anyway, no_first_fault}
+use Rattle.std.proofs.Common.{◌≡◌, Ok}
+use Rattle.aa_glob_syntax.specs.Reading.{items_of, reading}
+use Rattle.aa_glob_pattern.proofs.ErrorLemmas.{err_anyway}
 use Rattle.aa_glob_pattern.proofs.pattern.Pattern.read.Goals as goal
 
 -- memory runs out only once the text was read
 pub returns-in_err-text-clause-memory : goal.returns-in_err-text-clause-memory
 returns-in_err-text-clause-memory c =
     let text = c.args.text.now in
-    err_anyway c.from_residual-in_err-text.result (HasNoFirstFault text) (no_first_fault text (items_of text) c.in_ok-facts.ensures.reads)
+    err_anyway c.from_residual-in_err-text.result (reading text ≡ Ok (items_of text)) c.in_ok-facts.ensures.reads
