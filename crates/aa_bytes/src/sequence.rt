@@ -36,14 +36,6 @@ impl<T> Sequence<T> {
         Sequence { items }
     }
 
-    /// The vector of the items. It takes no memory.
-    pub fn into_vec(self) -> Vec<T>
-        ensures { result.items ≡ self }
-    {
-        let Sequence { items } = self;
-        items
-    }
-
     /// The items, in order.
     pub fn as_slice(&self) -> &[T]
         ensures { result.now ≡ self.now }

@@ -1,6 +1,6 @@
 //! The walk of a pattern through the states of its beginnings.
 
-ghost use Rattle.std.specs.Prelude.{◌≡◌, ◌==◌, ◌<◌, [], length, OnOk};
+ghost use Rattle.std.specs.Prelude.{◌≡◌, ◌<◌, [], length, OnOk};
 ghost use Rattle.std.specs.List.{All};
 ghost use Rattle.aa_glob_automaton.specs.Walks.{close_sources, comma_sources, entered, source_states, standing_at, with_end_state};
 ghost use Rattle.aa_glob_automaton.specs.Ways.{AddsWays};
@@ -64,13 +64,6 @@ impl Walk {
         ensures { result ≡ self.now.state }
     {
         self.state
-    }
-
-    /// Whether no group is open where it has come.
-    pub fn is_outside(&self) -> bool
-        ensures { result ≡ (length self.now.groups == 0) }
-    {
-        self.groups.is_empty()
     }
 
     /// Goes on to a state, over an element of this kind.

@@ -41,13 +41,6 @@ impl Drawing {
         })
     }
 
-    /// How many states there are. It takes no memory.
-    pub fn states(&self) -> usize
-        ensures { result ≡ length self.now.entries }
-    {
-        self.tables.states.len()
-    }
-
     /// Adds a state with this entry. Its number is how many there were before.
     ///
     /// # Errors

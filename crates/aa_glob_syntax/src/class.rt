@@ -21,7 +21,7 @@ pub struct Class<'a> {
 }
 
 impl<'a> Class<'a> {
-    ghost use Rattle.aa_glob_syntax.specs.Cursor.{class_set, class_text};
+    ghost use Rattle.aa_glob_syntax.specs.Cursor.{class_set};
 
     /// Reads a class behind its `[`: the class, and what follows its `]`.
     pub fn read(text: &'a [u8]) -> Result<(Class<'a>, &'a [u8]), PatternError>
@@ -35,13 +35,6 @@ impl<'a> Class<'a> {
         let rest = pass_members(listed)?;
         let text = &text[..class_length(text)];
         Ok((Class { text }, rest))
-    }
-
-    /// The class's text, from behind its `[` up to and with its `]`. Classes of one text are of one set.
-    pub fn text(self) -> &'a [u8]
-        ensures { result.now ≡ class_text self.entry }
-    {
-        self.text
     }
 
     /// Whether the byte is in the set of the class. It takes no memory, and reads the class's text again.
