@@ -4,6 +4,7 @@
 mod laws;
 
 pub use aa_glob_automaton::{Automaton, AutomatonBuilder, Steps, overlap};
+pub use aa_glob_overlap::how_overlaps_are_tested;
 pub use aa_glob_pattern::{LONGEST_PATTERN, Pattern, PatternError};
 pub use aa_glob_prefixes::matching_is_by_splits;
 pub use laws::{

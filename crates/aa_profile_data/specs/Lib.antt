@@ -1,3 +1,5 @@
+pub mod ConflictLaws
+pub mod Conflicts
 pub mod Cover
 pub mod FileRules
 pub mod Matching

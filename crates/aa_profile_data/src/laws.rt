@@ -1,13 +1,17 @@
-//! What holds of the rules that match a path, as a law over the definitions.
+//! What holds of the rules that match a path, and of those that conflict, as laws over the definitions.
 
-ghost use Rattle.std.specs.Prelude.{◌≡◌, ℕ, List};
+ghost use Rattle.std.specs.Prelude.{◌≡◌, ◌↔◌, ℕ, All, List, true};
 ghost use Rattle.std.specs.List.{filter};
 ghost use Rattle.std.specs.List.Sorted.{IsStrictlyIncreasing};
 ghost use Rattle.aa_glob_syntax.specs.Patterns.{AreMatching};
+ghost use Rattle.aa_profile_data.specs.ConflictLaws.{HasReadPattern, NoneConflict};
+ghost use Rattle.aa_profile_data.specs.Conflicts.{Conflict, agree, conflict};
 ghost use Rattle.aa_profile_data.specs.FileRules.{file_patterns, places_from};
 ghost use Rattle.aa_profile_data.specs.Matching.{AreMatchingRules, is_matching};
 ghost use Rattle.aa_profile_data.specs.Picked.{picked};
 ghost use Rattle.aa_profile_data.specs.declared.profile.Rule.{Rule};
+
+use aa_glob_overlap::how_overlaps_are_tested;
 
 /// What stands at the places of the rules that match a path, in rising order, are those rules in their order. Where the places of the patterns of
 /// file rules are known that match a path, what stands at these among the places of the file rules are the places of the rules that match,
@@ -24,3 +28,12 @@ pub fn which_rules_match()
         → IsStrictlyIncreasing found
         → IsStrictlyIncreasing (picked (places_from 0 rules) found) }
 {}
+
+/// Two rules whose patterns were read conflict, as the test `conflict` says, exactly where they lead to different places, both by exact patterns or
+/// both by others, and some path matches both. Rules agree exactly where none of them conflicts with an earlier one.
+pub fn how_conflicts_are_tested()
+    ensures tested { (one other : Rule) → HasReadPattern one → HasReadPattern other → (conflict one other ≡ true ↔ Conflict one other) }
+    ensures agree { (rules : List Rule) → All HasReadPattern rules → (agree rules ≡ true ↔ NoneConflict rules) }
+{
+    how_overlaps_are_tested();
+}

@@ -5,7 +5,7 @@ mod cover;
 mod laws;
 mod profile;
 
-pub use laws::which_rules_match;
+pub use laws::{how_conflicts_are_tested, which_rules_match};
 pub use profile::{
     CapRule, Child, FileRule, Mode, NetRule, OtherRule, Profile, Rule, Transition, child_place,
 };

@@ -1,6 +1,7 @@
 //! Profiles, their children and hats, and their rules, as plain data: names and texts are lists of bytes.
 
 ghost use Rattle.std.specs.Prelude.{◌≡◌, IfOk};
+ghost use Rattle.aa_profile_data.specs.Conflicts.{same_target, same_transition};
 ghost use Rattle.aa_profile_data.specs.Profile.{child_place};
 
 use aa_bytes::Sequence;
@@ -130,7 +131,25 @@ pub struct Profile {
     pub children: Sequence<Child>,
 }
 
+// Whether two transitions name the same target, or both none.
+fn same_target(one: &Option<SharedBytes>, other: &Option<SharedBytes>) -> bool
+    ensures { result ≡ same_target one.now other.now }
+{
+    match (one, other) {
+        (None, None) => true,
+        (Some(one), Some(other)) => one.as_slice() == other.as_slice(),
+        _ => false,
+    }
+}
+
 impl Transition {
+    /// Whether another one has the same exec word and the same target, or no target as this one. It takes no memory.
+    pub fn is_same(&self, other: &Transition) -> bool
+        ensures { result ≡ same_transition self.now other.now }
+    {
+        self.word.is_same(other.word) && same_target(&self.target, &other.target)
+    }
+
     // An equal transition, which shares the target. It takes no memory.
     fn try_copy(&self) -> Result<Transition, AllocError>
         ensures { IfOk result (λ copy. copy ≡ self.now) }

@@ -10,7 +10,7 @@ use Rattle.aa_profile_parsing.specs.declared.fault.GrammarRefusal.{GrammarRefusa
 use Rattle.aa_profile_parsing.specs.declared.fault.GrammarRefusal.TheVariants as grammar
 use Rattle.aa_profile_errors.specs.declared.profile_error.ProfileError.{ProfileError}
 use Rattle.aa_profile_errors.specs.declared.profile_error.ProfileRefusal.{ProfileRefusal}
-use Rattle.aa_profile_errors.specs.declared.profile_error.ProfileRefusal.TheVariants.{NotAbsolute, UnclosedClass, EmptyClass, BadRange, UnclosedGroup, StrayClose, FewAlternatives, BadEscape, TooLong, TooDeep, ZeroByte, OpenQuote, OpenOther, NoFile, IncludeDepth, TextTooBig, Undefined, Redefined, AppendUndefined, Cycle, TooManyRules, BadToken, OpenBlock, BadFlag, BadAccess, WriteAppend, TwoExec, ExecQualifier, TargetWithoutExec, BadCapability, BadNetwork, TwiceNamed, NestedChild, LateAssignment, NoProfile, BadName, Memory}
+use Rattle.aa_profile_errors.specs.declared.profile_error.ProfileRefusal.TheVariants.{NotAbsolute, UnclosedClass, EmptyClass, BadRange, UnclosedGroup, StrayClose, FewAlternatives, BadEscape, TooLong, TooDeep, ZeroByte, OpenQuote, OpenOther, NoFile, IncludeDepth, TextTooBig, Undefined, Redefined, AppendUndefined, Cycle, TooManyRules, BadToken, OpenBlock, BadFlag, BadAccess, WriteAppend, TwoExec, ExecQualifier, TargetWithoutExec, BadCapability, BadNetwork, TwiceNamed, NestedChild, LateAssignment, NoProfile, BadName, ExecConflict, Memory}
 
 -- the one table of numbers and names
 abbrev pub described : ProfileRefusal → ℕ × List ℕ
@@ -50,6 +50,7 @@ described NestedChild = (51, codes "NestedChild")
 described LateAssignment = (52, codes "LateAssignment")
 described NoProfile = (53, codes "NoProfile")
 described BadName = (54, codes "BadName")
+described ExecConflict = (55, codes "ExecConflict")
 described Memory = (99, codes "Memory")
 
 abbrev pub number_of : ProfileRefusal → ℕ

@@ -86,6 +86,8 @@ pub enum ProfileRefusal {
     NoProfile,
     /// A name that none may have.
     BadName,
+    /// Two rules lead a program of one path to different places.
+    ExecConflict,
     /// Memory ran out.
     Memory,
 }
@@ -124,7 +126,7 @@ pub fn placed(refusal: ProfileRefusal, place: Place) -> ProfileError
 }
 
 impl ProfileRefusal {
-    /// The number of the refusal: 1 to 10, 20 to 30, 40 to 54, or 99.
+    /// The number of the refusal: 1 to 10, 20 to 30, 40 to 55, or 99.
     pub fn number(self) -> u8
         ensures { result ≡ number_of self }
     {
@@ -165,6 +167,7 @@ impl ProfileRefusal {
             ProfileRefusal::LateAssignment => 52,
             ProfileRefusal::NoProfile => 53,
             ProfileRefusal::BadName => 54,
+            ProfileRefusal::ExecConflict => 55,
             ProfileRefusal::Memory => 99,
         }
     }
@@ -210,6 +213,7 @@ impl ProfileRefusal {
             ProfileRefusal::LateAssignment => "LateAssignment",
             ProfileRefusal::NoProfile => "NoProfile",
             ProfileRefusal::BadName => "BadName",
+            ProfileRefusal::ExecConflict => "ExecConflict",
             ProfileRefusal::Memory => "Memory",
         }
     }

@@ -5,7 +5,7 @@ use Rattle.aa_profile_errors.specs.declared.profile_error.ProfileRefusal.{Profil
 use Rattle.aa_profile_errors.specs.declared.profile_error.ProfileRefusal.TheVariants as profile
 use Rattle.aa_set_commands.specs.declared.refusal.Refusal.{Refusal}
 use Rattle.aa_set_commands.specs.declared.refusal.RefusalKind.{RefusalKind}
-use Rattle.aa_set_commands.specs.declared.refusal.RefusalKind.TheVariants.{NotAbsolute, UnclosedClass, EmptyClass, BadRange, UnclosedGroup, StrayClose, FewAlternatives, BadEscape, TooLong, TooDeep, ZeroByte, OpenQuote, OpenOther, NoFile, IncludeDepth, TextTooBig, Undefined, Redefined, AppendUndefined, Cycle, TooManyRules, BadToken, OpenBlock, BadFlag, BadAccess, WriteAppend, TwoExec, ExecQualifier, TargetWithoutExec, BadCapability, BadNetwork, TwiceNamed, NestedChild, LateAssignment, NoProfile, BadName, Exists, Absent, Disabled, NothingToUndo, NothingToRedo, BadCommand, LineTooLong, BadRequest, Memory}
+use Rattle.aa_set_commands.specs.declared.refusal.RefusalKind.TheVariants.{NotAbsolute, UnclosedClass, EmptyClass, BadRange, UnclosedGroup, StrayClose, FewAlternatives, BadEscape, TooLong, TooDeep, ZeroByte, OpenQuote, OpenOther, NoFile, IncludeDepth, TextTooBig, Undefined, Redefined, AppendUndefined, Cycle, TooManyRules, BadToken, OpenBlock, BadFlag, BadAccess, WriteAppend, TwoExec, ExecQualifier, TargetWithoutExec, BadCapability, BadNetwork, TwiceNamed, NestedChild, LateAssignment, NoProfile, BadName, ExecConflict, Exists, Absent, Disabled, NothingToUndo, NothingToRedo, BadCommand, LineTooLong, BadRequest, Memory}
 
 -- the one table of numbers and names
 abbrev pub described : RefusalKind → ℕ × List ℕ
@@ -45,6 +45,7 @@ described NestedChild = (51, codes "NestedChild")
 described LateAssignment = (52, codes "LateAssignment")
 described NoProfile = (53, codes "NoProfile")
 described BadName = (54, codes "BadName")
+described ExecConflict = (55, codes "ExecConflict")
 described Exists = (60, codes "Exists")
 described Absent = (61, codes "Absent")
 described Disabled = (62, codes "Disabled")
@@ -103,6 +104,7 @@ kind_of_profile profile.NestedChild = NestedChild
 kind_of_profile profile.LateAssignment = LateAssignment
 kind_of_profile profile.NoProfile = NoProfile
 kind_of_profile profile.BadName = BadName
+kind_of_profile profile.ExecConflict = ExecConflict
 kind_of_profile profile.Memory = Memory
 
 -- at the place that the file's refusal has

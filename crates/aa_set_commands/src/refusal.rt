@@ -85,6 +85,8 @@ pub enum RefusalKind {
     NoProfile,
     /// A name that none may have.
     BadName,
+    /// Two rules lead a program of one path to different places.
+    ExecConflict,
     /// A profile of the name is loaded already.
     Exists,
     /// No profile, child or hat of the name is loaded.
@@ -167,6 +169,7 @@ impl Refusal {
             RefusalKind::LateAssignment => 52,
             RefusalKind::NoProfile => 53,
             RefusalKind::BadName => 54,
+            RefusalKind::ExecConflict => 55,
             RefusalKind::Exists => 60,
             RefusalKind::Absent => 61,
             RefusalKind::Disabled => 62,
@@ -220,6 +223,7 @@ impl Refusal {
             RefusalKind::LateAssignment => "LateAssignment",
             RefusalKind::NoProfile => "NoProfile",
             RefusalKind::BadName => "BadName",
+            RefusalKind::ExecConflict => "ExecConflict",
             RefusalKind::Exists => "Exists",
             RefusalKind::Absent => "Absent",
             RefusalKind::Disabled => "Disabled",
@@ -287,6 +291,7 @@ impl From<ProfileRefusal> for RefusalKind {
             ProfileRefusal::LateAssignment => RefusalKind::LateAssignment,
             ProfileRefusal::NoProfile => RefusalKind::NoProfile,
             ProfileRefusal::BadName => RefusalKind::BadName,
+            ProfileRefusal::ExecConflict => RefusalKind::ExecConflict,
             ProfileRefusal::Memory => RefusalKind::Memory,
         }
     }

@@ -1,0 +1,4 @@
+pub mod ClashLemmas
+pub mod ClassLemmas
+pub mod FirstLemmas
+pub mod PlacedLemmas

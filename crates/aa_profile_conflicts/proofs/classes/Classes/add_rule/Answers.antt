@@ -1,0 +1,18 @@
+use Rattle.std.proofs.Common.{List, refl, subst, sym}
+use Rattle.std.proofs.lemmas.Result.{on_ok_weaker}
+use Rattle.aa_profile_conflicts.proofs.PlacedLemmas.{leads-none, leads-some}
+use Rattle.aa_profile_conflicts.specs.Classes.{AreClassesOfLeads}
+use Rattle.aa_profile_conflicts.specs.Leads.{leads, seen_lead}
+use Rattle.aa_profile_data.specs.Conflicts.{Lead}
+use Rattle.aa_profile_conflicts.proofs.classes.Classes.add_rule.Goals as goal
+
+pub returns-in-None : goal.returns-in-None
+returns-in-None c rules are =
+    subst (λ (ls : List Lead). AreClassesOfLeads c.args.self.now ls) (sym (leads-none c.args.exact rules c.args.rule.now (sym c.in-None.ensures))) are
+
+pub returns-in-Some : goal.returns-in-Some
+returns-in-Some c =
+    on_ok_weaker c.add.result (λ added rules are.
+    subst (λ (ls : List Lead). AreClassesOfLeads c.add.new.self ls)
+    (sym (leads-some c.args.exact rules c.args.rule.now (seen_lead c.in-Some.lead) (sym c.in-Some.ensures)))
+    (added (leads c.args.exact rules) (seen_lead c.in-Some.lead) refl are)) c.add.ensures

@@ -1,0 +1,8 @@
+use Rattle.std.proofs.Common.{take}
+use Rattle.aa_profile_conflicts.specs.Classes.{AreClassesOfLeads}
+use Rattle.aa_profile_conflicts.specs.Leads.{leads}
+use Rattle.aa_profile_conflicts.proofs.classes.classes_of.Given as goal
+
+-- the rules so far have their classes
+abbrev pub invariant-loop-rule : goal.invariant-loop-rule
+invariant-loop-rule l = AreClassesOfLeads l.classes (leads l.exact (take l.rule-index l.rules))

@@ -1,0 +1,3 @@
+pub mod Classes
+pub mod Conflicting
+pub mod Leads

@@ -1,0 +1,115 @@
+//! Classes of leads: those have one class whose transitions are the same.
+
+ghost use Rattle.std.specs.Prelude.{◌≡◌, ◌++◌, ◌∷◌, [], List, MatchOption, IfOk, OnOk, true};
+ghost use Rattle.aa_profile_conflicts.specs.Classes.{AreClassesOfLeads, IsNew, is_class_of, seen_transitions};
+ghost use Rattle.aa_profile_conflicts.specs.Leads.{leads};
+ghost use Rattle.aa_profile_data.specs.Conflicts.{Lead};
+ghost use Rattle.aa_profile_data.specs.declared.profile.Rule.{Rule};
+
+use crate::lead::lead_by;
+use aa_profile_data::{Rule, Transition};
+use std::alloc::{AllocError, Global};
+
+/// The classes of some leads.
+#[derive(Drop)]
+pub struct Classes<'a> {
+    /// The different transitions.
+    pub transitions: Vec<&'a Transition>,
+    /// The class of each lead: the place of its transition among these.
+    pub classes: Vec<u32>,
+}
+
+// Whether the transition of a class is the same as another.
+fn is_class_of(transitions: &[&Transition], class: usize, transition: &Transition) -> bool
+    ensures { result ≡ is_class_of (seen_transitions transitions.now) class transition.now }
+{
+    match transitions.get(class) {
+        None => false,
+        Some(own) => own.is_same(transition),
+    }
+}
+
+// The class of a transition, or none where it is none of those so far.
+fn class_among(transitions: &[&Transition], transition: &Transition) -> Option<usize>
+    ensures { MatchOption result (IsNew (seen_transitions transitions.now) transition.now) (λ class. is_class_of (seen_transitions transitions.now) class transition.now ≡ true) }
+{
+    for class in 0..transitions.len() {
+        if is_class_of(transitions, class, transition) {
+            return Some(class);
+        }
+    }
+    None
+}
+
+// The same. The class of the lead before is asked first, since the rules that one written rule makes share their transition.
+fn class_of(transitions: &[&Transition], classes: &[u32], transition: &Transition) -> Option<usize>
+    ensures { MatchOption result (IsNew (seen_transitions transitions.now) transition.now) (λ class. is_class_of (seen_transitions transitions.now) class transition.now ≡ true) }
+{
+    let Some(last) = classes.last() else {
+        return class_among(transitions, transition);
+    };
+    let last = *last as usize;
+    if is_class_of(transitions, last, transition) {
+        Some(last)
+    } else {
+        class_among(transitions, transition)
+    }
+}
+
+// One class more behind the others.
+fn push_class(classes: &mut Vec<u32>, class: usize) -> Result<(), AllocError>
+    ensures { OnOk result (classes.new.items ≡ classes.old.items ++ class ∷ []) }
+{
+    if class > u32::MAX as usize {
+        return Err(AllocError);
+    }
+    classes.push(class as u32)?;
+    Ok(())
+}
+
+impl<'a> Classes<'a> {
+    // One lead more, by its transition.
+    fn add(&mut self, transition: &'a Transition) -> Result<(), AllocError>
+        ensures { OnOk result ((leads : List Lead) (lead : Lead)
+            → lead.transition ≡ transition.now
+            → AreClassesOfLeads self.old leads
+            → AreClassesOfLeads self.new (leads ++ lead ∷ [])) }
+    {
+        match class_of(&self.transitions, &self.classes, transition) {
+            Some(class) => push_class(&mut self.classes, class),
+            None => {
+                let class = self.transitions.len();
+                self.transitions.push(transition)?;
+                push_class(&mut self.classes, class)
+            }
+        }
+    }
+
+    // Where a rule leads more, if it leads somewhere by a pattern that is exact, or by one that isn't.
+    fn add_rule(&mut self, exact: bool, rule: &'a Rule) -> Result<(), AllocError>
+        ensures { OnOk result ((rules : List Rule) → AreClassesOfLeads self.old (leads exact rules) → AreClassesOfLeads self.new (leads exact (rules ++ rule.now ∷ []))) }
+    {
+        match lead_by(exact, rule) {
+            None => Ok(()),
+            Some(lead) => self.add(lead.transition),
+        }
+    }
+}
+
+/// The classes of where some rules lead by patterns that are exact, or by others.
+///
+/// # Errors
+///
+/// Where memory runs out.
+pub fn classes_of(alloc: Global, exact: bool, rules: &[Rule]) -> Result<Classes<'_>, AllocError>
+    ensures { IfOk result (λ classes. AreClassesOfLeads classes (leads exact rules.now)) }
+{
+    let mut classes = Classes {
+        transitions: Vec::new(alloc),
+        classes: Vec::new(alloc),
+    };
+    for rule in rules {
+        classes.add_rule(exact, rule)?;
+    }
+    Ok(classes)
+}

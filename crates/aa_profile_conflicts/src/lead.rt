@@ -1,0 +1,56 @@
+//! Where rules lead the programs that they let be started.
+
+ghost use Rattle.std.specs.Prelude.{◌≡◌};
+ghost use Rattle.std.specs.Option.{option_map};
+ghost use Rattle.aa_profile_conflicts.specs.Leads.{lead_by, seen_lead};
+ghost use Rattle.aa_profile_data.specs.Conflicts.{lead_of};
+
+use aa_glob_pattern::Pattern;
+use aa_profile_data::{Rule, Transition};
+
+/// Where a rule leads the programs whose paths its pattern matches.
+#[derive(Clone, Copy)]
+pub struct Lead<'a> {
+    /// The pattern.
+    pub pattern: &'a Pattern,
+    /// Whether it is exact.
+    pub exact: bool,
+    /// Under what they run then.
+    pub transition: &'a Transition,
+}
+
+// Where a rule leads: nowhere, unless it is an allow rule on files with an exec word.
+fn lead_of(rule: &Rule) -> Option<Lead<'_>>
+    ensures { option_map seen_lead result ≡ lead_of rule.now }
+{
+    let Rule::File(rule) = rule else {
+        return None;
+    };
+    if rule.deny {
+        return None;
+    }
+    match &rule.exec {
+        None => None,
+        Some(transition) => Some(Lead {
+            pattern: &rule.pattern,
+            exact: rule.pattern.is_exact(),
+            transition,
+        }),
+    }
+}
+
+/// Where a rule leads by a pattern that is exact, or by one that isn't.
+pub fn lead_by(exact: bool, rule: &Rule) -> Option<Lead<'_>>
+    ensures { option_map seen_lead result ≡ lead_by exact rule.now }
+{
+    match lead_of(rule) {
+        None => None,
+        Some(lead) => {
+            if lead.exact == exact {
+                Some(lead)
+            } else {
+                None
+            }
+        }
+    }
+}
