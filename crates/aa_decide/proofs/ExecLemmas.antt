@@ -11,7 +11,7 @@ use Rattle.aa_profile_access.specs.ExecWords.{row}
 use Rattle.aa_profile_access.specs.declared.exec_word.Destination.{Destination}
 use Rattle.aa_profile_access.specs.declared.exec_word.Destination.TheVariants as to
 use Rattle.aa_decide_attachment.specs.Ranks.{best_rank}
-use Rattle.aa_decide_exec_rules.specs.Choices.{Choice, Clashing, Denied as DeniedByRule, Leads, Missing, choice, choice_of, denies}
+use Rattle.aa_decide_exec_rules.specs.Choices.{Choice, Denied as DeniedByRule, Leads, Missing, choice, choice_of, denies}
 use Rattle.aa_decide_exec_rules.specs.ExecRules.{Denying, ExecRule, Leading, exec_rules, said_of}
 use Rattle.aa_profile_names.specs.FullNames.{full_name}
 use Rattle.aa_profile_data.specs.Profile.{child_place}
@@ -167,7 +167,6 @@ module _ (law : RankLaw) where
       → IsInForce (by_choice path entries asker mode choice).to
   choice-in_force path entries asker mode (DeniedByRule audited) h = tt
   choice-in_force path entries asker mode Missing h = missing-in_force mode
-  choice-in_force path entries asker mode Clashing h = tt
   choice-in_force path entries asker mode (Leads transition audited) h = carried-in_force path entries asker mode transition audited h
 
   unconfined-in_force : (path : List ℕ) (entries : List Loaded) → IsInForce (unconfined_start path entries).to
@@ -219,7 +218,6 @@ module _ (law : RankLaw) where
       → by_choice path entries asker mode choice ≡ by_choice path others asker mode choice
   choice-order path entries others asker mode (DeniedByRule audited) same = refl
   choice-order path entries others asker mode Missing same = refl
-  choice-order path entries others asker mode Clashing same = refl
   choice-order path entries others asker mode (Leads transition audited) same =
       ap (carried mode audited (row transition.word).scrubs) (led_by-order path entries others asker transition same)
 
@@ -278,7 +276,6 @@ missing-masked Complain = refl
 choice-masked : (path : List ℕ) (entries : List Loaded) (asker : Asker) (mode : Mode) (choice : Choice) → (by_choice path entries asker mode choice).verdict.mask.0 ≡ EXEC
 choice-masked path entries asker mode (DeniedByRule audited) = refl
 choice-masked path entries asker mode Missing = missing-masked mode
-choice-masked path entries asker mode Clashing = refl
 choice-masked path entries asker mode (Leads transition audited) = by (led_by path entries asker transition)
   where
     by : (found : Option Started) → (carried mode audited (row transition.word).scrubs found).verdict.mask.0 ≡ EXEC

@@ -6,7 +6,7 @@ use Rattle.aa_profile_access.specs.Access.{EXEC}
 use Rattle.aa_profile_access.specs.ExecWords.{row}
 use Rattle.aa_profile_access.specs.declared.exec_word.Destination.{Destination}
 use Rattle.aa_profile_access.specs.declared.exec_word.Destination.TheVariants as to
-use Rattle.aa_decide_exec_rules.specs.Choices.{Choice, Clashing, Denied as DeniedByRule, Leads, Missing, choice}
+use Rattle.aa_decide_exec_rules.specs.Choices.{Choice, Denied as DeniedByRule, Leads, Missing, choice}
 use Rattle.aa_profile_names.specs.FullNames.{full_name}
 use Rattle.aa_profile_data.specs.Profile.{child_place}
 use Rattle.aa_profile_data.specs.declared.profile.Mode.{Mode}
@@ -62,10 +62,6 @@ denied audited = stopped Deny (tag_if audited Denied)
 abbrev pub missing : Mode → ExecAnswer
 missing Enforce = stopped Refuse (Some Denied)
 missing Complain = record { verdict = exec_verdict Complained (Some Allowed); to = Null; scrub = false }
-
--- the rules that dominate lead to different places
-abbrev pub clashing : ExecAnswer
-clashing = stopped Refuse (Some Denied)
 
 -- the program runs
 abbrev pub started : Bool → Started → Bool → ExecAnswer
@@ -126,11 +122,10 @@ carried_out path entries asker mode transition audited = elim (led_by path entri
   | Some to ↦ started audited to (row transition.word).scrubs
 ]
 
--- by what the rules say together: a deny rule first, and then whether some rule says where to go, and whether those that dominate agree
+-- by what the rules say together: a deny rule first, and then whether some rule says where to go
 abbrev pub by_choice : List ℕ → List Loaded → Asker → Mode → Choice → ExecAnswer
 by_choice path entries asker mode (DeniedByRule audited) = denied audited
 by_choice path entries asker mode Missing = missing mode
-by_choice path entries asker mode Clashing = clashing
 by_choice path entries asker mode (Leads transition audited) = carried_out path entries asker mode transition audited
 
 -- who asks is confined by nothing: the program runs under the profile that its path is attached to, or else under none

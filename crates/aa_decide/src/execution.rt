@@ -269,7 +269,6 @@ fn by_choice(
     match choice {
         ExecChoice::Denied { audited } => Ok(stopped(Answer::Deny, tag_if(audited, Tag::Denied))),
         ExecChoice::Missing => Ok(missing(mode)),
-        ExecChoice::Clashing => Ok(stopped(Answer::Refuse, Some(Tag::Denied))),
         ExecChoice::Leading {
             transition,
             audited,
@@ -329,9 +328,10 @@ fn asked_by(
 /// Under what the program of a path runs that is started, and how that is logged (docs/policy.md, "Exec and attachment"). Asked by a task that nothing
 /// confines, by a disabled profile, and by an empty slot: under the profile in force that the path is attached to, or else under none. Asked by a
 /// profile in force, by its own rules, or those of its child or hat: `Deny` where a deny rule with `x` applies; what its mode says, `Refuse` or
-/// `Complain`, where no allow rule with an exec word does; `Refuse` where those that dominate lead to different places; else where they lead. A
-/// disabled profile is never gone to. `owned` says whether the task's user owns the file. What it answers is said of the filled slots in their
-/// order, and a profile that it tells is in a filled one.
+/// `Complain`, where no allow rule with an exec word does; else where the first of those leads that dominate. The rules of a profile that was made
+/// ready agree ([`Ready::rules_agree`]), and of such rules all that dominate have one transition (`where_agreeing_rules_lead` of
+/// `aa_decide_exec_rules`). A disabled profile is never gone to. `owned` says whether the task's user owns the file. What it answers is said of the
+/// filled slots in their order, and a profile that it tells is in a filled one.
 ///
 /// # Errors
 ///

@@ -1,17 +1,22 @@
 //! What holds of attachment and of the start of programs, as laws over the definitions that `attach` and `exec` are proved to follow.
 
-ghost use Rattle.std.specs.Prelude.{◌≡◌, ◌↔◌, ℕ, Bool, List, Option, Some, true};
+ghost use Rattle.std.specs.Prelude.{◌≡◌, ◌<◌, ◌^◌, ◌↔◌, ℕ, Bool, List, Option, Some, true};
+ghost use Rattle.std.specs.List.{All};
 ghost use Rattle.aa_profile_access.specs.Access.{EXEC};
 ghost use Rattle.aa_decide.specs.Attachment.{attached};
 ghost use Rattle.aa_decide_verdict.specs.Confinement.{By, in_state};
 ghost use Rattle.aa_decide_verdict.specs.Entries.{Loaded, is_in_force};
 ghost use Rattle.aa_decide.specs.Exec.{Asker, Under, exec_answer};
 ghost use Rattle.aa_decide.specs.ExecLaws.{DifferInOrder, FitsBest, HaveDistinctNames, SomeRuleDenies};
+ghost use Rattle.aa_decide_exec_rules.specs.Laws.{RulesLeadOneWay};
+ghost use Rattle.aa_decide_verdict.specs.Ready.{rules_at};
 ghost use Rattle.aa_decide_audit.specs.declared.verdict.Answer.TheVariants.{Deny};
 ghost use Rattle.aa_profile_data.specs.declared.profile.Mode.{Mode};
 ghost use Rattle.aa_profile_data.specs.declared.profile.Profile.{Profile};
 
 use aa_decide_attachment::which_rank_stands_out;
+use aa_decide_exec_rules::where_agreeing_rules_lead;
+use aa_decide_verdict::Ready;
 
 /// A program never runs under a disabled profile, nor under a child or hat of one. Of profiles of different names a path is attached to one exactly
 /// where this has an attachment that matches and ranks above all others. The order of the profiles changes neither that nor any answer. A
@@ -37,4 +42,13 @@ pub fn where_programs_run()
         → (exec_answer entries asker owned path).verdict.mask.0 ≡ EXEC }
 {
     which_rank_stands_out();
+}
+
+/// Of the rules of a profile that is ready, or of its child or hat at a place, those that dominate on a path have one transition: where the first of
+/// them leads, all lead. A path is a list of bytes.
+pub fn where_the_rules_lead(ready: &Ready, child: Option<usize>)
+    ensures { (flag owned : Bool) (path : List ℕ) → All (λ b. b < 2 ^ 8) path → RulesLeadOneWay flag owned path (rules_at ready.now child) }
+{
+    where_agreeing_rules_lead();
+    ready.rules_agree(child);
 }

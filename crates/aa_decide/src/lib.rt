@@ -11,5 +11,5 @@ pub use aa_decide_verdict::{Confinement, Entry, Ready, State, Steps, what_rules_
 pub use aa_profile_access::Request;
 pub use attachment::attach;
 pub use execution::exec;
-pub use laws::where_programs_run;
+pub use laws::{where_programs_run, where_the_rules_lead};
 pub use slots::{Who, entry_at, find_named};

@@ -1,1 +1,2 @@
+pub mod AgreementLemmas
 pub mod SaidLemmas

@@ -23,7 +23,7 @@ said-unmatched flag owned path (Net rule) m = refl
 said-unmatched flag owned path (Other rule) m = refl
 
 -- what a rule says, before what the others do
-abbrev said-before : Option ExecRule → List ExecRule → List ExecRule
+abbrev pub said-before : Option ExecRule → List ExecRule → List ExecRule
 said-before None rules = rules
 said-before (Some said) rules = said ∷ rules
 
@@ -34,7 +34,8 @@ owned-before flag owned rule rules = by (said_if_owned flag owned rule)
     by None = refl
     by (Some said) = refl
 
-exec-before : (flag owned : Bool) (path : List ℕ) (rule : Rule) (rules : List Rule)
+-- what a rule says of a path, before what the others do
+pub exec-before : (flag owned : Bool) (path : List ℕ) (rule : Rule) (rules : List Rule)
     → said-before (said_of flag owned path rule) (exec_rules flag owned path rules) ≡ exec_rules flag owned path (rule ∷ rules)
 exec-before flag owned path rule rules = by (said_of flag owned path rule)
   where

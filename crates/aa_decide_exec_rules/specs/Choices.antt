@@ -2,30 +2,16 @@
 use Rattle.std.specs.Prelude.{◌≡◌, ℕ, Bool, true, false, not, ◌&&◌, ◌||◌, if◌then◌else◌, List, [], ◌∷◌, Option, None, Some}
 use Rattle.std.specs.List.{list_any}
 use Rattle.std.specs.List.Sorted.{IsStrictlyIncreasing}
-use Rattle.std.specs.Str.{bytes_eq}
-use Rattle.aa_profile_access.specs.ExecWords.{same_word}
 use Rattle.aa_profile_data.specs.declared.profile.Rule.{Rule}
 use Rattle.aa_profile_data.specs.declared.profile.Transition.{Transition}
 use Rattle.aa_profile_data.specs.Matching.{AreMatchingRules}
 use Rattle.aa_decide_exec_rules.specs.ExecRules.{Denying, ExecRule, Leading, exec_rules}
 
--- What rules say together: that it is denied; nothing; different things; or where it leads.
+-- What rules say together: that it is denied; nothing; or where it leads.
 pub data Choice : Type 0 where
   Denied : (audited : Bool) → Choice
   Missing : Choice
-  Clashing : Choice
   Leads : (transition : Transition) (audited : Bool) → Choice
-
--- two transitions name the same target, or both none
-abbrev pub same_target : Option (List ℕ) → Option (List ℕ) → Bool
-same_target None None = true
-same_target (Some one) (Some other) = bytes_eq one other
-same_target None (Some other) = false
-same_target (Some one) None = false
-
--- two transitions have the same exec word and target
-abbrev pub same_transition : Transition → Transition → Bool
-same_transition one other = same_word one.word other.word && same_target one.target other.target
 
 abbrev pub denies : ExecRule → Bool
 denies (Denying audited) = true
@@ -49,22 +35,17 @@ abbrev pub leads_aloud : Bool → ExecRule → Bool
 leads_aloud some_exact (Denying audited) = false
 leads_aloud some_exact (Leading transition exact audited) = audited && (exact || not some_exact)
 
--- a rule that dominates leads to another place than a transition
-abbrev pub leads_elsewhere : Bool → Transition → ExecRule → Bool
-leads_elsewhere some_exact first (Denying audited) = false
-leads_elsewhere some_exact first (Leading transition exact audited) = (exact || not some_exact) && not (same_transition first transition)
-
 -- where the first rule that dominates leads
 abbrev pub first_lead : Bool → List ExecRule → Option Transition
 first_lead some_exact [] = None
 first_lead some_exact (Denying audited ∷ rules) = first_lead some_exact rules
 first_lead some_exact (Leading transition exact audited ∷ rules) = if exact || not some_exact then Some transition else first_lead some_exact rules
 
--- Where rules lead of which none denies: where the rules that dominate do, if all of them lead to one place.
+-- Where rules lead of which none denies: where the first rule that dominates does. In rules that agree all of these lead to one place (LeadOneWay).
 abbrev pub chosen : Bool → List ExecRule → Choice
 chosen some_exact rules = elim (first_lead some_exact rules) [
   | None ↦ Missing
-  | Some first ↦ if list_any (leads_elsewhere some_exact first) rules then Clashing else Leads first (list_any (leads_aloud some_exact) rules)
+  | Some first ↦ Leads first (list_any (leads_aloud some_exact) rules)
 ]
 
 -- A rule that denies decides before all others.

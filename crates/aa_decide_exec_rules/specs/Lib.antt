@@ -1,4 +1,5 @@
 pub mod Choices
 pub mod ExecRules
+pub mod Laws
 pub mod SeenChoices
 pub mod code

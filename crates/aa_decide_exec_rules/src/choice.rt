@@ -3,13 +3,12 @@
 ghost use Rattle.std.specs.Prelude.{◌≡◌, IfOk};
 ghost use Rattle.std.specs.List.{list_any};
 ghost use Rattle.std.specs.Option.{option_map};
-ghost use Rattle.aa_decide_exec_rules.specs.Choices.{IsChoiceFor, chosen, choice_of, denies, denies_aloud, dominates, first_lead, is_exact_lead, leads_aloud, leads_elsewhere, same_target, same_transition};
+ghost use Rattle.aa_decide_exec_rules.specs.Choices.{IsChoiceFor, chosen, choice_of, denies, denies_aloud, dominates, first_lead, is_exact_lead, leads_aloud};
 ghost use Rattle.aa_decide_exec_rules.specs.SeenChoices.{seen_choice};
 ghost use Rattle.aa_decide_exec_rules.specs.code.SeenRules.{seen_rule, seen_rules};
 
 use crate::exec_rules::{ExecRule, exec_rules};
 use aa_profile_data::{Rule, Transition, which_rules_match};
-use aa_shared_bytes::SharedBytes;
 use std::alloc::{AllocError, Global};
 
 /// What rules say together of a program that is started.
@@ -22,8 +21,6 @@ pub enum ExecChoice<'a> {
     },
     /// No rule speaks of it.
     Missing,
-    /// The rules that dominate lead to different places.
-    Clashing,
     /// It leads somewhere.
     Leading {
         /// Where it leads.
@@ -31,24 +28,6 @@ pub enum ExecChoice<'a> {
         /// Whether it is logged: one of the rules that dominate is audited.
         audited: bool,
     },
-}
-
-// Whether two transitions name the same target, or both none.
-fn same_target(one: &Option<SharedBytes>, other: &Option<SharedBytes>) -> bool
-    ensures { result ≡ same_target one.now other.now }
-{
-    match (one, other) {
-        (None, None) => true,
-        (Some(one), Some(other)) => one.as_slice() == other.as_slice(),
-        _ => false,
-    }
-}
-
-// Whether two transitions have the same exec word and target.
-fn same_transition(one: &Transition, other: &Transition) -> bool
-    ensures { result ≡ same_transition one.now other.now }
-{
-    one.word.is_same(other.word) && same_target(&one.target, &other.target)
 }
 
 impl ExecRule<'_> {
@@ -95,18 +74,6 @@ impl ExecRule<'_> {
         match self {
             ExecRule::Denying { .. } => false,
             ExecRule::Leading { audited, .. } => audited && self.dominates(some_exact),
-        }
-    }
-
-    // Whether a rule that dominates leads to another place than a transition.
-    fn leads_elsewhere(self, some_exact: bool, first: &Transition) -> bool
-        ensures { result ≡ leads_elsewhere some_exact first.now (seen_rule self.entry) }
-    {
-        match self {
-            ExecRule::Denying { .. } => false,
-            ExecRule::Leading { transition, .. } => {
-                self.dominates(some_exact) && !same_transition(first, transition)
-            }
         }
     }
 }
@@ -164,19 +131,6 @@ fn some_leads_aloud(some_exact: bool, rules: &[ExecRule<'_>]) -> bool
     false
 }
 
-fn some_leads_elsewhere(some_exact: bool, first: &Transition, rules: &[ExecRule<'_>]) -> bool
-    ensures { result ≡ list_any (leads_elsewhere some_exact first.now) (seen_rules rules.now) }
-{
-    let mut rest = rules;
-    while let [rule, behind @ ..] = rest {
-        if rule.leads_elsewhere(some_exact, first) {
-            return true;
-        }
-        rest = behind;
-    }
-    false
-}
-
 // Where the first rule that dominates leads.
 fn first_lead<'a>(some_exact: bool, rules: &[ExecRule<'a>]) -> Option<&'a Transition>
     ensures { option_map (λ transition. transition.now) result ≡ first_lead some_exact (seen_rules rules.now) }
@@ -200,9 +154,6 @@ fn chosen<'a>(some_exact: bool, rules: &[ExecRule<'a>]) -> ExecChoice<'a>
     let Some(transition) = first_lead(some_exact, rules) else {
         return ExecChoice::Missing;
     };
-    if some_leads_elsewhere(some_exact, transition, rules) {
-        return ExecChoice::Clashing;
-    }
     ExecChoice::Leading {
         transition,
         audited: some_leads_aloud(some_exact, rules),
@@ -224,7 +175,8 @@ fn choice_of<'a>(rules: &[ExecRule<'a>]) -> ExecChoice<'a>
 
 /// What rules say together of the start of the program of a path (docs/policy.md, "Exec and attachment"): that it is denied, as soon as one deny rule
 /// with `x` applies; that no rule speaks of it; or where it leads. Of the rules that lead somewhere those with an exact pattern dominate the
-/// others, and they have to agree in exec word and target. `flag` says whether each of the rules is audited, whatever its own words are: that
+/// others, and it leads where the first that dominates does; in rules that agree all of them have one transition
+/// ([`where_agreeing_rules_lead`](crate::where_agreeing_rules_lead)). `flag` says whether each of the rules is audited, whatever its own words are: that
 /// is the flag of their profile. `owned` says whether the task's user owns the file. `places` are the places of the rules on files whose pattern
 /// matches the path, in rising order; it goes over these alone.
 ///

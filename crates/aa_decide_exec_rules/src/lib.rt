@@ -3,5 +3,7 @@
 
 mod choice;
 mod exec_rules;
+mod laws;
 
 pub use choice::{ExecChoice, exec_choice};
+pub use laws::where_agreeing_rules_lead;

@@ -1,3 +1,4 @@
+pub mod AgreementLemmas
 pub mod FoundLemmas
 pub mod PartLemmas
 pub mod VerdictLemmas

@@ -1,10 +1,13 @@
 //! Profiles that requests are decided by.
 
 ghost use Rattle.std.specs.Prelude.{◌≡◌, true, IfOk, MatchOption, OnErr};
+ghost use Rattle.std.specs.List.{All};
 ghost use Rattle.std.specs.List.Sorted.{IsStrictlyIncreasing};
 ghost use Rattle.aa_glob_syntax.specs.Patterns.{AreMatching};
 ghost use Rattle.aa_glob_prefixes.specs.Beginnings.{HasStates};
 ghost use Rattle.aa_decide_verdict.specs.Visits.{AreFewStates, AreStepsOf, AreVisitsOf, attachments_at};
+ghost use Rattle.aa_profile_data.specs.ConflictLaws.{HasReadPattern};
+ghost use Rattle.aa_profile_data.specs.Conflicts.{agree, profile_agrees};
 ghost use Rattle.aa_profile_data.specs.FileRules.{file_patterns};
 ghost use Rattle.aa_profile_data.specs.Matching.{AreMatchingRules};
 ghost use Rattle.aa_decide_verdict.specs.Ready.{audits, decided, rules_at};
@@ -24,7 +27,7 @@ use aa_profile_data::{Mode, Profile, Rule, which_rules_match};
 use std::alloc::{AllocError, Global};
 use std::marker::Model;
 
-/// A profile that requests are decided by. Contracts see the profile alone.
+/// A profile that requests are decided by, no two rules of which conflict, nor any two of a child or hat of it. Contracts see the profile alone.
 #[derive(Debug, Drop)]
 pub struct Ready {
     /// The profile.
@@ -36,6 +39,8 @@ pub struct Ready {
 }
 
 impl Model for Ready {
+    ghost use Rattle.std.specs.Prelude.{IsTrue};
+    ghost use Rattle.aa_profile_data.specs.Conflicts.{profile_agrees};
     ghost use Rattle.aa_profile_data.specs.declared.profile.Profile.{Profile};
 
     ghost Value = { Profile };
@@ -44,16 +49,18 @@ impl Model for Ready {
 
     ghost use Rattle.aa_decide_verdict.specs.code.Parts.{ArePartsOf, IsPartOf};
 
-    ghost invariant = { λ r. IsPartOf r.own r.profile.rules r.profile.attachments × ArePartsOf r.parts r.profile.children };
+    ghost invariant = { λ r. IsPartOf r.own r.profile.rules r.profile.attachments × ArePartsOf r.parts r.profile.children × IsTrue (profile_agrees r.profile) };
 }
 
 impl Ready {
-    /// A profile, made ready: an automaton is made of the patterns of its file rules, one of its attachments, and such of each child and hat.
+    /// A profile whose rules agree, made ready: an automaton is made of the patterns of its file rules, one of its attachments, and such of each child and
+    /// hat.
     ///
     /// # Errors
     ///
     /// Where memory runs out. The profile is dropped then.
     pub fn build(alloc: Global, profile: Profile) -> Result<Ready, AllocError>
+        requires { profile_agrees profile ≡ true }
         ensures { IfOk result (λ ready. ready ≡ profile) }
     {
         let own = Part::build(
@@ -67,6 +74,16 @@ impl Ready {
             own,
             parts: Sequence::from_vec(parts),
         })
+    }
+
+    /// Of the rules by which the profile decides, or its child or hat at a place, no two conflict, and the pattern of each on files reads (docs/policy.md,
+    /// "Rules that conflict").
+    pub fn rules_agree(&self, child: Option<usize>)
+        ensures agree { agree (rules_at self.now child) ≡ true }
+        ensures read { All HasReadPattern (rules_at self.now child) }
+    {
+        let _profile = &self.profile;
+        let _part = self.part_at(child);
     }
 
     /// An equal one, whose automata are copied.

@@ -1,7 +1,10 @@
+pub mod AgreeLemmas
 pub mod AssignmentLemmas
+pub mod ConflictLemmas
 pub mod GrammarLemmas
 pub mod NameLemmas
 pub mod NumberLemmas
 pub mod PatternLemmas
 pub mod ProfileLemmas
+pub mod ReadLemmas
 pub mod ReadingLemmas

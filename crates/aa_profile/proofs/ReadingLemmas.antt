@@ -1,35 +1,58 @@
 -- The profiles that a file's reading gives.
-use Rattle.std.proofs.Common.{◌≡◌, subst, map, refl, Option, None, Some, Result, Ok, Err, Vec, List, ℕ}
+use Rattle.std.proofs.Common.{◌≡◌, subst, map, refl, true, Option, None, Some, Result, Ok, Err, Vec, List, ℕ}
+use Rattle.std.specs.List.{list_all}
 use Rattle.std.specs.Prelude.{IfOk}
 use Rattle.aa_text_files.specs.Files.{File as HandedIn}
 use Rattle.aa_profile_grammar.specs.Files.{File, file}
 use Rattle.aa_profile_parsing.specs.declared.grammar_error.GrammarError.{GrammarError}
+use Rattle.aa_profile_data.specs.Conflicts.{profile_agrees}
 use Rattle.aa_profile_data.specs.declared.profile.Profile.{Profile}
 use Rattle.aa_profile.specs.Assignments.{variables_of}
-use Rattle.aa_profile.specs.FileReading.{file_profiles, profiles_in, profiles_of, profiles_with, refusal_of_patterns}
+use Rattle.aa_profile.specs.Conflicts.{conflict_in_profiles, refusal_of_conflicts}
+use Rattle.aa_profile.specs.FileReading.{file_profiles, profiles_in, profiles_of, profiles_with, refusal_of_patterns, refusal_of_rules}
 use Rattle.aa_profile.specs.PatternTokens.{of_profiles}
 use Rattle.aa_profile.specs.Profiles.{profile_of}
 use Rattle.aa_profile_errors.specs.declared.profile_error.ProfileError.{ProfileError}
 use Rattle.aa_profile_errors.specs.ProfileError.{error_of_grammar, refusal_of_text}
 use Rattle.aa_text_splicing.specs.Splicing.{Fault, Placed, spliced}
 use Rattle.aa_text_variables.specs.Variables.{Variable}
+use Rattle.aa_profile.proofs.ConflictLemmas.{profiles-free}
 
--- what holds of the profiles that a file's tokens make, whatever its variables are, holds of those that its reading gives
-module _ (Fit : List Profile → Type 0) (fit : (variables : List Variable) (tokens : List Placed) (written : File) → file tokens ≡ Ok written → Fit (map (profile_of variables) written.profiles)) where
+-- the rules of each profile agree
+abbrev pub AllAgree : List Profile → Type 0
+AllAgree profiles = list_all profile_agrees profiles ≡ true
+
+-- where no rule is refused, they do
+pub read-agree : (variables : List Variable) (tokens : List Placed) (written : File) → file tokens ≡ Ok written → refusal_of_rules variables written.profiles ≡ None
+    → AllAgree (map (profile_of variables) written.profiles)
+read-agree variables tokens written is fine = by (refusal_of_patterns variables (of_profiles written.profiles)) refl
+  where
+    within : (found : Option Placed) → conflict_in_profiles variables written.profiles ≡ found → refusal_of_conflicts variables written.profiles ≡ None
+        → AllAgree (map (profile_of variables) written.profiles)
+    within None e none = profiles-free variables written.profiles e
+    within (Some pattern) e none = let wrong = rw (refusal_of_conflicts, e) at none in absurd (cc)
+
+    by : (refusal : Option ProfileError) → refusal_of_patterns variables (of_profiles written.profiles) ≡ refusal → AllAgree (map (profile_of variables) written.profiles)
+    by (Some refusal) e = let wrong : Some refusal ≡ None = rw (refusal_of_rules, e) at fine in absurd (cc)
+    by None e = within (conflict_in_profiles variables written.profiles) refl (rw (refusal_of_rules, e) at fine)
+
+-- what holds of the profiles that a file's tokens make with variables by which no rule of them is refused holds of those that its reading gives
+module _ (Fit : List Profile → Type 0) (fit : (variables : List Variable) (tokens : List Placed) (written : File) → file tokens ≡ Ok written → refusal_of_rules variables written.profiles ≡ None
+    → Fit (map (profile_of variables) written.profiles)) where
   fit-profiles : (tokens : List Placed) (written : File) (profiles : List Profile) → file tokens ≡ Ok written → profiles_in written ≡ Ok profiles → Fit profiles
   fit-profiles tokens written profiles is h = by (variables_of written.assignments (of_profiles written.profiles)) refl
     where
-      within : (variables : List Variable) (refusal : Option ProfileError) → refusal_of_patterns variables (of_profiles written.profiles) ≡ refusal → profiles_with variables written ≡ Ok profiles
+      within : (variables : List Variable) (refusal : Option ProfileError) → refusal_of_rules variables written.profiles ≡ refusal → profiles_with variables written ≡ Ok profiles
           → Fit profiles
       within variables (Some refusal) e told = let wrong : Err refusal ≡ Ok profiles = rw (profiles_with, e) at told in absurd (cc)
       within variables None e told =
           let there : Ok (map (profile_of variables) written.profiles) ≡ Ok profiles = rw (profiles_with, e) at told in
           let same : map (profile_of variables) written.profiles ≡ profiles = cc in
-          subst Fit same (fit variables tokens written is)
+          subst Fit same (fit variables tokens written is e)
 
       by : (variables : Result (List Variable) ProfileError) → variables_of written.assignments (of_profiles written.profiles) ≡ variables → Fit profiles
       by (Err refusal) e = let wrong : Err refusal ≡ Ok profiles = rw (profiles_in, e) at h in absurd (cc)
-      by (Ok variables) e = within variables (refusal_of_patterns variables (of_profiles written.profiles)) refl (rw (profiles_in, e) at h)
+      by (Ok variables) e = within variables (refusal_of_rules variables written.profiles) refl (rw (profiles_in, e) at h)
 
   pub fit-told : {A E : Type 0} (tokens : List Placed) (written : File) (result : Result (Vec Profile A) E) → file tokens ≡ Ok written
       → IfOk result (λ profiles. profiles_in written ≡ Ok profiles.items) → IfOk result (λ profiles. Fit profiles.items)

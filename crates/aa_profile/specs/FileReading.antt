@@ -1,12 +1,14 @@
 -- Reading a profile's file, in phases each of which goes over the whole file: its text, its grammar, its variables, how many patterns it
--- makes, and these patterns (docs/policy.md, "Files"). The first phase that refuses decides.
+-- makes, these patterns, and conflicts of the rules that they make (docs/policy.md, "Files"). The first phase that refuses decides.
 use Rattle.std.specs.Prelude.{ℕ, List, map, Option, None, Some, Result, Ok, Err}
 use Rattle.aa_text_files.specs.Files.{File as HandedIn}
+use Rattle.aa_profile_grammar.specs.Blocks.{Profile as WrittenProfile}
 use Rattle.aa_profile_grammar.specs.Files.{File, file}
 use Rattle.aa_text_splicing.specs.Splicing.{Placed, spliced}
 use Rattle.aa_text_variables.specs.Variables.{Variable}
 use Rattle.aa_profile_data.specs.declared.profile.Profile.{Profile}
 use Rattle.aa_profile.specs.Assignments.{variables_of}
+use Rattle.aa_profile.specs.Conflicts.{refusal_of_conflicts}
 use Rattle.aa_profile.specs.PatternTokens.{of_profiles}
 use Rattle.aa_profile.specs.Patterns.{first_bad, over_limit}
 use Rattle.aa_profile_errors.specs.ProfileError.{error_of_grammar, refusal_of_text}
@@ -17,9 +19,16 @@ use Rattle.aa_profile_errors.specs.declared.profile_error.ProfileError.{ProfileE
 abbrev pub refusal_of_patterns : List Variable → List Placed → Option ProfileError
 refusal_of_patterns variables patterns = elim (over_limit variables patterns) [ Some refusal ↦ Some refusal | None ↦ first_bad variables patterns ]
 
+-- the refusal of a file's rules: some of its patterns can't be, or make rules that conflict
+abbrev pub refusal_of_rules : List Variable → List WrittenProfile → Option ProfileError
+refusal_of_rules variables profiles = elim (refusal_of_patterns variables (of_profiles profiles)) [
+  | Some refusal ↦ Some refusal
+  | None ↦ refusal_of_conflicts variables profiles
+]
+
 -- the profiles of a file, with its variables
 abbrev pub profiles_with : List Variable → File → Result (List Profile) ProfileError
-profiles_with variables file = elim (refusal_of_patterns variables (of_profiles file.profiles)) [
+profiles_with variables file = elim (refusal_of_rules variables file.profiles) [
   | Some refusal ↦ Err refusal
   | None ↦ Ok (map (profile_of variables) file.profiles)
 ]

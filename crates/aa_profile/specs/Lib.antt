@@ -1,5 +1,7 @@
 pub mod Assignments
+pub mod Conflicts
 pub mod FileReading
+pub mod Laws
 pub mod Limits
 pub mod PatternTokens
 pub mod Patterns

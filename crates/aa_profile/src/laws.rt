@@ -3,10 +3,14 @@
 ghost use Rattle.std.specs.Prelude.{◌≡◌, ℕ, List, IfOk, true};
 ghost use Rattle.std.specs.List.{list_all};
 ghost use Rattle.aa_text_files.specs.Files.{File};
+ghost use Rattle.aa_profile_data.specs.Conflicts.{profile_agrees};
 ghost use Rattle.aa_profile_data.specs.Numbers.{profile_has_known_numbers};
 ghost use Rattle.aa_profile_data.specs.Profile.{are_distinct};
 ghost use Rattle.aa_profile.specs.FileReading.{file_profiles};
+ghost use Rattle.aa_profile.specs.Laws.{ConflictsAreRefused};
 ghost use Rattle.aa_profile.specs.ProfileNames.{has_distinct_children, is_named_well};
+
+use aa_profile_data::how_conflicts_are_tested;
 
 /// No two profiles of a file have one name. Each profile has a name as the grammar says, and so have its children and hats. No two children or
 /// hats of a profile have one name.
@@ -26,4 +30,18 @@ pub fn which_numbers_rules_have()
         → IfOk (file_profiles files name) (λ profiles. list_all profile_has_known_numbers profiles ≡ true) }
 {
     aa_profile_rules::which_numbers_rules_have();
+}
+
+/// No two rules of a file's profiles conflict, nor do any of one of their children and hats.
+pub fn which_rules_agree()
+    ensures { (files : List File) (name : List ℕ)
+        → IfOk (file_profiles files name) (λ profiles. list_all profile_agrees profiles ≡ true) }
+{}
+
+/// Where all patterns of a file's profiles can be made and read, it is refused for a conflict exactly where two rules of one of its profiles, children
+/// or hats conflict: they lead to different places, both by exact patterns or both by others, and some path matches both.
+pub fn when_conflicts_are_refused()
+    ensures { ConflictsAreRefused }
+{
+    how_conflicts_are_tested();
 }

@@ -2,6 +2,7 @@
 #![tactic(auto)]
 
 mod assignments;
+mod conflicts;
 mod file_rules;
 mod kept_rules;
 mod laws;
@@ -15,6 +16,8 @@ pub use aa_profile_data::{
     CapRule, Child, FileRule, Mode, NetRule, OtherRule, Profile, Rule, Transition,
 };
 pub use aa_profile_errors::{ProfileError, ProfileRefusal};
-pub use laws::{how_profiles_are_named, which_numbers_rules_have};
+pub use laws::{
+    how_profiles_are_named, when_conflicts_are_refused, which_numbers_rules_have, which_rules_agree,
+};
 pub use patterns::MOST_RULES;
 pub use reading::read_file;

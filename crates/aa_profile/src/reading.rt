@@ -4,6 +4,7 @@ ghost use Rattle.std.specs.Prelude.{◌≡◌, ◌≢◌, Ok, Err, IfOk, IfErr, 
 ghost use Rattle.std.specs.List.{list_all, list_any};
 ghost use Rattle.aa_profile_grammar.specs.SeenFiles.{seen_assignment, seen_file, seen_profile};
 ghost use Rattle.aa_profile_parsing.specs.SeenTokens.{seen_tokens};
+ghost use Rattle.aa_profile_data.specs.Conflicts.{profile_agrees};
 ghost use Rattle.aa_profile_data.specs.Numbers.{profile_has_known_numbers};
 ghost use Rattle.aa_profile_data.specs.Profile.{are_distinct};
 ghost use Rattle.aa_profile.specs.FileReading.{file_profiles, profiles_in, profiles_with};
@@ -14,6 +15,7 @@ ghost use Rattle.aa_profile.specs.ProfileNames.{has_distinct_children, is_named_
 ghost use Rattle.aa_profile_errors.specs.declared.profile_error.ProfileRefusal.TheVariants.{Memory};
 
 use crate::assignments::read_variables;
+use crate::conflicts::check_conflicts;
 use crate::pattern_tokens::pattern_tokens;
 use crate::patterns::check_limit;
 use crate::profiles::read_profiles;
@@ -40,7 +42,9 @@ fn read_with(
 {
     let mut table = ExpansionTable::new(alloc, variables);
     check_limit(&mut table, patterns)?;
-    read_profiles(alloc, &mut table, &file.profiles)
+    let profiles = read_profiles(alloc, &mut table, &file.profiles)?;
+    check_conflicts(alloc, &mut table, &file.profiles, &profiles)?;
+    Ok(profiles)
 }
 
 // The profiles of a file as it is written.
@@ -68,6 +72,8 @@ fn read_written(alloc: Global, file: &File<'_>) -> Result<Vec<Profile>, ProfileE
 /// - `TooManyRules`, at the attachment or pattern with which the file has more than 16,384, each expansion counted; the word `file` alone is one.
 /// - As `Pattern::read` refuses the first expansion that is no pattern, once its runs of slashes are collapsed; `TooLong` goes by the
 ///   bytes before that. It is told at the attachment or pattern.
+/// - `ExecConflict`, at the first pattern that makes a rule which conflicts with one before it in its profile, child or hat: two allow rules lead
+///   a program to different places, both by exact patterns or both by others, and some path matches both.
 /// - `Memory`, without a place: memory ran out.
 pub fn read_file(alloc: Global, files: &Files, name: &[u8]) -> Result<Vec<Profile>, ProfileError>
     ensures ok { IfOk result (λ profiles. file_profiles files.now name.now ≡ Ok profiles.items) }
@@ -75,6 +81,7 @@ pub fn read_file(alloc: Global, files: &Files, name: &[u8]) -> Result<Vec<Profil
     ensures named { IfOk result (λ profiles. list_all is_named_well profiles.items ≡ true) }
     ensures children { IfOk result (λ profiles. list_all has_distinct_children profiles.items ≡ true) }
     ensures numbers { IfOk result (λ profiles. list_all profile_has_known_numbers profiles.items ≡ true) }
+    ensures agree { IfOk result (λ profiles. list_all profile_agrees profiles.items ≡ true) }
     ensures refused { IsRefusalOf (file_profiles files.now name.now) result }
 {
     which_numbers_rules_have();

@@ -98,7 +98,8 @@ impl Manager {
     /// - `Redefined` and `AppendUndefined` at the assignment, then `Undefined` at the token that names the variable, then `Cycle` at the
     ///   variable's first assignment;
     /// - `TooManyRules` at the pattern with which the file has more than 16,384, each expansion counted;
-    /// - the refusal of the first expansion that is no pattern (`NotAbsolute` to `TooDeep`), at its pattern.
+    /// - the refusal of the first expansion that is no pattern (`NotAbsolute` to `TooDeep`), at its pattern;
+    /// - `ExecConflict` at the first pattern that makes a rule which conflicts with one before it in its profile, child or hat.
     ///
     /// Then `Exists`, without a place, where a profile of one of their names is loaded. `Memory`, without a place, may come anywhere: memory ran
     /// out. After each of these the policy set and its history are as they were.

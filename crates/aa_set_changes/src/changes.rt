@@ -1,8 +1,10 @@
 //! The changes that commands make of a policy set, each as the parts that it exchanges.
 
 ghost use Rattle.std.specs.Prelude.{◌≡◌, ◌≢◌, Ok, Err, IfOk, IfErr, length, true, false};
+ghost use Rattle.std.specs.List.{list_all};
 ghost use Rattle.aa_decide.specs.Named.{have_distinct_names};
 ghost use Rattle.aa_decide_verdict.specs.Slots.{filled};
+ghost use Rattle.aa_profile_data.specs.Conflicts.{profile_agrees};
 ghost use Rattle.aa_profile_data.specs.Profile.{are_distinct};
 ghost use Rattle.aa_set_changes.specs.Changes.{are_there, is_disabled, is_loaded, some_are_absent, some_are_disabled, with_added, with_disabled, with_mode, with_removed, with_replaced};
 ghost use Rattle.aa_set_commands.specs.Refusal.{plain};
@@ -19,8 +21,8 @@ use aa_set_commands::{Refusal, RefusalKind, plain};
 use aa_set_parts::{Exchange, Slots};
 use std::alloc::Global;
 
-/// The change that adds the profiles of a file, whose names are their own, at the end of a policy set: each in force in the modes of its own flags, or
-/// in complain mode where that is forced (docs/commands.md, "Changes"). It has a part for each profile. The slots stay as they are.
+/// The change that adds the profiles of a file, whose names are their own and whose rules agree, at the end of a policy set: each in force in the modes of
+/// its own flags, or in complain mode where that is forced (docs/commands.md, "Changes"). It has a part for each profile. The slots stay as they are.
 ///
 /// # Errors
 ///
@@ -31,7 +33,8 @@ pub fn adding(
     force_complain: bool,
     profiles: Vec<Profile>,
 ) -> Result<Exchange, Refusal>
-    requires { are_distinct profiles.items ≡ true }
+    requires own { are_distinct profiles.items ≡ true }
+    requires agree { list_all profile_agrees profiles.items ≡ true }
     ensures ok { IfOk result (λ exchange. with_added force_complain (filled slots.now) profiles.items ≡ Ok (filled (after slots.now exchange.parts))) }
     ensures parts { IfOk result (λ exchange. length exchange.parts ≡ length profiles.items) }
     ensures refused { IfErr result (λ refusal. refusal ≢ plain Memory → with_added force_complain (filled slots.now) profiles.items ≡ Err refusal) }
@@ -41,9 +44,9 @@ pub fn adding(
     Ok(loading(alloc, slots, forced(force_complain), profiles, &found)?)
 }
 
-/// The change that puts the profiles of a file, whose names are their own, in the places of those of their names, or at the end, in the file's order,
-/// where there is none: each in force in the modes of its own flags, or in complain mode where that is forced (docs/commands.md, "Changes"). It has a
-/// part for each profile. The slots stay as they are.
+/// The change that puts the profiles of a file, whose names are their own and whose rules agree, in the places of those of their names, or at the end, in
+/// the file's order, where there is none: each in force in the modes of its own flags, or in complain mode where that is forced (docs/commands.md,
+/// "Changes"). It has a part for each profile. The slots stay as they are.
 ///
 /// # Errors
 ///
@@ -54,7 +57,8 @@ pub fn replacing(
     force_complain: bool,
     profiles: Vec<Profile>,
 ) -> Result<Exchange, Refusal>
-    requires { are_distinct profiles.items ≡ true }
+    requires own { are_distinct profiles.items ≡ true }
+    requires agree { list_all profile_agrees profiles.items ≡ true }
     ensures ok { IfOk result (λ exchange. with_replaced force_complain (filled slots.now) profiles.items ≡ Ok (filled (after slots.now exchange.parts))) }
     ensures parts { IfOk result (λ exchange. length exchange.parts ≡ length profiles.items) }
     ensures refused { IfErr result (λ refusal. refusal ≢ plain Memory → with_replaced force_complain (filled slots.now) profiles.items ≡ Err refusal) }

@@ -1,9 +1,10 @@
 //! The parts that changes are made of.
 
 ghost use Rattle.std.specs.Prelude.{◌≡◌, ◌<◌, ◌≤◌, [], ◌∷◌, ◌++◌, length, true, false, IfOk, OnOk, Some, None, is_none};
-ghost use Rattle.std.specs.List.{list_any};
+ghost use Rattle.std.specs.List.{list_all, list_any};
 ghost use Rattle.aa_decide.specs.Named.{have_distinct_names};
 ghost use Rattle.aa_decide_verdict.specs.Slots.{filled};
+ghost use Rattle.aa_profile_data.specs.Conflicts.{profile_agrees};
 ghost use Rattle.aa_profile_data.specs.Profile.{are_distinct};
 ghost use Rattle.aa_set_changes.specs.Changes.{in_force, put_all, without};
 ghost use Rattle.aa_set_changes.specs.code.Places.{emptying, filling};
@@ -20,6 +21,7 @@ use std::alloc::{AllocError, Global};
 
 // How a profile is loaded: all in the mode that is set, or each in that of its own flags.
 fn loaded(alloc: Global, set: Option<Mode>, profile: Profile) -> Result<Entry, AllocError>
+    requires { profile_agrees profile ≡ true }
     ensures { IfOk result (λ entry. entry ≡ in_force set profile) }
 {
     in_force(alloc, set, Ready::build(alloc, profile)?)
@@ -33,6 +35,7 @@ fn push_filling(
     profile: Profile,
     slot: usize,
 ) -> Result<(), AllocError>
+    requires { profile_agrees profile ≡ true }
     ensures { OnOk result (parts.new.items ≡ parts.old.items ++ filling set (profile ∷ []) (slot ∷ [])) }
 {
     let content = Content::Whole(Some(loaded(alloc, set, profile)?));
@@ -47,7 +50,8 @@ fn filling(
     profiles: Vec<Profile>,
     slots: &[usize],
 ) -> Result<Vec<Part>, AllocError>
-    requires { length slots.now ≡ length profiles.items }
+    requires each { length slots.now ≡ length profiles.items }
+    requires agree { list_all profile_agrees profiles.items ≡ true }
     ensures { IfOk result (λ parts. parts.items ≡ filling set profiles.items slots.now) }
 {
     let mut parts = Vec::with_capacity(alloc, slots.len())?;
@@ -73,6 +77,7 @@ pub fn loading(
     found: &[Option<usize>],
 ) -> Result<Exchange, AllocError>
     requires own { are_distinct profiles.items ≡ true }
+    requires agree { list_all profile_agrees profiles.items ≡ true }
     requires found { found.now ≡ slots_named profiles.items slots.now }
     ensures put { IfOk result (λ exchange. filled (after slots.now exchange.parts) ≡ put_all set (filled slots.now) profiles.items) }
     ensures parts { IfOk result (λ exchange. length exchange.parts ≡ length profiles.items) }

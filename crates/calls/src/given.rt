@@ -1,5 +1,10 @@
-//! Files that tests hand in.
+//! Files that tests hand in, and the profiles that they spell.
 
+ghost use Rattle.std.specs.Prelude.{◌≡◌, true, IfSome};
+ghost use Rattle.std.specs.List.{list_all};
+ghost use Rattle.aa_profile_data.specs.Conflicts.{profile_agrees};
+
+use aa_profile::{Profile, read_file};
 use aa_text::Files;
 use std::alloc::Global;
 
@@ -12,4 +17,20 @@ pub fn files(alloc: Global, given: &[(&[u8], &[u8])]) -> Option<Files> {
         files.insert(name, bytes).ok()?;
     }
     Some(files)
+}
+
+// The last of some profiles whose rules agree.
+fn last_of(profiles: Vec<Profile>) -> Option<Profile>
+    requires { list_all profile_agrees profiles.items ≡ true }
+    ensures { IfSome result (λ profile. profile_agrees profile ≡ true) }
+{
+    let mut profiles = profiles;
+    profiles.pop()
+}
+
+/// The last profile that a file spells, whose rules agree.
+pub fn last_profile(alloc: Global, files: &Files, name: &[u8]) -> Option<Profile>
+    ensures { IfSome result (λ profile. profile_agrees profile ≡ true) }
+{
+    last_of(read_file(alloc, files, name).ok()?)
 }

@@ -1,8 +1,8 @@
 //! How many visits a request takes that a pattern of many splits almost matches.
 
-use crate::given::files;
+use crate::given::{files, last_profile};
 use aa_decide::{Answer, Ready, Request, Steps};
-use aa_profile::{Mode, Perms, read_file};
+use aa_profile::{Mode, Perms};
 use std::alloc::Global;
 
 // A profile of which such a pattern is the one rule and the one attachment.
@@ -20,7 +20,7 @@ fn path_of(alloc: Global, letters: usize) -> Option<Vec<u8>> {
 // The profile, made ready.
 fn made_ready(alloc: Global) -> Option<Ready> {
     let files = files(alloc, &[(b"p", TEXT)])?;
-    let profile = read_file(alloc, &files, b"p").ok()?.pop()?;
+    let profile = last_profile(alloc, &files, b"p")?;
     Ready::build(alloc, profile).ok()
 }
 

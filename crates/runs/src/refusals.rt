@@ -42,7 +42,7 @@ const TEXT_REFUSALS: [TextRefusal; 11] = [
     TextRefusal::Memory,
 ];
 
-const REFUSAL_KINDS: [RefusalKind; 43] = [
+const REFUSAL_KINDS: [RefusalKind; 44] = [
     RefusalKind::NotAbsolute,
     RefusalKind::UnclosedClass,
     RefusalKind::EmptyClass,
@@ -79,6 +79,7 @@ const REFUSAL_KINDS: [RefusalKind; 43] = [
     RefusalKind::LateAssignment,
     RefusalKind::NoProfile,
     RefusalKind::BadName,
+    RefusalKind::ExecConflict,
     RefusalKind::Exists,
     RefusalKind::Absent,
     RefusalKind::NothingToUndo,

@@ -7,7 +7,6 @@ use Rattle.aa_decide_verdict.specs.Slots.{entry_at}
 use Rattle.aa_decide.specs.declared.execution.Asker.{Asker as FoundAsker}
 use Rattle.aa_decide_audit.specs.declared.exec_verdict.ExecTo.{ExecTo}
 use Rattle.aa_decide_audit.specs.declared.exec_verdict.ExecVerdict.{ExecVerdict}
-use Rattle.aa_decide.specs.declared.slots.Who.TheVariants as who
 use Rattle.aa_decide.specs.SeenExec.{seen_to, IsAnswer}
 
 -- who asks, as the code found

@@ -1,6 +1,9 @@
 //! Profiles: their reading, copies, and what they decide.
 
-use crate::given::files;
+ghost use Rattle.std.specs.Prelude.{◌≡◌, true, IfSome};
+ghost use Rattle.aa_profile_data.specs.Conflicts.{profile_agrees};
+
+use crate::given::{files, last_profile};
 use aa_decide::{Answer, Ready, Request, Steps, Tag};
 use aa_profile::{Mode, Perms, Profile, read_file};
 use std::alloc::Global;
@@ -13,9 +16,11 @@ pub fn letters_are_told(alloc: Global) -> Option<bool> {
     Some(text.as_slice() == b"file rwm".as_slice())
 }
 
-fn read(alloc: Global) -> Option<Profile> {
+fn read(alloc: Global) -> Option<Profile>
+    ensures { IfSome result (λ profile. profile_agrees profile ≡ true) }
+{
     let files = files(alloc, &[(b"web", TEXT)])?;
-    read_file(alloc, &files, b"web").ok()?.pop()
+    last_profile(alloc, &files, b"web")
 }
 
 fn is_web(profile: &Profile) -> bool {

@@ -7,7 +7,7 @@ use Rattle.aa_profile_data.specs.Numbers.{profile_has_known_numbers}
 use Rattle.aa_profile.proofs.GrammarLemmas.{assignments-valued}
 use Rattle.aa_profile.proofs.NameLemmas.{ProfilesFit, profiles-fit}
 use Rattle.aa_profile.proofs.NumberLemmas.{profiles-known}
-use Rattle.aa_profile.proofs.ReadingLemmas.{fit-told}
+use Rattle.aa_profile.proofs.ReadingLemmas.{AllAgree, fit-told, read-agree}
 use Rattle.aa_profile.proofs.reading.read_file.Goals as goal
 
 pub read_written-requires : goal.read_written-requires
@@ -15,16 +15,19 @@ read_written-requires c = assignments-valued (seen_tokens c.deref.result.now) (s
 
 pub returns-clause-distinct : goal.returns-clause-distinct
 returns-clause-distinct c =
-    IfOk-weaker c.read_written.result _ _ (λ profiles fit. fit.distinct) (fit-told ProfilesFit profiles-fit (seen_tokens c.deref.result.now) (seen_file c.in_ok-file.file) c.read_written.result c.in_ok-file.ensures.ok c.read_written.ensures.ok)
+    IfOk-weaker c.read_written.result _ _ (λ profiles fit. fit.distinct) (fit-told ProfilesFit (λ variables tokens written is fine. profiles-fit variables tokens written is) (seen_tokens c.deref.result.now) (seen_file c.in_ok-file.file) c.read_written.result c.in_ok-file.ensures.ok c.read_written.ensures.ok)
 
 pub returns-clause-named : goal.returns-clause-named
 returns-clause-named c =
-    IfOk-weaker c.read_written.result _ _ (λ profiles fit. fit.named) (fit-told ProfilesFit profiles-fit (seen_tokens c.deref.result.now) (seen_file c.in_ok-file.file) c.read_written.result c.in_ok-file.ensures.ok c.read_written.ensures.ok)
+    IfOk-weaker c.read_written.result _ _ (λ profiles fit. fit.named) (fit-told ProfilesFit (λ variables tokens written is fine. profiles-fit variables tokens written is) (seen_tokens c.deref.result.now) (seen_file c.in_ok-file.file) c.read_written.result c.in_ok-file.ensures.ok c.read_written.ensures.ok)
 
 pub returns-clause-children : goal.returns-clause-children
 returns-clause-children c =
-    IfOk-weaker c.read_written.result _ _ (λ profiles fit. fit.children) (fit-told ProfilesFit profiles-fit (seen_tokens c.deref.result.now) (seen_file c.in_ok-file.file) c.read_written.result c.in_ok-file.ensures.ok c.read_written.ensures.ok)
+    IfOk-weaker c.read_written.result _ _ (λ profiles fit. fit.children) (fit-told ProfilesFit (λ variables tokens written is fine. profiles-fit variables tokens written is) (seen_tokens c.deref.result.now) (seen_file c.in_ok-file.file) c.read_written.result c.in_ok-file.ensures.ok c.read_written.ensures.ok)
 
 pub returns-clause-numbers : goal.returns-clause-numbers
 returns-clause-numbers c =
-    fit-told (λ profiles. list_all profile_has_known_numbers profiles ≡ true) (profiles-known c.which_numbers_rules_have.ensures) (seen_tokens c.deref.result.now) (seen_file c.in_ok-file.file) c.read_written.result c.in_ok-file.ensures.ok c.read_written.ensures.ok
+    fit-told (λ profiles. list_all profile_has_known_numbers profiles ≡ true) (λ variables tokens written is fine. profiles-known c.which_numbers_rules_have.ensures variables tokens written is) (seen_tokens c.deref.result.now) (seen_file c.in_ok-file.file) c.read_written.result c.in_ok-file.ensures.ok c.read_written.ensures.ok
+
+pub returns-clause-agree : goal.returns-clause-agree
+returns-clause-agree c = fit-told AllAgree read-agree (seen_tokens c.deref.result.now) (seen_file c.in_ok-file.file) c.read_written.result c.in_ok-file.ensures.ok c.read_written.ensures.ok

@@ -12,8 +12,8 @@ places-requires c =
     let end = c.end-reach.ensures.small in
     omega arith
 
-pub filling-requires : goal.filling-requires
-filling-requires c =
+pub filling-requires-clause-each : goal.filling-requires-clause-each
+filling-requires-clause-each c =
     ap length c.deref.ensures.value
     ∙ length-placed c.args.profiles.items c.args.slots.now c.end-reach.result c.args.found.now c.in_ok-places.places.items c.requires.found c.in_ok-places.ensures.places
 

@@ -1,0 +1,19 @@
+use Rattle.std.proofs.Common.{arith, Some}
+use Rattle.aa_profile_rules.specs.SeenRules.{seen_rule}
+use Rattle.aa_profile.proofs.ConflictLemmas.{passes-behind, passes-here, passes-none}
+use Rattle.aa_profile.proofs.conflicts.pass.Goals as goal
+
+pub returns-in_default-clause-passes : goal.returns-in_default-clause-passes
+returns-in_default-clause-passes c = rw c.in_default.is (passes-none c.args.table.now (seen_rule c.args.rule.now))
+
+pub returns-then-many-made-clause-passes : goal.returns-then-many-made-clause-passes
+returns-then-many-made-clause-passes c =
+    let made = c.in_ok-made.ensures.made in
+    let less = c.if-many-made.true in
+    rw c.in-Some.is (passes-here c.args.table.now (seen_rule c.args.rule.now) c.in-Some.many (Some c.in-Some.many) c.pattern_of.result (omega arith) c.pattern_of.ensures)
+
+pub returns-clause-passes : goal.returns-clause-passes
+returns-clause-passes c =
+    let made = c.in_ok-made.ensures.made in
+    let more = c.if-many-made.false in
+    rw (c.in-Some.is, c.in_ok-made.ensures.made) (passes-behind c.args.table.now (seen_rule c.args.rule.now) c.in-Some.many (omega arith))
