@@ -1,6 +1,6 @@
 -- Patterns clash exactly where one text reaches the ends of both.
-use Rattle.std.proofs.Common.{◌≡◌, ◌↔◌, ℕ, zero, suc, ◌+◌, ◌<◌, ◌^◌, true, false, Bool, List, [], ◌∷◌, length, reverse, refl, sym, ap, ◌∙◌, subst, arith}
-use Rattle.std.specs.Prelude.{All, Contains, None, Ok, Option, Some, Decides, is_some, slice_get, slice_index_or}
+use Rattle.std.proofs.Common.{◌≡◌, ◌↔◌, ℕ, ◌<◌, ◌^◌, true, List, [], ◌∷◌, length, reverse, refl, sym, ap, ◌∙◌, subst, arith}
+use Rattle.std.specs.Prelude.{None, Ok, Option, Some, Decides, is_some, slice_get}
 use Rattle.std.proofs.lemmas.List.{get_or_default, reverse-append, reverse-reverse}
 use Rattle.std.proofs.lemmas.List.Elements.{All-append, All-cons, All-contains, All-head, All-nil, All-tail}
 use Rattle.std.proofs.lemmas.Option.{slice_get_within}
@@ -32,7 +32,8 @@ graph-laid g patterns graph = drawn-laid g graph.trails graph.drawn
 pub end-within : (g : Graph) (patterns : List (List ℕ)) → IsGraphOf g patterns → (q p : ℕ) → EndsAt g q p → p < length patterns
 end-within g patterns graph q p ends = let at = (graph.ends q p).0 ends in slice_get_within patterns p at.0 at.1
 
-bytes-reverse : (text : List ℕ) → AreBytes text → AreBytes (reverse text)
+-- a text that is turned around
+pub bytes-reverse : (text : List ℕ) → AreBytes text → AreBytes (reverse text)
 bytes-reverse [] bytes = bytes
 bytes-reverse (c ∷ text) bytes =
     subst (λ (l : List ℕ). AreBytes l) (sym (reverse-append (c ∷ []) text))

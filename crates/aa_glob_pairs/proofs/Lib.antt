@@ -1,3 +1,4 @@
+pub mod BelowLemmas
 pub mod ClashLemmas
 pub mod EndLemmas
 pub mod GainLemmas

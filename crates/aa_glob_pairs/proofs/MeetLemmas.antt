@@ -1,40 +1,35 @@
--- A pair of states is met exactly where one text reaches both.
-use Rattle.std.proofs.Common.{◌≡◌, ℕ, ◌^◌, ◌<◌, List, [], ◌∷◌, length, get_or, Some, refl, sym, ap, subst, inl, inr, arith}
+-- A pair of states is met exactly where one text reaches both, as far as that matters.
+use Rattle.std.proofs.Common.{◌≡◌, ◌⊎◌, ℕ, ◌^◌, ◌<◌, List, [], ◌∷◌, length, refl, sym, ap, subst, inl, inr, arith}
 use Rattle.std.proofs.lemmas.List.Elements.{All-cons, All-head, All-nil, All-tail}
-use Rattle.std.proofs.lemmas.Option.{slice_get-get_or}
-use Rattle.std.specs.Prelude.{slice_get}
-use Rattle.aa_glob_nfa.specs.Graphs.{AreBytes, begins, comes, Graph, Reaches, stays, takes, Takes, Stays}
-use Rattle.aa_glob_pairs.specs.Graphs.{AreMoves, AreNodesOf, Goes, GoesFreely, IsLaid, IsNodeOf, ReachTogether}
-use Rattle.aa_glob_pairs.specs.Nodes.{FollowsBy, goes, Met, start}
-use Rattle.aa_glob_pairs.specs.declared.moves.Moves.{Moves}
-use Rattle.aa_glob_pairs.specs.declared.nodes.Node.{Node}
+use Rattle.std.specs.Prelude.{slice_index_or}
+use Rattle.aa_glob_nfa.specs.Graphs.{AreBytes, begins, comes, Graph, Leads, Reaches, stays, takes, Takes, Stays}
+use Rattle.aa_glob_pairs.proofs.BelowLemmas.{clash-includes}
+use Rattle.aa_glob_pairs.specs.Below.{Includes}
+use Rattle.aa_glob_pairs.specs.Graphs.{AreBelow, Goes, GoesFreely, IsLaid, ReachTogether}
+use Rattle.aa_glob_pairs.specs.Pairs.{Classed, goes, GoTogether, MayClash, Met, start}
+use Rattle.aa_glob_pairs.specs.declared.below.Below.{Below}
+use Rattle.aa_glob_pairs.specs.declared.below.Below.TheVariants.{Nothing}
 
 -- a byte more
 went : (g : Graph) (c q x : ℕ) (past : List ℕ) → Reaches g past q → Goes g c q x → Reaches g (c ∷ past) x
 went g c q x past at (inl led) = takes at led.0 led.1
 went g c q x past at (inr stayed) = subst (λ s. Reaches g (c ∷ past) s) (sym stayed.0) (stays at stayed.1)
 
--- What follows from a pair that one text reaches is reached by one text.
-follow : (g : Graph) (q r x y : ℕ) (m o : Moves) → AreMoves g q m → AreMoves g r o → ReachTogether g q r → FollowsBy m o q r x y → ReachTogether g x y
-follow g q r x y m o one two at (inl free) =
-    let entered = (one.free x).0 free.0 in
-    (at.0, at.1, comes at.2 entered.0 entered.1, subst (λ s. Reaches g at.0 s) (sym free.1) at.3)
-follow g q r x y m o one two at (inr (inl free)) =
-    let entered = (two.free y).0 free.1 in
-    (at.0, at.1, subst (λ s. Reaches g at.0 s) (sym free.0) at.2, comes at.3 entered.0 entered.1)
-follow g q r x y m o one two at (inr (inr shared)) = (
+-- What comes of a pair that one text reaches is reached by one text.
+follow : (g : Graph) (q r x y : ℕ) → ReachTogether g q r → GoTogether g q r x y → ReachTogether g x y
+follow g q r x y at (inl free) = (at.0, at.1, comes at.2 free.0.0 free.0.1, subst (λ s. Reaches g at.0 s) (sym free.1) at.3)
+follow g q r x y at (inr (inl free)) = (at.0, at.1, subst (λ s. Reaches g at.0 s) (sym free.0) at.2, comes at.3 free.1.0 free.1.1)
+follow g q r x y at (inr (inr shared)) = (
   shared.0 ∷ at.0,
   All-cons (λ c. c < 2 ^ 8) shared.0 at.0 shared.1 at.1,
-  went g shared.0 q x at.0 at.2 ((one.steps shared.0 x shared.1).0 shared.2),
-  went g shared.0 r y at.0 at.3 ((two.steps shared.0 y shared.1).0 shared.3),
+  went g shared.0 q x at.0 at.2 shared.2,
+  went g shared.0 r y at.0 at.3 shared.3,
 )
 
 -- Each pair that is met is reached by one text.
-pub reached-met : (g : Graph) (classes : List ℕ) (nodes : List Node) → AreNodesOf g classes nodes → {q r : ℕ} → Met nodes q r → ReachTogether g q r
-reached-met g classes nodes are start = ([], All-nil (λ c. c < 2 ^ 8), begins, begins)
-reached-met g classes nodes are (goes {q = q} {r = r} {x = x} {y = y} at follows) =
-    follow g q r x y follows.0.moves follows.1.moves (are.each q follows.0 follows.2).moves (are.each r follows.1 follows.3).moves
-    (reached-met g classes nodes are at) follows.4
+pub reached-met : (g : Classed) → {q r : ℕ} → Met g q r → ReachTogether g.graph q r
+reached-met g start = ([], All-nil (λ c. c < 2 ^ 8), begins, begins)
+reached-met g (goes {q = q} {r = r} {x = x} {y = y} at follows) = follow g.graph q r x y (reached-met g at) follows.3
 
 -- what is reached is a state
 pub there : (g : Graph) → IsLaid g → {past : List ℕ} {q : ℕ} → Reaches g past q → q < length g.entries
@@ -43,47 +38,56 @@ there g laid (comes {q = q} {r = r} at leads free) = laid.within q r leads
 there g laid (takes {q = q} {r = r} at leads taken) = laid.within q r leads
 there g laid (stays at stay) = there g laid at
 
--- the node of a state that is there
-pub node_there : (g : Graph) (classes : List ℕ) (nodes : List Node) → AreNodesOf g classes nodes → (q : ℕ) → q < length g.entries
-    → (n : Node) × (slice_get nodes q ≡ Some n) × IsNodeOf g classes q n
-node_there g classes nodes are q within =
-    let inside : q < length nodes = subst (λ n. q < n) (sym are.count) within in
-    by_list nodes q inside (λ n is. are.each q n is)
-  where
-    by_list : (all : List Node) (q : ℕ) → q < length all → ((n : Node) → slice_get all q ≡ Some n → IsNodeOf g classes q n)
-        → (n : Node) × (slice_get all q ≡ Some n) × IsNodeOf g classes q n
-    by_list [] q inside each = absurd (omega (arith, inside))
-    by_list (d ∷ all) q inside each = let is = slice_get-get_or (d ∷ all) q d inside in (get_or (d ∷ all) q d, is, each (get_or (d ∷ all) q d) is)
+module _ (run : Classed) (are : AreBelow run.graph run.classes run.belows) (laid : IsLaid run.graph) where
+  abbrev g : Graph
+  g = run.graph
 
-module _ (g : Graph) (classes : List ℕ) (nodes : List Node) (are : AreNodesOf g classes nodes) (laid : IsLaid g) where
-  -- a pair that is met, and one that follows from it
-  met_on : (q r x y : ℕ) → q < length g.entries → r < length g.entries
-      → ((m o : Moves) → AreMoves g q m → AreMoves g r o → FollowsBy m o q r x y) → Met nodes q r → Met nodes x y
-  met_on q r x y inside within follows met =
-      let n = node_there g classes nodes are q inside in
-      let o = node_there g classes nodes are r within in
-      goes met (n.0, o.0, n.1, o.1, follows n.0.moves o.0.moves n.2.moves o.2.moves)
+  abbrev below : ℕ → Below
+  below q = slice_index_or run.belows q Nothing
 
-  met_first : (q r x : ℕ) → q < length g.entries → r < length g.entries → GoesFreely g q x → Met nodes q r → Met nodes x r
-  met_first q r x inside within free met = met_on q r x r inside within (λ m o are are_too. inl ((are.free x).1 free, refl)) met
+  -- a pair is met, if that matters
+  abbrev pub Meets : ℕ → ℕ → Type 0
+  Meets q r = MayClash run q r → Met run q r
 
-  met_second : (q r y : ℕ) → q < length g.entries → r < length g.entries → GoesFreely g r y → Met nodes q r → Met nodes q y
-  met_second q r y inside within free met = met_on q r q y inside within (λ m o are are_too. inr (inl (refl, (are_too.free y).1 free))) met
+  -- a state leads to another, or is that one
+  abbrev GoesOn : ℕ → ℕ → Type 0
+  GoesOn q x = Leads g q x ⊎ (x ≡ q)
 
-  met_both : (q r x y c : ℕ) → q < length g.entries → r < length g.entries → c < 2 ^ 8 → Goes g c q x → Goes g c r y → Met nodes q r → Met nodes x y
+  -- what is below a state is below those that lead to it
+  includes_on : (q x : ℕ) → q < length g.entries → GoesOn q x → Includes (below q) (below x)
+  includes_on q x within (inl leads) = (are.each q within).on x leads
+  includes_on q x within (inr same) = subst (λ s. Includes (below q) (below s)) (sym same) (λ class covers. covers)
+
+  -- a pair that is met, and one that comes of it
+  met_on : (q r x y : ℕ) → q < length g.entries → r < length g.entries → GoesOn q x → GoesOn r y → GoTogether g q r x y → Meets q r → Meets x y
+  met_on q r x y inside within first second together met may =
+      let before = clash-includes (below x) (below y) (below q) (below r) (includes_on q x inside first) (includes_on r y within second) may in
+      goes (met before) (inside, within, before, together)
+
+  met_first : (q r x : ℕ) → q < length g.entries → r < length g.entries → GoesFreely g q x → Meets q r → Meets x r
+  met_first q r x inside within free met = met_on q r x r inside within (inl free.0) (inr refl) (inl (free, refl)) met
+
+  met_second : (q r y : ℕ) → q < length g.entries → r < length g.entries → GoesFreely g r y → Meets q r → Meets q y
+  met_second q r y inside within free met = met_on q r q y inside within (inr refl) (inl free.0) (inr (inl (refl, free))) met
+
+  by_byte : (c q x : ℕ) → Goes g c q x → GoesOn q x
+  by_byte c q x (inl led) = inl led.0
+  by_byte c q x (inr stayed) = inr stayed.0
+
+  met_both : (q r x y c : ℕ) → q < length g.entries → r < length g.entries → c < 2 ^ 8 → Goes g c q x → Goes g c r y → Meets q r → Meets x y
   met_both q r x y c inside within small go go_too met =
-      met_on q r x y inside within (λ m o are are_too. inr (inr (c, small, (are.steps c x small).1 go, (are_too.steps c y small).1 go_too))) met
+      met_on q r x y inside within (by_byte c q x go) (by_byte c r y go_too) (inr (inr (c, small, go, go_too))) met
 
   -- the start of the first, and what the second reaches before any byte
-  met_begin : {past : List ℕ} {r : ℕ} → Reaches g past r → past ≡ [] → Met nodes 0 r
-  met_begin begins e = start
+  met_begin : {past : List ℕ} {r : ℕ} → Reaches g past r → past ≡ [] → Meets 0 r
+  met_begin begins e = λ may. start
   met_begin (comes {q = q} {r = r} at leads free) e = met_second 0 q r laid.some (there g laid at) (leads, free) (met_begin at e)
   met_begin (takes {past = past} {c = c} at leads taken) e = absurd (omega (arith, ap length e))
   met_begin (stays {past = past} {c = c} at stay) e = absurd (omega (arith, ap length e))
 
   -- The first has gone by a byte from a state that is met with all that the second reaches before it.
   met_byte : (c q x : ℕ) (before : List ℕ) → c < 2 ^ 8 → q < length g.entries → x < length g.entries → Goes g c q x
-      → ((r : ℕ) → Reaches g before r → Met nodes q r) → {past : List ℕ} {r : ℕ} → Reaches g past r → past ≡ c ∷ before → Met nodes x r
+      → ((r : ℕ) → Reaches g before r → Meets q r) → {past : List ℕ} {r : ℕ} → Reaches g past r → past ≡ c ∷ before → Meets x r
   met_byte c q x before small inside within go met begins e = absurd (omega (arith, ap length e))
   met_byte c q x before small inside within go met (comes {q = s} {r = r} at leads free) e =
       met_second x s r within (there g laid at) (leads, free) (met_byte c q x before small inside within go met at e)
@@ -97,7 +101,7 @@ module _ (g : Graph) (classes : List ℕ) (nodes : List Node) (are : AreNodesOf 
       met_both q r x r c inside (there g laid at) small go (inr (refl, subst (λ b. Stays g r b) byte stay)) (met r (subst (λ p. Reaches g p r) rest at))
 
   -- Each pair that one text reaches is met.
-  pub met-reached : {past : List ℕ} {q r : ℕ} → Reaches g past q → Reaches g past r → AreBytes past → Met nodes q r
+  pub met-reached : {past : List ℕ} {q r : ℕ} → Reaches g past q → Reaches g past r → AreBytes past → Meets q r
   met-reached begins other bytes = met_begin other refl
   met-reached (comes {q = q} {r = x} at leads free) other bytes = met_first q _ x (there g laid at) (there g laid other) (leads, free) (met-reached at other bytes)
   met-reached (takes {past = past} {q = q} {r = x} {c = c} at leads taken) other bytes =

@@ -1,7 +1,10 @@
 -- A graph that is run twice along one text.
-use Rattle.std.specs.Prelude.{◌≡◌, ◌↔◌, ◌⊎◌, ℕ, ◌^◌, ◌<◌, Contains, List, length, Some, slice_get, slice_index_or}
+use Rattle.std.specs.Prelude.{◌≡◌, ◌↔◌, ◌⊎◌, ℕ, ◌^◌, ◌<◌, Contains, List, length, slice_index_or}
 use Rattle.aa_glob_nfa.specs.Graphs.{AreBytes, EndsAt, Graph, IsFree, Leads, Reaches, Stays, Takes}
+use Rattle.aa_glob_pairs.specs.Below.{Covers, Includes}
 use Rattle.aa_glob_pairs.specs.Nodes.{HasStep}
+use Rattle.aa_glob_pairs.specs.declared.below.Below.{Below}
+use Rattle.aa_glob_pairs.specs.declared.below.Below.TheVariants.{Nothing}
 use Rattle.aa_glob_pairs.specs.declared.ends.Ending.{Ending}
 use Rattle.aa_glob_pairs.specs.declared.moves.Moves.{Moves}
 use Rattle.aa_glob_pairs.specs.declared.nodes.Node.{Node}
@@ -48,12 +51,18 @@ pub record AreMoves (g : Graph) (q : ℕ) (m : Moves) : Type 0 where
 abbrev pub AreEndingsOf : Graph → List ℕ → ℕ → List Ending → Type 0
 AreEndingsOf g classes q endings = (e : Ending) → (Contains endings e ↔ (EndsAt g q e.pattern × (e.class ≡ class_at classes e.pattern)))
 
+-- These are the classes below a state, by those below the states to which it leads: they cover the patterns that end there, and include what is below
+-- each of these states.
+pub record IsBelowAt (g : Graph) (classes : List ℕ) (belows : List Below) (q : ℕ) (below : Below) : Type 0 where
+  pub own : (p : ℕ) → EndsAt g q p → Covers below (class_at classes p)
+  pub on : (x : ℕ) → Leads g q x → Includes below (slice_index_or belows x Nothing)
+
+-- these are the classes below all states
+pub record AreBelow (g : Graph) (classes : List ℕ) (belows : List Below) : Type 0 where
+  pub count : length belows ≡ length g.entries
+  pub each : (q : ℕ) → q < length g.entries → IsBelowAt g classes belows q (slice_index_or belows q Nothing)
+
 -- this is a state
 pub record IsNodeOf (g : Graph) (classes : List ℕ) (q : ℕ) (n : Node) : Type 0 where
   pub moves : AreMoves g q n.moves
   pub ends : AreEndingsOf g classes q n.ends.items
-
--- these are all states
-pub record AreNodesOf (g : Graph) (classes : List ℕ) (nodes : List Node) : Type 0 where
-  pub count : length nodes ≡ length g.entries
-  pub each : (q : ℕ) (n : Node) → slice_get nodes q ≡ Some n → IsNodeOf g classes q n

@@ -6,8 +6,8 @@ ghost use Rattle.aa_glob_nfa.specs.OfTables.{AreSorted, AreSound, graph_of};
 ghost use Rattle.aa_glob_pairs.specs.Clashes.{IsLeast};
 ghost use Rattle.aa_glob_pairs.specs.Graphs.{ClashesAt, IsLaid};
 
+use crate::below::belows_of;
 use crate::meeting::least_clash;
-use crate::nodes::nodes_of;
 use aa_glob_nfa::Tables;
 use std::alloc::{AllocError, Global};
 
@@ -28,6 +28,6 @@ pub fn first_clash(
     requires classes { (q p : ℕ) → EndsAt (graph_of tables.now) q p → p < length classes.now }
     ensures { IfOk result (λ found. IsLeast found (ClashesAt (graph_of tables.now) classes.now)) }
 {
-    let nodes = nodes_of(alloc, tables, classes)?;
-    least_clash(alloc, &nodes)
+    let belows = belows_of(alloc, tables, classes)?;
+    least_clash(alloc, tables, classes, &belows)
 }

@@ -1,6 +1,7 @@
 //! One graph run along two texts at once: which pairs of states one text reaches, and where patterns of different classes meet so.
 #![tactic(auto)]
 
+mod below;
 mod bytes;
 mod clash;
 mod ends;

@@ -1,15 +1,20 @@
 //! The least pattern that clashes with an earlier one, by the pairs of states that one text reaches.
 
-ghost use Rattle.std.specs.Prelude.{◌≡◌, ◌<◌, ◌+◌, ◌^◌, length, slice_get, Some, IfOk, OnOk};
+ghost use Rattle.std.specs.Prelude.{◌≡◌, ◌<◌, ◌+◌, ◌^◌, ℕ, length, slice_get, Some, IfOk, OnOk};
+ghost use Rattle.aa_glob_nfa.specs.Graphs.{EndsAt};
+ghost use Rattle.aa_glob_nfa.specs.OfTables.{AreSorted, AreSound, graph_of};
 ghost use Rattle.aa_glob_pairs.specs.Clashes.{IsLeast};
-ghost use Rattle.aa_glob_pairs.specs.Nodes.{AreLaidOut, MeetsAt};
+ghost use Rattle.aa_glob_pairs.specs.Graphs.{AreBelow, IsLaid};
+ghost use Rattle.aa_glob_pairs.specs.Pairs.{MeetsAt, classed};
 ghost use Rattle.aa_glob_pairs.specs.Waiting.{row_at};
 ghost use Rattle.aa_glob_pairs.specs.code.Progress.{IsMeeting, no_marks};
 
+use crate::below::Below;
 use crate::ends::lower_both;
-use crate::nodes::Node;
+use crate::nodes::node_at;
 use crate::visit::visit;
 use crate::waiting::Waiting;
+use aa_glob_nfa::Tables;
 use std::alloc::{AllocError, Global};
 
 /// How far the pairs were looked at.
@@ -25,27 +30,41 @@ pub struct Meeting {
 
 /// The least pattern that clashes with an earlier one: each pair of states that one text reaches is looked at once, and none leads to an earlier
 /// one.
-pub fn least_clash(alloc: Global, nodes: &[Node]) -> Result<Option<u32>, AllocError>
-    requires laid { AreLaidOut nodes.now }
-    requires some { 0 < length nodes.now }
-    requires few { length nodes.now < 2 ^ 32 }
-    ensures { IfOk result (λ found. IsLeast found (MeetsAt nodes.now)) }
+pub fn least_clash(
+    alloc: Global,
+    tables: &Tables,
+    classes: &[u32],
+    belows: &[Below],
+) -> Result<Option<u32>, AllocError>
+    requires sound { AreSound tables.now }
+    requires sorted { AreSorted tables.now }
+    requires later { IsLaid (graph_of tables.now) }
+    requires classes { (q p : ℕ) → EndsAt (graph_of tables.now) q p → p < length classes.now }
+    requires belows { AreBelow (graph_of tables.now) classes.now belows.now }
+    ensures { IfOk result (λ found. IsLeast found (MeetsAt (classed tables.now classes.now belows.now))) }
 {
-    let mut meeting = begin(alloc, nodes)?;
-    for row in 0..nodes.len() {
-        meet_row(alloc, nodes, row as u32, &mut meeting)?;
+    let mut meeting = begin(alloc, tables, classes, belows)?;
+    for row in 0..tables.states.len() {
+        meet_row(alloc, tables, classes, belows, row as u32, &mut meeting)?;
     }
     Ok(meeting.found)
 }
 
 // The pair of starts waits.
-fn begin(alloc: Global, nodes: &[Node]) -> Result<Meeting, AllocError>
-    requires some { 0 < length nodes.now }
-    ensures { IfOk result (IsMeeting nodes.now 0 0) }
+fn begin(
+    alloc: Global,
+    tables: &Tables,
+    classes: &[u32],
+    belows: &[Below],
+) -> Result<Meeting, AllocError>
+    requires sound { AreSound tables.now }
+    requires later { IsLaid (graph_of tables.now) }
+    ensures { IfOk result (IsMeeting (classed tables.now classes.now belows.now) 0 0) }
 {
-    let mut waiting = Waiting::new(alloc, nodes.len())?;
+    let states = tables.states.len();
+    let mut waiting = Waiting::new(alloc, states)?;
     waiting.insert(0, 0)?;
-    let seen = no_marks(alloc, nodes.len())?;
+    let seen = no_marks(alloc, states)?;
     Ok(Meeting {
         waiting,
         seen,
@@ -63,46 +82,60 @@ fn no_marks(alloc: Global, states: usize) -> Result<Vec<u32>, AllocError>
 // Looks at the pairs of a first state.
 fn meet_row(
     alloc: Global,
-    nodes: &[Node],
+    tables: &Tables,
+    classes: &[u32],
+    belows: &[Below],
     row: u32,
     meeting: &mut Meeting,
 ) -> Result<(), AllocError>
-    requires laid { AreLaidOut nodes.now }
-    requires few { length nodes.now < 2 ^ 32 }
-    requires row { row < length nodes.now }
-    requires met { IsMeeting nodes.now row 0 meeting.old }
-    ensures { OnOk result (IsMeeting nodes.now (row + 1) 0 meeting.new) }
+    requires sound { AreSound tables.now }
+    requires sorted { AreSorted tables.now }
+    requires later { IsLaid (graph_of tables.now) }
+    requires classes { (q p : ℕ) → EndsAt (graph_of tables.now) q p → p < length classes.now }
+    requires belows { AreBelow (graph_of tables.now) classes.now belows.now }
+    requires row { row < length tables.now.states }
+    requires met { IsMeeting (classed tables.now classes.now belows.now) row 0 meeting.old }
+    ensures { OnOk result (IsMeeting (classed tables.now classes.now belows.now) (row + 1) 0 meeting.new) }
 {
     let mut at = 0;
     while let Some(column) = meeting.waiting.second(row, at) {
-        meet(nodes, row, at, column, meeting)?;
+        meet(alloc, tables, classes, belows, row, at, column, meeting)?;
         at += 1;
     }
     meeting.waiting.pass(alloc, row);
     Ok(())
 }
 
-// Looks at a pair, if it wasn't yet.
+// Looks at a pair, if it wasn't yet. Nothing follows from one behind whose states no pattern clashes with another.
 fn meet(
-    nodes: &[Node],
+    alloc: Global,
+    tables: &Tables,
+    classes: &[u32],
+    belows: &[Below],
     row: u32,
     at: usize,
     column: u32,
     meeting: &mut Meeting,
 ) -> Result<(), AllocError>
-    requires laid { AreLaidOut nodes.now }
-    requires few { length nodes.now < 2 ^ 32 }
-    requires row { row < length nodes.now }
+    requires sound { AreSound tables.now }
+    requires sorted { AreSorted tables.now }
+    requires later { IsLaid (graph_of tables.now) }
+    requires classes { (q p : ℕ) → EndsAt (graph_of tables.now) q p → p < length classes.now }
+    requires belows { AreBelow (graph_of tables.now) classes.now belows.now }
+    requires row { row < length tables.now.states }
     requires column { slice_get (row_at meeting.old.waiting row) at ≡ Some column }
-    requires met { IsMeeting nodes.now row at meeting.old }
-    ensures { OnOk result (IsMeeting nodes.now row (at + 1) meeting.new) }
+    requires met { IsMeeting (classed tables.now classes.now belows.now) row at meeting.old }
+    ensures { OnOk result (IsMeeting (classed tables.now classes.now belows.now) row (at + 1) meeting.new) }
 {
     if meeting.seen[column as usize] == row + 1 {
         return Ok(());
     }
     meeting.seen[column as usize] = row + 1;
-    let first = &nodes[row as usize];
-    let second = &nodes[column as usize];
+    if !belows[row as usize].can_clash(belows[column as usize]) {
+        return Ok(());
+    }
+    let first = node_at(alloc, tables, classes, row)?;
+    let second = node_at(alloc, tables, classes, column)?;
     visit(
         &first.moves,
         &second.moves,

@@ -1,10 +1,10 @@
-//! The states of a graph with what leads away from them and the patterns that end there, as lists.
+//! A state of a graph with what leads away from it and the patterns that end there, as lists.
 
-ghost use Rattle.std.specs.Prelude.{◌≡◌, ◌<◌, ℕ, length, IfOk};
+ghost use Rattle.std.specs.Prelude.{◌<◌, ℕ, length, IfOk};
 ghost use Rattle.aa_glob_nfa.specs.Graphs.{EndsAt};
 ghost use Rattle.aa_glob_nfa.specs.OfTables.{AreSorted, AreSound, graph_of};
-ghost use Rattle.aa_glob_pairs.specs.Graphs.{AreNodesOf, IsLaid, IsNodeOf};
-ghost use Rattle.aa_glob_pairs.specs.Nodes.{AreLaidOut, IsLaidOut};
+ghost use Rattle.aa_glob_pairs.specs.Graphs.{IsLaid, IsNodeOf};
+ghost use Rattle.aa_glob_pairs.specs.Nodes.{IsLaidOut};
 
 use crate::ends::{Ending, endings_at};
 use crate::moves::{Moves, moves_at};
@@ -18,24 +18,13 @@ pub struct Node {
     pub ends: Vec<Ending>,
 }
 
-/// The states of a graph whose ways lead to later states, with the classes of its patterns.
-pub fn nodes_of(alloc: Global, tables: &Tables, classes: &[u32]) -> Result<Vec<Node>, AllocError>
-    requires sound { AreSound tables.now }
-    requires sorted { AreSorted tables.now }
-    requires later { IsLaid (graph_of tables.now) }
-    requires classes { (q p : ℕ) → EndsAt (graph_of tables.now) q p → p < length classes.now }
-    ensures nodes { IfOk result (λ all. AreNodesOf (graph_of tables.now) classes.now all.items) }
-    ensures laid { IfOk result (λ all. AreLaidOut all.items) }
-{
-    let mut all = Vec::new(alloc);
-    for state in 0..tables.states.len() {
-        all.push(node_at(alloc, tables, classes, state as u32)?)?;
-    }
-    Ok(all)
-}
-
-// A state.
-fn node_at(alloc: Global, tables: &Tables, classes: &[u32], state: u32) -> Result<Node, AllocError>
+/// A state of a graph whose ways lead to later states, with the classes of its patterns.
+pub fn node_at(
+    alloc: Global,
+    tables: &Tables,
+    classes: &[u32],
+    state: u32,
+) -> Result<Node, AllocError>
     requires sound { AreSound tables.now }
     requires sorted { AreSorted tables.now }
     requires later { IsLaid (graph_of tables.now) }

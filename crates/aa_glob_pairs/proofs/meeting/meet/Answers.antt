@@ -1,68 +1,115 @@
-use Rattle.std.proofs.Common.{◌∙◌, ◌⊎◌, ◌<◌, arith, length, refl, subst, List}
+use Rattle.std.proofs.Common.{◌∙◌, ◌⊎◌, ◌<◌, arith, length, refl, subst, sym, List}
 use Rattle.std.proofs.lemmas.Option.{get_or_from_slice_get, slice_get_read}
-use Rattle.aa_glob_pairs.proofs.ProgressLemmas.{column_within, laid_within, meeting_passed, meeting_visited}
+use Rattle.aa_glob_nfa.proofs.TableLemmas.{length-entries_in}
+use Rattle.aa_glob_pairs.proofs.ProgressLemmas.{clashes_all, clashes_none, column_within, follows_all, follows_none, laid_within, meeting_passed, meeting_visited}
 use Rattle.aa_glob_pairs.specs.Clashes.{Clash, Lowers}
+use Rattle.aa_glob_pairs.specs.Pairs.{classed}
 use Rattle.aa_glob_pairs.specs.declared.ends.Ending.{Ending}
 use Rattle.aa_glob_pairs.proofs.meeting.meet.Goals as goal
 
 pub index-requires : goal.index-requires
 index-requires c =
+    let t = c.args.tables.now in
+    let g = classed t c.args.classes.now c.args.belows.now in
     let old = c.args.meeting.now in
-    let column = column_within c.args.nodes.now c.args.row c.args.at c.args.column old c.requires.laid c.requires.row c.requires.column c.requires.met in
+    let size = length-entries_in t.classes.items 0 t.states in
+    let column = column_within g c.args.row c.args.at c.args.column old c.requires.later c.requires.column c.requires.met in
     omega (arith, column, c.requires.met.marks, old.seen.ok.0)
 
 pub index_mut-requires : goal.index_mut-requires
 index_mut-requires c =
+    let t = c.args.tables.now in
+    let g = classed t c.args.classes.now c.args.belows.now in
     let old = c.args.meeting.now in
-    let column = column_within c.args.nodes.now c.args.row c.args.at c.args.column old c.requires.laid c.requires.row c.requires.column c.requires.met in
+    let size = length-entries_in t.classes.items 0 t.states in
+    let column = column_within g c.args.row c.args.at c.args.column old c.requires.later c.requires.column c.requires.met in
     omega (arith, column, c.requires.met.marks, old.seen.ok.0)
 
-pub bounds-nodes-column : goal.bounds-nodes-column
-bounds-nodes-column c =
-    column_within c.args.nodes.now c.args.row c.args.at c.args.column c.args.meeting.now c.requires.laid c.requires.row c.requires.column c.requires.met
+pub bounds-belows-column : goal.bounds-belows-column
+bounds-belows-column c =
+    let t = c.args.tables.now in
+    let g = classed t c.args.classes.now c.args.belows.now in
+    let old = c.args.meeting.now in
+    let size = length-entries_in t.classes.items 0 t.states in
+    let column = column_within g c.args.row c.args.at c.args.column old c.requires.later c.requires.column c.requires.met in
+    omega (arith, column, c.requires.belows.count)
 
 pub returns-then-index-row : goal.returns-then-index-row
 returns-then-index-row c =
-    let nodes = c.args.nodes.now in
+    let t = c.args.tables.now in
+    let g = classed t c.args.classes.now c.args.belows.now in
     let old = c.args.meeting.now in
-    let column = column_within nodes c.args.row c.args.at c.args.column old c.requires.laid c.requires.row c.requires.column c.requires.met in
+    let size = length-entries_in t.classes.items 0 t.states in
+    let column = column_within g c.args.row c.args.at c.args.column old c.requires.later c.requires.column c.requires.met in
     let within : c.args.column < length old.seen.items = omega (arith, column, c.requires.met.marks) in
     let seen =
     get_or_from_slice_get old.seen.items c.args.column c.index.result.now 0
     (slice_get_read old.seen.items (length old.seen.items) c.args.column c.index.result.now refl within c.index.ensures)
     in
-    meeting_passed nodes c.args.row c.args.at c.args.column old c.requires.column c.requires.met (seen ∙ c.if-index-row.true)
+    meeting_passed g c.args.row c.args.at c.args.column old c.requires.column c.requires.met (seen ∙ c.if-index-row.true)
+
+pub returns-then-not-can_clash : goal.returns-then-not-can_clash
+returns-then-not-can_clash c =
+    let t = c.args.tables.now in
+    let g = classed t c.args.classes.now c.args.belows.now in
+    let old = c.args.meeting.now in
+    let size = length-entries_in t.classes.items 0 t.states in
+    let column = column_within g c.args.row c.args.at c.args.column old c.requires.later c.requires.column c.requires.met in
+    let inside : c.args.row < length g.graph.entries = omega (arith, c.requires.row, size) in
+    let off = sym c.can_clash.ensures ∙ c.if-not-can_clash.true in
+    meeting_visited g c.args.row c.args.at c.args.column old _ inside c.requires.column column c.requires.met (follows_none g c.args.row c.args.column old.waiting off) refl
+    (clashes_none g c.requires.belows c.args.row c.args.column old.found inside column off)
+
+pub node_at-requires-2-clause-is_state : goal.node_at-requires-2-clause-is_state
+node_at-requires-2-clause-is_state c =
+    let t = c.args.tables.now in
+    let g = classed t c.args.classes.now c.args.belows.now in
+    let old = c.args.meeting.now in
+    let size = length-entries_in t.classes.items 0 t.states in
+    let column = column_within g c.args.row c.args.at c.args.column old c.requires.later c.requires.column c.requires.met in
+    omega (arith, column, size)
 
 pub visit-requires-clause-column : goal.visit-requires-clause-column
 visit-requires-clause-column c =
-    let column = column_within c.args.nodes.now c.args.row c.args.at c.args.column c.args.meeting.now c.requires.laid c.requires.row c.requires.column c.requires.met in
+    let t = c.args.tables.now in
+    let g = classed t c.args.classes.now c.args.belows.now in
+    let old = c.args.meeting.now in
+    let size = length-entries_in t.classes.items 0 t.states in
+    let column = column_within g c.args.row c.args.at c.args.column old c.requires.later c.requires.column c.requires.met in
     omega (arith, column, c.requires.met.states)
 
 pub visit-requires-clause-first : goal.visit-requires-clause-first
 visit-requires-clause-first c =
-    let nodes = c.args.nodes.now in
-    let node = c.index-nodes-row.result in
-    laid_within (length nodes) (length c.args.meeting.now.waiting) c.args.row node.moves c.requires.met.states
-    (c.requires.laid c.args.row node (slice_get_read nodes (length nodes) c.args.row node refl c.requires.row c.index-nodes-row.is))
+    let t = c.args.tables.now in
+    let g = classed t c.args.classes.now c.args.belows.now in
+    let old = c.args.meeting.now in
+    let size = length-entries_in t.classes.items 0 t.states in
+    let column = column_within g c.args.row c.args.at c.args.column old c.requires.later c.requires.column c.requires.met in
+    laid_within (length t.states) (length old.waiting) c.args.row c.in_ok-first.first.moves (c.requires.met.states ∙ size) c.in_ok-first.ensures.laid
 
 pub visit-requires-clause-second : goal.visit-requires-clause-second
 visit-requires-clause-second c =
-    let nodes = c.args.nodes.now in
-    let node = c.index-nodes-column.result in
-    let column = column_within nodes c.args.row c.args.at c.args.column c.args.meeting.now c.requires.laid c.requires.row c.requires.column c.requires.met in
-    laid_within (length nodes) (length c.args.meeting.now.waiting) c.args.column node.moves c.requires.met.states
-    (c.requires.laid c.args.column node (slice_get_read nodes (length nodes) c.args.column node refl column c.index-nodes-column.is))
+    let t = c.args.tables.now in
+    let g = classed t c.args.classes.now c.args.belows.now in
+    let old = c.args.meeting.now in
+    let size = length-entries_in t.classes.items 0 t.states in
+    let column = column_within g c.args.row c.args.at c.args.column old c.requires.later c.requires.column c.requires.met in
+    laid_within (length t.states) (length old.waiting) c.args.column c.in_ok-second.second.moves (c.requires.met.states ∙ size) c.in_ok-second.ensures.laid
 
 pub returns : goal.returns
 returns c =
-    let nodes = c.args.nodes.now in
-    let n = c.index-nodes-row.result in
-    let o = c.index-nodes-column.result in
-    let column = column_within nodes c.args.row c.args.at c.args.column c.args.meeting.now c.requires.laid c.requires.row c.requires.column c.requires.met in
-    meeting_visited nodes c.args.row c.args.at c.args.column n o c.args.meeting.now _
-    (slice_get_read nodes (length nodes) c.args.row n refl c.requires.row c.index-nodes-row.is)
-    (slice_get_read nodes (length nodes) c.args.column o refl column c.index-nodes-column.is)
-    c.requires.column column c.requires.met c.in_ok-visit.ensures refl
-    (subst (λ (l : List Ending). Lowers c.args.meeting.now.found c.lower_both.new.found (λ k. Clash l o.ends.items k ⊎ Clash o.ends.items l k)) c.deref.ensures.value
-    (subst (λ (l : List Ending). Lowers c.args.meeting.now.found c.lower_both.new.found (λ k. Clash c.deref.result.now l k ⊎ Clash l c.deref.result.now k)) c.deref-2.ensures.value
-    c.lower_both.ensures))
+    let t = c.args.tables.now in
+    let g = classed t c.args.classes.now c.args.belows.now in
+    let old = c.args.meeting.now in
+    let size = length-entries_in t.classes.items 0 t.states in
+    let column = column_within g c.args.row c.args.at c.args.column old c.requires.later c.requires.column c.requires.met in
+    let inside : c.args.row < length g.graph.entries = omega (arith, c.requires.row, size) in
+    let may = sym c.can_clash.ensures ∙ c.if-not-can_clash.false in
+    let n = c.in_ok-first.first in
+    let o = c.in_ok-second.second in
+    meeting_visited g c.args.row c.args.at c.args.column old _ inside c.requires.column column c.requires.met
+    (follows_all g c.args.row c.args.column n.moves o.moves old.waiting c.visit.new.waiting c.in_ok-first.ensures.node.moves c.in_ok-second.ensures.node.moves may c.in_ok-visit.ensures) refl
+    (clashes_all g c.args.row c.args.column n.ends.items o.ends.items old.found c.lower_both.new.found c.in_ok-first.ensures.node.ends c.in_ok-second.ensures.node.ends
+    (subst (λ (l : List Ending). Lowers old.found c.lower_both.new.found (λ k. Clash l o.ends.items k ⊎ Clash o.ends.items l k)) c.deref.ensures.value
+    (subst (λ (l : List Ending). Lowers old.found c.lower_both.new.found (λ k. Clash c.deref.result.now l k ⊎ Clash l c.deref.result.now k)) c.deref-2.ensures.value
+    c.lower_both.ensures)))

@@ -1,7 +1,7 @@
-use Rattle.std.proofs.Common.{◌≡◌, ◌<◌, ◌∙◌, arith, List, ℕ, subst, sym, length}
+use Rattle.std.proofs.Common.{◌≡◌, ◌∙◌, arith, List, ℕ, subst, sym}
 use Rattle.std.specs.Prelude.{Option, Some}
 use Rattle.std.proofs.lemmas.Result.{IfOk-weaker}
-use Rattle.aa_glob_automaton.proofs.ClashLemmas.{clashes-are, end-within, graph-laid, none-clashes}
+use Rattle.aa_glob_automaton.proofs.ClashLemmas.{clashes-are, end-within, graph-laid}
 use Rattle.aa_glob_automaton.specs.Automata.{IsAutomatonOf, IsGraphOf}
 use Rattle.aa_glob_nfa.specs.Graphs.{Graph}
 use Rattle.aa_glob_pairs.proofs.LeastLemmas.{least_as}
