@@ -6,4 +6,5 @@ pub mod GrowthLemmas
 pub mod NumberLemmas
 pub mod SeenLemmas
 pub mod StandLemmas
+pub mod VisitLemmas
 pub mod WayLemmas

@@ -1,12 +1,14 @@
 //! Automata of patterns.
 
-ghost use Rattle.std.specs.Prelude.{◌≡◌, ◌≤◌, ℕ, List, IfOk, None, Some};
+ghost use Rattle.std.specs.Prelude.{◌≡◌, ◌≤◌, ℕ, List, IfOk, None, OnOk, Some};
 ghost use Rattle.std.specs.List.Sorted.{IsStrictlyIncreasing};
 ghost use Rattle.aa_glob_automaton.specs.Automata.{AreClassesOf, IsAutomatonOf, most_visits};
+ghost use Rattle.aa_glob_automaton.specs.Visits.{IsReadOf};
 ghost use Rattle.aa_glob_pairs.specs.Clashes.{IsLeast};
 ghost use Rattle.aa_glob_syntax.specs.Overlap.{ClashesAmong};
 ghost use Rattle.aa_glob_syntax.specs.Patterns.{AreMatching};
 ghost use Rattle.aa_glob_run.specs.Steps.{IsCounted};
+ghost use Rattle.aa_glob_run.specs.Visits.{CountsAllVisits, CountsFirstVisits};
 ghost use Rattle.aa_glob_prefixes.specs.Beginnings.{HasStates, most_states};
 
 use crate::builder::AutomatonBuilder;
@@ -114,7 +116,8 @@ impl Automaton {
     ///
     /// Steps are counted: one for each visit of a state at a place of the path, which are its bytes and its end. Each state is visited once at
     /// most at each place, so that there are at most `(n + 1) * s` for a path of n bytes and s states; it ends at the first byte behind which no
-    /// pattern can match.
+    /// pattern can match. So the steps are as many as there are different beginnings of the patterns that are read at each of the places,
+    /// all places together.
     ///
     /// # Errors
     ///
@@ -129,6 +132,10 @@ impl Automaton {
         ensures rise { IfOk result (λ found. IsStrictlyIncreasing found.items) }
         ensures steps { (patterns : List (List ℕ)) (states : ℕ) → IsAutomatonOf self.now patterns → HasStates patterns states
             → IsCounted 0 (most_visits path.now states) steps.old steps.new }
+        ensures all { (patterns : List (List ℕ)) → IsAutomatonOf self.now patterns
+            → OnOk result (CountsAllVisits (IsReadOf patterns) path.now steps.old steps.new) }
+        ensures first { (patterns : List (List ℕ)) → IsAutomatonOf self.now patterns
+            → CountsFirstVisits (IsReadOf patterns) path.now steps.old steps.new }
     {
         how_many_states_there_are();
         what_reaches_a_state();

@@ -11,7 +11,7 @@ use Rattle.aa_glob_nfa.specs.Entries.{is_free}
 use Rattle.aa_glob_nfa.specs.Graphs.{Graph, Stays, Reaches}
 use Rattle.aa_glob_nfa.specs.Graphs.Reaches.{begins, comes, takes, stays}
 use Rattle.aa_glob_run.specs.Steps.{counted, IsCounted}
-use Rattle.aa_glob_run.specs.code.Fronts.{Live, with_state, Adds}
+use Rattle.aa_glob_run.specs.code.Fronts.{Live, with_state, AreDistinct, Adds}
 use Rattle.aa_glob_run.specs.code.Runs.{HasReached, IsEntered, Follows, FollowsIf, HasBrought, IsClosedUpTo, IsPassing, IsBegun, IsWhole, IsPassed, IsRunning}
 use Rattle.aa_glob_nfa.proofs.ListLemmas.{some_same, Contains-first}
 use Rattle.aa_glob_run.proofs.StepLemmas.{counted-counted}
@@ -97,8 +97,8 @@ kept g (c ∷ past) old new keeps brought = λ q r at follow. keeps r (brought q
 
 -- all states of a place were visited
 pub passed : (g : Graph) (byte : Option ℕ) (at : ℕ) (old here next : Live) → IsPassing g byte at old here next
-    → length here.states ≤ at → length here.states ≤ here.room → IsPassed g byte old here next
-passed g byte at old here next passing done fits =
+    → length here.states ≤ at → length here.states ≤ here.room → AreDistinct here.states → IsPassed g byte old here next
+passed g byte at old here next passing done fits distinct =
     let end : at ≡ length here.states = omega (arith, passing.within) in
     let closed : IsClosedUpTo g (length here.states) here.states = subst (λ n. IsClosedUpTo g n here.states) end passing.closed in
     let each : (past : List ℕ) → IsBegun g past old.states → HasReached g past here.states =
@@ -108,6 +108,7 @@ passed g byte at old here next passing done fits =
       next_room = passing.next_room;
       longer = passing.longer;
       fits = fits;
+      distinct = distinct;
       whole = λ past begun. record { reached = passing.reached past begun.reached; each = each past begun };
       begun = λ past c is begun. record {
         reached = passing.brought past c is begun.reached;
@@ -125,18 +126,24 @@ none_next g past c r none (comes {q = q} at leads free) = none_next g past c q n
 none_next g past c r none (takes {q = q} at leads taken) = none q at
 none_next g past c r none (stays at stay) = none r at
 
-none_later : (g : Graph) (past more : List ℕ) (r : ℕ) → ((q : ℕ) → Reaches g past q → ⊥) → Reaches g (more ++ past) r → ⊥
+pub none_later : (g : Graph) (past more : List ℕ) (r : ℕ) → ((q : ℕ) → Reaches g past q → ⊥) → Reaches g (more ++ past) r → ⊥
 none_later g past [] r none at = none r at
 none_later g past (c ∷ more) r none at = none_next g (more ++ past) c r (λ q h. none_later g past more q none h) at
 
-reverse-split : (n : ℕ) (text : List ℕ) → reverse text ≡ reverse (drop n text) ++ reverse (take n text)
+pub reverse-split : (n : ℕ) (text : List ℕ) → reverse text ≡ reverse (drop n text) ++ reverse (take n text)
 reverse-split n text = ap reverse (sym (take-append-drop n text)) ∙ reverse-append (take n text) (drop n text)
+
+-- where no state is in the list that a text brings, none is reached behind it
+pub dead_behind : (g : Graph) (past live : List ℕ) → IsBegun g past live → length live ≡ 0 → (q : ℕ) → Reaches g past q → ⊥
+dead_behind g past [] begun none q at =
+    let there = reached_all g past q [] begun.brought (λ k p r h is entered. absurd (omega arith)) at in
+    absurd (omega (arith, there.1))
+dead_behind g past (r ∷ live) begun none q at = absurd (omega arith)
 
 -- a run ends early where nothing lives
 pub whole_early : (g : Graph) (n : ℕ) (text live : List ℕ) → IsBegun g (reverse (take n text)) live → length live ≡ 0 → IsWhole g (reverse text) live
 whole_early g n text [] begun none =
-    let dead : (q : ℕ) → Reaches g (reverse (take n text)) q → ⊥ =
-    λ q at. let there = reached_all g (reverse (take n text)) q [] begun.brought (λ k p r h is entered. absurd (omega arith)) at in absurd (omega (arith, there.1)) in
+    let dead : (q : ℕ) → Reaches g (reverse (take n text)) q → ⊥ = dead_behind g (reverse (take n text)) [] begun none in
     record {
       reached = All-nil (Reaches g (reverse text));
       each = λ r at. absurd (none_later g (reverse (take n text)) (reverse (drop n text)) r dead (subst (λ l. Reaches g l r) (reverse-split n text) at));

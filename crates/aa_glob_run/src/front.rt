@@ -2,7 +2,7 @@
 
 ghost use Rattle.std.specs.Prelude.{◌≡◌, ℕ, ◌*◌, ◌<◌, ◌≤◌, not, ◌&&◌, [], length, All, IfOk, OnOk, slice_get, Some};
 ghost use Rattle.aa_bytes.specs.Bits.{has_bit};
-ghost use Rattle.aa_glob_run.specs.code.Fronts.{is_in, with_state};
+ghost use Rattle.aa_glob_run.specs.code.Fronts.{AreDistinct, is_in, with_state};
 
 use aa_bytes::{clear_bit, has_bit, set_bit};
 use std::alloc::{AllocError, Global};
@@ -47,6 +47,7 @@ impl Front {
     pub fn len(&self) -> usize
         ensures len { result ≡ length self.now.states }
         ensures within { result ≤ self.now.room }
+        ensures distinct { AreDistinct self.now.states }
     {
         self.states.len()
     }

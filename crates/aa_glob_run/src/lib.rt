@@ -3,6 +3,7 @@
 
 mod drawing;
 mod front;
+mod laws;
 mod leading;
 mod patterns;
 mod run;
@@ -10,5 +11,6 @@ mod states;
 mod steps;
 
 pub use drawing::Drawing;
+pub use laws::visits_have_one_count;
 pub use states::States;
 pub use steps::Steps;

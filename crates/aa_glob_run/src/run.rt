@@ -2,6 +2,8 @@
 
 ghost use Rattle.std.specs.Prelude.{◌≡◌, ◌+◌, ◌*◌, [], length, reverse, OnErr, OnOk};
 ghost use Rattle.aa_glob_run.specs.Steps.{counted, IsCounted};
+ghost use Rattle.aa_glob_run.specs.Visits.{CountsAllVisits, CountsFirstVisits};
+ghost use Rattle.aa_glob_nfa.specs.Graphs.{Reaches};
 ghost use Rattle.aa_glob_nfa.specs.OfTables.{AreSound, AreSorted, graph_of};
 ghost use Rattle.aa_glob_run.specs.code.Runs.{IsPassed, IsWhole};
 
@@ -28,6 +30,8 @@ pub fn run(
     ensures room { OnOk result (here.new.room ≡ length tables.now.states) }
     ensures steps { IsCounted 0 ((length text.now + 1) * length tables.now.states) steps.old steps.new }
     ensures visits { OnOk result (IsCounted 1 ((length text.now + 1) * length tables.now.states) steps.old steps.new) }
+    ensures all { OnOk result (CountsAllVisits (Reaches (graph_of tables.now)) text.now steps.old steps.new) }
+    ensures first { CountsFirstVisits (Reaches (graph_of tables.now)) text.now steps.old steps.new }
 {
     here.insert(0)?;
     for byte in text {

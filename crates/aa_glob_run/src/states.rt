@@ -2,8 +2,9 @@
 
 ghost use Rattle.std.specs.Prelude.{◌≡◌, ◌<◌, ℕ, length, IfOk, OnOk};
 ghost use Rattle.std.specs.List.Sorted.{IsStrictlyIncreasing};
-ghost use Rattle.aa_glob_nfa.specs.Graphs.{EndsAt, IsFound, SameGraph};
+ghost use Rattle.aa_glob_nfa.specs.Graphs.{EndsAt, IsFound, Reaches, SameGraph};
 ghost use Rattle.aa_glob_run.specs.Steps.{IsCounted, most_visits};
+ghost use Rattle.aa_glob_run.specs.Visits.{CountsAllVisits, CountsFirstVisits};
 ghost use Rattle.aa_glob_nfa.specs.OfTables.{AreSound, graph_of};
 ghost use Rattle.aa_glob_pairs.specs.Clashes.{IsLeast};
 ghost use Rattle.aa_glob_pairs.specs.Graphs.{ClashesAt, IsLaid};
@@ -83,7 +84,7 @@ impl States {
     /// The patterns of which an end is reached behind a text, each once, in rising order.
     ///
     /// Steps are counted: one for each visit of a state at a place of the text, which are its bytes and its end. It ends at the first byte
-    /// behind which no state is reached.
+    /// behind which no state is reached. So the steps are as many as there are states that are reached at each of the places, all places together.
     ///
     /// # Errors
     ///
@@ -98,6 +99,8 @@ impl States {
         ensures rise { IfOk result (λ patterns. IsStrictlyIncreasing patterns.items) }
         ensures steps { IsCounted 0 (most_visits self.now text.now) steps.old steps.new }
         ensures visits { OnOk result (IsCounted 1 (most_visits self.now text.now) steps.old steps.new) }
+        ensures all { OnOk result (CountsAllVisits (Reaches self.now) text.now steps.old steps.new) }
+        ensures first { CountsFirstVisits (Reaches self.now) text.now steps.old steps.new }
     {
         let count = self.tables.states.len();
         let mut here = Front::new(alloc, count)?;

@@ -3,7 +3,7 @@ use Rattle.std.specs.Prelude.{◌≡◌, ◌⊎◌, ℕ, ◌+◌, ◌*◌, ◌<�
 use Rattle.aa_glob_nfa.specs.Entries.{is_free, takes_if}
 use Rattle.aa_glob_run.specs.Steps.{counted}
 use Rattle.aa_glob_nfa.specs.Graphs.{Graph, entry_of, Leads, Stays, Reaches}
-use Rattle.aa_glob_run.specs.code.Fronts.{Live}
+use Rattle.aa_glob_run.specs.code.Fronts.{AreDistinct, Live}
 use Rattle.aa_glob_nfa.specs.OfTables.{graph_of}
 use Rattle.aa_glob_nfa.specs.Tables.{state_at, IsAlong}
 use Rattle.aa_glob_nfa.specs.declared.entry.Entry.{Entry}
@@ -101,6 +101,7 @@ pub record IsPassed (g : Graph) (byte : Option ℕ) (old here next : Live) : Typ
   pub next_room : next.room ≡ old.room
   pub longer : length old.states ≤ length here.states
   pub fits : length here.states ≤ here.room
+  pub distinct : AreDistinct here.states
   pub whole : (past : List ℕ) → IsBegun g past old.states → IsWhole g past here.states
   pub begun : (past : List ℕ) (c : ℕ) → byte ≡ Some c → IsBegun g past old.states → IsBegun g (c ∷ past) next.states
 

@@ -15,4 +15,4 @@ loop-at-preserved c =
 pub returns-clause-passed : goal.returns-clause-passed
 returns-clause-passed c =
     passed (graph_of c.args.tables.now) c.args.byte c.loop-at.at c.args.here.now c.loop-at.here c.loop-at.next c.loop-at.invariant.passing
-    (omega (arith, c.len.ensures.len, c.loop-at-test.false)) (omega (arith, c.len.ensures.len, c.len.ensures.within))
+    (omega (arith, c.len.ensures.len, c.loop-at-test.false)) (omega (arith, c.len.ensures.len, c.len.ensures.within)) c.len.ensures.distinct

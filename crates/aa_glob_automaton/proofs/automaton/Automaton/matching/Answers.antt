@@ -1,9 +1,10 @@
 use Rattle.std.proofs.Common.{◌≡◌, ◌≤◌, ◌*◌, ◌+◌, ◌∙◌, List, ℕ, subst, sym}
 use Rattle.std.specs.Prelude.{Option, Some, length}
-use Rattle.std.proofs.lemmas.Result.{IfOk-weaker}
+use Rattle.std.proofs.lemmas.Result.{IfOk-weaker, on_ok_weaker}
 use Rattle.aa_glob_automaton.proofs.BuiltLemmas.{bytes-of, graph-states, matching-found}
 use Rattle.aa_glob_automaton.specs.Automata.{IsAutomatonOf, IsGraphOf}
 use Rattle.aa_glob_nfa.specs.Graphs.{Graph}
+use Rattle.aa_glob_automaton.proofs.VisitLemmas.{all-read, first-read, none-counted, none-first}
 use Rattle.aa_glob_automaton.proofs.automaton.Automaton.matching.Goals as goal
 
 graph_of : (seen : Option Graph) (g : Graph) (patterns : List (List ℕ)) → seen ≡ Some g → IsAutomatonOf seen patterns → IsGraphOf g patterns
@@ -23,3 +24,24 @@ returns-in-Some-clause-steps c patterns states automaton has =
     let one : states ≡ length c.in-Some.states.entries = c.how_many_states_there_are.ensures.one patterns states (length c.in-Some.states.entries) has (graph-states c.in-Some.states patterns graph) in
     let counted = c.ends_reached.ensures.steps in
     (counted.0, counted.1, subst (λ (n : ℕ). counted.0 ≤ (length c.args.path.now + 1) * n) (sym one) counted.2, counted.3)
+
+pub returns-in-Some-clause-all : goal.returns-in-Some-clause-all
+returns-in-Some-clause-all c patterns automaton =
+    let graph = graph_of c.args.self.now c.in-Some.states patterns (sym c.self.view_is ∙ c.in-Some.is) automaton in
+    on_ok_weaker c.ends_reached.result
+    (all-read c.what_reaches_a_state.ensures.reading c.in-Some.states patterns graph c.args.path.now c.args.steps.now c.ends_reached.new.steps (bytes-of c.args.path.now c.type_inv.path))
+    c.ends_reached.ensures.all
+
+pub returns-in-Some-clause-first : goal.returns-in-Some-clause-first
+returns-in-Some-clause-first c patterns automaton =
+    let graph = graph_of c.args.self.now c.in-Some.states patterns (sym c.self.view_is ∙ c.in-Some.is) automaton in
+    first-read c.what_reaches_a_state.ensures.reading c.in-Some.states patterns graph c.args.path.now c.args.steps.now c.ends_reached.new.steps (bytes-of c.args.path.now c.type_inv.path)
+    c.ends_reached.ensures.first
+
+pub returns-in-None-clause-all : goal.returns-in-None-clause-all
+returns-in-None-clause-all c patterns automaton =
+    none-counted patterns c.args.path.now c.args.steps.now (subst (λ (s : Option Graph). IsAutomatonOf s patterns) (sym c.self.view_is ∙ c.in-None.is) automaton)
+
+pub returns-in-None-clause-first : goal.returns-in-None-clause-first
+returns-in-None-clause-first c patterns automaton =
+    none-first patterns c.args.path.now c.args.steps.now (subst (λ (s : Option Graph). IsAutomatonOf s patterns) (sym c.self.view_is ∙ c.in-None.is) automaton)

@@ -1,6 +1,7 @@
 use Rattle.std.proofs.Common.{◌≡◌, ◌+◌, ◌*◌, length, ◌∙◌, ap, sym, subst}
-use Rattle.aa_glob_nfa.specs.Graphs.{IsFound}
+use Rattle.aa_glob_nfa.specs.Graphs.{Graph, IsFound, Reaches}
 use Rattle.aa_glob_run.specs.Steps.{IsCounted}
+use Rattle.aa_glob_run.specs.Visits.{CountsAllVisits, CountsFirstVisits}
 use Rattle.aa_glob_nfa.specs.OfTables.{graph_of}
 use Rattle.aa_glob_run.proofs.PatternLemmas.{IfOk-then, OnOk-from, found_all}
 use Rattle.aa_glob_nfa.proofs.TableLemmas.{length-entries_in}
@@ -30,3 +31,11 @@ returns-clause-visits c =
     let t = c.self.inside.tables in
     let room : length t.states ≡ length c.args.self.now.entries = sym (length-entries_in t.classes.items 0 t.states) ∙ ap (λ g. length g.entries) c.self.view_is in
     OnOk-from c.patterns_of.result _ (subst (λ n. IsCounted 1 ((length c.args.text.now + 1) * n) c.args.steps.now c.run.new.steps) room c.in_ok-run.ensures.visits)
+
+pub returns-clause-all : goal.returns-clause-all
+returns-clause-all c =
+    OnOk-from c.patterns_of.result _
+    (subst (λ (g : Graph). CountsAllVisits (Reaches g) c.args.text.now c.args.steps.now c.run.new.steps) c.self.view_is c.in_ok-run.ensures.all)
+
+pub returns-clause-first : goal.returns-clause-first
+returns-clause-first c = subst (λ (g : Graph). CountsFirstVisits (Reaches g) c.args.text.now c.args.steps.now c.run.new.steps) c.self.view_is c.run.ensures.first
