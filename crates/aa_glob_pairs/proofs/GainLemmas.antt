@@ -1,17 +1,20 @@
 -- More pairs that wait.
-use Rattle.std.proofs.Common.{◌≡◌, ◌⊎◌, ◌↔◌, ℕ, ◌+◌, ◌<◌, ◌≤◌, ◌==◌, List, [], ◌∷◌, ◌++◌, length, take, get_or, set, refl, sym, ap, subst, ◌∙◌, inl, inr, arith}
-use Rattle.std.proofs.lemmas.Bool.{cases_Bool, eqb-true, eqb-false}
-use Rattle.std.proofs.lemmas.List.{append-nil, append_assoc, get_or-set_other, get_or-set_same, length-set, take_more}
+use Rattle.std.proofs.Common.{◌≡◌, ◌⊎◌, ◌↔◌, ℕ, ◌+◌, ◌<◌, ◌≤◌, ◌==◌, true, false, Bool, cond, List, [], ◌∷◌, ◌++◌, length, take, get_or, refl, sym, ap, subst, ◌∙◌, inl, inr, arith}
+use Rattle.std.proofs.lemmas.Bool.{cases_Bool, eq-eqb, eqb-true, eqb-false}
+use Rattle.std.proofs.lemmas.List.{append-nil, append_assoc, take_more}
 use Rattle.std.proofs.lemmas.List.Elements.{All-contains, All-nil, Contains-append_cases, Contains-append_left, Contains-append_right, Contains-push, Contains-push_cases}
-use Rattle.std.specs.Prelude.{Contains}
+use Rattle.std.specs.BTreeMap.{BTreeMap, get, is_at, Updates}
+use Rattle.std.specs.Cmp.{unsigned_tied}
+use Rattle.std.specs.Ordering.{nat_cmp}
+use Rattle.std.specs.Prelude.{Contains, if◌then◌else◌, Option, unwrap_or}
 use Rattle.aa_glob_pairs.specs.Bytes.{IsShared}
 use Rattle.aa_glob_pairs.specs.Nodes.{AreShared, FollowsBy, HasStep}
-use Rattle.aa_glob_pairs.specs.Waiting.{Gains, IsFrontOf, Ordered, row_at, Waits}
+use Rattle.aa_glob_pairs.specs.Waiting.{Gains, IsFrontOf, Ordered, row_at, SetsRow, Waits}
 use Rattle.aa_glob_pairs.specs.declared.moves.Moves.{Moves}
 use Rattle.aa_glob_pairs.specs.declared.moves.Step.{Step}
 
 abbrev Rows : Type 0
-Rows = List (List ℕ)
+Rows = List (ℕ × List ℕ)
 
 front_same : (xs ys : List ℕ) → ys ≡ xs → IsFrontOf xs ys
 front_same xs ys e = ([], e ∙ sym (append-nil xs))
@@ -19,74 +22,79 @@ front_same xs ys e = ([], e ∙ sym (append-nil xs))
 front_then : (xs ys zs : List ℕ) → IsFrontOf xs ys → IsFrontOf ys zs → IsFrontOf xs zs
 front_then xs ys zs one two = (one.0 ++ two.0, two.1 ∙ ap (λ l. l ++ two.0) one.1 ∙ append_assoc xs one.0 two.0)
 
--- the row of a state that another one takes the place of, and any other row
-pub row_set : (rows : Rows) (first : ℕ) (row : List ℕ) → first < length rows → row_at (set rows first row) first ≡ row
-row_set rows first row within = get_or-set_same rows first row [] within
+-- the row of a state that gets another one, and any other row
+pub row_set : (old new : Rows) (first : ℕ) (row : List ℕ) → SetsRow old new first row → row_at new first ≡ row
+row_set old new first row sets = sets first ∙ ap (λ b. if b then row else row_at old first) (eq-eqb first first refl)
 
-pub row_other : (rows : Rows) (first q : ℕ) (row : List ℕ) → (q ≡ first → ⊥) → row_at (set rows first row) q ≡ row_at rows q
-row_other rows first q row apart = get_or-set_other rows first q row [] apart
+pub row_other : (old new : Rows) (first q : ℕ) (row : List ℕ) → SetsRow old new first row → (q ≡ first → ⊥) → row_at new q ≡ row_at old q
+row_other old new first q row sets apart = sets q ∙ by (first == q) refl
+  where
+    by : (b : Bool) → (first == q) ≡ b → (if b then row else row_at old q) ≡ row_at old q
+    by true e = absurd (apart (sym (eqb-true first q e)))
+    by false e = refl
 
 pub same_or_not : (q r : ℕ) → (q ≡ r) ⊎ (q ≡ r → ⊥)
 same_or_not q r = elim (cases_Bool (q == r)) [ inl same ↦ inl (eqb-true q r same) | inr other ↦ inr (eqb-false q r other) ]
 
+-- a map that has a list at a key, or none, has that row
+pub row_updated : (old new : BTreeMap ℕ (List ℕ)) (first : ℕ) (row : Option (List ℕ)) → Updates nat_cmp old new first row → SetsRow old.entries new.entries first (unwrap_or row [])
+row_updated old new first row updates q =
+    ap (λ o. unwrap_or o []) (updates.0 q) ∙ by (is_at (nat_cmp first) q) (get nat_cmp old q) ∙ ap (λ b. if b then unwrap_or row [] else row_at old.entries q) (unsigned_tied first q)
+  where
+    by : (b : Bool) (own : Option (List ℕ)) → unwrap_or (cond b row own) [] ≡ (if b then unwrap_or row [] else unwrap_or own [])
+    by true own = refl
+    by false own = refl
+
 -- one more pair
-pub gains_pushed : (rows : Rows) (first second : ℕ) → first < length rows
-    → Gains rows (set rows first (row_at rows first ++ second ∷ [])) (λ q r. (q ≡ first) × (r ≡ second))
-gains_pushed rows first second within = record {
-  states = length-set rows first longer;
+pub gains_pushed : (old new : Rows) (first second : ℕ) → SetsRow old new first (row_at old first ++ second ∷ []) → Gains old new (λ q r. (q ≡ first) × (r ≡ second))
+gains_pushed old new first second sets = record {
   fronts = λ q. front q (same_or_not q first);
   each = λ q r. (there q r (same_or_not q first), back q r (same_or_not q first));
 }
   where
-    longer : List ℕ
-    longer = row_at rows first ++ second ∷ []
+    here : (q : ℕ) → q ≡ first → row_at new q ≡ row_at old q ++ second ∷ []
+    here q same = ap (row_at new) same ∙ row_set old new first (row_at old first ++ second ∷ []) sets ∙ ap (λ n. row_at old n ++ second ∷ []) (sym same)
 
-    new : Rows
-    new = set rows first longer
+    elsewhere : (q : ℕ) → (q ≡ first → ⊥) → row_at new q ≡ row_at old q
+    elsewhere q apart = row_other old new first q (row_at old first ++ second ∷ []) sets apart
 
-    here : (q : ℕ) → q ≡ first → row_at new q ≡ row_at rows q ++ second ∷ []
-    here q same = ap (row_at new) same ∙ row_set rows first longer within ∙ ap (λ n. row_at rows n ++ second ∷ []) (sym same)
-
-    elsewhere : (q : ℕ) → (q ≡ first → ⊥) → row_at new q ≡ row_at rows q
-    elsewhere q apart = row_other rows first q longer apart
-
-    front : (q : ℕ) → (q ≡ first) ⊎ (q ≡ first → ⊥) → IsFrontOf (row_at rows q) (row_at new q)
+    front : (q : ℕ) → (q ≡ first) ⊎ (q ≡ first → ⊥) → IsFrontOf (row_at old q) (row_at new q)
     front q (inl same) = (second ∷ [], here q same)
-    front q (inr apart) = front_same (row_at rows q) (row_at new q) (elsewhere q apart)
+    front q (inr apart) = front_same (row_at old q) (row_at new q) (elsewhere q apart)
 
-    there : (q r : ℕ) → (q ≡ first) ⊎ (q ≡ first → ⊥) → Waits new q r → Waits rows q r ⊎ ((q ≡ first) × (r ≡ second))
-    there q r (inl same) waits = elim (Contains-push_cases (row_at rows q) second r (subst (λ (l : List ℕ). Contains l r) (here q same) waits)) [
+    there : (q r : ℕ) → (q ≡ first) ⊎ (q ≡ first → ⊥) → Waits new q r → Waits old q r ⊎ ((q ≡ first) × (r ≡ second))
+    there q r (inl same) waits = elim (Contains-push_cases (row_at old q) second r (subst (λ (l : List ℕ). Contains l r) (here q same) waits)) [
       | inl early ↦ inl early
       | inr last ↦ inr (same, sym last)
     ]
     there q r (inr apart) waits = inl (subst (λ (l : List ℕ). Contains l r) (elsewhere q apart) waits)
 
-    back : (q r : ℕ) → (q ≡ first) ⊎ (q ≡ first → ⊥) → Waits rows q r ⊎ ((q ≡ first) × (r ≡ second)) → Waits new q r
-    back q r (inl same) (inl waits) = subst (λ (l : List ℕ). Contains l r) (sym (here q same)) (Contains-append_left (row_at rows q) (second ∷ []) r waits)
+    back : (q r : ℕ) → (q ≡ first) ⊎ (q ≡ first → ⊥) → Waits old q r ⊎ ((q ≡ first) × (r ≡ second)) → Waits new q r
+    back q r (inl same) (inl waits) = subst (λ (l : List ℕ). Contains l r) (sym (here q same)) (Contains-append_left (row_at old q) (second ∷ []) r waits)
     back q r (inr apart) (inl waits) = subst (λ (l : List ℕ). Contains l r) (sym (elsewhere q apart)) waits
     back q r at (inr pair) =
-        subst (λ (l : List ℕ). Contains l r) (sym (here q pair.0)) (subst (λ n. Contains (row_at rows q ++ second ∷ []) n) (sym pair.1) (Contains-push (row_at rows q) second))
+        subst (λ (l : List ℕ). Contains l r) (sym (here q pair.0)) (subst (λ n. Contains (row_at old q ++ second ∷ []) n) (sym pair.1) (Contains-push (row_at old q) second))
+
+-- the first pair of a first state
+pub gains_begun : (old new : Rows) (first second : ℕ) → row_at old first ≡ [] → SetsRow old new first (second ∷ []) → Gains old new (λ q r. (q ≡ first) × (r ≡ second))
+gains_begun old new first second none sets = gains_pushed old new first second (subst (λ (l : List ℕ). SetsRow old new first (l ++ second ∷ [])) (sym none) sets)
 
 pub nothing_there : {X : Type 0} → (x : X) → Contains [] x → ⊥
 nothing_there x h = All-contains (λ _. ⊥) [] x (All-nil (λ _. ⊥)) h
 
 -- a row that is taken away
-pub passed_other : (rows : Rows) (first q r : ℕ) → (q ≡ first → ⊥) → (Waits (set rows first []) q r ↔ Waits rows q r)
-passed_other rows first q r apart = (
-  λ waits. subst (λ (l : List ℕ). Contains l r) (row_other rows first q [] apart) waits,
-  λ waits. subst (λ (l : List ℕ). Contains l r) (sym (row_other rows first q [] apart)) waits,
-)
+pub passed_other : (old new : Rows) (first q r : ℕ) → SetsRow old new first [] → (q ≡ first → ⊥) → Waits old q r → Waits new q r
+passed_other old new first q r sets apart waits = subst (λ (l : List ℕ). Contains l r) (sym (row_other old new first q [] sets apart)) waits
 
-pub passed_there : (rows : Rows) (first q r : ℕ) → first < length rows → Waits (set rows first []) q r → Waits rows q r × (q ≡ first → ⊥)
-passed_there rows first q r within waits = elim (same_or_not q first) [
-  | inl same ↦ absurd (nothing_there r (subst (λ (l : List ℕ). Contains l r) (ap (row_at (set rows first [])) same ∙ row_set rows first [] within) waits))
-  | inr apart ↦ ((passed_other rows first q r apart).0 waits, apart)
+pub passed_there : (old new : Rows) (first q r : ℕ) → SetsRow old new first [] → Waits new q r → Waits old q r
+passed_there old new first q r sets waits = elim (same_or_not q first) [
+  | inl same ↦ absurd (nothing_there r (subst (λ (l : List ℕ). Contains l r) (ap (row_at new) same ∙ row_set old new first [] sets) waits))
+  | inr apart ↦ subst (λ (l : List ℕ). Contains l r) (row_other old new first q [] sets apart) waits
 ]
 
 -- nothing is got of a kind that nothing is of
 pub gains_nothing : (p : Rows) (Kind : ℕ → ℕ → Type 0) → ((q r : ℕ) → Kind q r → ⊥) → Gains p p Kind
 gains_nothing p Kind none = record {
-  states = refl;
   fronts = λ q. front_same (row_at p q) (row_at p q) refl;
   each = λ q r. (inl, λ h. elim h [ inl has ↦ has | inr kind ↦ absurd (none q r kind) ]);
 }
@@ -94,7 +102,6 @@ gains_nothing p Kind none = record {
 -- the same kind by another name
 pub gains_as : (old new : Rows) (Kind Other : ℕ → ℕ → Type 0) → Gains old new Kind → ((q r : ℕ) → (Kind q r ↔ Other q r)) → Gains old new Other
 gains_as old new Kind Other gains same = record {
-  states = gains.states;
   fronts = gains.fronts;
   each = λ q r. (
     λ has. elim ((gains.each q r).0 has) [ inl before ↦ inl before | inr kind ↦ inr ((same q r).0 kind) ],
@@ -106,7 +113,6 @@ gains_as old new Kind Other gains same = record {
 pub gains_then : (old mid new : Rows) (First Second Both : ℕ → ℕ → Type 0) → Gains old mid First → Gains mid new Second
     → ((q r : ℕ) → (Both q r ↔ (First q r ⊎ Second q r))) → Gains old new Both
 gains_then old mid new First Second Both one two both = record {
-  states = two.states ∙ one.states;
   fronts = λ q. front_then (row_at old q) (row_at mid q) (row_at new q) (one.fronts q) (two.fronts q);
   each = λ q r. (there q r, back q r);
 }

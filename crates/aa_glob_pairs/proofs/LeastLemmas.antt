@@ -1,5 +1,5 @@
 -- The least number of some kinds.
-use Rattle.std.proofs.Common.{◌≡◌, ◌⊎◌, ◌↔◌, ℕ, ◌+◌, ◌<◌, List, [], ◌∷◌, ◌++◌, length, take, get_or, sym, ap, subst, ◌∙◌, inl, inr, Option, None, Some}
+use Rattle.std.proofs.Common.{◌≡◌, ◌⊎◌, ◌↔◌, ℕ, ◌+◌, ◌<◌, List, [], ◌∷◌, ◌++◌, length, take, get_or, sym, ap, ◌∙◌, inl, inr, Option, None, Some}
 use Rattle.std.proofs.lemmas.List.{take_more}
 use Rattle.std.proofs.lemmas.List.Elements.{Contains-append_cases, Contains-append_left, Contains-append_right, Contains-push, Contains-push_cases}
 use Rattle.std.specs.Prelude.{Contains}
@@ -76,13 +76,7 @@ lower_beside_more old mid new some others i d within one two =
     (lowers_then old mid new (Clash some (take i others)) (Clash some (get_or others i d ∷ [])) (Clash some (take i others ++ get_or others i d ∷ [])) one two
     (clash_append_other some (take i others) (get_or others i d ∷ [])))
 
--- nothing clashes with none
-pub no_first : (others : List Ending) (k : ℕ) → Clash [] others k → ⊥
-no_first others k h = nothing_there h.0 h.2
-
-pub no_second : (some : List Ending) (k : ℕ) → Clash some [] k → ⊥
-no_second some k h = nothing_there h.1 h.3
-
+-- the one pattern
 alone : (s t : Ending) → Contains (s ∷ []) t → s ≡ t
 alone s t h = elim (Contains-push_cases [] s t h) [ inl none ↦ absurd (nothing_there t none) | inr same ↦ same ]
 
@@ -94,14 +88,6 @@ lower_clash old new e f classes earlier lowers =
       λ is. (e, f, Contains-push [] e, Contains-push [] f, classes, earlier, sym is),
       λ h. sym h.6 ∙ ap (λ x. x.pattern) (sym (alone f h.1 h.3)),
     ))
-
--- two that don't
-pub lower_apart : (found : Option ℕ) (e f : Ending) → ((e.class ≡ f.class → ⊥) → e.pattern < f.pattern → ⊥) → Lowers found found (Clash (e ∷ []) (f ∷ []))
-lower_apart found e f apart = lowers_nothing found (Clash (e ∷ []) (f ∷ [])) (λ k h.
-    let first = alone e h.0 h.2 in
-    let second = alone f h.1 h.3 in
-    apart (λ same. h.4 (ap (λ x. x.class) (sym first) ∙ same ∙ ap (λ x. x.class) second))
-    (subst (λ x. x.pattern < f.pattern) (sym first) (subst (λ (x : Ending). (h.0).pattern < x.pattern) (sym second) h.5)))
 
 -- the least of a kind by another name
 pub least_as : (found : Option ℕ) (Kind Other : ℕ → Type 0) → ((k : ℕ) → (Kind k ↔ Other k)) → IsLeast found Kind → IsLeast found Other

@@ -1,8 +1,8 @@
 -- Moves that are gathered one after the other.
-use Rattle.std.proofs.Common.{◌≡◌, ◌⊎◌, ◌↔◌, ℕ, zero, suc, ◌+◌, ◌<◌, ◌≤◌, true, false, Bool, List, [], ◌∷◌, ◌++◌, length, take, get_or, refl, sym, ap, subst, ◌∙◌, inl, inr}
+use Rattle.std.proofs.Common.{◌≡◌, ◌⊎◌, ◌↔◌, ℕ, ◌+◌, ◌<◌, true, false, Bool, List, [], ◌∷◌, ◌++◌, length, take, get_or, refl, sym, ap, subst, ◌∙◌, inl, inr}
 use Rattle.std.proofs.lemmas.List.{take_more}
-use Rattle.std.proofs.lemmas.List.Elements.{All-nil, All-push, All-same, Contains-append_left, Contains-push, Contains-push_cases}
-use Rattle.std.specs.Prelude.{All, Contains, None, Option, slice_get, Some}
+use Rattle.std.proofs.lemmas.List.Elements.{Contains-append_left, Contains-push, Contains-push_cases}
+use Rattle.std.specs.Prelude.{All, Contains, None, Option, Some}
 use Rattle.aa_glob_nfa.proofs.TableLemmas.{entry_of-graph_in, Leads-cases, Leads-on, Leads-way}
 use Rattle.aa_glob_nfa.specs.Entries.{stays_at}
 use Rattle.aa_glob_nfa.specs.Graphs.{entry_of, Graph, IsFree, Leads, Takes}
@@ -14,16 +14,15 @@ use Rattle.aa_glob_nfa.specs.declared.tables.Tables.{Tables}
 use Rattle.aa_glob_pairs.proofs.GainLemmas.{nothing_there}
 use Rattle.aa_glob_pairs.specs.Bytes.{in_bytes, is_among}
 use Rattle.aa_glob_pairs.specs.Graphs.{AreMoves}
-use Rattle.aa_glob_pairs.specs.Nodes.{HasStep, IsLaidOut}
+use Rattle.aa_glob_pairs.specs.Nodes.{HasStep}
 use Rattle.aa_glob_pairs.specs.code.Gathered.{Gets, GetsLed, GetsStay, IsAway, IsOn}
 use Rattle.aa_glob_pairs.specs.declared.bytes.Bytes.{Bytes}
 use Rattle.aa_glob_pairs.specs.declared.moves.Moves.{Moves}
 use Rattle.aa_glob_pairs.specs.declared.moves.Step.{Step}
-use Rattle.aa_glob_pairs.specs.declared.nodes.Node.{Node}
 
-pub gets_then : (old mid new : Moves) (F G H : ℕ → Type 0) (S T U : ℕ → ℕ → Type 0) (L M N : ℕ → Type 0) → Gets old mid F S L → Gets mid new G T M
-    → ((x : ℕ) → (H x ↔ (F x ⊎ G x))) → ((c x : ℕ) → (U c x ↔ (S c x ⊎ T c x))) → ((x : ℕ) → (N x ↔ (L x ⊎ M x))) → Gets old new H U N
-gets_then old mid new F G H S T U L M N one two free steps led = record {
+gets_then : (old mid new : Moves) (F G H : ℕ → Type 0) (S T U : ℕ → ℕ → Type 0) → Gets old mid F S → Gets mid new G T
+    → ((x : ℕ) → (H x ↔ (F x ⊎ G x))) → ((c x : ℕ) → (U c x ↔ (S c x ⊎ T c x))) → Gets old new H U
+gets_then old mid new F G H S T U one two free steps = record {
   free = λ x. (
     λ has. elim ((two.free x).0 has) [
       | inl before ↦ elim ((one.free x).0 before) [ inl old ↦ inl old | inr first ↦ inr ((free x).1 (inl first)) ]
@@ -44,7 +43,6 @@ gets_then old mid new F G H S T U L M N one two free steps led = record {
       | inr both ↦ elim ((steps c x).0 both) [ inl first ↦ (two.steps c x small).1 (inl ((one.steps c x small).1 (inr first))) | inr second ↦ (two.steps c x small).1 (inr second) ]
     ],
   );
-  laid = λ n q all laid. two.laid n q (λ x m. all x ((led x).1 (inr m))) (one.laid n q (λ x l. all x ((led x).1 (inl l))) laid);
 }
 
 -- what holds of either kind, with something more
@@ -56,16 +54,8 @@ both_kinds L M N P led x = (
 
 pub gets_led_then : (g : Graph) (old mid new : Moves) (L M N : ℕ → Type 0) → GetsLed g old mid L → GetsLed g mid new M → ((x : ℕ) → (N x ↔ (L x ⊎ M x))) → GetsLed g old new N
 gets_led_then g old mid new L M N one two led =
-    gets_then old mid new (λ x. L x × IsFree g x) (λ x. M x × IsFree g x) (λ x. N x × IsFree g x) (λ c x. L x × Takes g x c) (λ c x. M x × Takes g x c) (λ c x. N x × Takes g x c) L M N one two
-    (both_kinds L M N (IsFree g) led) (λ c. both_kinds L M N (λ x. Takes g x c) led) led
-
--- moves that get none
-pub gets_led_none : (g : Graph) (m : Moves) (L : ℕ → Type 0) → ((x : ℕ) → L x → ⊥) → GetsLed g m m L
-gets_led_none g m L none = record {
-  free = λ x. (inl, λ h. elim h [ inl old ↦ old | inr new ↦ absurd (none x new.0) ]);
-  steps = λ c x small. (inl, λ h. elim h [ inl old ↦ old | inr new ↦ absurd (none x new.0) ]);
-  laid = λ n q all laid. laid;
-}
+    gets_then old mid new (λ x. L x × IsFree g x) (λ x. M x × IsFree g x) (λ x. N x × IsFree g x) (λ c x. L x × Takes g x c) (λ c x. M x × Takes g x c) (λ c x. N x × Takes g x c) one two
+    (both_kinds L M N (IsFree g) led) (λ c. both_kinds L M N (λ x. Takes g x c) led)
 
 -- the same kind by another name
 pub gets_led_as : (g : Graph) (old new : Moves) (L M : ℕ → Type 0) → GetsLed g old new L → ((x : ℕ) → (M x ↔ L x)) → GetsLed g old new M
@@ -78,7 +68,6 @@ gets_led_as g old new L M gets same = record {
     λ has. elim ((gets.steps c x small).0 has) [ inl before ↦ inl before | inr new ↦ inr ((same x).1 new.0, new.1) ],
     λ h. elim h [ inl before ↦ (gets.steps c x small).1 (inl before) | inr new ↦ (gets.steps c x small).1 (inr ((same x).0 new.0, new.1)) ],
   );
-  laid = λ n q all laid. gets.laid n q (λ x l. all x ((same x).1 l)) laid;
 }
 
 -- one more of some ways
@@ -119,9 +108,9 @@ leads_both t q x within = (
 )
 
 -- no moves, and then those that lead away and that stay
-pub moves_gathered : (g : Graph) (n q : ℕ) (none mid new : Moves) → none.free.items ≡ [] → none.steps.items ≡ [] → GetsLed g none mid (Leads g q) → GetsStay g mid new q
+pub moves_gathered : (g : Graph) (q : ℕ) (none mid new : Moves) → none.free.items ≡ [] → none.steps.items ≡ [] → GetsLed g none mid (Leads g q) → GetsStay g mid new q
     → AreMoves g q new
-moves_gathered g n q none mid new free steps led stay = record {
+moves_gathered g q none mid new free steps led stay = record {
   free = λ x. (
     λ has. elim ((stay.free x).0 has) [
       | inl before ↦ elim ((led.free x).0 before) [ inl old ↦ absurd (nothing_there x (subst (λ l. Contains l x) free old)) | inr entered ↦ entered ]
@@ -155,24 +144,6 @@ step_pushed steps to bytes c x = (
   ],
 )
 
--- no moves are laid out
-pub laid_none : (n q : ℕ) (m : Moves) → m.free.items ≡ [] → m.steps.items ≡ [] → IsLaidOut n q m
-laid_none n q m free steps = record {
-  free = All-same (λ x. (q ≤ x) × (x < n)) m.free.items [] free (All-nil (λ x. (q ≤ x) × (x < n)));
-  steps = All-same (λ s. (q ≤ s.to) × (s.to < n)) m.steps.items [] steps (All-nil (λ s. (q ≤ s.to) × (s.to < n)));
-}
-
-same_nodes : (n o : Node) → Some n ≡ Some o → n ≡ o
-same_nodes n o e = cc
-
--- what holds of each state, and of one more
-pub each_pushed : (all : List Node) (new : Node) (P : ℕ → Node → Type 0) → ((q : ℕ) (n : Node) → slice_get all q ≡ Some n → P q n) → P (length all) new
-    → (q : ℕ) (n : Node) → slice_get (all ++ new ∷ []) q ≡ Some n → P q n
-each_pushed [] new P each last zero n e = subst (λ (x : Node). P 0 x) (same_nodes new n e) last
-each_pushed [] new P each last (suc q) n e = absurd cc
-each_pushed (a ∷ all) new P each last zero n e = each 0 n e
-each_pushed (a ∷ all) new P each last (suc q) n e = each_pushed all new (λ k. P (suc k)) (λ k o is. each (suc k) o is) last q n e
-
 -- what it takes to come into a state, and to stay there, by its gate
 pub entry_by_gate : (t : Tables) (q : ℕ) (gate : Gate) → q < length t.states → gate ≡ (state_at t.states q).gate
     → entry_of (graph_of t) q ≡ entry_behind gate (set_of t.classes.items q)
@@ -191,12 +162,6 @@ gets_stay_step g old new q bytes free steps stays = record {
     λ has. elim ((step_pushed old.steps.items q bytes c x).0 has) [ inl before ↦ inl before | inr new ↦ inr (new.0, stays c ∙ new.1) ],
     λ h. (step_pushed old.steps.items q bytes c x).1 (elim h [ inl before ↦ inl before | inr stayed ↦ inr (stayed.0, sym (stays c) ∙ stayed.1) ]),
   );
-  laid = λ n k all laid. record {
-    free = All-same (λ x. (k ≤ x) × (x < n)) new.free.items old.free.items free laid.free;
-    steps =
-        All-same (λ s. (k ≤ s.to) × (s.to < n)) new.steps.items (old.steps.items ++ record { to = q; bytes = bytes } ∷ []) steps
-        (All-push (λ s. (k ≤ s.to) × (s.to < n)) old.steps.items (record { to = q; bytes = bytes }) laid.steps (all q refl));
-  };
 }
 
 -- a state that no byte leaves as it is
@@ -204,7 +169,6 @@ pub gets_stay_none : (g : Graph) (m : Moves) (q : ℕ) → ((c : ℕ) → stays_
 gets_stay_none g m q never = record {
   free = λ x. (λ has. inl has, λ h. elim h [ inl before ↦ before | inr none ↦ absurd none ]);
   steps = λ c x small. (λ has. inl has, λ h. elim h [ inl before ↦ before | inr stayed ↦ absurd (apart (stays_at (entry_of g q) c) (never c) stayed.1) ]);
-  laid = λ n k all laid. laid;
 }
   where
     apart : (b : Bool) → b ≡ false → b ≡ true → ⊥

@@ -6,15 +6,15 @@ use Rattle.std.proofs.lemmas.List.Elements.{All-contains, All-nil, All-push, All
 use Rattle.std.proofs.lemmas.Option.{get_or_from_slice_get, slice_get-get_or, slice_get_within}
 use Rattle.std.specs.Prelude.{All, Bool, false, slice_get, slice_index_or, true}
 use Rattle.aa_glob_pairs.proofs.BelowLemmas.{clash-covered, clash-turned}
-use Rattle.aa_glob_pairs.proofs.GainLemmas.{pairs_as, pairs_nothing, passed_other, passed_there, same_or_not}
+use Rattle.aa_glob_pairs.proofs.GainLemmas.{nothing_there, pairs_as, pairs_nothing, passed_other, passed_there, same_or_not}
 use Rattle.aa_glob_pairs.proofs.LeastLemmas.{lowers_as, lowers_nothing}
 use Rattle.aa_glob_nfa.specs.Graphs.{EndsAt, Graph}
 use Rattle.aa_glob_pairs.specs.Below.{can_clash}
 use Rattle.aa_glob_pairs.specs.Clashes.{Clash, IsAtMost, IsLeast, Lowers}
 use Rattle.aa_glob_pairs.specs.Graphs.{AreBelow, AreEndingsOf, AreMoves, class_at, Goes, IsLaid}
-use Rattle.aa_glob_pairs.specs.Nodes.{FollowsBy, IsLaidOut, IsWithin}
+use Rattle.aa_glob_pairs.specs.Nodes.{FollowsBy}
 use Rattle.aa_glob_pairs.specs.Pairs.{Classed, ClashOf, Follows, goes, GoTogether, MayClash, MeetsAt, Met, start, states_of}
-use Rattle.aa_glob_pairs.specs.Waiting.{Gains, IsNone, Ordered, row_at, Waits}
+use Rattle.aa_glob_pairs.specs.Waiting.{Gains, Ordered, row_at, SetsRow, Waits}
 use Rattle.aa_glob_pairs.specs.code.Progress.{IsDone, IsMeeting, IsSeen, no_marks}
 use Rattle.aa_glob_pairs.specs.declared.below.Below.{Below}
 use Rattle.aa_glob_pairs.specs.declared.below.Below.TheVariants.{Nothing}
@@ -67,14 +67,13 @@ met_turned g start = start
 met_turned g (goes {q = q} {r = r} {x = x} {y = y} at follows) = goes (met_turned g at) (follows_turned g q r x y follows)
 
 -- the pair of starts waits
-pub meeting_begins : (g : Classed) (none one : List (List ℕ)) (meeting : Meeting) → IsNone (states_of g) none → Gains none one (λ q r. (q ≡ 0) × (r ≡ 0))
-    → meeting.waiting ≡ one → meeting.seen.items ≡ no_marks (states_of g) → meeting.found ≡ None → IsMeeting g 0 0 meeting
-meeting_begins g none one meeting empty gains waiting seen found = record {
-  states = ap length waiting ∙ gains.states ∙ empty.room;
+pub meeting_begins : (g : Classed) (meeting : Meeting) → Gains [] meeting.waiting (λ q r. (q ≡ 0) × (r ≡ 0)) → meeting.seen.items ≡ no_marks (states_of g) → meeting.found ≡ None
+    → IsMeeting g 0 0 meeting
+meeting_begins g meeting gains seen found = record {
   marks = ap length seen ∙ no_marks_are (states_of g);
-  begun = λ first. subst (λ w. Waits w 0 0) (sym waiting) ((gains.each 0 0).1 (inr (refl, refl)));
-  sound = λ q r waits. elim ((gains.each q r).0 (subst (λ w. Waits w q r) waiting waits)) [
-    | inl old ↦ absurd (empty.none q r old)
+  begun = λ first. (gains.each 0 0).1 (inr (refl, refl));
+  sound = λ q r waits. elim ((gains.each q r).0 waits) [
+    | inl old ↦ absurd (nothing_there r old)
     | inr at ↦ (omega (arith, at.0, at.1), subst (λ x. Met g x r) (sym at.0) (subst (λ y. Met g 0 y) (sym at.1) start))
   ];
   looked = All-nil (IsSeen meeting.seen.items 0);
@@ -99,7 +98,7 @@ meeting_begins g none one meeting empty gains waiting seen found = record {
     no_number k e = absurd cc
 
 -- a pair that waits at the place that is next
-waits_next : (rows : List (List ℕ)) (row at column : ℕ) → slice_get (row_at rows row) at ≡ Some column → Waits rows row column
+waits_next : (rows : List (ℕ × List ℕ)) (row at column : ℕ) → slice_get (row_at rows row) at ≡ Some column → Waits rows row column
 waits_next rows row at column is =
     subst (λ n. Waits rows row n) (get_or_from_slice_get (row_at rows row) at column 0 is)
     (Contains-get_or (row_at rows row) at 0 (slice_get_within (row_at rows row) at column is))
@@ -113,7 +112,6 @@ take_next xs i x is =
 pub meeting_passed : (g : Classed) (row at column : ℕ) (meeting : Meeting) → slice_get (row_at meeting.waiting row) at ≡ Some column
     → IsMeeting g row at meeting → IsSeen meeting.seen.items row column → IsMeeting g row (at + 1) meeting
 meeting_passed g row at column meeting is met seen = record {
-  states = met.states;
   marks = met.marks;
   begun = met.begun;
   sound = met.sound;
@@ -144,7 +142,7 @@ by_moves g q r m o one two x y = (to, from)
     from (inr (inl free)) = inr (inl (free.0, (two.free y).1 free.1))
     from (inr (inr shared)) = inr (inr (shared.0, shared.1, (one.steps shared.0 x shared.1).1 shared.2, (two.steps shared.0 y shared.1).1 shared.3))
 
-pub follows_all : (g : Classed) (row column : ℕ) (m o : Moves) (old new : List (List ℕ)) → AreMoves g.graph row m → AreMoves g.graph column o → MayClash g row column
+pub follows_all : (g : Classed) (row column : ℕ) (m o : Moves) (old new : List (ℕ × List ℕ)) → AreMoves g.graph row m → AreMoves g.graph column o → MayClash g row column
     → Gains old new (Ordered (FollowsBy m o row column)) → Gains old new (Ordered (FollowsIf g row column))
 follows_all g row column m o old new one two may gains =
     pairs_as old new (FollowsBy m o row column) (FollowsIf g row column) gains
@@ -157,7 +155,7 @@ off_on b off on = let wrong : false ≡ true = sym off ∙ on in absurd (cc)
 abbrev pub NoneClash : Classed → ℕ → ℕ → Type 0
 NoneClash g q r = can_clash (slice_index_or g.belows q Nothing) (slice_index_or g.belows r Nothing) ≡ false
 
-pub follows_none : (g : Classed) (row column : ℕ) (rows : List (List ℕ)) → NoneClash g row column → Gains rows rows (Ordered (FollowsIf g row column))
+pub follows_none : (g : Classed) (row column : ℕ) (rows : List (ℕ × List ℕ)) → NoneClash g row column → Gains rows rows (Ordered (FollowsIf g row column))
 follows_none g row column rows off =
     pairs_nothing rows (FollowsIf g row column) (λ x y both. off_on (can_clash (slice_index_or g.belows row Nothing) (slice_index_or g.belows column Nothing)) off both.0)
 
@@ -221,7 +219,6 @@ pub meeting_visited : (g : Classed) (row at column : ℕ) (old new : Meeting)
     → IsMeeting g row at old → Gains old.waiting new.waiting (Ordered (FollowsIf g row column)) → new.seen.items ≡ set old.seen.items column (row + 1)
     → Lowers old.found new.found (ClashesOf g row column) → IsMeeting g row (at + 1) new
 meeting_visited g row at column old new inside is within met gains seen lowers = record {
-  states = gains.states ∙ met.states;
   marks = ap length seen ∙ length-set old.seen.items column (row + 1) ∙ met.marks;
   begun = λ zero. (gains.each 0 0).1 (inl (met.begun zero));
   sound = λ q r waits. elim ((gains.each q r).0 waits) [
@@ -358,19 +355,16 @@ module _ (g : Classed) (row at : ℕ) (meeting : Meeting) (laid : IsLaid g.graph
   ]
 
   -- the next row
-  pub meeting_next_row : (new : Meeting) → row < length meeting.waiting → new.waiting ≡ set meeting.waiting row [] → new.seen.items ≡ meeting.seen.items
-      → new.found ≡ meeting.found → IsMeeting g (row + 1) 0 new
-  meeting_next_row new within waiting seen found = record {
-    states = ap length waiting ∙ length-set meeting.waiting row [] ∙ met.states;
+  pub meeting_next_row : (new : Meeting) → SetsRow meeting.waiting new.waiting row [] → new.seen.items ≡ meeting.seen.items → new.found ≡ meeting.found → IsMeeting g (row + 1) 0 new
+  meeting_next_row new passed seen found = record {
     marks = ap length seen ∙ met.marks;
     begun = λ zero. absurd (omega (arith, zero));
-    sound = λ q r waits. met.sound q r (passed_there meeting.waiting row q r within (subst (λ w. Waits w q r) waiting waits)).0;
+    sound = λ q r waits. met.sound q r (passed_there meeting.waiting new.waiting row q r passed waits);
     looked = All-nil (IsSeen new.seen.items (row + 1));
     unseen = λ r. omega (arith, ap (λ l. slice_index_or l r 0) seen, met.unseen r);
     closed = λ q r x y on done follows.
-        subst (λ w. Waits w x y) (sym waiting)
-        ((passed_other meeting.waiting row x y (λ same. omega (arith, same, on))).1
-        (met.closed q r x y (omega (arith, on)) (done_next q r (subst (λ (l : List ℕ). IsDone g l (row + 1) q r) seen done)) follows));
+        passed_other meeting.waiting new.waiting row x y passed (λ same. omega (arith, same, on))
+        (met.closed q r x y (omega (arith, on)) (done_next q r (subst (λ (l : List ℕ). IsDone g l (row + 1) q r) seen done)) follows);
     there = λ k e. met.there k (sym found ∙ e);
     least = λ q r k done clash.
         subst (λ f. IsAtMost f k) (sym found) (met.least q r k (done_next q r (subst (λ (l : List ℕ). IsDone g l (row + 1) q r) seen done)) clash);
@@ -411,10 +405,3 @@ all_looked_at xs i found is none = elim (cases_lt i (length xs)) [
   | inl within ↦ absurd (none (get_or xs i 0) (is ∙ slice_get-get_or xs i 0 within))
   | inr past ↦ past
 ]
-
--- moves that are laid out are within
-pub laid_within : (states room q : ℕ) (m : Moves) → room ≡ states → IsLaidOut states q m → IsWithin room m
-laid_within states room q m same laid = record {
-  free = All-weaker (λ x. (q ≤ x) × (x < states)) (λ x. x < room) (λ x at. omega (arith, at.1, same)) m.free.items laid.free;
-  steps = All-weaker (λ s. (q ≤ s.to) × (s.to < states)) (λ s. s.to < room) (λ s at. omega (arith, at.1, same)) m.steps.items laid.steps;
-}

@@ -1,5 +1,5 @@
 -- What leads away from a state, as lists, and the pairs of states that come of going along twice by one text.
-use Rattle.std.specs.Prelude.{◌≡◌, ◌⊎◌, ℕ, ◌^◌, ◌<◌, ◌≤◌, true, All, Contains, List}
+use Rattle.std.specs.Prelude.{◌≡◌, ◌⊎◌, ℕ, ◌^◌, ◌<◌, true, Contains, List}
 use Rattle.aa_glob_pairs.specs.Bytes.{in_bytes}
 use Rattle.aa_glob_pairs.specs.declared.moves.Moves.{Moves}
 use Rattle.aa_glob_pairs.specs.declared.moves.Step.{Step}
@@ -16,13 +16,3 @@ AreShared first second x y = (c : ℕ) × (c < 2 ^ 8) × HasStep first c x × Ha
 abbrev pub FollowsBy : Moves → Moves → ℕ → ℕ → ℕ → ℕ → Type 0
 FollowsBy m k q r x y =
     (Contains m.free.items x × (y ≡ r)) ⊎ (((x ≡ q) × Contains k.free.items y) ⊎ AreShared m.steps.items k.steps.items x y)
-
--- moves lead to no state beyond so many
-pub record IsWithin (states : ℕ) (m : Moves) : Type 0 where
-  pub free : All (λ x. x < states) m.free.items
-  pub steps : All (λ s. s.to < states) m.steps.items
-
--- the moves of a state lead to later ones, or leave it where it is, and to no state beyond so many
-pub record IsLaidOut (states q : ℕ) (m : Moves) : Type 0 where
-  pub free : All (λ x. (q ≤ x) × (x < states)) m.free.items
-  pub steps : All (λ s. (q ≤ s.to) × (s.to < states)) m.steps.items

@@ -62,7 +62,7 @@ fn begin(
     ensures { IfOk result (IsMeeting (classed tables.now classes.now belows.now) 0 0) }
 {
     let states = tables.states.len();
-    let mut waiting = Waiting::new(alloc, states)?;
+    let mut waiting = Waiting::new(alloc);
     waiting.insert(0, 0)?;
     let seen = no_marks(alloc, states)?;
     Ok(Meeting {
@@ -102,7 +102,7 @@ fn meet_row(
         meet(alloc, tables, classes, belows, row, at, column, meeting)?;
         at += 1;
     }
-    meeting.waiting.pass(alloc, row);
+    meeting.waiting.pass(row);
     Ok(())
 }
 

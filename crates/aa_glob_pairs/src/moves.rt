@@ -9,8 +9,7 @@ ghost use Rattle.aa_bytes.specs.declared.byte_map.ByteMap.{ByteMap};
 ghost use Rattle.aa_glob_nfa.specs.Tables.{entry_behind, state_at};
 ghost use Rattle.aa_glob_pairs.specs.Bytes.{in_bytes, is_among};
 ghost use Rattle.aa_glob_nfa.specs.declared.state.Way.{Way};
-ghost use Rattle.aa_glob_pairs.specs.Graphs.{AreMoves, IsLaid};
-ghost use Rattle.aa_glob_pairs.specs.Nodes.{IsLaidOut};
+ghost use Rattle.aa_glob_pairs.specs.Graphs.{AreMoves};
 ghost use Rattle.aa_glob_pairs.specs.code.Gathered.{GetsLed, GetsStay, IsAway, IsOn};
 
 use crate::bytes::Bytes;
@@ -36,14 +35,12 @@ pub struct Moves {
     pub steps: Vec<Step>,
 }
 
-/// What leads away from a state, where ways lead to later states.
+/// What leads away from a state.
 pub fn moves_at(alloc: Global, tables: &Tables, state: u32) -> Result<Moves, AllocError>
     requires sound { AreSound tables.now }
     requires sorted { AreSorted tables.now }
-    requires later { IsLaid (graph_of tables.now) }
     requires is_state { state < length tables.now.states }
-    ensures moves { IfOk result (λ m. AreMoves (graph_of tables.now) state m) }
-    ensures laid { IfOk result (λ m. IsLaidOut (length tables.now.states) state m) }
+    ensures { IfOk result (AreMoves (graph_of tables.now) state) }
 {
     let mut moves = Moves {
         free: Vec::new(alloc),

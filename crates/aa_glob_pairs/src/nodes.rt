@@ -3,8 +3,7 @@
 ghost use Rattle.std.specs.Prelude.{◌<◌, ℕ, length, IfOk};
 ghost use Rattle.aa_glob_nfa.specs.Graphs.{EndsAt};
 ghost use Rattle.aa_glob_nfa.specs.OfTables.{AreSorted, AreSound, graph_of};
-ghost use Rattle.aa_glob_pairs.specs.Graphs.{IsLaid, IsNodeOf};
-ghost use Rattle.aa_glob_pairs.specs.Nodes.{IsLaidOut};
+ghost use Rattle.aa_glob_pairs.specs.Graphs.{IsNodeOf};
 
 use crate::ends::{Ending, endings_at};
 use crate::moves::{Moves, moves_at};
@@ -18,7 +17,7 @@ pub struct Node {
     pub ends: Vec<Ending>,
 }
 
-/// A state of a graph whose ways lead to later states, with the classes of its patterns.
+/// A state of a graph, with the classes of its patterns.
 pub fn node_at(
     alloc: Global,
     tables: &Tables,
@@ -27,11 +26,9 @@ pub fn node_at(
 ) -> Result<Node, AllocError>
     requires sound { AreSound tables.now }
     requires sorted { AreSorted tables.now }
-    requires later { IsLaid (graph_of tables.now) }
     requires classes { (q p : ℕ) → EndsAt (graph_of tables.now) q p → p < length classes.now }
     requires is_state { state < length tables.now.states }
-    ensures node { IfOk result (IsNodeOf (graph_of tables.now) classes.now state) }
-    ensures laid { IfOk result (λ n. IsLaidOut (length tables.now.states) state n.moves) }
+    ensures { IfOk result (IsNodeOf (graph_of tables.now) classes.now state) }
 {
     let moves = moves_at(alloc, tables, state)?;
     let ends = endings_at(alloc, tables, classes, state)?;

@@ -1,7 +1,7 @@
 //! What follows from a pair of states: the pairs to which one of them goes freely, or both by one byte.
 
-ghost use Rattle.std.specs.Prelude.{◌≡◌, ◌∷◌, [], ◌<◌, All, Contains, length, OnOk};
-ghost use Rattle.aa_glob_pairs.specs.Nodes.{AreShared, FollowsBy, IsWithin};
+ghost use Rattle.std.specs.Prelude.{◌≡◌, ◌∷◌, [], Contains, OnOk};
+ghost use Rattle.aa_glob_pairs.specs.Nodes.{AreShared, FollowsBy};
 ghost use Rattle.aa_glob_pairs.specs.Waiting.{Gains, Ordered};
 
 use crate::bytes::share;
@@ -17,10 +17,6 @@ pub fn visit(
     column: u32,
     waiting: &mut Waiting,
 ) -> Result<(), AllocError>
-    requires row { row < length waiting.old }
-    requires column { column < length waiting.old }
-    requires first { IsWithin (length waiting.old) first.now }
-    requires second { IsWithin (length waiting.old) second.now }
     ensures { OnOk result (Gains waiting.old waiting.new (Ordered (FollowsBy first.now second.now row column))) }
 {
     go_first(&first.free, column, waiting)?;
@@ -30,8 +26,6 @@ pub fn visit(
 
 // The first state goes freely.
 fn go_first(free: &[u32], column: u32, waiting: &mut Waiting) -> Result<(), AllocError>
-    requires column { column < length waiting.old }
-    requires within { All (λ x. x < length waiting.old) free.now }
     ensures { OnOk result (Gains waiting.old waiting.new (Ordered (λ x y. Contains free.now x × (y ≡ column)))) }
 {
     for state in free {
@@ -42,8 +36,6 @@ fn go_first(free: &[u32], column: u32, waiting: &mut Waiting) -> Result<(), Allo
 
 // The second state goes freely.
 fn go_second(row: u32, free: &[u32], waiting: &mut Waiting) -> Result<(), AllocError>
-    requires row { row < length waiting.old }
-    requires within { All (λ y. y < length waiting.old) free.now }
     ensures { OnOk result (Gains waiting.old waiting.new (Ordered (λ x y. (x ≡ row) × Contains free.now y))) }
 {
     for state in free {
@@ -54,8 +46,6 @@ fn go_second(row: u32, free: &[u32], waiting: &mut Waiting) -> Result<(), AllocE
 
 // Both go by one byte.
 fn go_both(first: &[Step], second: &[Step], waiting: &mut Waiting) -> Result<(), AllocError>
-    requires first { All (λ s. s.to < length waiting.old) first.now }
-    requires second { All (λ s. s.to < length waiting.old) second.now }
     ensures { OnOk result (Gains waiting.old waiting.new (Ordered (AreShared first.now second.now))) }
 {
     for step in first {
@@ -66,8 +56,6 @@ fn go_both(first: &[Step], second: &[Step], waiting: &mut Waiting) -> Result<(),
 
 // The same by one step of the first.
 fn go_beside(step: &Step, second: &[Step], waiting: &mut Waiting) -> Result<(), AllocError>
-    requires first { step.now.to < length waiting.old }
-    requires second { All (λ s. s.to < length waiting.old) second.now }
     ensures { OnOk result (Gains waiting.old waiting.new (Ordered (AreShared (step.now ∷ []) second.now))) }
 {
     for other in second {
@@ -78,8 +66,6 @@ fn go_beside(step: &Step, second: &[Step], waiting: &mut Waiting) -> Result<(), 
 
 // The same by one step of each.
 fn go_if_shared(step: &Step, other: &Step, waiting: &mut Waiting) -> Result<(), AllocError>
-    requires first { step.now.to < length waiting.old }
-    requires second { other.now.to < length waiting.old }
     ensures { OnOk result (Gains waiting.old waiting.new (Ordered (AreShared (step.now ∷ []) (other.now ∷ [])))) }
 {
     if share(&step.bytes, &other.bytes) {

@@ -1,9 +1,10 @@
 //! Pairs of states that wait to be looked at.
 
-ghost use Rattle.std.specs.Prelude.{◌≡◌, ◌⊎◌, ◌++◌, ◌∷◌, [], ◌<◌, ◌+◌, ◌^◌, length, set, slice_get, slice_index_or, Some, None, IfOk, OnOk};
-ghost use Rattle.aa_glob_pairs.specs.Waiting.{Gains, IsNone, Ordered, row_at};
+ghost use Rattle.std.specs.Prelude.{◌≡◌, ◌⊎◌, ◌++◌, ◌∷◌, [], ◌<◌, ◌+◌, ◌^◌, slice_get, None, OnOk};
+ghost use Rattle.aa_glob_pairs.specs.Waiting.{Gains, Ordered, row_at, SetsRow};
 
 use std::alloc::{AllocError, Global};
+use std::collections::BTreeMap;
 use std::marker::Model;
 
 // The second states of pairs that have one first state, in the order in which they came; some may stand there more than once.
@@ -47,44 +48,45 @@ impl Row {
     }
 }
 
-/// Pairs of states, by their first state. Contracts see a list of second states for each first one.
+/// Pairs of states, by their first state. Contracts see the first states that have some, each with a list of second ones.
 #[derive(Drop)]
 pub struct Waiting {
-    rows: Vec<Row>,
+    // The allocator of a row that begins.
+    alloc: Global,
+    rows: BTreeMap<u32, Row>,
 }
 
 impl Model for Waiting {
     ghost use Rattle.std.specs.Prelude.{ℕ, List};
 
-    ghost Value = { List (List ℕ) };
+    ghost Value = { List (ℕ × List ℕ) };
 
-    ghost view = { λ w. w.rows.items };
+    ghost view = { λ w. w.rows.entries };
 }
 
 impl Waiting {
-    /// No pair, in room for so many states; `AllocError` where memory ran out.
-    pub fn new(alloc: Global, states: usize) -> Result<Waiting, AllocError>
-        ensures { IfOk result (IsNone states) }
+    /// No pair. It takes no memory.
+    pub fn new(alloc: Global) -> Waiting
+        ensures { result ≡ [] }
     {
-        let mut rows = Vec::new(alloc);
-        for _state in 0..states {
-            rows.push(Row::new(alloc))?;
+        Waiting {
+            alloc,
+            rows: BTreeMap::new(alloc),
         }
-        Ok(Waiting { rows })
     }
 
     /// One more pair, behind the others of its first state; `AllocError` where memory ran out.
     pub fn insert(&mut self, first: u32, second: u32) -> Result<(), AllocError>
-        requires { first < length self.old }
         ensures { OnOk result (Gains self.old self.new (λ q r. (q ≡ first) × (r ≡ second))) }
     {
-        self.rows[first as usize].push(second)
+        match self.rows.get_mut(&first) {
+            Some(row) => row.push(second),
+            None => self.begin(first, second),
+        }
     }
 
     /// The same for a pair in either order: the lesser state is the first.
     pub fn insert_pair(&mut self, one: u32, other: u32) -> Result<(), AllocError>
-        requires one { one < length self.old }
-        requires other { other < length self.old }
         ensures { OnOk result (Gains self.old self.new (Ordered (λ q r. (q ≡ one) × (r ≡ other)))) }
     {
         if one <= other {
@@ -94,20 +96,31 @@ impl Waiting {
         }
     }
 
+    // The first pair of a first state.
+    fn begin(&mut self, first: u32, second: u32) -> Result<(), AllocError>
+        ensures { OnOk result (SetsRow self.old self.new first (second ∷ [])) }
+    {
+        let mut row = Row::new(self.alloc);
+        row.push(second)?;
+        self.rows.insert(first, row)?;
+        Ok(())
+    }
+
     /// The second state of the pair at a place among those of a first state, if there is one.
     pub fn second(&self, first: u32, at: usize) -> Option<u32>
-        requires { first < length self.now }
         ensures state { result ≡ slice_get (row_at self.now first) at }
         ensures within { result ≡ None ⊎ (at + 1 < 2 ^ 64) }
     {
-        self.rows[first as usize].get(at)
+        match self.rows.get(&first) {
+            Some(row) => row.get(at),
+            None => None,
+        }
     }
 
-    /// Drops the pairs of a first state.
-    pub fn pass(&mut self, alloc: Global, first: u32)
-        requires { first < length self.old }
-        ensures { self.new ≡ set self.old first [] }
+    /// Drops the pairs of a first state, and gives back their memory.
+    pub fn pass(&mut self, first: u32)
+        ensures { SetsRow self.old self.new first [] }
     {
-        self.rows[first as usize] = Row::new(alloc);
+        self.rows.remove(&first);
     }
 }

@@ -1,28 +1,27 @@
 -- Moves and ends that are gathered one after the other.
-use Rattle.std.specs.Prelude.{◌≡◌, ◌↔◌, ◌⊎◌, ℕ, ◌+◌, ◌^◌, ◌<◌, ◌≤◌, true, Contains, List}
+use Rattle.std.specs.Prelude.{◌≡◌, ◌↔◌, ◌⊎◌, ℕ, ◌+◌, ◌^◌, ◌<◌, true, Contains, List}
 use Rattle.aa_glob_nfa.specs.Graphs.{Graph, IsFree, Stays, Takes}
 use Rattle.aa_glob_nfa.specs.Tables.{state_at}
 use Rattle.aa_glob_nfa.specs.declared.state.End.{End}
 use Rattle.aa_glob_nfa.specs.declared.state.Way.{Way}
 use Rattle.aa_glob_nfa.specs.declared.tables.Tables.{Tables}
 use Rattle.aa_glob_pairs.specs.Graphs.{class_at}
-use Rattle.aa_glob_pairs.specs.Nodes.{HasStep, IsLaidOut}
+use Rattle.aa_glob_pairs.specs.Nodes.{HasStep}
 use Rattle.aa_glob_pairs.specs.declared.ends.Ending.{Ending}
 use Rattle.aa_glob_pairs.specs.declared.moves.Moves.{Moves}
 
--- moves got some free ones and some steps, which lead to states of a kind
-pub record Gets (old new : Moves) (Free : ℕ → Type 0) (Steps : ℕ → ℕ → Type 0) (Led : ℕ → Type 0) : Type 0 where
+-- moves got some free ones and some steps
+pub record Gets (old new : Moves) (Free : ℕ → Type 0) (Steps : ℕ → ℕ → Type 0) : Type 0 where
   pub free : (x : ℕ) → (Contains new.free.items x ↔ (Contains old.free.items x ⊎ Free x))
   pub steps : (c x : ℕ) → c < 2 ^ 8 → (HasStep new.steps.items c x ↔ (HasStep old.steps.items c x ⊎ Steps c x))
-  pub laid : (n q : ℕ) → ((x : ℕ) → Led x → (q ≤ x) × (x < n)) → IsLaidOut n q old → IsLaidOut n q new
 
 -- moves got those to the states of a kind
 abbrev pub GetsLed : Graph → Moves → Moves → (ℕ → Type 0) → Type 0
-GetsLed g old new Led = Gets old new (λ x. Led x × IsFree g x) (λ c x. Led x × Takes g x c) Led
+GetsLed g old new Led = Gets old new (λ x. Led x × IsFree g x) (λ c x. Led x × Takes g x c)
 
 -- moves got those that leave a state as it is
 abbrev pub GetsStay : Graph → Moves → Moves → ℕ → Type 0
-GetsStay g old new q = Gets old new (λ x. ⊥) (λ c x. (x ≡ q) × Stays g q c) (λ x. x ≡ q)
+GetsStay g old new q = Gets old new (λ x. ⊥) (λ c x. (x ≡ q) × Stays g q c)
 
 -- the way that leads on from a state leads to another
 abbrev pub IsOn : Tables → ℕ → ℕ → Type 0

@@ -20,7 +20,6 @@ IsDone g seen row q r = (q ≤ r) × (((q < row) × Met g q r) ⊎ ((q ≡ row) 
 -- So far so many pairs of this first state were looked at, and all of earlier ones: what follows from them waits, if it isn't of an earlier
 -- one, and nothing waits that isn't met. What was found is the least pattern that clashes at one of them.
 pub record IsMeeting (g : Classed) (row at : ℕ) (meeting : Meeting) : Type 0 where
-  pub states : length meeting.waiting ≡ states_of g
   pub marks : length meeting.seen.items ≡ states_of g
   pub begun : row ≡ 0 → Waits meeting.waiting 0 0
   pub sound : (q r : ℕ) → Waits meeting.waiting q r → (q ≤ r) × Met g q r

@@ -1,8 +1,8 @@
-use Rattle.std.proofs.Common.{◌≡◌, ◌∙◌, ℕ, None, ap, arith, refl, subst}
+use Rattle.std.proofs.Common.{◌≡◌, ◌∙◌, ap, arith, None, refl, subst}
 use Rattle.aa_glob_nfa.proofs.TableLemmas.{length-entries_in}
 use Rattle.aa_glob_pairs.proofs.ProgressLemmas.{meeting_begins}
 use Rattle.aa_glob_pairs.specs.Pairs.{classed, states_of}
-use Rattle.aa_glob_pairs.specs.Waiting.{IsNone}
+use Rattle.aa_glob_pairs.specs.Waiting.{Gains}
 use Rattle.aa_glob_pairs.specs.code.Progress.{no_marks}
 use Rattle.aa_glob_pairs.proofs.meeting.begin.Goals as goal
 
@@ -10,7 +10,6 @@ pub returns : goal.returns
 returns c =
     let t = c.args.tables.now in
     let g = classed t c.args.classes.now c.args.belows.now in
-    let none = c.in_ok-waiting.waiting in
     let same : c.len-states.result ≡ states_of g = omega (arith, c.len-states.ensures, length-entries_in t.classes.items 0 t.states) in
-    meeting_begins g none c.insert.new.self (record { waiting = c.insert.new.self; seen = c.in_ok-seen.seen; found = None })
-    (subst (λ (n : ℕ). IsNone n none) same c.in_ok-waiting.ensures) c.in_ok-insert.ensures refl (c.in_ok-seen.ensures ∙ ap no_marks same) refl
+    meeting_begins g (record { waiting = c.insert.new.self; seen = c.in_ok-seen.seen; found = None })
+    (subst (λ l. Gains l c.insert.new.self (λ q r. (q ≡ 0) × (r ≡ 0))) c.new-waiting.ensures c.in_ok-insert.ensures) (c.in_ok-seen.ensures ∙ ap no_marks same) refl

@@ -1,7 +1,7 @@
 use Rattle.std.proofs.Common.{◌∙◌, ◌⊎◌, ◌<◌, arith, length, refl, subst, sym, List}
 use Rattle.std.proofs.lemmas.Option.{get_or_from_slice_get, slice_get_read}
 use Rattle.aa_glob_nfa.proofs.TableLemmas.{length-entries_in}
-use Rattle.aa_glob_pairs.proofs.ProgressLemmas.{clashes_all, clashes_none, column_within, follows_all, follows_none, laid_within, meeting_passed, meeting_visited}
+use Rattle.aa_glob_pairs.proofs.ProgressLemmas.{clashes_all, clashes_none, column_within, follows_all, follows_none, meeting_passed, meeting_visited}
 use Rattle.aa_glob_pairs.specs.Clashes.{Clash, Lowers}
 use Rattle.aa_glob_pairs.specs.Pairs.{classed}
 use Rattle.aa_glob_pairs.specs.declared.ends.Ending.{Ending}
@@ -24,6 +24,9 @@ index_mut-requires c =
     let size = length-entries_in t.classes.items 0 t.states in
     let column = column_within g c.args.row c.args.at c.args.column old c.requires.later c.requires.column c.requires.met in
     omega (arith, column, c.requires.met.marks, old.seen.ok.0)
+
+pub bounds-belows-row : goal.bounds-belows-row
+bounds-belows-row c = omega (arith, c.requires.row, c.requires.belows.count, length-entries_in c.args.tables.now.classes.items 0 c.args.tables.now.states)
 
 pub bounds-belows-column : goal.bounds-belows-column
 bounds-belows-column c =
@@ -69,33 +72,6 @@ node_at-requires-2-clause-is_state c =
     let column = column_within g c.args.row c.args.at c.args.column old c.requires.later c.requires.column c.requires.met in
     omega (arith, column, size)
 
-pub visit-requires-clause-column : goal.visit-requires-clause-column
-visit-requires-clause-column c =
-    let t = c.args.tables.now in
-    let g = classed t c.args.classes.now c.args.belows.now in
-    let old = c.args.meeting.now in
-    let size = length-entries_in t.classes.items 0 t.states in
-    let column = column_within g c.args.row c.args.at c.args.column old c.requires.later c.requires.column c.requires.met in
-    omega (arith, column, c.requires.met.states)
-
-pub visit-requires-clause-first : goal.visit-requires-clause-first
-visit-requires-clause-first c =
-    let t = c.args.tables.now in
-    let g = classed t c.args.classes.now c.args.belows.now in
-    let old = c.args.meeting.now in
-    let size = length-entries_in t.classes.items 0 t.states in
-    let column = column_within g c.args.row c.args.at c.args.column old c.requires.later c.requires.column c.requires.met in
-    laid_within (length t.states) (length old.waiting) c.args.row c.in_ok-first.first.moves (c.requires.met.states ∙ size) c.in_ok-first.ensures.laid
-
-pub visit-requires-clause-second : goal.visit-requires-clause-second
-visit-requires-clause-second c =
-    let t = c.args.tables.now in
-    let g = classed t c.args.classes.now c.args.belows.now in
-    let old = c.args.meeting.now in
-    let size = length-entries_in t.classes.items 0 t.states in
-    let column = column_within g c.args.row c.args.at c.args.column old c.requires.later c.requires.column c.requires.met in
-    laid_within (length t.states) (length old.waiting) c.args.column c.in_ok-second.second.moves (c.requires.met.states ∙ size) c.in_ok-second.ensures.laid
-
 pub returns : goal.returns
 returns c =
     let t = c.args.tables.now in
@@ -108,8 +84,8 @@ returns c =
     let n = c.in_ok-first.first in
     let o = c.in_ok-second.second in
     meeting_visited g c.args.row c.args.at c.args.column old _ inside c.requires.column column c.requires.met
-    (follows_all g c.args.row c.args.column n.moves o.moves old.waiting c.visit.new.waiting c.in_ok-first.ensures.node.moves c.in_ok-second.ensures.node.moves may c.in_ok-visit.ensures) refl
-    (clashes_all g c.args.row c.args.column n.ends.items o.ends.items old.found c.lower_both.new.found c.in_ok-first.ensures.node.ends c.in_ok-second.ensures.node.ends
+    (follows_all g c.args.row c.args.column n.moves o.moves old.waiting c.visit.new.waiting c.in_ok-first.ensures.moves c.in_ok-second.ensures.moves may c.in_ok-visit.ensures) refl
+    (clashes_all g c.args.row c.args.column n.ends.items o.ends.items old.found c.lower_both.new.found c.in_ok-first.ensures.ends c.in_ok-second.ensures.ends
     (subst (λ (l : List Ending). Lowers old.found c.lower_both.new.found (λ k. Clash l o.ends.items k ⊎ Clash o.ends.items l k)) c.deref.ensures.value
     (subst (λ (l : List Ending). Lowers old.found c.lower_both.new.found (λ k. Clash c.deref.result.now l k ⊎ Clash l c.deref.result.now k)) c.deref-2.ensures.value
     c.lower_both.ensures)))

@@ -1,26 +1,14 @@
-use Rattle.std.proofs.Common.{◌<◌, arith, length, refl}
-use Rattle.aa_glob_nfa.proofs.TableLemmas.{length-entries_in}
+use Rattle.std.proofs.Common.{refl}
 use Rattle.aa_glob_pairs.proofs.ProgressLemmas.{all_looked_at, meeting_next_row}
 use Rattle.aa_glob_pairs.specs.Pairs.{classed}
 use Rattle.aa_glob_pairs.specs.Waiting.{row_at}
 use Rattle.aa_glob_pairs.proofs.meeting.meet_row.Goals as goal
-
-pub second-requires : goal.second-requires
-second-requires c =
-    let t = c.args.tables.now in
-    omega (arith, c.requires.row, c.loop-column.invariant.states, length-entries_in t.classes.items 0 t.states)
-
-pub pass-requires : goal.pass-requires
-pass-requires c =
-    let t = c.args.tables.now in
-    omega (arith, c.requires.row, c.loop-column.invariant.states, length-entries_in t.classes.items 0 t.states)
 
 pub returns : goal.returns
 returns c =
     let t = c.args.tables.now in
     let g = classed t c.args.classes.now c.args.belows.now in
     let meeting = c.loop-column.meeting in
-    let within : c.args.row < length meeting.waiting = omega (arith, c.requires.row, c.loop-column.invariant.states, length-entries_in t.classes.items 0 t.states) in
     meeting_next_row g c.args.row c.loop-column.at meeting c.requires.later c.loop-column.invariant
     (all_looked_at (row_at meeting.waiting c.args.row) c.loop-column.at c.second.result c.second.ensures.state c.in_default.not-Some)
-    (record { waiting = c.pass.new.self; seen = meeting.seen; found = meeting.found }) within c.pass.ensures refl refl
+    (record { waiting = c.pass.new.self; seen = meeting.seen; found = meeting.found }) c.pass.ensures refl refl

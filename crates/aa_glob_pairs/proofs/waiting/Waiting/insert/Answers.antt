@@ -1,19 +1,36 @@
-use Rattle.std.proofs.Common.{◌≡◌, ◌∙◌, ◌<◌, ◌++◌, ◌∷◌, [], ℕ, List, length, set, ap, subst, sym, refl}
-use Rattle.std.proofs.lemmas.Option.{get_or_from_slice_get, slice_get_read}
+use Rattle.std.proofs.Common.{◌≡◌, ◌∙◌, ◌++◌, ◌∷◌, [], ℕ, List, Some, ap, refl, subst, sym}
 use Rattle.std.proofs.lemmas.Result.{on_ok_weaker}
-use Rattle.aa_glob_pairs.proofs.GainLemmas.{gains_pushed}
-use Rattle.aa_glob_pairs.specs.Waiting.{Gains, row_at}
+use Rattle.std.specs.BTreeMap.{BTreeMap, get}
+use Rattle.std.specs.Option.{option_copied_mut}
+use Rattle.std.specs.Ordering.{nat_cmp}
+use Rattle.std.specs.Prelude.{IsSome, unwrap_or}
+use Rattle.aa_glob_pairs.proofs.GainLemmas.{gains_begun, gains_pushed, row_updated}
+use Rattle.aa_glob_pairs.specs.Waiting.{Gains, row_at, SetsRow}
 use Rattle.aa_glob_pairs.proofs.waiting.Waiting.insert.Goals as goal
 
-pub returns : goal.returns
-returns c =
-    let rows = c.self.inside.rows.items in
+pub returns-in-Some : goal.returns-in-Some
+returns-in-Some c =
+    let old = c.self.inside.rows in
     let first = c.args.first in
     let second = c.args.second in
-    let row = c.index_mut.result.now in
-    let within : first < length rows = subst (λ l. first < length l) (sym c.self.view_is) c.requires in
-    let is : row_at rows first ≡ row = get_or_from_slice_get rows first row [] (slice_get_read rows (length rows) first row refl within c.index_mut.ensures.value) in
+    let had = c.in-Some.row.now in
+    let new = c.get_mut.follows.lender c.push.new.self in
+    let found : get nat_cmp old first ≡ Some had = sym c.get_mut.ensures.value ∙ ap option_copied_mut c.in-Some.is in
+    let row : row_at old.entries first ≡ had = ap (λ o. unwrap_or o []) found in
     on_ok_weaker c.push.result (λ pushed.
-    subst (λ l. Gains l (set rows first c.push.new.self) (λ q r. (q ≡ first) × (r ≡ second))) c.self.view_is
-    (subst (λ (l : List ℕ). Gains rows (set rows first l) (λ q r. (q ≡ first) × (r ≡ second))) (ap (λ l. l ++ second ∷ []) is ∙ sym pushed) (gains_pushed rows first second within)))
+    subst (λ l. Gains l new.entries (λ q r. (q ≡ first) × (r ≡ second))) c.self.view_is
+    (gains_pushed old.entries new.entries first second
+    (subst (λ (l : List ℕ). SetsRow old.entries new.entries first l) (pushed ∙ ap (λ l. l ++ second ∷ []) (sym row))
+    (row_updated old new first (Some c.push.new.self) ((c.get_mut.follows.holds c.push.new.self).3 (subst IsSome (sym found) refl))))))
     c.push.ensures
+
+pub returns-in-None : goal.returns-in-None
+returns-in-None c =
+    let old = c.self.inside.rows in
+    let first = c.args.first in
+    let second = c.args.second in
+    let none : row_at old.entries first ≡ [] = ap (λ o. unwrap_or o []) (sym c.get_mut.ensures.value ∙ ap option_copied_mut c.in-None.is) in
+    on_ok_weaker c.begin.result (λ begun.
+    subst (λ l. Gains l c.begin.new.self (λ q r. (q ≡ first) × (r ≡ second))) c.self.view_is
+    (gains_begun old.entries c.begin.new.self first second none (subst (λ (m : BTreeMap ℕ (List ℕ)). SetsRow m.entries c.begin.new.self first (second ∷ [])) c.get_mut.follows.holds-at-none begun)))
+    c.begin.ensures
