@@ -1,10 +1,10 @@
 -- The classes below states: those of a state by its ends and the states behind it, the last state first.
-use Rattle.std.proofs.Common.{◌≡◌, ℕ, ◌+◌, ◌<◌, ◌≤◌, Bool, true, false, List, length, take, get_or, set, refl, sym, ap, subst, ◌∙◌, inl, inr, arith}
+use Rattle.std.proofs.Common.{◌≡◌, ℕ, zero, suc, ◌+◌, ◌-◌, ◌<◌, ◌≤◌, Bool, true, false, List, ◌∷◌, length, take, get_or, set, refl, sym, ap, subst, ◌∙◌, inl, inr, arith}
 use Rattle.std.proofs.lemmas.Bool.{cases_lt, eqb-true}
 use Rattle.std.proofs.lemmas.Bool.Decides.{nat_tests}
 use Rattle.std.proofs.lemmas.List.{get_or-set_other, get_or-set_same, take_more}
 use Rattle.std.proofs.lemmas.List.Elements.{Contains-push_cases}
-use Rattle.std.specs.Prelude.{All, Contains, slice_index_or, not, ◌==◌}
+use Rattle.std.specs.Prelude.{All, Contains, slice_index_or, not, ◌==◌, if◌then◌else◌, map, nat_lt, replicate}
 use Rattle.aa_glob_nfa.proofs.ListLemmas.{Contains-map_cases}
 use Rattle.aa_glob_nfa.specs.Graphs.{EndsAt, Graph}
 use Rattle.aa_glob_nfa.specs.OfTables.{graph_of}
@@ -15,6 +15,7 @@ use Rattle.aa_glob_pairs.proofs.MoveLemmas.{away_around, away_more, leads_both}
 use Rattle.aa_glob_pairs.specs.Below.{can_clash, Covers, Includes}
 use Rattle.aa_glob_pairs.specs.Graphs.{class_at, IsBelowAt, IsLaid}
 use Rattle.aa_glob_pairs.specs.code.Gathered.{IsAway, IsOn}
+use Rattle.aa_glob_pairs.specs.code.Numbered.{as_kept, below_of, numbered_classes}
 use Rattle.aa_glob_pairs.specs.declared.below.Below.{Below}
 use Rattle.aa_glob_pairs.specs.declared.below.Below.TheVariants.{Nothing, One, Several}
 
@@ -81,6 +82,41 @@ belows_more g classes states left old below laid within count here behind q from
       own = is.own;
       on = λ x leads. let later = laid.later q x leads in subst (λ c. Includes b c) (sym (other x (omega arith))) (is.on x leads);
     }
+
+-- the number of a class
+below_of-more : (own : ℕ) → below_of (own + 2) ≡ One own
+below_of-more own = rw (not_zero, not_one) (ap One same)
+  where
+    not_zero : (own + 2 == 0) ≡ false
+    not_zero = grind (arith, nat_tests)
+
+    not_one : (own + 2 == 1) ≡ false
+    not_one = grind (arith, nat_tests)
+
+    same : own + 2 - 2 ≡ own
+    same = omega arith
+
+-- the number of what is below a state leaves no class out
+pub kept-includes : (below : Below) → Includes (as_kept below) below
+kept-includes Nothing class covers = covers
+kept-includes (One own) class covers = by (nat_lt own numbered_classes) refl
+  where
+    by : (room : Bool) → nat_lt own numbered_classes ≡ room → Covers (below_of (if room then own + 2 else 1)) class
+    by true e = subst (λ b. Covers b class) (sym (below_of-more own)) covers
+    by false e = tt
+kept-includes Several class covers = covers
+
+-- nothing below some states
+pub none-below : (states : ℕ) → map below_of (replicate states 0) ≡ replicate states Nothing
+none-below zero = refl
+none-below (suc states) = ap (λ belows. Nothing ∷ belows) (none-below states)
+
+-- what is below a state is so as it is kept
+pub kept-below : (g : Graph) (classes : List ℕ) (belows : List Below) (q : ℕ) (below : Below) → IsBelowAt g classes belows q below → IsBelowAt g classes belows q (as_kept below)
+kept-below g classes belows q below is = record {
+  own = λ p at. kept-includes below (class_at classes p) (is.own p at);
+  on = λ x leads class covers. kept-includes below class (is.on x leads class covers);
+}
 
 -- a test that fails for two states: no class below the one differs from one below the other
 pub clash-covered : (one other : Below) (c d : ℕ) → Covers one c → Covers other d → (c ≡ d → ⊥) → can_clash one other ≡ true

@@ -6,7 +6,7 @@ ghost use Rattle.aa_glob_nfa.specs.OfTables.{AreSorted, AreSound, graph_of};
 ghost use Rattle.aa_glob_pairs.specs.Clashes.{IsLeast};
 ghost use Rattle.aa_glob_pairs.specs.Graphs.{ClashesAt, IsLaid};
 
-use crate::below::belows_of;
+use crate::belows::belows_of;
 use crate::meeting::least_clash;
 use aa_glob_nfa::Tables;
 use std::alloc::{AllocError, Global};

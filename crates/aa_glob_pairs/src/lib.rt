@@ -2,6 +2,7 @@
 #![tactic(auto)]
 
 mod below;
+mod belows;
 mod bytes;
 mod clash;
 mod ends;

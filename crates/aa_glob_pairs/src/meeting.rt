@@ -9,7 +9,7 @@ ghost use Rattle.aa_glob_pairs.specs.Pairs.{MeetsAt, classed};
 ghost use Rattle.aa_glob_pairs.specs.Waiting.{row_at};
 ghost use Rattle.aa_glob_pairs.specs.code.Progress.{IsMeeting, no_marks};
 
-use crate::below::Below;
+use crate::belows::Belows;
 use crate::ends::lower_both;
 use crate::nodes::node_at;
 use crate::visit::visit;
@@ -34,7 +34,7 @@ pub fn least_clash(
     alloc: Global,
     tables: &Tables,
     classes: &[u32],
-    belows: &[Below],
+    belows: &Belows,
 ) -> Result<Option<u32>, AllocError>
     requires sound { AreSound tables.now }
     requires sorted { AreSorted tables.now }
@@ -55,7 +55,7 @@ fn begin(
     alloc: Global,
     tables: &Tables,
     classes: &[u32],
-    belows: &[Below],
+    belows: &Belows,
 ) -> Result<Meeting, AllocError>
     requires sound { AreSound tables.now }
     requires later { IsLaid (graph_of tables.now) }
@@ -84,7 +84,7 @@ fn meet_row(
     alloc: Global,
     tables: &Tables,
     classes: &[u32],
-    belows: &[Below],
+    belows: &Belows,
     row: u32,
     meeting: &mut Meeting,
 ) -> Result<(), AllocError>
@@ -111,7 +111,7 @@ fn meet(
     alloc: Global,
     tables: &Tables,
     classes: &[u32],
-    belows: &[Below],
+    belows: &Belows,
     row: u32,
     at: usize,
     column: u32,
@@ -131,7 +131,7 @@ fn meet(
         return Ok(());
     }
     meeting.seen[column as usize] = row + 1;
-    if !belows[row as usize].can_clash(belows[column as usize]) {
+    if !belows.at(row).can_clash(belows.at(column)) {
         return Ok(());
     }
     let first = node_at(alloc, tables, classes, row)?;

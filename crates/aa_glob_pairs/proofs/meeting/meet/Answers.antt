@@ -1,7 +1,8 @@
-use Rattle.std.proofs.Common.{◌∙◌, ◌⊎◌, ◌<◌, arith, length, refl, subst, sym, List}
+use Rattle.std.proofs.Common.{◌∙◌, ap₂, ◌⊎◌, ◌<◌, arith, length, refl, subst, sym, List}
 use Rattle.std.proofs.lemmas.Option.{get_or_from_slice_get, slice_get_read}
 use Rattle.aa_glob_nfa.proofs.TableLemmas.{length-entries_in}
 use Rattle.aa_glob_pairs.proofs.ProgressLemmas.{clashes_all, clashes_none, column_within, follows_all, follows_none, meeting_passed, meeting_visited}
+use Rattle.aa_glob_pairs.specs.Below.{can_clash}
 use Rattle.aa_glob_pairs.specs.Clashes.{Clash, Lowers}
 use Rattle.aa_glob_pairs.specs.Pairs.{classed}
 use Rattle.aa_glob_pairs.specs.declared.ends.Ending.{Ending}
@@ -25,11 +26,11 @@ index_mut-requires c =
     let column = column_within g c.args.row c.args.at c.args.column old c.requires.later c.requires.column c.requires.met in
     omega (arith, column, c.requires.met.marks, old.seen.ok.0)
 
-pub bounds-belows-row : goal.bounds-belows-row
-bounds-belows-row c = omega (arith, c.requires.row, c.requires.belows.count, length-entries_in c.args.tables.now.classes.items 0 c.args.tables.now.states)
+pub at-requires : goal.at-requires
+at-requires c = omega (arith, c.requires.row, c.requires.belows.count, length-entries_in c.args.tables.now.classes.items 0 c.args.tables.now.states)
 
-pub bounds-belows-column : goal.bounds-belows-column
-bounds-belows-column c =
+pub at-requires-2 : goal.at-requires-2
+at-requires-2 c =
     let t = c.args.tables.now in
     let g = classed t c.args.classes.now c.args.belows.now in
     let old = c.args.meeting.now in
@@ -59,7 +60,7 @@ returns-then-not-can_clash c =
     let size = length-entries_in t.classes.items 0 t.states in
     let column = column_within g c.args.row c.args.at c.args.column old c.requires.later c.requires.column c.requires.met in
     let inside : c.args.row < length g.graph.entries = omega (arith, c.requires.row, size) in
-    let off = sym c.can_clash.ensures ∙ c.if-not-can_clash.true in
+    let off = ap₂ can_clash (sym c.at.ensures) (sym c.at-2.ensures) ∙ sym c.can_clash.ensures ∙ c.if-not-can_clash.true in
     meeting_visited g c.args.row c.args.at c.args.column old _ inside c.requires.column column c.requires.met (follows_none g c.args.row c.args.column old.waiting off) refl
     (clashes_none g c.requires.belows c.args.row c.args.column old.found inside column off)
 
@@ -80,7 +81,7 @@ returns c =
     let size = length-entries_in t.classes.items 0 t.states in
     let column = column_within g c.args.row c.args.at c.args.column old c.requires.later c.requires.column c.requires.met in
     let inside : c.args.row < length g.graph.entries = omega (arith, c.requires.row, size) in
-    let may = sym c.can_clash.ensures ∙ c.if-not-can_clash.false in
+    let may = ap₂ can_clash (sym c.at.ensures) (sym c.at-2.ensures) ∙ sym c.can_clash.ensures ∙ c.if-not-can_clash.false in
     let n = c.in_ok-first.first in
     let o = c.in_ok-second.second in
     meeting_visited g c.args.row c.args.at c.args.column old _ inside c.requires.column column c.requires.met

@@ -6,7 +6,7 @@ use Rattle.aa_glob_nfa.specs.declared.state.Way.{Way}
 use Rattle.aa_glob_nfa.specs.declared.state.End.{End}
 use Rattle.aa_glob_pairs.proofs.BelowLemmas.{below_is}
 use Rattle.aa_glob_pairs.proofs.EndLemmas.{end_is}
-use Rattle.aa_glob_pairs.proofs.below.below_at.Goals as goal
+use Rattle.aa_glob_pairs.proofs.belows.below_at.Goals as goal
 
 pub of_ends-below-requires : goal.of_ends-below-requires
 of_ends-below-requires c =

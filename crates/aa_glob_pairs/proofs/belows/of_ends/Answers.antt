@@ -5,7 +5,7 @@ use Rattle.aa_glob_nfa.specs.declared.state.End.{End}
 use Rattle.aa_glob_pairs.proofs.BelowLemmas.{covers_more}
 use Rattle.aa_glob_pairs.specs.Below.{Covers}
 use Rattle.aa_glob_pairs.specs.Graphs.{class_at}
-use Rattle.aa_glob_pairs.proofs.below.of_ends.Goals as goal
+use Rattle.aa_glob_pairs.proofs.belows.of_ends.Goals as goal
 
 pub loop-end-preserved : goal.loop-end-preserved
 loop-end-preserved c =

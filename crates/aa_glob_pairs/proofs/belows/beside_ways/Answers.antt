@@ -6,7 +6,7 @@ use Rattle.aa_glob_pairs.proofs.BelowLemmas.{includes_more}
 use Rattle.aa_glob_pairs.specs.Below.{Includes}
 use Rattle.aa_glob_pairs.specs.code.Gathered.{IsAway}
 use Rattle.aa_glob_pairs.specs.declared.below.Below.TheVariants.{Nothing}
-use Rattle.aa_glob_pairs.proofs.below.beside_ways.Goals as goal
+use Rattle.aa_glob_pairs.proofs.belows.beside_ways.Goals as goal
 
 pub loop-way-preserved : goal.loop-way-preserved
 loop-way-preserved c = record {

@@ -3,7 +3,7 @@ use Rattle.std.specs.Prelude.{slice_index_or}
 use Rattle.aa_glob_pairs.specs.Below.{Includes}
 use Rattle.aa_glob_pairs.specs.code.Gathered.{IsAway}
 use Rattle.aa_glob_pairs.specs.declared.below.Below.TheVariants.{Nothing}
-use Rattle.aa_glob_pairs.proofs.below.beside_ways.Given as goal
+use Rattle.aa_glob_pairs.proofs.belows.beside_ways.Given as goal
 
 abbrev pub invariant-loop-way : goal.invariant-loop-way
 invariant-loop-way l = record {
