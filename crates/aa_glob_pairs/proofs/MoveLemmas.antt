@@ -1,12 +1,14 @@
 -- Moves that are gathered one after the other.
-use Rattle.std.proofs.Common.{◌≡◌, ◌⊎◌, ◌↔◌, ℕ, ◌+◌, ◌<◌, true, false, Bool, List, [], ◌∷◌, ◌++◌, length, take, get_or, refl, sym, ap, subst, ◌∙◌, inl, inr}
+use Rattle.std.proofs.Common.{◌≡◌, ◌⊎◌, ◌↔◌, ℕ, ◌+◌, ◌^◌, ◌<◌, true, false, Bool, List, [], ◌∷◌, ◌++◌, length, take, get_or, refl, sym, ap, subst, ◌∙◌, inl, inr}
 use Rattle.std.proofs.lemmas.List.{take_more}
 use Rattle.std.proofs.lemmas.List.Elements.{Contains-append_left, Contains-push, Contains-push_cases}
 use Rattle.std.specs.Prelude.{All, Contains, None, Option, Some}
 use Rattle.aa_glob_nfa.proofs.TableLemmas.{entry_of-graph_in, Leads-cases, Leads-on, Leads-way}
-use Rattle.aa_glob_nfa.specs.Entries.{stays_at}
+use Rattle.aa_glob_nfa.specs.Entries.{is_free, stays_at, takes_byte}
 use Rattle.aa_glob_nfa.specs.Graphs.{entry_of, Graph, IsFree, Leads, Takes}
 use Rattle.aa_glob_nfa.specs.Tables.{entry_behind, set_of, state_at}
+use Rattle.aa_glob_nfa.specs.declared.entry.Entry.{Entry}
+use Rattle.aa_glob_nfa.specs.declared.entry.Entry.TheVariants.{Free, Byte, Inside, Class, Star, DoubleStar}
 use Rattle.aa_glob_nfa.specs.declared.state.Gate.{Gate}
 use Rattle.aa_glob_nfa.specs.OfTables.{graph_of}
 use Rattle.aa_glob_nfa.specs.declared.state.Way.{Way}
@@ -144,6 +146,52 @@ step_pushed steps to bytes c x = (
   ],
 )
 
+-- what is entered without a byte takes none
+free_takes_none : (e : Entry) (c : ℕ) → is_free e ≡ true → takes_byte e c ≡ true → ⊥
+free_takes_none Free c free taken = absurd cc
+free_takes_none (Byte b) c free taken = absurd cc
+free_takes_none Inside c free taken = absurd cc
+free_takes_none (Class map) c free taken = absurd cc
+free_takes_none Star c free taken = absurd cc
+free_takes_none DoubleStar c free taken = absurd cc
+
+apart : (b : Bool) → b ≡ false → b ≡ true → ⊥
+apart b off on = absurd cc
+
+-- a state that is entered without a byte
+pub gets_free : (g : Graph) (old new : Moves) (to : ℕ) → IsFree g to → new.free.items ≡ old.free.items ++ to ∷ [] → new.steps.items ≡ old.steps.items → GetsLed g old new (λ x. x ≡ to)
+gets_free g old new to free more steps = record {
+  free = λ x. rw more (
+    λ has. elim (Contains-push_cases old.free.items to x has) [ inl early ↦ inl early | inr last ↦ inr (sym last, subst (λ y. IsFree g y) last free) ],
+    λ h. elim h [
+      | inl early ↦ Contains-append_left old.free.items (to ∷ []) x early
+      | inr entered ↦ subst (λ y. Contains (old.free.items ++ to ∷ []) y) (sym entered.0) (Contains-push old.free.items to)
+    ],
+  );
+  steps = λ c x small. rw steps (
+    inl,
+    λ h. elim h [ inl before ↦ before | inr taken ↦ absurd (free_takes_none (entry_of g to) c free (subst (λ y. Takes g y c) taken.0 taken.1)) ],
+  );
+}
+
+-- one that is entered by these bytes
+pub gets_step : (g : Graph) (old new : Moves) (to : ℕ) (bytes : Bytes) → is_free (entry_of g to) ≡ false
+    → ((c : ℕ) → c < 2 ^ 8 → in_bytes bytes c ≡ takes_byte (entry_of g to) c) → new.free.items ≡ old.free.items
+    → new.steps.items ≡ old.steps.items ++ record { to = to; bytes = bytes } ∷ [] → GetsLed g old new (λ x. x ≡ to)
+gets_step g old new to bytes bound takes free more = record {
+  free = λ x. rw free (inl, λ h. elim h [ inl before ↦ before | inr entered ↦ absurd (apart (is_free (entry_of g to)) bound (subst (λ y. IsFree g y) entered.0 entered.1)) ]);
+  steps = λ c x small. rw more (
+    λ has. elim ((step_pushed old.steps.items to bytes c x).0 has) [
+      | inl before ↦ inl before
+      | inr taken ↦ inr (taken.0, subst (λ y. Takes g y c) (sym taken.0) (sym (takes c small) ∙ taken.1))
+    ],
+    λ h. (step_pushed old.steps.items to bytes c x).1 (elim h [
+      | inl before ↦ inl before
+      | inr taken ↦ inr (taken.0, takes c small ∙ subst (λ y. Takes g y c) taken.0 taken.1)
+    ]),
+  );
+}
+
 -- what it takes to come into a state, and to stay there, by its gate
 pub entry_by_gate : (t : Tables) (q : ℕ) (gate : Gate) → q < length t.states → gate ≡ (state_at t.states q).gate
     → entry_of (graph_of t) q ≡ entry_behind gate (set_of t.classes.items q)
@@ -170,9 +218,6 @@ gets_stay_none g m q never = record {
   free = λ x. (λ has. inl has, λ h. elim h [ inl before ↦ before | inr none ↦ absurd none ]);
   steps = λ c x small. (λ has. inl has, λ h. elim h [ inl before ↦ before | inr stayed ↦ absurd (apart (stays_at (entry_of g q) c) (never c) stayed.1) ]);
 }
-  where
-    apart : (b : Bool) → b ≡ false → b ≡ true → ⊥
-    apart b off on = absurd cc
 
 -- no byte is among none
 pub no_bytes_stay : (bytes : Option Bytes) (c : ℕ) → ((some : Bytes) → bytes ≡ Some some → ⊥) → is_among bytes c ≡ false
