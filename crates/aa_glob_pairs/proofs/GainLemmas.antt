@@ -75,10 +75,6 @@ gains_pushed old new first second sets = record {
     back q r at (inr pair) =
         subst (λ (l : List ℕ). Contains l r) (sym (here q pair.0)) (subst (λ n. Contains (row_at old q ++ second ∷ []) n) (sym pair.1) (Contains-push (row_at old q) second))
 
--- the first pair of a first state
-pub gains_begun : (old new : Rows) (first second : ℕ) → row_at old first ≡ [] → SetsRow old new first (second ∷ []) → Gains old new (λ q r. (q ≡ first) × (r ≡ second))
-gains_begun old new first second none sets = gains_pushed old new first second (subst (λ (l : List ℕ). SetsRow old new first (l ++ second ∷ [])) (sym none) sets)
-
 pub nothing_there : {X : Type 0} → (x : X) → Contains [] x → ⊥
 nothing_there x h = All-contains (λ _. ⊥) [] x (All-nil (λ _. ⊥)) h
 

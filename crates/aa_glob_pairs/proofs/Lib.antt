@@ -6,3 +6,4 @@ pub mod LeastLemmas
 pub mod MeetLemmas
 pub mod MoveLemmas
 pub mod ProgressLemmas
+pub mod RowLemmas

@@ -4,7 +4,7 @@ use Rattle.std.proofs.lemmas.Bool.{cases_lt}
 use Rattle.std.proofs.lemmas.List.{get_or-set_other, get_or-set_same, length-replicate, length-set, take-append-le, take_all, take_more}
 use Rattle.std.proofs.lemmas.List.Elements.{All-contains, All-nil, All-push, All-weaker, Contains-get_or}
 use Rattle.std.proofs.lemmas.Option.{get_or_from_slice_get, slice_get-get_or, slice_get_within}
-use Rattle.std.specs.Prelude.{All, Bool, false, slice_get, slice_index_or, true}
+use Rattle.std.specs.Prelude.{All, Bool, Contains, false, slice_get, slice_index_or, true}
 use Rattle.aa_glob_pairs.proofs.BelowLemmas.{clash-covered, clash-turned}
 use Rattle.aa_glob_pairs.proofs.GainLemmas.{nothing_there, pairs_as, pairs_nothing, passed_other, passed_there, same_or_not}
 use Rattle.aa_glob_pairs.proofs.LeastLemmas.{lowers_as, lowers_nothing}
@@ -67,13 +67,13 @@ met_turned g start = start
 met_turned g (goes {q = q} {r = r} {x = x} {y = y} at follows) = goes (met_turned g at) (follows_turned g q r x y follows)
 
 -- the pair of starts waits
-pub meeting_begins : (g : Classed) (meeting : Meeting) → Gains [] meeting.waiting (λ q r. (q ≡ 0) × (r ≡ 0)) → meeting.seen.items ≡ no_marks (states_of g) → meeting.found ≡ None
+pub meeting_begins : (g : Classed) (none : List (ℕ × List ℕ)) (meeting : Meeting) → ((q : ℕ) → row_at none q ≡ []) → Gains none meeting.waiting (λ q r. (q ≡ 0) × (r ≡ 0)) → meeting.seen.items ≡ no_marks (states_of g) → meeting.found ≡ None
     → IsMeeting g 0 0 meeting
-meeting_begins g meeting gains seen found = record {
+meeting_begins g none meeting empty gains seen found = record {
   marks = ap length seen ∙ no_marks_are (states_of g);
   begun = λ first. (gains.each 0 0).1 (inr (refl, refl));
   sound = λ q r waits. elim ((gains.each q r).0 waits) [
-    | inl old ↦ absurd (nothing_there r old)
+    | inl old ↦ absurd (nothing_there r (subst (λ (l : List ℕ). Contains l r) (empty q) old))
     | inr at ↦ (omega (arith, at.0, at.1), subst (λ x. Met g x r) (sym at.0) (subst (λ y. Met g 0 y) (sym at.1) start))
   ];
   looked = All-nil (IsSeen meeting.seen.items 0);

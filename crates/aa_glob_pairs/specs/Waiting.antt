@@ -4,7 +4,7 @@ use Rattle.std.specs.BTreeMap.{is_at}
 use Rattle.std.specs.Map.{lookup}
 use Rattle.std.specs.Ordering.{nat_cmp}
 
--- the second states of a first one: none where it isn't there
+-- the second states of a first one: the first list that stands with it, and none where none does
 abbrev pub row_at : List (ℕ × List ℕ) → ℕ → List ℕ
 row_at rows q = unwrap_or (lookup (is_at (nat_cmp q)) rows) []
 

@@ -9,6 +9,7 @@ mod ends;
 mod meeting;
 mod moves;
 mod nodes;
+mod rows;
 mod visit;
 mod waiting;
 

@@ -1,77 +1,45 @@
 //! Pairs of states that wait to be looked at.
 
-ghost use Rattle.std.specs.Prelude.{◌≡◌, ◌⊎◌, ◌++◌, ◌∷◌, [], ◌<◌, ◌+◌, ◌^◌, slice_get, None, OnOk};
+ghost use Rattle.std.specs.Prelude.{◌≡◌, ◌⊎◌, ℕ, [], ◌<◌, ◌+◌, ◌^◌, slice_get, None, OnOk, Decides};
 ghost use Rattle.aa_glob_pairs.specs.Waiting.{Gains, Ordered, row_at, SetsRow};
 
+use crate::rows::{Row, Rows};
 use std::alloc::{AllocError, Global};
-use std::collections::BTreeMap;
 use std::marker::Model;
+use std::mem;
 
-// The second states of pairs that have one first state, in the order in which they came; some may stand there more than once.
-#[derive(Drop)]
-struct Row {
-    states: Vec<u32>,
-}
-
-impl Model for Row {
-    ghost use Rattle.std.specs.Prelude.{ℕ, List};
-
-    ghost Value = { List ℕ };
-
-    ghost view = { λ r. r.states.items };
-}
-
-impl Row {
-    // None. It takes no memory.
-    fn new(alloc: Global) -> Row
-        ensures { result ≡ [] }
-    {
-        Row {
-            states: Vec::new(alloc),
-        }
-    }
-
-    // One more, behind the others.
-    fn push(&mut self, state: u32) -> Result<(), AllocError>
-        ensures { OnOk result (self.new ≡ self.old ++ state ∷ []) }
-    {
-        self.states.push(state)?;
-        Ok(())
-    }
-
-    // The one at a place, if there is one.
-    fn get(&self, at: usize) -> Option<u32>
-        ensures state { result ≡ slice_get self.now at }
-        ensures within { result ≡ None ⊎ (at + 1 < 2 ^ 64) }
-    {
-        self.states.get(at).copied()
-    }
-}
-
-/// Pairs of states, by their first state. Contracts see the first states that have some, each with a list of second ones.
+/// Pairs of states, by their first state. Contracts see some first states, each with a list of second ones.
 #[derive(Drop)]
 pub struct Waiting {
     // The allocator of a row that begins.
     alloc: Global,
-    rows: BTreeMap<u32, Row>,
+    // A first state with its row and that of the next one. Most pairs come there, and aren't looked up.
+    state: u32,
+    row: Row,
+    next: Row,
+    // The rows of the others.
+    rows: Rows,
 }
 
 impl Model for Waiting {
-    ghost use Rattle.std.specs.Prelude.{ℕ, List};
+    ghost use Rattle.std.specs.Prelude.{ℕ, List, ◌∷◌, ◌+◌};
 
     ghost Value = { List (ℕ × List ℕ) };
 
-    ghost view = { λ w. w.rows.entries };
+    ghost view = { λ w. (w.state, w.row) ∷ (w.state + 1, w.next) ∷ w.rows };
 }
 
 impl Waiting {
     /// No pair. It takes no memory.
     pub fn new(alloc: Global) -> Waiting
-        ensures { result ≡ [] }
+        ensures { (q : ℕ) → row_at result q ≡ [] }
     {
         Waiting {
             alloc,
-            rows: BTreeMap::new(alloc),
+            state: 0,
+            row: Row::new(alloc),
+            next: Row::new(alloc),
+            rows: Rows::new(alloc),
         }
     }
 
@@ -79,9 +47,12 @@ impl Waiting {
     pub fn insert(&mut self, first: u32, second: u32) -> Result<(), AllocError>
         ensures { OnOk result (Gains self.old self.new (λ q r. (q ≡ first) × (r ≡ second))) }
     {
-        match self.rows.get_mut(&first) {
-            Some(row) => row.push(second),
-            None => self.begin(first, second),
+        if first == self.state {
+            self.row.push(second)
+        } else if is_next(self.state, first) {
+            self.next.push(second)
+        } else {
+            self.rows.push(first, second)
         }
     }
 
@@ -96,24 +67,17 @@ impl Waiting {
         }
     }
 
-    // The first pair of a first state.
-    fn begin(&mut self, first: u32, second: u32) -> Result<(), AllocError>
-        ensures { OnOk result (SetsRow self.old self.new first (second ∷ [])) }
-    {
-        let mut row = Row::new(self.alloc);
-        row.push(second)?;
-        self.rows.insert(first, row)?;
-        Ok(())
-    }
-
     /// The second state of the pair at a place among those of a first state, if there is one.
     pub fn second(&self, first: u32, at: usize) -> Option<u32>
         ensures state { result ≡ slice_get (row_at self.now first) at }
         ensures within { result ≡ None ⊎ (at + 1 < 2 ^ 64) }
     {
-        match self.rows.get(&first) {
-            Some(row) => row.get(at),
-            None => None,
+        if first == self.state {
+            self.row.get(at)
+        } else if is_next(self.state, first) {
+            self.next.get(at)
+        } else {
+            self.rows.get(first, at)
         }
     }
 
@@ -121,6 +85,24 @@ impl Waiting {
     pub fn pass(&mut self, first: u32)
         ensures { SetsRow self.old self.new first [] }
     {
-        self.rows.remove(&first);
+        self.rows.take(first);
+        if first == self.state {
+            if first < u32::MAX - 1 {
+                let behind = self.rows.take(first + 2);
+                self.row = mem::replace(&mut self.next, behind);
+                self.state = first + 1;
+            } else {
+                self.row = Row::new(self.alloc);
+            }
+        } else if is_next(self.state, first) {
+            self.next = Row::new(self.alloc);
+        }
     }
+}
+
+// Whether a state is the next one behind another.
+fn is_next(state: u32, first: u32) -> bool
+    ensures { Decides result (first ≡ state + 1) }
+{
+    state < first && first - state == 1
 }
