@@ -1,12 +1,17 @@
 -- The machine that keeps whole sets, of whatever kind a set is: a policy set, or any state (docs/guarantees.md).
-use Rattle.std.specs.Prelude.{ℕ, ◌+◌, ◌-◌, Bool, nat_le, List, [], ◌∷◌, ◌++◌, length, map, take, drop, slice_index_or}
+use Rattle.std.specs.Prelude.{ℕ, ◌+◌, ◌-◌, ◌≤◌, Bool, if◌then◌else◌, nat_le, nat_lt, Option, None, Some, is_some}
+use Rattle.std.specs.Prelude.{List, [], ◌∷◌, ◌++◌, length, map, take, drop, slice_index_or}
+use Rattle.std.specs.List.{AllByRecursion, filter}
+use Rattle.std.specs.Map.{lookup}
+use Rattle.std.specs.Str.{bytes_eq}
 
 -- The set now, those that changes have left behind, oldest first, and those that going back has left, nearest first: all
--- of them in the order in which they came to be.
+-- of them in the order in which they came to be. And the marks: under a name how many sets are earlier than the one marked.
 pub record Machine (S : Type 0) : Type 0 where
   pub earlier : List S
   pub now : S
   pub later : List S
+  pub marks : List (List ℕ × ℕ)
 
 -- every set of a machine, in order
 abbrev pub all_sets : {S : Type 0} → Machine S → List S
@@ -14,15 +19,27 @@ all_sets machine = machine.earlier ++ machine.now ∷ machine.later
 
 -- a machine that has made no change yet
 abbrev pub started : {S : Type 0} → S → Machine S
-started set = record { earlier = []; now = set; later = [] }
+started set = record { earlier = []; now = set; later = []; marks = [] }
 
--- after an accepted change to a set: the old one can be gone back to, and none can be gone on to
+-- the marks of no more than so many earlier sets
+abbrev pub up_to : ℕ → List (List ℕ × ℕ) → List (List ℕ × ℕ)
+up_to number marks = filter (λ mark. nat_le mark.1 number) marks
+
+-- after an accepted change to a set: the old one can be gone back to, none can be gone on to, and the marks of later sets are dropped
 abbrev pub accepted : {S : Type 0} → Machine S → S → Machine S
-accepted machine set = record { earlier = machine.earlier ++ machine.now ∷ []; now = set; later = [] }
+accepted machine set =
+    record {
+      earlier = machine.earlier ++ machine.now ∷ [];
+      now = set;
+      later = [];
+      marks = up_to (length machine.earlier) machine.marks;
+    }
 
--- the machine whose sets are these, in order, and whose set now is the one at a place; where there is none, it is the one given
-abbrev pub standing_at : {S : Type 0} → ℕ → List S → S → Machine S
-standing_at place sets given = record { earlier = take place sets; now = slice_index_or sets place given; later = drop (place + 1) sets }
+-- the machine whose sets are these, in order, whose set now is the one at a place, and whose marks are these; where there is none at that place,
+-- it is the one given
+abbrev pub standing_at : {S : Type 0} → ℕ → List S → S → List (List ℕ × ℕ) → Machine S
+standing_at place sets given marks =
+    record { earlier = take place sets; now = slice_index_or sets place given; later = drop (place + 1) sets; marks = marks }
 
 -- n changes can be gone back
 abbrev pub can_go_back : {S : Type 0} → ℕ → Machine S → Bool
@@ -34,7 +51,7 @@ can_go_on n machine = nat_le n (length machine.later)
 
 -- at a place among all sets, in order: the one there is the one now
 abbrev pub gone_to : {S : Type 0} → ℕ → Machine S → Machine S
-gone_to place machine = standing_at place (all_sets machine) machine.now
+gone_to place machine = standing_at place (all_sets machine) machine.now machine.marks
 
 -- n changes back, where so many can be gone back: of the same sets the one n places nearer to the first is the one now
 abbrev pub gone_back : {S : Type 0} → ℕ → Machine S → Machine S
@@ -44,9 +61,50 @@ gone_back n machine = gone_to (length machine.earlier - n) machine
 abbrev pub gone_on : {S : Type 0} → ℕ → Machine S → Machine S
 gone_on n machine = gone_to (length machine.earlier + n) machine
 
+-- how many sets are earlier than the one marked by a name, where one is
+abbrev pub marked : {S : Type 0} → List ℕ → Machine S → Option ℕ
+marked name machine = lookup (λ other. bytes_eq other name) machine.marks
+
+-- a set is marked by a name
+abbrev pub is_marked : {S : Type 0} → List ℕ → Machine S → Bool
+is_marked name machine = is_some (marked name machine)
+
+-- marks with a number under a name: in place of the number that it has there, or else behind all
+abbrev pub with_number : List ℕ → ℕ → List (List ℕ × ℕ) → List (List ℕ × ℕ)
+with_number name number [] = (name, number) ∷ []
+with_number name number (mark ∷ marks) = if bytes_eq mark.0 name then (name, number) ∷ marks else mark ∷ with_number name number marks
+
+-- the set now is marked by a name, in place of the set that was
+abbrev pub with_mark : {S : Type 0} → List ℕ → Machine S → Machine S
+with_mark name machine = record machine { marks = with_number name (length machine.earlier) machine.marks }
+
+-- where so many sets are earlier: as many changes back as there are more now, or as many on as there are fewer, or none
+abbrev pub gone_to_number : {S : Type 0} → ℕ → Machine S → Machine S
+gone_to_number number machine =
+    if nat_lt number (length machine.earlier)
+    then gone_back (length machine.earlier - number) machine
+    else if nat_lt (length machine.earlier) number then gone_on (number - length machine.earlier) machine else machine
+
+-- at the number that there is, if there is one
+abbrev pub gone_where : {S : Type 0} → Option ℕ → Machine S → Machine S
+gone_where None machine = machine
+gone_where (Some number) machine = gone_to_number number machine
+
+-- at the set that is marked by a name, where one is
+abbrev pub gone_to_mark : {S : Type 0} → List ℕ → Machine S → Machine S
+gone_to_mark name machine = gone_where (marked name machine) machine
+
+-- no mark is of more than so many earlier sets
+abbrev pub AreUpTo : ℕ → List (List ℕ × ℕ) → Type 0
+AreUpTo number marks = AllByRecursion (λ mark. mark.1 ≤ number) marks
+
+-- each mark is of a set that the machine has
+abbrev pub MarksItsSets : {S : Type 0} → Machine S → Type 0
+MarksItsSets machine = AreUpTo (length machine.earlier + length machine.later) machine.marks
+
 -- the machine of what each set stands for
 abbrev pub mapped : {S T : Type 0} → (S → T) → Machine S → Machine T
-mapped f machine = record { earlier = map f machine.earlier; now = f machine.now; later = map f machine.later }
+mapped f machine = record { earlier = map f machine.earlier; now = f machine.now; later = map f machine.later; marks = machine.marks }
 
 -- a machine, and how many parts each change has that leads from one of its sets to the next
 pub record Kept (S : Type 0) : Type 0 where

@@ -1,10 +1,12 @@
 //! A state with its history.
 
-ghost use Rattle.std.specs.Prelude.{◌≡◌, ◌<◌, ◌≤◌, [], ◌∷◌, ◌++◌, true, false, length, map, sum, take};
-ghost use Rattle.std.specs.Prelude.{IfErr, OnOk, OnErr, vec_capacity};
-ghost use Rattle.aa_history.specs.Machine.{begun, can_go_back, can_go_on, committed, gone_back, gone_on};
+ghost use Rattle.std.specs.Prelude.{◌≡◌, ◌+◌, ◌<◌, ◌≤◌, [], ◌∷◌, ◌++◌, true, false, length, map, sum, take};
+ghost use Rattle.std.specs.Prelude.{IfErr, OnOk, OnErr, None, vec_capacity};
+ghost use Rattle.aa_history.specs.Machine.{all_sets, begun, can_go_back, can_go_on, committed, gone_back, gone_on};
+ghost use Rattle.aa_history.specs.Machine.{gone_to_mark, gone_to_number, is_marked, marked, with_mark};
 
 use crate::change::Change;
+use crate::marks::Marks;
 use std::alloc::{AllocError, Global};
 use std::marker::Model;
 
@@ -15,11 +17,16 @@ pub struct Short {
     pub have: usize,
 }
 
-/// A state, with the changes that lead back to the earlier states and on to the later ones.
+/// Nothing is marked by the name.
+#[derive(Clone, Copy, Debug, PartialEq, Eq)]
+pub struct NoMark;
+
+/// A state, with the changes that lead back to the earlier states and on to the later ones, and with names for some of these states.
 ///
 /// Contracts see the machine that keeps whole states (docs/guarantees.md): the state now, the earlier ones, oldest first, and the later
-/// ones, nearest first, each by what it stands for (`Change::means`). Beside it they see how many parts each change has, in the same order:
-/// first those that can be undone, oldest first, and then those that can be redone, nearest first.
+/// ones, nearest first, each by what it stands for (`Change::means`), and the marks, each a name and how many states are earlier than the one that
+/// it marks. Beside it they see how many parts each change has, in the same order: first those that can be undone, oldest first, and then those
+/// that can be redone, nearest first.
 #[derive(Drop)]
 pub struct Journal<S: Drop, C: Change<S>> {
     state: S,
@@ -27,22 +34,25 @@ pub struct Journal<S: Drop, C: Change<S>> {
     changes: Vec<C>,
     // How many of the changes lead back.
     done: usize,
+    marks: Marks,
 }
 
 impl<S: Drop, C: Change<S>> Model for Journal<S, C> {
     ghost use Rattle.std.specs.Prelude.{◌≤◌, length, map};
     ghost use Rattle.std.specs.List.{All};
-    ghost use Rattle.aa_history.specs.Machine.{Kept};
+    ghost use Rattle.aa_history.specs.Machine.{AreUpTo, Kept};
     ghost use Rattle.aa_history.specs.code.Timeline.{timeline};
 
     ghost Value = { Kept S };
 
     ghost view = { λ j. record {
-      machine = timeline C.after j.changes.items j.done (C.means j.state);
+      machine = timeline C.after j.changes.items j.done (C.means j.state) j.marks;
       sizes = map C.parts j.changes.items;
     } };
 
-    ghost invariant = { λ j. (j.done ≤ length j.changes.items) × All (λ change. C.need change ≤ C.room j.state) j.changes.items };
+    ghost invariant = { λ j. (j.done ≤ length j.changes.items)
+        × All (λ change. C.need change ≤ C.room j.state) j.changes.items
+        × AreUpTo (length j.changes.items) j.marks };
 }
 
 impl<S: Drop, C: Change<S>> Journal<S, C> {
@@ -54,6 +64,7 @@ impl<S: Drop, C: Change<S>> Journal<S, C> {
             state,
             changes: Vec::new(alloc),
             done: 0,
+            marks: Marks::new(alloc),
         }
     }
 
@@ -78,12 +89,13 @@ impl<S: Drop, C: Change<S>> Journal<S, C> {
         self.changes.len() - self.done
     }
 
-    /// Makes a change to the state, and keeps the way back. What could be redone can't be any more.
+    /// Makes a change to the state, and keeps the way back. What could be redone can't be any more, and the marks of states that were to be redone
+    /// are dropped.
     ///
     /// # Errors
     ///
     /// `AllocError`, with the change as it was, where memory runs out: to keep the change in, or for the room that it needs. The journal is as
-    /// it was then: the state stands for what it stood for, and the same changes can be undone and redone.
+    /// it was then: the state stands for what it stood for, the same changes can be undone and redone, and the same states are marked.
     pub fn commit(&mut self, change: C) -> Result<(), (C, AllocError)>
         ensures ok { OnOk result (self.new ≡ committed self.old (C.after self.old.machine.now change) (C.parts change)) }
         ensures handed_back { IfErr result (λ refused. refused.0 ≡ change) }
@@ -96,6 +108,7 @@ impl<S: Drop, C: Change<S>> Journal<S, C> {
             return Err((change, error));
         }
         put(&mut self.changes, self.done, change);
+        self.marks.keep_up_to(self.done);
         self.step_on();
         Ok(())
     }
@@ -128,6 +141,26 @@ impl<S: Drop, C: Change<S>> Journal<S, C> {
         self.done += 1;
     }
 
+    // As many changes back.
+    fn steps_back(&mut self, n: usize)
+        requires { n ≤ length self.old.machine.earlier }
+        ensures { self.new ≡ record self.old { machine = gone_back n self.old.machine } }
+    {
+        for _step in 0..n {
+            self.step_back();
+        }
+    }
+
+    // As many changes on.
+    fn steps_on(&mut self, n: usize)
+        requires { n ≤ length self.old.machine.later }
+        ensures { self.new ≡ record self.old { machine = gone_on n self.old.machine } }
+    {
+        for _step in 0..n {
+            self.step_on();
+        }
+    }
+
     /// Goes `n` changes back: the state is the one from before the last `n` changes. It takes no memory.
     ///
     /// # Errors
@@ -143,9 +176,7 @@ impl<S: Drop, C: Change<S>> Journal<S, C> {
         if n > have {
             return Err(Short { have });
         }
-        for _step in 0..n {
-            self.step_back();
-        }
+        self.steps_back(n);
         Ok(())
     }
 
@@ -164,10 +195,63 @@ impl<S: Drop, C: Change<S>> Journal<S, C> {
         if n > have {
             return Err(Short { have });
         }
-        for _step in 0..n {
-            self.step_on();
-        }
+        self.steps_on(n);
         Ok(())
+    }
+
+    /// Marks the state now by a name, in place of the state that the name has marked so far. Such a name takes no memory.
+    ///
+    /// # Errors
+    ///
+    /// `AllocError`, with the name, where memory runs out, and nothing was marked by the name. The journal is as it was then.
+    pub fn mark(&mut self, name: Vec<u8>) -> Result<(), (Vec<u8>, AllocError)>
+        ensures ok { OnOk result (self.new ≡ record self.old { machine = with_mark name.items self.old.machine }) }
+        ensures handed_back { IfErr result (λ refused. refused.0 ≡ name) }
+        ensures unchanged { OnErr result (self.new ≡ self.old) }
+        ensures new_name { OnErr result (marked name.items self.old.machine ≡ None) }
+    {
+        self.marks.set(name, self.done)
+    }
+
+    /// How many changes had been made to the state that is marked by a name, where one is. It takes no memory.
+    pub fn marked(&self, name: &[u8]) -> Option<usize>
+        ensures { result ≡ marked name.now self.now.machine }
+    {
+        self.marks.number_of(name)
+    }
+
+    /// Goes back, or on, to the state that is marked by a name. It takes no memory, and all that could be undone or redone still can be.
+    ///
+    /// # Errors
+    ///
+    /// `NoMark` where nothing is marked by the name. The journal is as it was then.
+    pub fn back(&mut self, name: &[u8]) -> Result<(), NoMark>
+        ensures can { OnOk result (is_marked name.now self.old.machine ≡ true) }
+        ensures ok { OnOk result (self.new ≡ record self.old { machine = gone_to_mark name.now self.old.machine }) }
+        ensures keeps { all_sets self.new.machine ≡ all_sets self.old.machine }
+        ensures no_mark { OnErr result (is_marked name.now self.old.machine ≡ false) }
+        ensures unchanged { OnErr result (self.new ≡ self.old) }
+    {
+        match self.marks.number_of(name) {
+            Some(number) => {
+                self.go_to(number);
+                Ok(())
+            }
+            None => Err(NoMark),
+        }
+    }
+
+    // Goes back, or on, to where so many changes can be undone.
+    fn go_to(&mut self, number: usize)
+        requires { number ≤ length self.old.machine.earlier + length self.old.machine.later }
+        ensures { self.new ≡ record self.old { machine = gone_to_number number self.old.machine } }
+    {
+        let depth = self.depth();
+        if number < depth {
+            self.steps_back(depth - number);
+        } else if depth < number {
+            self.steps_on(number - depth);
+        }
     }
 }
 

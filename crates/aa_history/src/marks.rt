@@ -1,0 +1,130 @@
+//! Names for places in a history.
+
+ghost use Rattle.std.specs.Prelude.{◌≡◌, [], OnOk, OnErr, IfErr, None};
+ghost use Rattle.std.specs.Map.{lookup};
+ghost use Rattle.std.specs.Str.{bytes_eq};
+ghost use Rattle.aa_history.specs.Machine.{up_to, with_number};
+
+use std::alloc::{AllocError, Global};
+use std::marker::Model;
+
+// A name, and how many sets are earlier than the one that it marks.
+#[derive(Drop)]
+struct Mark {
+    name: Vec<u8>,
+    number: usize,
+}
+
+/// Names, each with a number: how many sets are earlier than the one that it marks.
+///
+/// Contracts see the list of the names and their numbers.
+#[derive(Drop)]
+pub(crate) struct Marks {
+    marks: Vec<Mark>,
+    // No number is greater, so that what is not above it needs no look at the marks.
+    greatest: usize,
+}
+
+impl Model for Marks {
+    ghost use Rattle.std.specs.Prelude.{ℕ, List};
+    ghost use Rattle.aa_history.specs.Machine.{AreUpTo};
+    ghost use Rattle.aa_history.specs.code.Entries.{entries};
+
+    ghost Value = { List (List ℕ × ℕ) };
+
+    ghost view = { λ m. entries m.marks.items };
+
+    ghost invariant = { λ m. AreUpTo m.greatest (entries m.marks.items) };
+}
+
+impl Marks {
+    /// No marks. It takes no memory; `alloc` is for the marks to come.
+    pub(crate) fn new(alloc: Global) -> Marks
+        ensures { result ≡ [] }
+    {
+        Marks {
+            marks: Vec::new(alloc),
+            greatest: 0,
+        }
+    }
+
+    /// The number that a name has. It takes no memory.
+    pub(crate) fn number_of(&self, name: &[u8]) -> Option<usize>
+        ensures { result ≡ lookup (λ other. bytes_eq other name.now) self.now }
+    {
+        number_among(&self.marks, name)
+    }
+
+    /// Gives a name a number, in place of the one that it has.
+    ///
+    /// # Errors
+    ///
+    /// `AllocError`, with the name, where memory runs out, which may be only where the name has no number yet. Nothing is changed then.
+    pub(crate) fn set(&mut self, name: Vec<u8>, number: usize) -> Result<(), (Vec<u8>, AllocError)>
+        ensures ok { OnOk result (self.new ≡ with_number name.items number self.old) }
+        ensures handed_back { IfErr result (λ refused. refused.0 ≡ name) }
+        ensures unchanged { OnErr result (self.new ≡ self.old) }
+        ensures new_name { OnErr result (lookup (λ other. bytes_eq other name.items) self.old ≡ None) }
+    {
+        set_among(&mut self.marks, name, number)?;
+        self.greatest = self.greatest.max(number);
+        Ok(())
+    }
+
+    /// Drops what has a number above this one. It takes no memory, and looks at the marks only where one may have such a number.
+    pub(crate) fn keep_up_to(&mut self, number: usize)
+        ensures { self.new ≡ up_to number self.old }
+    {
+        if self.greatest > number {
+            keep_among(&mut self.marks, number);
+            self.greatest = number;
+        }
+    }
+}
+
+ghost use Rattle.aa_history.specs.code.Entries.{entries};
+
+// The number that a name has among marks.
+fn number_among(marks: &[Mark], name: &[u8]) -> Option<usize>
+    ensures { result ≡ lookup (λ other. bytes_eq other name.now) (entries marks.now) }
+{
+    let mut rest = marks;
+    while let [mark, behind @ ..] = rest {
+        if mark.name.as_slice() == name {
+            return Some(mark.number);
+        }
+        rest = behind;
+    }
+    None
+}
+
+// Gives a name a number among marks, in place of the one that it has, or else behind all.
+fn set_among(
+    marks: &mut Vec<Mark>,
+    name: Vec<u8>,
+    number: usize,
+) -> Result<(), (Vec<u8>, AllocError)>
+    ensures ok { OnOk result (entries marks.new.items ≡ with_number name.items number (entries marks.old.items)) }
+    ensures handed_back { IfErr result (λ refused. refused.0 ≡ name) }
+    ensures unchanged { OnErr result (marks.new.items ≡ marks.old.items) }
+    ensures new_name { OnErr result (lookup (λ other. bytes_eq other name.items) (entries marks.old.items) ≡ None) }
+{
+    for place in 0..marks.len() {
+        let mark = &mut marks[place];
+        if mark.name.as_slice() == name.as_slice() {
+            mark.number = number;
+            return Ok(());
+        }
+    }
+    match marks.push(Mark { name, number }) {
+        Ok(()) => Ok(()),
+        Err(refused) => Err((refused.value.name, AllocError)),
+    }
+}
+
+// Drops the marks whose numbers are above this one.
+fn keep_among(marks: &mut Vec<Mark>, number: usize)
+    ensures { entries marks.new.items ≡ up_to number (entries marks.old.items) }
+{
+    marks.retain(|mark| mark.number <= number);
+}
