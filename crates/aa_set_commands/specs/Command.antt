@@ -22,11 +22,14 @@ pub data Change : Type 0 where
   Complain : (name : List ℕ) → Change
   Disable : (name : List ℕ) → Change
 
--- what a command orders: a change, changes to undo or to redo, a question to answer, or to tell what is loaded, or what one of it consists of
+-- what a command orders: a change, changes to undo or to redo, to mark the policy set by a name or to go back to the one marked, a question to
+-- answer, or to tell what is loaded, or what one of it consists of
 pub data Order : Type 0 where
   Make : (change : Change) → Order
   Undo : (count : ℕ) → Order
   Redo : (count : ℕ) → Order
+  Mark : (name : List ℕ) → Order
+  Back : (name : List ℕ) → Order
   Ask : (question : Asked) → Order
   Listed : Order
   Show : (name : List ℕ) → Order
@@ -45,6 +48,8 @@ abbrev pub ordered : Command → Order
 ordered (command.Change change) = Make (meant change)
 ordered (command.Undo count) = Undo count
 ordered (command.Redo count) = Redo count
+ordered (command.Mark name) = Mark name.now
+ordered (command.Back name) = Back name.now
 ordered (command.Ask question) = Ask (asked question)
 ordered command.List = Listed
 ordered (command.Show name) = Show name.now
@@ -111,6 +116,8 @@ abbrev pub order_of : List ℕ → List (List ℕ) → Result Order Refusal
 order_of first rest =
     if bytes_eq first (codes "undo") then result_map_both Undo same (count_of rest) else
     if bytes_eq first (codes "redo") then result_map_both Redo same (count_of rest) else
+    if bytes_eq first (codes "mark") then result_map_both Mark same (the_word rest) else
+    if bytes_eq first (codes "back") then result_map_both Back same (the_word rest) else
     if bytes_eq first (codes "ask") then result_map_both Ask same (question_of rest) else
     if bytes_eq first (codes "list") then no_word rest else
     if bytes_eq first (codes "show") then result_map_both Show same (the_word rest) else

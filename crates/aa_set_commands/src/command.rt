@@ -40,6 +40,10 @@ pub enum Command<'a> {
     Undo(usize),
     /// Makes as many changes again that were taken back, at least one.
     Redo(usize),
+    /// Marks the policy set now by this name.
+    Mark(&'a [u8]),
+    /// Goes to the policy set that is marked by this name.
+    Back(&'a [u8]),
     /// Answers a question.
     Ask(Question<'a>),
     /// Tells the names and states of what is loaded.
@@ -79,6 +83,10 @@ fn read_words<'a>(first: &[u8], rest: &[&'a [u8]]) -> Result<Command<'a>, Refusa
         Ok(Command::Undo(read_count(rest)?))
     } else if first == b"redo".as_slice() {
         Ok(Command::Redo(read_count(rest)?))
+    } else if first == b"mark".as_slice() {
+        Ok(Command::Mark(the_word(rest)?))
+    } else if first == b"back".as_slice() {
+        Ok(Command::Back(the_word(rest)?))
     } else if first == b"ask".as_slice() {
         Ok(Command::Ask(Question::read(rest)?))
     } else if first == b"list".as_slice() {

@@ -101,8 +101,10 @@ pub enum RefusalKind {
     BadCommand,
     /// The line is longer than 65,536 bytes.
     LineTooLong,
-    /// The access letters, the owner's word or the path of a question are no such thing.
+    /// The access letters, the owner's word or the path of a question are no such thing, or a mark can't have its name.
     BadRequest,
+    /// No policy set is marked by the name.
+    NoMark,
     /// Memory ran out.
     Memory,
 }
@@ -178,6 +180,7 @@ impl Refusal {
             RefusalKind::BadCommand => 65,
             RefusalKind::LineTooLong => 66,
             RefusalKind::BadRequest => 67,
+            RefusalKind::NoMark => 68,
             RefusalKind::Memory => 99,
         }
     }
@@ -232,6 +235,7 @@ impl Refusal {
             RefusalKind::BadCommand => "BadCommand",
             RefusalKind::LineTooLong => "LineTooLong",
             RefusalKind::BadRequest => "BadRequest",
+            RefusalKind::NoMark => "NoMark",
             RefusalKind::Memory => "Memory",
         }
     }
