@@ -1,12 +1,13 @@
 -- The laws of the machine.
-use Rattle.std.proofs.Common.{◌≡◌, ℕ, ◌+◌, Bool, true, false, not, cond, leb, ◌&&◌, List, [], ◌∷◌, ◌++◌, length, Option, None, Some, Result, Ok, Err, IfOk, refl, sym, ap, ◌∙◌, subst, arith, append_assoc, append-nil, length-append}
+use Rattle.std.proofs.Common.{◌≡◌, ℕ, ◌+◌, Bool, true, false, not, cond, leb, ◌&&◌, List, [], ◌∷◌, ◌++◌, length, Option, None, Some, Result, Ok, Err, IfOk, is_some, refl, sym, ap, ◌∙◌, subst, arith, append_assoc, append-nil, length-append}
 use Rattle.std.proofs.lemmas.Bool.{cond-false, cond-true, le-leb, true≢false}
-use Rattle.aa_history.specs.Machine.{Machine, accepted, all_sets, can_go_back, can_go_on, gone_back, gone_on}
+use Rattle.aa_history.specs.Machine.{Machine, MarksItsSets, accepted, all_sets, can_go_back, can_go_on, gone_back, gone_on, gone_where, marked, with_mark}
 use Rattle.aa_history.specs.MachineLaws.{BackAfterOn, BackFromNewSets, BackKeepsSets, CanGoBackInParts, CanGoOnInParts, GoesBackInParts, GoesOnInParts, LengthsAfterBack, LengthsAfterOn, OnAfterBack, OnKeepsSets}
-use Rattle.aa_set_commands.specs.Command.{Ask, Listed, Make, Order, Redo, Show, Undo}
+use Rattle.aa_history.specs.MarkLaws.{MarkKeepsAll, StartedMarksItsSets, StepsMarkTheirSets}
+use Rattle.aa_set_commands.specs.Command.{Ask, Back, Listed, Make, Mark, Order, Redo, Show, Undo}
 use Rattle.aa_set_commands.specs.Refusal.{plain}
 use Rattle.aa_set_commands.specs.declared.refusal.Refusal.{Refusal}
-use Rattle.aa_set_commands.specs.declared.refusal.RefusalKind.TheVariants.{LineTooLong, Memory, NothingToRedo, NothingToUndo}
+use Rattle.aa_set_commands.specs.declared.refusal.RefusalKind.TheVariants.{BadRequest, LineTooLong, Memory, NoMark, NothingToRedo, NothingToUndo}
 use Rattle.aa_set_answers.specs.Answers.{reply_lines, shown}
 use Rattle.aa_set_changes.specs.ChangeLaws.{ChangesKeepNamesApart}
 use Rattle.aa_set_changes.specs.Changes.{changed as change_of_set, parts_of}
@@ -15,10 +16,11 @@ use Rattle.aa_set_lines.specs.Limits.{longest_line}
 use Rattle.aa_set_lines.specs.Lines.{lines}
 use Rattle.aa_set_listing.specs.List.{list_lines}
 use Rattle.aa_set.specs.Laws.{AreDistinct, GivesBack, NoneFlagged, NoneGoes, PiecesChangeNoReply, StepsAdd, StepsReturn, changes, goes, is_change, order_in}
-use Rattle.aa_set.specs.Manager.{Managed, after_change, new_manager, next, redone, undone}
+use Rattle.aa_set.specs.Manager.{Managed, after_change, back_at, is_mark_name, marking, new_manager, next, redone, undone}
 use Rattle.aa_set.specs.Reply.{is_refusal}
 use Rattle.aa_set.specs.Run.{Outcome, after_lines, changed, flagged, line_outcome, obeyed, order_outcome, refused, replies_to, takes_memory, told}
 use Rattle.aa_decide_verdict.specs.Entries.{Loaded}
+use Rattle.aa_set.proofs.StepLemmas.{line_marks}
 use Rattle.aa_set.specs.declared.reply.Reply.{Reply}
 use Rattle.aa_set.specs.declared.reply.Reply.TheVariants.{Refused, Silent, Told}
 
@@ -54,6 +56,11 @@ told_grows : (m : Managed) (r : Result (List ℕ) Refusal) → Grows false m (to
 told_grows m (Ok lines) = stays false m (Told lines) refl
 told_grows m (Err refusal) = refusal_stays false m refusal
 
+mark_grows : (m : Managed) (name : List ℕ) (t : Bool) → Grows false m (changed m (cond t (Ok (record m { machine = with_mark name m.machine })) (Err (plain BadRequest))))
+unfolding Grows
+mark_grows m name true = ([], sym (append-nil (sets_of m)), refl)
+mark_grows m name false = refusal_stays false m (plain BadRequest)
+
 -- an order that takes memory as it says, and else is obeyed
 flag_grows : (files : Files) (m : Managed) (flag change : Bool) (order : Order) → Grows change m (obeyed files m order)
     → Grows change m (cond (flag && takes_memory m order) (refused m (plain Memory)) (obeyed files m order))
@@ -65,6 +72,8 @@ order_grows files m flag (Err refusal) h = refusal_stays false m refusal
 order_grows files m flag (Ok None) h = stays false m Silent refl
 order_grows files m flag (Ok (Some (Undo n))) h = absurd (true≢false h)
 order_grows files m flag (Ok (Some (Redo n))) h = absurd (true≢false h)
+order_grows files m flag (Ok (Some (Back name))) h = absurd (true≢false h)
+order_grows files m flag (Ok (Some (Mark name))) h = flag_grows files m flag false (Mark name) (mark_grows m name (is_mark_name name))
 order_grows files m flag (Ok (Some (Make change))) h =
     flag_grows files m flag true (Make change) (change_grows m (parts_of files change) (change_of_set files m.force_complain m.machine.now change))
 order_grows files m flag (Ok (Some (Ask question))) h = flag_grows files m flag false (Ask question) (told_grows m (reply_lines m.machine.now question))
@@ -149,6 +158,22 @@ redone_distinct keep m n h = by (can_go_on n m.machine) refl
     by true e = subst AreDistinct (sym (keep n m.machine e)) h
     by false e = h
 
+mark_distinct : (m : Managed) (name : List ℕ) → AreDistinct (all_sets m.machine) → AreDistinct (all_sets (changed m (marking name m)).managed.machine)
+mark_distinct m name h = by (is_mark_name name)
+  where
+    by : (t : Bool) → AreDistinct (all_sets (changed m (cond t (Ok (record m { machine = with_mark name m.machine })) (Err (plain BadRequest)))).managed.machine)
+    by true = h
+    by false = h
+
+returned_distinct : MarkKeepsAll (List Loaded) → (m : Managed) (name : List ℕ) → MarksItsSets m.machine → AreDistinct (all_sets m.machine)
+    → AreDistinct (all_sets (changed m (back_at name m)).managed.machine)
+returned_distinct keep m name there h = by (marked name m.machine) (subst AreDistinct (sym (keep name m.machine there).0) h)
+  where
+    by : (found : Option ℕ) → AreDistinct (all_sets (gone_where found m.machine))
+        → AreDistinct (all_sets (changed m (cond (is_some found) (Ok (record m { machine = gone_where found m.machine })) (Err (plain NoMark)))).managed.machine)
+    by None d = d
+    by (Some number) d = d
+
 told_distinct : (m : Managed) (r : Result (List ℕ) Refusal) → AreDistinct (all_sets m.machine) → AreDistinct (all_sets (told m r).managed.machine)
 told_distinct m (Ok lines) h = h
 told_distinct m (Err refusal) h = h
@@ -157,35 +182,44 @@ either_distinct : (t : Bool) (a b : Outcome) → AreDistinct (all_sets a.managed
 either_distinct true a b p q = p
 either_distinct false a b p q = q
 
--- what keeps names apart: going back, going on, and each change
-abbrev pub Keeping : Type 0
-Keeping = BackKeepsSets (List Loaded) × OnKeepsSets (List Loaded) × ChangesKeepNamesApart
+-- what keeps names apart: going back, going on, each change, and going to a mark, since each is of a set that there is
+pub record Keeping : Type 0 where
+  pub back : BackKeepsSets (List Loaded)
+  pub on : OnKeepsSets (List Loaded)
+  pub changes : ChangesKeepNamesApart
+  pub to_mark : MarkKeepsAll (List Loaded)
+  pub started : StartedMarksItsSets (List Loaded)
+  pub steps : StepsMarkTheirSets (List Loaded)
 
-obeyed_distinct : Keeping → (files : Files) (m : Managed) (order : Order) → AreDistinct (all_sets m.machine) → AreDistinct (all_sets (obeyed files m order).managed.machine)
-obeyed_distinct keep files m (Undo n) h = undone_distinct keep.0 m n h
-obeyed_distinct keep files m (Redo n) h = redone_distinct keep.1 m n h
-obeyed_distinct keep files m (Make change) h =
+obeyed_distinct : Keeping → (files : Files) (m : Managed) (order : Order) → MarksItsSets m.machine → AreDistinct (all_sets m.machine)
+    → AreDistinct (all_sets (obeyed files m order).managed.machine)
+obeyed_distinct keep files m (Undo n) there h = undone_distinct keep.back m n h
+obeyed_distinct keep files m (Redo n) there h = redone_distinct keep.on m n h
+obeyed_distinct keep files m (Mark name) there h = mark_distinct m name h
+obeyed_distinct keep files m (Back name) there h = returned_distinct keep.to_mark m name there h
+obeyed_distinct keep files m (Make change) there h =
     let now = distinct-behind m.machine.earlier (m.machine.now ∷ m.machine.later) h in
-    changed_distinct m (parts_of files change) (change_of_set files m.force_complain m.machine.now change) h (keep.2 files m.force_complain m.machine.now change now.0)
-obeyed_distinct keep files m (Ask question) h = told_distinct m (reply_lines m.machine.now question) h
-obeyed_distinct keep files m Listed h = told_distinct m (Ok (list_lines m.machine.now)) h
-obeyed_distinct keep files m (Show name) h = told_distinct m (shown m.machine.now name) h
+    changed_distinct m (parts_of files change) (change_of_set files m.force_complain m.machine.now change) h (keep.changes files m.force_complain m.machine.now change now.0)
+obeyed_distinct keep files m (Ask question) there h = told_distinct m (reply_lines m.machine.now question) h
+obeyed_distinct keep files m Listed there h = told_distinct m (Ok (list_lines m.machine.now)) h
+obeyed_distinct keep files m (Show name) there h = told_distinct m (shown m.machine.now name) h
 
-order_distinct : Keeping → (files : Files) (m : Managed) (flag : Bool) (order : Result (Option Order) Refusal) → AreDistinct (all_sets m.machine)
+order_distinct : Keeping → (files : Files) (m : Managed) (flag : Bool) (order : Result (Option Order) Refusal) → MarksItsSets m.machine → AreDistinct (all_sets m.machine)
     → AreDistinct (all_sets (order_outcome files m flag order).managed.machine)
-order_distinct keep files m flag (Err refusal) h = h
-order_distinct keep files m flag (Ok None) h = h
-order_distinct keep files m flag (Ok (Some order)) h =
-    either_distinct (flag && takes_memory m order) (refused m (plain Memory)) (obeyed files m order) h (obeyed_distinct keep files m order h)
+order_distinct keep files m flag (Err refusal) there h = h
+order_distinct keep files m flag (Ok None) there h = h
+order_distinct keep files m flag (Ok (Some order)) there h =
+    either_distinct (flag && takes_memory m order) (refused m (plain Memory)) (obeyed files m order) h (obeyed_distinct keep files m order there h)
 
-lines_distinct : Keeping → (files : Files) (m : Managed) (lines : List (List ℕ × Bool)) → AreDistinct (all_sets m.machine) → AreDistinct (all_sets (after_lines files m lines).machine)
-lines_distinct keep files m [] h = h
-lines_distinct keep files m (line ∷ lines) h = lines_distinct keep files (line_outcome files m line.0 line.1).managed lines
+lines_distinct : Keeping → (files : Files) (m : Managed) (lines : List (List ℕ × Bool)) → MarksItsSets m.machine → AreDistinct (all_sets m.machine)
+    → AreDistinct (all_sets (after_lines files m lines).machine)
+lines_distinct keep files m [] there h = h
+lines_distinct keep files m (line ∷ lines) there h = lines_distinct keep files (line_outcome files m line.0 line.1).managed lines (line_marks keep.steps files m line there)
     (either_distinct (leb (length line.0) longest_line) (order_outcome files m line.1 (order_in line.0)) (refused m (plain LineTooLong))
-    (order_distinct keep files m line.1 (order_in line.0) h) h)
+    (order_distinct keep files m line.1 (order_in line.0) there h) h)
 
 pub distinct : Keeping → (files : Files) (force_complain : Bool) (lines : List (List ℕ × Bool)) → AreDistinct (all_sets (after_lines files (new_manager force_complain) lines).machine)
-distinct keep files force_complain lines = lines_distinct keep files (new_manager force_complain) lines (refl, tt)
+distinct keep files force_complain lines = lines_distinct keep files (new_manager force_complain) lines (keep.started []) (refl, tt)
 
 -- undoing k and n changes at once is undoing k and then n
 undone_sum : CanGoBackInParts (List Loaded) → GoesBackInParts (List Loaded) → (k n : ℕ) (m : Managed) → undone (k + n) m ≡ next (undone n) (undone k m)

@@ -4,8 +4,9 @@ use Rattle.std.proofs.lemmas.List.{length-map, map_push}
 use Rattle.aa_decide.specs.Named.{entry_named, have_distinct_names}
 use Rattle.aa_decide_verdict.specs.Entries.{Loaded, is_in_force}
 use Rattle.aa_decide_verdict.specs.Slots.{filled}
-use Rattle.aa_history.specs.Machine.{Kept, Machine, accepted, all_sets, can_go_back, can_go_on, committed, gone_back, gone_on, mapped}
+use Rattle.aa_history.specs.Machine.{Kept, Machine, accepted, all_sets, can_go_back, can_go_on, committed, gone_back, gone_on, gone_to_mark, is_marked, mapped, up_to, with_mark}
 use Rattle.aa_history.specs.MachineLaws.{AllSetsAreMapped, BackIsMapped, BackKeepsSets, CanBackIsMapped, CanOnIsMapped, OnIsMapped, OnKeepsSets}
+use Rattle.aa_history.specs.MarkLaws.{MarkIsMapped, ToMarkIsMapped}
 use Rattle.aa_profile.specs.FileReading.{file_profiles}
 use Rattle.aa_text_files.specs.Files.{File}
 use Rattle.aa_profile_data.specs.declared.profile.Profile.{Profile}
@@ -15,14 +16,14 @@ use Rattle.std.specs.Prelude.{is_none}
 use Rattle.aa_set.specs.code.Making.{Makes}
 use Rattle.aa_set_commands.specs.Refusal.{plain}
 use Rattle.aa_set_commands.specs.declared.refusal.Refusal.{Refusal}
-use Rattle.aa_set_commands.specs.declared.refusal.RefusalKind.TheVariants.{Absent, Disabled, Memory, NothingToRedo, NothingToUndo}
+use Rattle.aa_set_commands.specs.declared.refusal.RefusalKind.TheVariants.{Absent, BadRequest, Disabled, Memory, NoMark, NothingToRedo, NothingToUndo}
 use Rattle.aa_set_parts.specs.Parts.{Reaching, after}
 use Rattle.aa_set_parts.specs.PartLaws.{after-trimmed}
 use Rattle.aa_set_parts.specs.SlotLaws.{filled-trimmed}
 use Rattle.aa_set_parts.specs.Slots.{trimmed}
 use Rattle.aa_set_parts.specs.declared.parts.Part.{Part}
 use Rattle.aa_set.specs.Laws.{AreDistinct}
-use Rattle.aa_set.specs.Manager.{Managed, after_change, after_commit, managed_by, redone, undone}
+use Rattle.aa_set.specs.Manager.{Managed, after_change, after_commit, back_at, is_mark_name, managed_by, marking, redone, undone}
 use Rattle.aa_set.proofs.LawLemmas.{accepted-distinct, distinct-behind}
 
 -- what is kept of slots, as it stands for policy sets
@@ -45,11 +46,13 @@ same_managed : {force : Bool} {a b : Machine (List Loaded)} {x y : List ℕ} →
     → ◌≡◌ {A = Managed} (record { force_complain = force; machine = a; sizes = x }) (record { force_complain = force; machine = b; sizes = y })
 same_managed {force} p q = λ i. record { force_complain = force; machine = p i; sizes = q i }
 
-same_machine : {a b : List (List Loaded)} {now : List Loaded} → a ≡ b → ◌≡◌ {A = Machine (List Loaded)} (record { earlier = a; now = now; later = [] }) (record { earlier = b; now = now; later = [] })
-same_machine {a} {b} {now} p = λ i. record { earlier = p i; now = now; later = [] }
+same_machine : {a b : List (List Loaded)} {now : List Loaded} {x y : List (List ℕ × ℕ)} → a ≡ b → x ≡ y
+    → ◌≡◌ {A = Machine (List Loaded)} (record { earlier = a; now = now; later = []; marks = x }) (record { earlier = b; now = now; later = []; marks = y })
+same_machine {now = now} p q = λ i. record { earlier = p i; now = now; later = []; marks = q i }
 
 accepted-seen : (machine : Machine (List (Option Loaded))) (slots : List (Option Loaded)) → mapped filled (accepted machine slots) ≡ accepted (mapped filled machine) (filled slots)
-accepted-seen machine slots = same_machine (map_push filled machine.earlier machine.now)
+accepted-seen machine slots =
+    same_machine (map_push filled machine.earlier machine.now) (ap (λ number. up_to number machine.marks) (sym (length-map machine.earlier filled)))
 
 -- a commit of slots, as it stands for one of policy sets
 pub committed-seen : (force : Bool) (kept : Kept (List (Option Loaded))) (slots : List (Option Loaded)) (size : ℕ)
@@ -133,6 +136,36 @@ pub redone-distinct : OnKeepsSets (List (Option Loaded)) → AllSetsAreMapped (L
 redone-distinct keeps all n kept new h is distinct =
     subst KeepDistinct (sym is)
     (subst AreDistinct (all filled kept.machine ∙ ap (map filled) (sym (keeps n kept.machine h)) ∙ sym (all filled (gone_on n kept.machine))) distinct)
+
+-- a mark of slots, as it stands for one of policy sets
+pub marking-seen : MarkIsMapped (List (Option Loaded)) (List Loaded) → (force : Bool) (name : List ℕ) (kept new : Kept (List (Option Loaded))) → is_mark_name name ≡ true
+    → new ≡ record kept { machine = with_mark name kept.machine } → marking name (managed_by force (seen kept)) ≡ Ok (managed_by force (seen new))
+marking-seen mark force name kept new h is =
+    ap (λ test. cond test (Ok (record (managed_by force (seen kept)) { machine = with_mark name (mapped filled kept.machine) })) (Err (plain BadRequest))) h
+    ∙ ap (λ (machine : Machine (List Loaded)). Ok (record (managed_by force (seen kept)) { machine = machine })) (sym (mark filled name kept.machine))
+    ∙ ap (λ kept. Ok (managed_by force (seen kept))) (sym is)
+
+pub none-marking : (force : Bool) (name : List ℕ) (kept : Kept (List (Option Loaded))) → is_mark_name name ≡ false → marking name (managed_by force (seen kept)) ≡ Err (plain BadRequest)
+none-marking force name kept h =
+    ap (λ test. cond test (Ok (record (managed_by force (seen kept)) { machine = with_mark name (mapped filled kept.machine) })) (Err (plain BadRequest))) h
+
+pub marking-distinct : (name : List ℕ) (kept new : Kept (List (Option Loaded))) → new ≡ record kept { machine = with_mark name kept.machine } → KeepDistinct kept → KeepDistinct new
+marking-distinct name kept new is distinct = subst KeepDistinct (sym is) distinct
+
+-- going to a mark over slots, as it stands for going to it over policy sets
+pub back-seen : ToMarkIsMapped (List (Option Loaded)) (List Loaded) → (force : Bool) (name : List ℕ) (kept new : Kept (List (Option Loaded))) → is_marked name kept.machine ≡ true
+    → new ≡ record kept { machine = gone_to_mark name kept.machine } → back_at name (managed_by force (seen kept)) ≡ Ok (managed_by force (seen new))
+back-seen to force name kept new h is =
+    ap (λ test. cond test (Ok (record (managed_by force (seen kept)) { machine = gone_to_mark name (mapped filled kept.machine) })) (Err (plain NoMark))) h
+    ∙ ap (λ (machine : Machine (List Loaded)). Ok (record (managed_by force (seen kept)) { machine = machine })) (sym (to filled name kept.machine))
+    ∙ ap (λ kept. Ok (managed_by force (seen kept))) (sym is)
+
+pub none-back : (force : Bool) (name : List ℕ) (kept : Kept (List (Option Loaded))) → is_marked name kept.machine ≡ false → back_at name (managed_by force (seen kept)) ≡ Err (plain NoMark)
+none-back force name kept h =
+    ap (λ test. cond test (Ok (record (managed_by force (seen kept)) { machine = gone_to_mark name (mapped filled kept.machine) })) (Err (plain NoMark))) h
+
+pub back-distinct : AllSetsAreMapped (List (Option Loaded)) (List Loaded) → (kept new : Kept (List (Option Loaded))) → all_sets new.machine ≡ all_sets kept.machine → KeepDistinct kept → KeepDistinct new
+back-distinct all kept new same distinct = subst AreDistinct (all filled kept.machine ∙ ap (map filled) (sym same) ∙ sym (all filled new.machine)) distinct
 
 -- what was asked of the slots, as it stands for policy sets: where the change was made
 pub made-ok : (force : Bool) (kept new : Kept (List (Option Loaded))) (slots : List (Option Loaded)) (size : ℕ) (outcome : Result (List Loaded) Refusal)

@@ -4,11 +4,11 @@ use Rattle.std.specs.Prelude.{slice_get}
 use Rattle.std.specs.Option.{option_map}
 use Rattle.std.specs.Result.{IfOk, IfErr, OnOk, OnErr, MatchResult}
 use Rattle.aa_set_changes.specs.Changes.{change_takes_memory, is_disabled, is_loaded}
-use Rattle.aa_set_commands.specs.Command.{Change, Make, Order}
-use Rattle.aa_set.specs.Manager.{Managed, made}
+use Rattle.aa_set_commands.specs.Command.{Change, Make, Mark, Order}
+use Rattle.aa_set.specs.Manager.{Managed, is_mark_name, made, marking}
 use Rattle.aa_decide_verdict.specs.Entries.{Loaded}
 use Rattle.aa_set_commands.specs.Refusal.{plain}
-use Rattle.aa_set.specs.Run.{obeyed, obeyed_flagged, takes_memory, told}
+use Rattle.aa_set.specs.Run.{changed, obeyed, obeyed_flagged, takes_memory, told}
 use Rattle.aa_text_files.specs.Files.{File, name_at}
 use Rattle.aa_text_files.specs.declared.text_error.Place.{Place}
 use Rattle.aa_set_commands.specs.declared.refusal.Refusal.{Refusal}
@@ -44,7 +44,23 @@ pub disable-takes : {T : Type 0} (name : List ℕ) (entries : List Loaded) (outc
 disable-takes name entries (Ok done) loaded in_force = tt
 disable-takes name entries (Err refusal) loaded in_force = λ memory. rw (loaded memory, in_force memory) refl
 
--- a change was accepted, refused, or found no memory
+-- a command was accepted, refused, or found no memory
+obeyed-changed : (files : List File) (managed after : Managed) (order : Order) (becomes : Result Managed Refusal) (outcome : Result (Unit {0}) Refusal) (reply : Reply)
+    → obeyed files managed order ≡ changed managed becomes
+    → OnOk outcome (becomes ≡ Ok after)
+    → IfErr outcome (λ refusal. refusal ≢ plain Memory → becomes ≡ Err refusal)
+    → OnErr outcome (after ≡ managed)
+    → IfErr outcome (λ refusal. refusal ≡ plain Memory → takes_memory managed order ≡ true)
+    → MatchResult outcome (λ _. reply ≡ Done) (λ refusal. reply ≡ Refused refusal)
+    → (flag : Bool) × (record { reply = reply; managed = after } ≡ obeyed_flagged files managed flag order)
+obeyed-changed files managed after order becomes (Ok done) reply is accepted is_refused stays takes answer =
+    (false, rw (answer, is, accepted) refl)
+obeyed-changed files managed after order becomes (Err refusal) reply is accepted is_refused stays takes answer = elim (memory_or_not refusal) [
+  | inl memory ↦ (true, rw (answer, memory, stays, takes memory) refl)
+  | inr other ↦ (false, rw (answer, is, is_refused other, stays) refl)
+]
+
+-- so a change
 pub obeyed-made : (files : List File) (managed after : Managed) (change : Change) (outcome : Result (Unit {0}) Refusal) (reply : Reply)
     → OnOk outcome (made files managed change ≡ Ok after)
     → IfErr outcome (λ refusal. refusal ≢ plain Memory → made files managed change ≡ Err refusal)
@@ -52,12 +68,17 @@ pub obeyed-made : (files : List File) (managed after : Managed) (change : Change
     → IfErr outcome (λ refusal. refusal ≡ plain Memory → change_takes_memory managed.machine.now change ≡ true)
     → MatchResult outcome (λ _. reply ≡ Done) (λ refusal. reply ≡ Refused refusal)
     → (flag : Bool) × (record { reply = reply; managed = after } ≡ obeyed_flagged files managed flag (Make change))
-obeyed-made files managed after change (Ok done) reply accepted is_refused stays takes answer =
-    (false, rw (answer, accepted) refl)
-obeyed-made files managed after change (Err refusal) reply accepted is_refused stays takes answer = elim (memory_or_not refusal) [
-  | inl memory ↦ (true, rw (answer, memory, stays, takes memory) refl)
-  | inr other ↦ (false, rw (answer, is_refused other, stays) refl)
-]
+obeyed-made files managed after change outcome reply = obeyed-changed files managed after (Make change) (made files managed change) outcome reply refl
+
+-- and a mark
+pub obeyed-mark : (files : List File) (managed after : Managed) (name : List ℕ) (outcome : Result (Unit {0}) Refusal) (reply : Reply)
+    → OnOk outcome (marking name managed ≡ Ok after)
+    → IfErr outcome (λ refusal. refusal ≢ plain Memory → marking name managed ≡ Err refusal)
+    → OnErr outcome (after ≡ managed)
+    → IfErr outcome (λ refusal. refusal ≡ plain Memory → is_mark_name name ≡ true)
+    → MatchResult outcome (λ _. reply ≡ Done) (λ refusal. reply ≡ Refused refusal)
+    → (flag : Bool) × (record { reply = reply; managed = after } ≡ obeyed_flagged files managed flag (Mark name))
+obeyed-mark files managed after name outcome reply = obeyed-changed files managed after (Mark name) (marking name managed) outcome reply refl
 
 -- what is asked was told, refused, or found no memory
 pub obeyed-told : {V : Type 0} (items : V → List ℕ) (files : List File) (managed : Managed) (order : Order) (answer : Result (List ℕ) Refusal) (outcome : Result V Refusal) (reply : Reply)

@@ -1,6 +1,6 @@
 -- What a line leaves as it was, and what decides its reply.
 use Rattle.std.proofs.Common.{◌≡◌, ℕ, Bool, true, false, not, cond, leb, ◌&&◌, List, length, Option, None, Some, Result, Ok, Err, refl, ap}
-use Rattle.aa_set_commands.specs.Command.{Ask, Listed, Make, Order, Redo, Show, Undo}
+use Rattle.aa_set_commands.specs.Command.{Ask, Back, Listed, Make, Mark, Order, Redo, Show, Undo}
 use Rattle.aa_set_commands.specs.Refusal.{plain}
 use Rattle.aa_set_commands.specs.declared.refusal.Refusal.{Refusal}
 use Rattle.aa_set_commands.specs.declared.refusal.RefusalKind.TheVariants.{LineTooLong, Memory}
@@ -8,8 +8,8 @@ use Rattle.aa_text_files.specs.Files.{File}
 use Rattle.aa_set_lines.specs.Limits.{longest_line}
 use Rattle.aa_set_answers.specs.Answers.{asks_absent, reply_lines, shown, shows_absent}
 use Rattle.aa_set_listing.specs.List.{list_lines}
-use Rattle.aa_set.specs.Laws.{OtherLineLeavesAll, RefusedLineLeavesAll, SetDecidesAnswer, goes, is_change, is_question, order_in}
-use Rattle.aa_set.specs.Manager.{Managed, made, redone, undone}
+use Rattle.aa_set.specs.Laws.{OtherLineLeavesAll, RefusedLineLeavesAll, SetDecidesAnswer, goes, is_change, is_question, marks, order_in}
+use Rattle.aa_set.specs.Manager.{Managed, back_at, made, marking, redone, undone}
 use Rattle.aa_set.specs.Reply.{is_refusal}
 use Rattle.aa_set.specs.Run.{Outcome, changed, obeyed, order_outcome, refused, takes_memory, told}
 
@@ -25,7 +25,7 @@ changed-leaves : (m : Managed) (r : Result Managed Refusal) → LeavesIfRefused 
 changed-leaves m (Ok after) h = absurd (cc)
 changed-leaves m (Err refusal) h = refl
 
-told-leaves : (m : Managed) (r : Result (List ℕ) Refusal) → (told m r).managed ≡ m
+pub told-leaves : (m : Managed) (r : Result (List ℕ) Refusal) → (told m r).managed ≡ m
 told-leaves m (Ok lines) = refl
 told-leaves m (Err refusal) = refl
 
@@ -33,6 +33,8 @@ obeyed-leaves : (files : List File) (m : Managed) (order : Order) → LeavesIfRe
 obeyed-leaves files m (Make change) = changed-leaves m (made files m change)
 obeyed-leaves files m (Undo n) = changed-leaves m (undone n m)
 obeyed-leaves files m (Redo n) = changed-leaves m (redone n m)
+obeyed-leaves files m (Mark name) = changed-leaves m (marking name m)
+obeyed-leaves files m (Back name) = changed-leaves m (back_at name m)
 obeyed-leaves files m (Ask question) = λ h. told-leaves m (reply_lines m.machine.now question)
 obeyed-leaves files m Listed = λ h. refl
 obeyed-leaves files m (Show name) = λ h. told-leaves m (shown m.machine.now name)
@@ -56,21 +58,23 @@ flag-stays : (files : List File) (m : Managed) (flag : Bool) (order : Order) →
     → (cond (flag && takes_memory m order) (refused m (plain Memory)) (obeyed files m order)).managed ≡ m
 flag-stays files m flag order h = either-stays (flag && takes_memory m order) m (refused m (plain Memory)) (obeyed files m order) refl h
 
-order-stays : (files : List File) (m : Managed) (flag : Bool) (order : Result (Option Order) Refusal) → is_change order ≡ false → goes order ≡ false
+order-stays : (files : List File) (m : Managed) (flag : Bool) (order : Result (Option Order) Refusal) → is_change order ≡ false → goes order ≡ false → marks order ≡ false
     → (order_outcome files m flag order).managed ≡ m
-order-stays files m flag (Err refusal) h g = refl
-order-stays files m flag (Ok None) h g = refl
-order-stays files m flag (Ok (Some (Make change))) h g = absurd (cc)
-order-stays files m flag (Ok (Some (Undo n))) h g = absurd (cc)
-order-stays files m flag (Ok (Some (Redo n))) h g = absurd (cc)
-order-stays files m flag (Ok (Some (Ask question))) h g = flag-stays files m flag (Ask question) (told-leaves m (reply_lines m.machine.now question))
-order-stays files m flag (Ok (Some Listed)) h g = flag-stays files m flag Listed refl
-order-stays files m flag (Ok (Some (Show name))) h g = flag-stays files m flag (Show name) (told-leaves m (shown m.machine.now name))
+order-stays files m flag (Err refusal) h g k = refl
+order-stays files m flag (Ok None) h g k = refl
+order-stays files m flag (Ok (Some (Make change))) h g k = absurd (cc)
+order-stays files m flag (Ok (Some (Undo n))) h g k = absurd (cc)
+order-stays files m flag (Ok (Some (Redo n))) h g k = absurd (cc)
+order-stays files m flag (Ok (Some (Mark name))) h g k = absurd (cc)
+order-stays files m flag (Ok (Some (Back name))) h g k = absurd (cc)
+order-stays files m flag (Ok (Some (Ask question))) h g k = flag-stays files m flag (Ask question) (told-leaves m (reply_lines m.machine.now question))
+order-stays files m flag (Ok (Some Listed)) h g k = flag-stays files m flag Listed refl
+order-stays files m flag (Ok (Some (Show name))) h g k = flag-stays files m flag (Show name) (told-leaves m (shown m.machine.now name))
 
--- so does a line whose command neither changes nor goes back
+-- so does a line whose command neither changes nor goes back or on, nor marks
 pub other-leaves : OtherLineLeavesAll
-other-leaves files m line flag h g =
-    either-stays (leb (length line) longest_line) m (order_outcome files m flag (order_in line)) (refused m (plain LineTooLong)) (order-stays files m flag (order_in line) h g) refl
+other-leaves files m line flag h g k =
+    either-stays (leb (length line) longest_line) m (order_outcome files m flag (order_in line)) (refused m (plain LineTooLong)) (order-stays files m flag (order_in line) h g k) refl
 
 either-same : (t u : Bool) (a b c d : Outcome) → t ≡ u → a.reply ≡ c.reply → b.reply ≡ d.reply → (cond t a b).reply ≡ (cond u c d).reply
 either-same true true a b c d e p q = p
@@ -98,6 +102,8 @@ order-asks files one other flag (Ok None) h e = absurd (cc)
 order-asks files one other flag (Ok (Some (Make change))) h e = absurd (cc)
 order-asks files one other flag (Ok (Some (Undo n))) h e = absurd (cc)
 order-asks files one other flag (Ok (Some (Redo n))) h e = absurd (cc)
+order-asks files one other flag (Ok (Some (Mark name))) h e = absurd (cc)
+order-asks files one other flag (Ok (Some (Back name))) h e = absurd (cc)
 order-asks files one other flag (Ok (Some (Ask question))) h e =
     flag-same files one other flag (Ask question) (ap (λ set. not (asks_absent set question)) e)
     (told-same one other (reply_lines one.machine.now question) (reply_lines other.machine.now question) (ap (λ set. reply_lines set question) e))

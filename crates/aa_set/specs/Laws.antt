@@ -1,13 +1,16 @@
--- The laws of the machine, and what they speak of: which lines change the policy set, and which ones go back or on.
-use Rattle.std.specs.Prelude.{◌≡◌, ℕ, ◌+◌, Bool, true, false, not, ◌&&◌, if◌then◌else◌, List, ◌∷◌, [], ◌++◌, IfOk, Option, Some, Result, Ok, Err}
+-- The laws of the machine, and what they speak of: which lines change the policy set, which ones go back or on, and which ones mark it.
+use Rattle.std.specs.Prelude.{◌≡◌, ◌≢◌, ℕ, ◌+◌, ◌≤◌, nat_le, length, Bool, true, false, not, ◌&&◌, if◌then◌else◌, List, ◌∷◌, [], ◌++◌, IfOk, Option, Some, Result, Ok, Err}
 use Rattle.aa_text_files.specs.Files.{File}
-use Rattle.aa_history.specs.Machine.{all_sets}
-use Rattle.aa_set_commands.specs.Command.{Ask, Listed, Make, Order, Redo, Show, Undo, line_order}
+use Rattle.aa_history.specs.Machine.{all_sets, is_marked, marked}
+use Rattle.aa_set_commands.specs.Command.{Ask, Back, Listed, Make, Mark, Order, Redo, Show, Undo, line_order}
 use Rattle.aa_set_commands.specs.declared.refusal.Refusal.{Refusal}
 use Rattle.aa_decide.specs.Named.{have_distinct_names}
 use Rattle.aa_set_lines.specs.Words.{words_of}
-use Rattle.aa_set.specs.Manager.{Managed, new_manager, next, redone, undone}
+use Rattle.aa_set.specs.Manager.{Managed, back_at, new_manager, next, redone, undone}
 use Rattle.aa_set.specs.Reply.{is_refusal}
+use Rattle.aa_set.specs.declared.reply.Reply.{Reply}
+use Rattle.aa_set.specs.declared.reply.Reply.TheVariants.{Done}
+use Rattle.aa_set_lines.specs.Limits.{longest_line}
 use Rattle.aa_set.specs.Run.{after_lines, line_outcome, output, output_so_far, replies}
 use Rattle.aa_decide_verdict.specs.Entries.{Loaded}
 
@@ -24,7 +27,13 @@ is_change _ = false
 abbrev pub goes : Result (Option Order) Refusal → Bool
 goes (Ok (Some (Undo n))) = true
 goes (Ok (Some (Redo n))) = true
+goes (Ok (Some (Back name))) = true
 goes _ = false
+
+-- a command marks the policy set, unless it is refused
+abbrev pub marks : Result (Option Order) Refusal → Bool
+marks (Ok (Some (Mark name))) = true
+marks _ = false
 
 -- a command asks for what the policy set says, or of what it consists
 abbrev pub is_question : Result (Option Order) Refusal → Bool
@@ -55,20 +64,29 @@ abbrev pub AreDistinct : List (List Loaded) → Type 0
 AreDistinct [] = Unit {0}
 AreDistinct (set ∷ sets) = (have_distinct_names set ≡ true) × AreDistinct sets
 
--- A refused line leaves the policy set and both lists of sets.
+-- A refused line leaves the policy set, both lists of sets, and the marks.
 abbrev pub RefusedLineLeavesAll : Type 0
 RefusedLineLeavesAll =
     (files : List File) (managed : Managed) (line : List ℕ) (flag : Bool)
     → is_refusal (line_outcome files managed line flag).reply ≡ true
     → (line_outcome files managed line flag).managed ≡ managed
 
--- So does any line whose command neither changes nor goes back or on.
+-- So does any line whose command neither changes nor goes back or on, nor marks.
 abbrev pub OtherLineLeavesAll : Type 0
 OtherLineLeavesAll =
     (files : List File) (managed : Managed) (line : List ℕ) (flag : Bool)
     → is_change (order_in line) ≡ false
     → goes (order_in line) ≡ false
+    → marks (order_in line) ≡ false
     → (line_outcome files managed line flag).managed ≡ managed
+
+-- A line whose command marks leaves all but the marks.
+abbrev pub MarkLeavesSets : Type 0
+MarkLeavesSets =
+    (files : List File) (managed : Managed) (line : List ℕ) (flag : Bool)
+    → marks (order_in line) ≡ true
+    → let after = (line_outcome files managed line flag).managed in
+    after ≡ record managed { machine = record managed.machine { marks = after.machine.marks } }
 
 -- After lines of which none goes back or on, undoing as many changes as were accepted gives back the policy set from before them.
 abbrev pub UndoGivesBack : Type 0
@@ -121,3 +139,54 @@ PiecesChangeNoReply =
     → NoneFlagged some
     → NoneFlagged others
     → replies files force_complain input some ≡ replies files force_complain input others
+
+-- A name that is marked always leads back: in any run `back` of it is answered `ok`, whether memory is left or not, and it drops no policy set and no mark.
+abbrev pub BackNeverFails : Type 0
+BackNeverFails =
+    (files : List File) (force_complain : Bool) (lines : List (List ℕ × Bool)) (line name : List ℕ) (flag : Bool)
+    → let managed = after_lines files (new_manager force_complain) lines in
+    let outcome = line_outcome files managed line flag in
+    nat_le (length line) longest_line ≡ true
+    → order_in line ≡ Ok (Some (Back name))
+    → is_marked name managed.machine ≡ true
+    → (outcome.reply ≡ Done) × (all_sets outcome.managed.machine ≡ all_sets managed.machine) × (outcome.managed.machine.marks ≡ managed.machine.marks)
+
+-- With its reply a command leaves what a name marks: it isn't a change accepted with fewer earlier policy sets than so many, and gives the name to no
+-- other set.
+abbrev pub MarkStands : List ℕ → ℕ → Managed → Result (Option Order) Refusal → Reply → Type 0
+MarkStands name number managed (Ok (Some (Make change))) reply = is_refusal reply ≡ false → number ≤ length managed.machine.earlier
+MarkStands name number managed (Ok (Some (Mark other))) reply = is_refusal reply ≡ false → other ≢ name
+MarkStands name number managed _ reply = Unit {0}
+
+-- and so each of these lines
+abbrev pub LeaveMark : List File → List ℕ → ℕ → Managed → List (List ℕ × Bool) → Type 0
+LeaveMark files name number managed [] = Unit {0}
+LeaveMark files name number managed (line ∷ lines) =
+    let first = line_outcome files managed line.0 line.1 in
+    MarkStands name number managed (order_in line.0) first.reply × LeaveMark files name number first.managed lines
+
+-- Whatever lines follow in a run on an accepted `mark` of a name, as long as they leave what it marks, `back` of it gives back the very policy set that was
+-- marked, and the sets before it.
+abbrev pub MarkGivesBack : Type 0
+MarkGivesBack =
+    (files : List File) (force_complain : Bool) (before lines : List (List ℕ × Bool)) (line name : List ℕ) (flag : Bool)
+    → let managed = after_lines files (new_manager force_complain) before in
+    let marked = line_outcome files managed line flag in
+    order_in line ≡ Ok (Some (Mark name))
+    → is_refusal marked.reply ≡ false
+    → LeaveMark files name (length managed.machine.earlier) marked.managed lines
+    → GivesBack managed (back_at name (after_lines files marked.managed lines))
+
+-- Two names that mark one policy set lead to one manager.
+abbrev pub SameMarksLeadToOne : Type 0
+SameMarksLeadToOne =
+    (name other : List ℕ) (managed : Managed)
+    → marked name managed.machine ≡ marked other managed.machine
+    → back_at name managed ≡ back_at other managed
+
+-- In any run, going to a mark twice is going there once.
+abbrev pub BackTwiceIsOnce : Type 0
+BackTwiceIsOnce =
+    (files : List File) (force_complain : Bool) (lines : List (List ℕ × Bool)) (name : List ℕ)
+    → let managed = after_lines files (new_manager force_complain) lines in
+    next (back_at name) (back_at name managed) ≡ back_at name managed

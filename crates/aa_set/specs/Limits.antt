@@ -1,6 +1,10 @@
--- The limit of a run (docs/commands.md, "Limits").
+-- The limits of a run (docs/commands.md, "Limits").
 use Rattle.std.specs.Prelude.{ℕ}
 
 -- how many reads a run makes at most
 abbrev pub most_reads : ℕ
 most_reads = 2147483648
+
+-- how many bytes the name of a mark has at most
+abbrev pub longest_mark : ℕ
+longest_mark = 255

@@ -1,14 +1,15 @@
 -- The manager: the machine over policy sets, and what each command makes of it (docs/commands.md).
-use Rattle.std.specs.Prelude.{ℕ, Bool, if◌then◌else◌, List, [], Result, Ok, Err}
+use Rattle.std.specs.Prelude.{ℕ, Bool, ◌&&◌, nat_le, if◌then◌else◌, List, [], length, Result, Ok, Err}
 use Rattle.aa_text_files.specs.Files.{File}
-use Rattle.aa_history.specs.Machine.{Kept, Machine, begun, can_go_back, can_go_on, committed, gone_back, gone_on}
+use Rattle.aa_history.specs.Machine.{Kept, Machine, begun, can_go_back, can_go_on, committed, gone_back, gone_on, gone_to_mark, is_marked, with_mark}
 use Rattle.aa_profile_data.specs.declared.profile.Mode.{Mode}
 use Rattle.aa_decide_verdict.specs.Entries.{Loaded}
 use Rattle.aa_set_commands.specs.Command.{Change}
 use Rattle.aa_set_commands.specs.Refusal.{plain}
 use Rattle.aa_set_commands.specs.declared.refusal.Refusal.{Refusal}
-use Rattle.aa_set_commands.specs.declared.refusal.RefusalKind.TheVariants.{NothingToRedo, NothingToUndo}
+use Rattle.aa_set_commands.specs.declared.refusal.RefusalKind.TheVariants.{BadRequest, NoMark, NothingToRedo, NothingToUndo}
 use Rattle.aa_set_changes.specs.Changes.{changed, parts_of, with_disabled, with_mode}
+use Rattle.aa_set.specs.Limits.{longest_mark}
 
 -- A manager, as contracts see it: whether profiles are loaded in complain mode, the machine, and how many parts each change has that leads
 -- from one of its policy sets to the next.
@@ -57,6 +58,18 @@ undone n managed = if can_go_back n managed.machine then Ok (record managed { ma
 -- the manager after `redo N`, or the refusal
 abbrev pub redone : ℕ → Managed → Result Managed Refusal
 redone n managed = if can_go_on n managed.machine then Ok (record managed { machine = gone_on n managed.machine }) else Err (plain NothingToRedo)
+
+-- a mark can have this name
+abbrev pub is_mark_name : List ℕ → Bool
+is_mark_name name = nat_le 1 (length name) && nat_le (length name) longest_mark
+
+-- the manager after `mark NAME`, or the refusal
+abbrev pub marking : List ℕ → Managed → Result Managed Refusal
+marking name managed = if is_mark_name name then Ok (record managed { machine = with_mark name managed.machine }) else Err (plain BadRequest)
+
+-- the manager after `back NAME`, or the refusal
+abbrev pub back_at : List ℕ → Managed → Result Managed Refusal
+back_at name managed = if is_marked name managed.machine then Ok (record managed { machine = gone_to_mark name managed.machine }) else Err (plain NoMark)
 
 -- a further step, where the one before was accepted
 abbrev pub next : (Managed → Result Managed Refusal) → Result Managed Refusal → Result Managed Refusal

@@ -7,8 +7,8 @@ use Rattle.aa_set_answers.specs.Answers.{asks_absent, reply_lines, shown, shows_
 use Rattle.aa_set_changes.specs.Changes.{change_takes_memory}
 use Rattle.aa_set_listing.specs.List.{list_lines}
 use Rattle.aa_text_files.specs.Files.{File}
-use Rattle.aa_set_commands.specs.Command.{Order, Make, Undo, Redo, Ask, Listed, Show, line_order}
-use Rattle.aa_set.specs.Manager.{Managed, new_manager, made, redone, undone}
+use Rattle.aa_set_commands.specs.Command.{Order, Make, Undo, Redo, Mark, Back, Ask, Listed, Show, line_order}
+use Rattle.aa_set.specs.Manager.{Managed, back_at, is_mark_name, made, marking, new_manager, redone, undone}
 use Rattle.aa_set_lines.specs.Lines.{lines, whole_lines}
 use Rattle.aa_set_lines.specs.Streams.{AppendsFront}
 use Rattle.aa_set.specs.Reply.{reply_text, is_refusal, is_acceptance}
@@ -42,16 +42,20 @@ abbrev pub obeyed : List File → Managed → Order → Outcome
 obeyed files managed (Make change) = changed managed (made files managed change)
 obeyed files managed (Undo n) = changed managed (undone n managed)
 obeyed files managed (Redo n) = changed managed (redone n managed)
+obeyed files managed (Mark name) = changed managed (marking name managed)
+obeyed files managed (Back name) = changed managed (back_at name managed)
 obeyed files managed (Ask question) = told managed (reply_lines managed.machine.now question)
 obeyed files managed Listed = told managed (Ok (list_lines managed.machine.now))
 obeyed files managed (Show name) = told managed (shown managed.machine.now name)
 
--- A command may find no memory, but `undo` and `redo`, a switch that is refused, a question of a profile, a child or a hat that isn't there, and
--- `show` of one.
+-- A command may find no memory, but `undo`, `redo` and `back`, a switch that is refused, a name that no mark can have, a question of a profile, a
+-- child or a hat that isn't there, and `show` of one.
 abbrev pub takes_memory : Managed → Order → Bool
 takes_memory managed (Make change) = change_takes_memory managed.machine.now change
 takes_memory managed (Undo n) = false
 takes_memory managed (Redo n) = false
+takes_memory managed (Mark name) = is_mark_name name
+takes_memory managed (Back name) = false
 takes_memory managed (Ask question) = not (asks_absent managed.machine.now question)
 takes_memory managed Listed = true
 takes_memory managed (Show name) = not (shows_absent managed.machine.now name)

@@ -1,15 +1,19 @@
 //! What holds of the machine whatever it is told, as laws over the definitions that `run` and `Manager` are proved to
 //! follow.
 
+ghost use Rattle.aa_set.specs.Laws.{BackNeverFails, BackTwiceIsOnce, MarkGivesBack, MarkLeavesSets, SameMarksLeadToOne};
 ghost use Rattle.aa_set.specs.Laws.{OtherLineLeavesAll, PiecesChangeNoReply, RefusedLineLeavesAll, SetDecidesAnswer, SetsHaveDistinctNames, SoFarIsFront, StepsAdd, StepsReturn, UndoGivesBack};
 
 use aa_bytes::Sequence;
 use aa_decide::Entry;
-use aa_history::{how_machines_go_back_and_on, what_machines_keep, where_machines_go_back_to};
+use aa_history::{
+    how_machines_go_back_and_on, marks_lead_back, what_going_to_marks_keeps, what_machines_keep,
+    what_marks_mark, where_machines_go_back_to,
+};
 use aa_set_changes::what_changes_keep;
 
-/// A refused line leaves the policy set and both lists of sets, and so does any line whose command neither changes nor goes back or on, as a
-/// question or a blank one. After lines of which none goes back or on, undoing as many changes as were accepted gives back the
+/// A refused line leaves the policy set, both lists of sets and the marks, and so does any line whose command neither changes nor goes back or on nor
+/// marks, as a question or a blank one. After lines of which none goes back or on, undoing as many changes as were accepted gives back the
 /// very policy set from before them, with its history. Undoing some changes and then others is undoing them at once, and so with redoing; and
 /// redoing what was undone gives back policy set and history, as undoing what was redone does. The reply to
 /// a question, to `list` and to `show` depends on the policy set alone, so each request then gets the answer that it had. No policy set that a run
@@ -25,7 +29,25 @@ pub fn the_way_back()
     how_machines_go_back_and_on::<Sequence<Entry>>();
     what_machines_keep::<Sequence<Entry>>();
     where_machines_go_back_to::<Sequence<Entry>>();
+    what_marks_mark::<Sequence<Entry>>();
+    what_going_to_marks_keeps::<Sequence<Entry>>();
     what_changes_keep();
+}
+
+/// A line that marks leaves all but the marks. A name that is marked always leads back, whether memory is left or not, and going there drops nothing that
+/// could be undone or redone, and no mark. Whatever lines follow on a `mark`, as long as no change is accepted with fewer changes made than there were
+/// at the mark, and the name isn't given to another policy set, `back` gives back the very policy set that was marked, with its history. Two names of one
+/// policy set lead to one place, and going to a mark twice is going there once.
+pub fn where_marks_lead()
+    ensures sets { MarkLeavesSets }
+    ensures never_fails { BackNeverFails }
+    ensures restored { MarkGivesBack }
+    ensures same { SameMarksLeadToOne }
+    ensures once { BackTwiceIsOnce }
+{
+    what_marks_mark::<Sequence<Entry>>();
+    what_going_to_marks_keeps::<Sequence<Entry>>();
+    marks_lead_back::<Sequence<Entry>>();
 }
 
 /// What a run writes before a fault of its reader, the replies to the whole lines that were read, is a front of what a run writes that reads these bytes

@@ -11,6 +11,6 @@ pub use aa_profile_access::Perms;
 pub use aa_set_changes::PolicySet;
 pub use aa_set_commands::{Question, Refusal, RefusalKind};
 pub use aa_set_lines::{Failed, FromRead, Sink, Source, ToWrite, comes_to_end};
-pub use laws::{pieces_change_no_reply, the_way_back, what_faults_leave};
+pub use laws::{pieces_change_no_reply, the_way_back, what_faults_leave, where_marks_lead};
 pub use manager::Manager;
 pub use session::{RunFault, Summary, run, run_with};

@@ -8,12 +8,13 @@ ghost use Rattle.aa_set_commands.specs.Question.{IsWellFormed, asked};
 ghost use Rattle.aa_set_commands.specs.Refusal.{plain};
 ghost use Rattle.aa_set_commands.specs.declared.refusal.RefusalKind.TheVariants.{Memory};
 ghost use Rattle.aa_set_listing.specs.List.{list_lines};
+ghost use Rattle.aa_set.specs.Manager.{is_mark_name};
 ghost use Rattle.aa_set.specs.code.Making.{Makes};
 ghost use Rattle.aa_profile_data.specs.declared.profile.Mode.TheVariants.{Complain, Enforce};
 
 use aa_bytes::Sequence;
 use aa_decide::{Entry, Request};
-use aa_history::{Journal, what_machines_keep, what_sets_stand_for};
+use aa_history::{Journal, what_machines_keep, what_marked_sets_stand_for, what_sets_stand_for};
 use aa_profile::read_file;
 use aa_profile_data::Mode;
 use aa_set_answers::{access_lines, exec_lines, shown_lines};
@@ -27,9 +28,12 @@ use aa_text_files::Files;
 use std::alloc::Global;
 use std::marker::Model;
 
-/// A policy set, and the policy sets that changes and undoing have left behind.
+// How many bytes the name of a mark has at most.
+const LONGEST_MARK: usize = 255;
+
+/// A policy set, the policy sets that changes and undoing have left behind, and the marks of such sets.
 ///
-/// Contracts see the machine that keeps whole policy sets: the set now, the earlier ones and the later ones; and how many parts each change has. What is
+/// Contracts see the machine that keeps whole policy sets: the set now, the earlier ones and the later ones, and the marks; and how many parts each change has. What is
 /// kept are the slots of the set now, and of each change the parts that it exchanges with them.
 #[derive(Drop)]
 pub struct Manager {
@@ -52,7 +56,7 @@ impl Model for Manager {
 }
 
 impl Manager {
-    ghost use Rattle.aa_set.specs.Manager.{disabled, in_mode, made, new_manager, redone, undone};
+    ghost use Rattle.aa_set.specs.Manager.{back_at, disabled, in_mode, made, marking, new_manager, redone, undone};
 
     /// A manager of the empty policy set, which no change has made yet. With `force_complain` (the option `-C`) each profile is loaded in complain
     /// mode, and so are its children and hats, whatever their flags. It takes no memory.
@@ -245,6 +249,50 @@ impl Manager {
         }
     }
 
+    /// Marks the policy set now by a name of 1 to 255 bytes, in place of the one that the name has marked so far. That is no change: it can't be undone,
+    /// and drops nothing that could be redone. A mark stands until a change is accepted with fewer changes made than there were at the mark, so that
+    /// the marked set can't be gone to any more.
+    ///
+    /// # Errors
+    ///
+    /// `BadRequest` where the name is empty or longer, which is found without memory, and `Memory` where memory ran out. After each the policy set, its
+    /// history and the marks are as they were.
+    pub fn mark(&mut self, name: &[u8]) -> Result<(), Refusal>
+        ensures ok { OnOk result (marking name.now self.old ≡ Ok self.new) }
+        ensures refused { IfErr result (λ refusal. refusal ≢ plain Memory → marking name.now self.old ≡ Err refusal) }
+        ensures unchanged { OnErr result (self.new ≡ self.old) }
+        ensures memory { IfErr result (λ refusal. refusal ≡ plain Memory → is_mark_name name.now ≡ true) }
+    {
+        if !is_mark_name(name) {
+            return Err(plain(RefusalKind::BadRequest));
+        }
+        what_marked_sets_stand_for::<Slots, Sequence<Entry>>();
+        let name = Vec::from_slice(self.alloc, name)?;
+        match self.journal.mark(name) {
+            Ok(()) => Ok(()),
+            Err(_) => Err(plain(RefusalKind::Memory)),
+        }
+    }
+
+    /// Goes to the policy set that is marked by a name, as many changes back or on as lie between, or none: in each entry and its place. No change is
+    /// dropped, neither of those that could be undone nor of those that could be redone, and no mark. It takes no memory.
+    ///
+    /// # Errors
+    ///
+    /// `NoMark` where no policy set is marked by the name. The policy set, its history and the marks are as they were then.
+    pub fn back(&mut self, name: &[u8]) -> Result<(), Refusal>
+        ensures ok { OnOk result (back_at name.now self.old ≡ Ok self.new) }
+        ensures refused { IfErr result (λ refusal. back_at name.now self.old ≡ Err refusal) }
+        ensures unchanged { OnErr result (self.new ≡ self.old) }
+    {
+        what_marked_sets_stand_for::<Slots, Sequence<Entry>>();
+        what_sets_stand_for::<Slots, Sequence<Entry>>();
+        match self.journal.back(name) {
+            Ok(()) => Ok(()),
+            Err(_) => Err(plain(RefusalKind::NoMark)),
+        }
+    }
+
     /// The lines of the reply to `list`: how many profiles, children and hats are loaded, and a line for each, with its full name and its state
     /// (docs/commands.md, "What is loaded").
     ///
@@ -313,6 +361,13 @@ impl Manager {
             }
         }
     }
+}
+
+// Whether a mark can have a name.
+fn is_mark_name(name: &[u8]) -> bool
+    ensures { result ≡ is_mark_name name.now }
+{
+    !name.is_empty() && name.len() <= LONGEST_MARK
 }
 
 // Makes a change to the slots of a journal and keeps the way back, if the change wasn't refused.

@@ -16,7 +16,7 @@ use aa_text_files::Files;
 pub enum Reply {
     /// Nothing: the line is blank.
     Silent,
-    /// A change was made or undone.
+    /// A change was made, undone or redone, or the policy set was marked or gone back to.
     Done,
     /// The line was refused.
     Refused(Refusal),
@@ -47,6 +47,8 @@ fn obey(files: &Files, manager: &mut Manager, command: Command<'_>) -> Reply
         Command::Change(change) => make(files, manager, change),
         Command::Undo(count) => done(manager.undo(count)),
         Command::Redo(count) => done(manager.redo(count)),
+        Command::Mark(name) => done(manager.mark(name)),
+        Command::Back(name) => done(manager.back(name)),
         Command::Ask(question) => told(manager.ask(&question)),
         Command::List => told(manager.list()),
         Command::Show(name) => told(manager.show(name)),

@@ -12,7 +12,14 @@ returns-clause-steps c =
     (steps-add on.can_back on.back on.can_on on.on, steps-return left.lengths_back on.on_after_back left.lengths_on on.back_after_on)
 
 pub returns-clause-distinct : goal.returns-clause-distinct
-returns-clause-distinct c = distinct (c.what_machines_keep.ensures.back, c.what_machines_keep.ensures.on, c.what_changes_keep.ensures)
+returns-clause-distinct c = distinct (record {
+  back = c.what_machines_keep.ensures.back;
+  on = c.what_machines_keep.ensures.on;
+  changes = c.what_changes_keep.ensures;
+  to_mark = c.what_going_to_marks_keeps.ensures.all;
+  started = c.what_marks_mark.ensures.started;
+  steps = c.what_marks_mark.ensures.steps;
+})
 
 pub returns-clause-refused : goal.returns-clause-refused
 returns-clause-refused c = refused-leaves
