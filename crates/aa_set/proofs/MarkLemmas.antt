@@ -1,5 +1,5 @@
 -- Where marks lead, through the lines of a run.
-use Rattle.std.proofs.Common.{◌≡◌, ℕ, ◌≤◌, Bool, true, false, cond, leb, ◌&&◌, List, [], ◌∷◌, length, Option, None, Some, Result, Ok, Err, is_some, refl, sym, ap, ◌∙◌, subst}
+use Rattle.std.proofs.Common.{◌≡◌, ℕ, Bool, true, false, cond, leb, ◌&&◌, List, length, Option, None, Some, Result, Ok, Err, is_some, refl, sym, ap, ◌∙◌, subst}
 use Rattle.std.proofs.lemmas.Bool.{cond-false, cond-true}
 use Rattle.std.specs.Map.{lookup}
 use Rattle.std.specs.Str.{bytes_eq}
@@ -11,7 +11,7 @@ use Rattle.aa_set_commands.specs.Refusal.{plain}
 use Rattle.aa_set_commands.specs.declared.refusal.Refusal.{Refusal}
 use Rattle.aa_set_commands.specs.declared.refusal.RefusalKind.TheVariants.{BadRequest, LineTooLong, Memory, NoMark}
 use Rattle.aa_set_lines.specs.Limits.{longest_line}
-use Rattle.aa_set.specs.Laws.{BackNeverFails, BackTwiceIsOnce, GivesBack, LeaveMark, MarkGivesBack, MarkLeavesSets, SameMarksLeadToOne, marks, order_in}
+use Rattle.aa_set.specs.Laws.{BackNeverFails, BackTwiceIsOnce, GivesBack, MarkGivesBack, MarkLeavesSets, SameMarksLeadToOne, marks, order_in}
 use Rattle.aa_set.specs.Manager.{Managed, back_at, is_mark_name, marking, new_manager, next}
 use Rattle.aa_set.specs.Reply.{is_refusal}
 use Rattle.aa_set.specs.Run.{Outcome, after_lines, changed, line_outcome, obeyed, order_outcome, refused, takes_memory}
