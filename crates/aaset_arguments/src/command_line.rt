@@ -24,6 +24,8 @@ Commands, one a line:
   enforce NAME, complain NAME          Sets the mode of the profile NAME, its children and hats
   disable NAME                         Takes the profile NAME out of force
   undo [N], redo [N]                   Goes N accepted changes back or forward, 1 without N
+  mark NAME                            Keeps the present place in the history under NAME
+  back NAME                            Goes there, back or forward, and drops no change
   ask file NAME ACCESS OWNED PATH      Tells what the profile NAME answers to a request: ACCESS
                                        is letters of rwalkm, OWNED is `owner` or `other`
   ask exec NAME OWNED PATH             Tells under what a program runs that NAME starts

@@ -72,6 +72,8 @@ fn arguments_are_answered(rt: HostRuntime) {
         "enforce NAME, complain NAME ",
         "disable NAME ",
         "undo [N], redo [N] ",
+        "mark NAME ",
+        "back NAME ",
         "ask file NAME ACCESS OWNED PATH ",
         "ask exec NAME OWNED PATH ",
         "ask cap NAME CAPABILITY ",
