@@ -35,6 +35,7 @@ impl Asks for PolicySets {
             | "includes"
             | "places"
             | "lengths"
+            | "marks"
             | "streams" => runs::ask(tally, common, parts),
             _ => Err(RowError::NoSuchKind),
         }

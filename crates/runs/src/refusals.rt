@@ -42,7 +42,7 @@ const TEXT_REFUSALS: [TextRefusal; 11] = [
     TextRefusal::Memory,
 ];
 
-const REFUSAL_KINDS: [RefusalKind; 44] = [
+const REFUSAL_KINDS: [RefusalKind; 47] = [
     RefusalKind::NotAbsolute,
     RefusalKind::UnclosedClass,
     RefusalKind::EmptyClass,
@@ -82,10 +82,13 @@ const REFUSAL_KINDS: [RefusalKind; 44] = [
     RefusalKind::ExecConflict,
     RefusalKind::Exists,
     RefusalKind::Absent,
+    RefusalKind::Disabled,
     RefusalKind::NothingToUndo,
+    RefusalKind::NothingToRedo,
     RefusalKind::BadCommand,
     RefusalKind::LineTooLong,
     RefusalKind::BadRequest,
+    RefusalKind::NoMark,
     RefusalKind::Memory,
 ];
 
