@@ -71,11 +71,14 @@ fn decision_rows(alloc: Global) -> [Row; 5] {
     ]
 }
 
-fn journal_rows(alloc: Global) -> [Row; 1] {
-    [("Journal::commit", journal::commits(alloc))]
+fn journal_rows(alloc: Global) -> [Row; 2] {
+    [
+        ("Journal::commit", journal::commits(alloc)),
+        ("Journal::mark", journal::marks(alloc)),
+    ]
 }
 
-fn manager_rows(alloc: Global) -> [Row; 14] {
+fn manager_rows(alloc: Global) -> [Row; 16] {
     [
         ("Manager::add", managers::adds(alloc)),
         ("Manager::replace", managers::replaces(alloc)),
@@ -85,6 +88,8 @@ fn manager_rows(alloc: Global) -> [Row; 14] {
         ("Manager::disable", managers::disables(alloc)),
         ("Manager::undo", managers::undoes(alloc)),
         ("Manager::redo", managers::redoes(alloc)),
+        ("Manager::mark", managers::marks(alloc)),
+        ("Manager::back", managers::goes_back(alloc)),
         ("Manager::list", managers::lists(alloc)),
         ("Manager::show", managers::shows(alloc)),
         ("Manager::ask", managers::asks(alloc)),

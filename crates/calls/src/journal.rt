@@ -1,6 +1,6 @@
 //! A journal over a change of one's own.
 
-use aa_history::{Change, Journal, Short};
+use aa_history::{Change, Journal, NoMark, Short};
 use std::alloc::{AllocError, Global};
 use std::mem;
 
@@ -103,7 +103,82 @@ pub fn commits(alloc: Global) -> Option<bool> {
     Some(before && refused.number == 4 && refused.finds_no_memory && is_at(&journal, 2, 1, 1, 2))
 }
 
+// Marks the state of a journal by a name, if there is memory for it.
+fn put_mark(alloc: Global, journal: &mut Journal<u64, To>, name: &[u8]) -> Option<()> {
+    let name = Vec::from_slice(alloc, name).ok()?;
+    journal.mark(name).ok()
+}
+
+// A journal that was at 1, 2 and 3, where it was marked by these names, and is at 3.
+fn marked(alloc: Global) -> Option<Journal<u64, To>> {
+    let mut journal = Journal::new(alloc, 1);
+    put_mark(alloc, &mut journal, b"first")?;
+    journal.commit(change_to(2)).ok()?;
+    put_mark(alloc, &mut journal, b"second")?;
+    journal.commit(change_to(3)).ok()?;
+    put_mark(alloc, &mut journal, b"third")?;
+    Some(journal)
+}
+
+// How many changes had been made at the marks of these names.
+fn marks_of(journal: &Journal<u64, To>) -> (Option<usize>, Option<usize>, Option<usize>) {
+    (
+        journal.marked(b"first"),
+        journal.marked(b"second"),
+        journal.marked(b"third"),
+    )
+}
+
+// A mark is no change, and each is at its own place; a second of a name takes the place of the first.
+pub fn marks(alloc: Global) -> Option<bool> {
+    let mut journal = marked(alloc)?;
+    let is_marked = marks_of(&journal) == (Some(0), Some(1), Some(2));
+    let stays = is_at(&journal, 3, 2, 0, 2) && journal.marked(b"fourth").is_none();
+    journal.undo(1).ok()?;
+    put_mark(alloc, &mut journal, b"third")?;
+    let is_moved = marks_of(&journal) == (Some(0), Some(1), Some(1));
+    Some(is_marked && stays && is_moved && is_at(&journal, 2, 1, 1, 2))
+}
+
+// The ways back and on to marks drop no change and no mark.
+fn goes_to_marks(alloc: Global) -> Option<bool> {
+    let mut journal = marked(alloc)?;
+    let back = journal.back(b"first") == Ok(()) && is_at(&journal, 1, 0, 2, 2);
+    let on = journal.back(b"second") == Ok(()) && is_at(&journal, 2, 1, 1, 2);
+    let nowhere = journal.back(b"second") == Ok(()) && is_at(&journal, 2, 1, 1, 2);
+    let unknown = journal.back(b"fourth") == Err(NoMark) && is_at(&journal, 2, 1, 1, 2);
+    let kept = marks_of(&journal) == (Some(0), Some(1), Some(2));
+    Some(back && on && nowhere && unknown && kept)
+}
+
+// A change that is made drops the marks of the states that can't be gone to any more, and one that finds no memory drops none.
+fn drops_marks(alloc: Global) -> Option<bool> {
+    let mut journal = marked(alloc)?;
+    journal.undo(1).ok()?;
+    let refused = To {
+        number: 4,
+        finds_no_memory: true,
+    };
+    let is_refused = journal.commit(refused).is_err();
+    let kept = marks_of(&journal) == (Some(0), Some(1), Some(2));
+    journal.commit(change_to(5)).ok()?;
+    let left = marks_of(&journal) == (Some(0), Some(1), None);
+    let unknown = journal.back(b"third") == Err(NoMark) && is_at(&journal, 5, 2, 0, 2);
+    let back = journal.back(b"second") == Ok(()) && is_at(&journal, 2, 1, 1, 2);
+    Some(is_refused && kept && left && unknown && back)
+}
+
 #[test]
 fn a_journal_keeps_changes(rt: HostRuntime) {
     assert!(rt; keeps_changes(rt.alloc()));
+}
+
+#[test]
+fn a_journal_goes_to_marks(rt: HostRuntime) {
+    assert_eq!(rt; goes_to_marks(rt.alloc()), Some(true));
+}
+
+#[test]
+fn a_change_of_a_journal_drops_marks(rt: HostRuntime) {
+    assert_eq!(rt; drops_marks(rt.alloc()), Some(true));
 }

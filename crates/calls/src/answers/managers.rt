@@ -126,6 +126,29 @@ pub fn redoes(alloc: Global) -> Option<bool> {
     Some(refused && is_listed(&manager, FIRST))
 }
 
+pub fn marks(alloc: Global) -> Option<bool> {
+    let files = files(alloc)?;
+    let mut manager = managed(alloc, &files)?;
+    let refused = is_refused(manager.mark(b""), 67) && is_refused(manager.back(b""), 68);
+    manager.mark(b"here").ok()?;
+    let is_no_change = is_listed(&manager, FIRST) && is_refused(manager.undo(2), 63);
+    manager.undo(1).ok()?;
+    manager.back(b"here").ok()?;
+    Some(refused && is_no_change && is_listed(&manager, FIRST))
+}
+
+pub fn goes_back(alloc: Global) -> Option<bool> {
+    let files = files(alloc)?;
+    let mut manager = managed(alloc, &files)?;
+    manager.mark(b"here").ok()?;
+    manager.complain(b"web").ok()?;
+    let refused = is_refused(manager.back(b"there"), 68) && is_listed(&manager, COMPLAINING);
+    manager.back(b"here").ok()?;
+    let is_back = is_listed(&manager, FIRST);
+    manager.redo(1).ok()?;
+    Some(refused && is_back && is_listed(&manager, COMPLAINING))
+}
+
 pub fn lists(alloc: Global) -> Option<bool> {
     let files = files(alloc)?;
     let manager = managed(alloc, &files)?;
