@@ -18,27 +18,27 @@ pub struct Ending {
     pub class: u32,
 }
 
-/// The patterns that end at a state.
-pub fn endings_at(
-    alloc: Global,
+/// Puts the patterns that end at a state in the place of what was there; `AllocError` where memory ran out.
+pub fn put_endings(
     tables: &Tables,
     classes: &[u32],
     state: u32,
-) -> Result<Vec<Ending>, AllocError>
+    endings: &mut Vec<Ending>,
+) -> Result<(), AllocError>
     requires sound { AreSound tables.now }
     requires sorted { AreSorted tables.now }
     requires classes { (q p : ℕ) → EndsAt (graph_of tables.now) q p → p < length classes.now }
     requires is_state { state < length tables.now.states }
-    ensures { IfOk result (λ endings. AreEndingsOf (graph_of tables.now) classes.now state endings.items) }
+    ensures { OnOk result (AreEndingsOf (graph_of tables.now) classes.now state endings.new.items) }
 {
-    let mut endings = Vec::new(alloc);
+    endings.clear();
     for end in tables.ends_of(state) {
         endings.push(Ending {
             pattern: end.pattern,
             class: classes[end.pattern as usize],
         })?;
     }
-    Ok(endings)
+    Ok(())
 }
 
 /// Lowers what was found to the least pattern of either state that clashes with an earlier one of the other.

@@ -4,14 +4,14 @@ ghost use Rattle.std.specs.Prelude.{◌≡◌, ◌<◌, ◌+◌, ◌^◌, ℕ, l
 ghost use Rattle.aa_glob_nfa.specs.Graphs.{EndsAt};
 ghost use Rattle.aa_glob_nfa.specs.OfTables.{AreSorted, AreSound, graph_of};
 ghost use Rattle.aa_glob_pairs.specs.Clashes.{IsLeast};
-ghost use Rattle.aa_glob_pairs.specs.Graphs.{AreBelow, IsLaid};
+ghost use Rattle.aa_glob_pairs.specs.Graphs.{AreBelow, IsLaid, IsNodeOf};
 ghost use Rattle.aa_glob_pairs.specs.Pairs.{MeetsAt, classed};
 ghost use Rattle.aa_glob_pairs.specs.Waiting.{row_at};
 ghost use Rattle.aa_glob_pairs.specs.code.Progress.{IsMeeting, no_marks};
 
 use crate::belows::Belows;
 use crate::ends::lower_both;
-use crate::nodes::node_at;
+use crate::nodes::{Node, put_node};
 use crate::visit::visit;
 use crate::waiting::Waiting;
 use aa_glob_nfa::Tables;
@@ -26,6 +26,13 @@ pub struct Meeting {
     pub seen: Vec<u32>,
     // The least pattern so far that clashes with an earlier one.
     pub found: Option<u32>,
+}
+
+/// Room for the states of a pair, which is kept from one pair to the next.
+#[derive(Drop)]
+struct Pair {
+    first: Node,
+    second: Node,
 }
 
 /// The least pattern that clashes with an earlier one: each pair of states that one text reaches is looked at once, and none leads to an earlier
@@ -44,8 +51,12 @@ pub fn least_clash(
     ensures { IfOk result (λ found. IsLeast found (MeetsAt (classed tables.now classes.now belows.now))) }
 {
     let mut meeting = begin(alloc, tables, classes, belows)?;
+    let mut pair = Pair {
+        first: Node::new(alloc),
+        second: Node::new(alloc),
+    };
     for row in 0..tables.states.len() {
-        meet_row(alloc, tables, classes, belows, row as u32, &mut meeting)?;
+        meet_row(tables, classes, belows, row as u32, &mut pair, &mut meeting)?;
     }
     Ok(meeting.found)
 }
@@ -79,13 +90,13 @@ fn no_marks(alloc: Global, states: usize) -> Result<Vec<u32>, AllocError>
     vec![in alloc; 0u32; states]
 }
 
-// Looks at the pairs of a first state.
+// Looks at the pairs of a first state, if there are some.
 fn meet_row(
-    alloc: Global,
     tables: &Tables,
     classes: &[u32],
     belows: &Belows,
     row: u32,
+    pair: &mut Pair,
     meeting: &mut Meeting,
 ) -> Result<(), AllocError>
     requires sound { AreSound tables.now }
@@ -97,24 +108,68 @@ fn meet_row(
     requires met { IsMeeting (classed tables.now classes.now belows.now) row 0 meeting.old }
     ensures { OnOk result (IsMeeting (classed tables.now classes.now belows.now) (row + 1) 0 meeting.new) }
 {
+    match meeting.waiting.second(row, 0) {
+        None => {
+            meeting.waiting.pass(row);
+            Ok(())
+        }
+        Some(_) => {
+            put_node(tables, classes, row, &mut pair.first)?;
+            meet_all(
+                tables,
+                classes,
+                belows,
+                row,
+                &pair.first,
+                &mut pair.second,
+                meeting,
+            )
+        }
+    }
+}
+
+// The same, where the first state is at hand, and there is room for second ones.
+fn meet_all(
+    tables: &Tables,
+    classes: &[u32],
+    belows: &Belows,
+    row: u32,
+    first: &Node,
+    second: &mut Node,
+    meeting: &mut Meeting,
+) -> Result<(), AllocError>
+    requires sound { AreSound tables.now }
+    requires sorted { AreSorted tables.now }
+    requires later { IsLaid (graph_of tables.now) }
+    requires classes { (q p : ℕ) → EndsAt (graph_of tables.now) q p → p < length classes.now }
+    requires belows { AreBelow (graph_of tables.now) classes.now belows.now }
+    requires row { row < length tables.now.states }
+    requires first { IsNodeOf (graph_of tables.now) classes.now row first.now }
+    requires met { IsMeeting (classed tables.now classes.now belows.now) row 0 meeting.old }
+    ensures { OnOk result (IsMeeting (classed tables.now classes.now belows.now) (row + 1) 0 meeting.new) }
+{
     let mut at = 0;
     while let Some(column) = meeting.waiting.second(row, at) {
-        meet(alloc, tables, classes, belows, row, at, column, meeting)?;
+        meet(
+            tables, classes, belows, row, at, column, first, second, meeting,
+        )?;
         at += 1;
     }
     meeting.waiting.pass(row);
     Ok(())
 }
 
-// Looks at a pair, if it wasn't yet. Nothing follows from one behind whose states no pattern clashes with another.
+// Looks at a pair, if it wasn't yet: the first state is at hand, and there is room for the second. Nothing follows from one behind whose states no pattern
+// clashes with another.
 fn meet(
-    alloc: Global,
     tables: &Tables,
     classes: &[u32],
     belows: &Belows,
     row: u32,
     at: usize,
     column: u32,
+    first: &Node,
+    second: &mut Node,
     meeting: &mut Meeting,
 ) -> Result<(), AllocError>
     requires sound { AreSound tables.now }
@@ -124,6 +179,7 @@ fn meet(
     requires belows { AreBelow (graph_of tables.now) classes.now belows.now }
     requires row { row < length tables.now.states }
     requires column { slice_get (row_at meeting.old.waiting row) at ≡ Some column }
+    requires first { IsNodeOf (graph_of tables.now) classes.now row first.now }
     requires met { IsMeeting (classed tables.now classes.now belows.now) row at meeting.old }
     ensures { OnOk result (IsMeeting (classed tables.now classes.now belows.now) row (at + 1) meeting.new) }
 {
@@ -134,8 +190,7 @@ fn meet(
     if !belows.at(row).can_clash(belows.at(column)) {
         return Ok(());
     }
-    let first = node_at(alloc, tables, classes, row)?;
-    let second = node_at(alloc, tables, classes, column)?;
+    put_node(tables, classes, column, second)?;
     visit(
         &first.moves,
         &second.moves,

@@ -35,21 +35,32 @@ pub struct Moves {
     pub steps: Vec<Step>,
 }
 
-/// What leads away from a state.
-pub fn moves_at(alloc: Global, tables: &Tables, state: u32) -> Result<Moves, AllocError>
+impl Moves {
+    /// None. It takes no memory.
+    pub fn new(alloc: Global) -> Moves
+        ensures free { result.free.items ≡ [] }
+        ensures steps { result.steps.items ≡ [] }
+    {
+        Moves {
+            free: Vec::new(alloc),
+            steps: Vec::new(alloc),
+        }
+    }
+}
+
+/// Puts what leads away from a state in the place of what was there; `AllocError` where memory ran out.
+pub fn put_moves(tables: &Tables, state: u32, moves: &mut Moves) -> Result<(), AllocError>
     requires sound { AreSound tables.now }
     requires sorted { AreSorted tables.now }
     requires is_state { state < length tables.now.states }
-    ensures { IfOk result (AreMoves (graph_of tables.now) state) }
+    ensures { OnOk result (AreMoves (graph_of tables.now) state moves.new) }
 {
-    let mut moves = Moves {
-        free: Vec::new(alloc),
-        steps: Vec::new(alloc),
-    };
-    lead_on(tables, state, &mut moves)?;
-    lead_away(tables, state, &mut moves)?;
-    stay(tables, state, &mut moves)?;
-    Ok(moves)
+    moves.free.clear();
+    moves.steps.clear();
+    lead_on(tables, state, moves)?;
+    lead_away(tables, state, moves)?;
+    stay(tables, state, moves)?;
+    Ok(())
 }
 
 // Adds the way that leads on.

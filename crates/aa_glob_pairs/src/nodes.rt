@@ -1,12 +1,12 @@
 //! A state of a graph with what leads away from it and the patterns that end there, as lists.
 
-ghost use Rattle.std.specs.Prelude.{◌<◌, ℕ, length, IfOk};
+ghost use Rattle.std.specs.Prelude.{◌<◌, ℕ, length, OnOk};
 ghost use Rattle.aa_glob_nfa.specs.Graphs.{EndsAt};
 ghost use Rattle.aa_glob_nfa.specs.OfTables.{AreSorted, AreSound, graph_of};
 ghost use Rattle.aa_glob_pairs.specs.Graphs.{IsNodeOf};
 
-use crate::ends::{Ending, endings_at};
-use crate::moves::{Moves, moves_at};
+use crate::ends::{Ending, put_endings};
+use crate::moves::{Moves, put_moves};
 use aa_glob_nfa::Tables;
 use std::alloc::{AllocError, Global};
 
@@ -17,20 +17,29 @@ pub struct Node {
     pub ends: Vec<Ending>,
 }
 
-/// A state of a graph, with the classes of its patterns.
-pub fn node_at(
-    alloc: Global,
+impl Node {
+    /// Nothing. It takes no memory.
+    pub fn new(alloc: Global) -> Node {
+        Node {
+            moves: Moves::new(alloc),
+            ends: Vec::new(alloc),
+        }
+    }
+}
+
+/// Puts a state of a graph, with the classes of its patterns, in the place of what was there; `AllocError` where memory ran out.
+pub fn put_node(
     tables: &Tables,
     classes: &[u32],
     state: u32,
-) -> Result<Node, AllocError>
+    node: &mut Node,
+) -> Result<(), AllocError>
     requires sound { AreSound tables.now }
     requires sorted { AreSorted tables.now }
     requires classes { (q p : ℕ) → EndsAt (graph_of tables.now) q p → p < length classes.now }
     requires is_state { state < length tables.now.states }
-    ensures { IfOk result (IsNodeOf (graph_of tables.now) classes.now state) }
+    ensures { OnOk result (IsNodeOf (graph_of tables.now) classes.now state node.new) }
 {
-    let moves = moves_at(alloc, tables, state)?;
-    let ends = endings_at(alloc, tables, classes, state)?;
-    Ok(Node { moves, ends })
+    put_moves(tables, state, &mut node.moves)?;
+    put_endings(tables, classes, state, &mut node.ends)
 }

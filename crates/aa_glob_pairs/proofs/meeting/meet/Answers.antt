@@ -64,8 +64,8 @@ returns-then-not-can_clash c =
     meeting_visited g c.args.row c.args.at c.args.column old _ inside c.requires.column column c.requires.met (follows_none g c.args.row c.args.column old.waiting off) refl
     (clashes_none g c.requires.belows c.args.row c.args.column old.found inside column off)
 
-pub node_at-requires-2-clause-is_state : goal.node_at-requires-2-clause-is_state
-node_at-requires-2-clause-is_state c =
+pub put_node-requires-clause-is_state : goal.put_node-requires-clause-is_state
+put_node-requires-clause-is_state c =
     let t = c.args.tables.now in
     let g = classed t c.args.classes.now c.args.belows.now in
     let old = c.args.meeting.now in
@@ -82,11 +82,11 @@ returns c =
     let column = column_within g c.args.row c.args.at c.args.column old c.requires.later c.requires.column c.requires.met in
     let inside : c.args.row < length g.graph.entries = omega (arith, c.requires.row, size) in
     let may = ap₂ can_clash (sym c.at.ensures) (sym c.at-2.ensures) ∙ sym c.can_clash.ensures ∙ c.if-not-can_clash.false in
-    let n = c.in_ok-first.first in
-    let o = c.in_ok-second.second in
+    let n = c.args.first.now in
+    let o = c.put_node.new.node in
     meeting_visited g c.args.row c.args.at c.args.column old _ inside c.requires.column column c.requires.met
-    (follows_all g c.args.row c.args.column n.moves o.moves old.waiting c.visit.new.waiting c.in_ok-first.ensures.moves c.in_ok-second.ensures.moves may c.in_ok-visit.ensures) refl
-    (clashes_all g c.args.row c.args.column n.ends.items o.ends.items old.found c.lower_both.new.found c.in_ok-first.ensures.ends c.in_ok-second.ensures.ends
+    (follows_all g c.args.row c.args.column n.moves o.moves old.waiting c.visit.new.waiting c.requires.first.moves c.in_ok-put_node.ensures.moves may c.in_ok-visit.ensures) refl
+    (clashes_all g c.args.row c.args.column n.ends.items o.ends.items old.found c.lower_both.new.found c.requires.first.ends c.in_ok-put_node.ensures.ends
     (subst (λ (l : List Ending). Lowers old.found c.lower_both.new.found (λ k. Clash l o.ends.items k ⊎ Clash o.ends.items l k)) c.deref.ensures.value
     (subst (λ (l : List Ending). Lowers old.found c.lower_both.new.found (λ k. Clash c.deref.result.now l k ⊎ Clash l c.deref.result.now k)) c.deref-2.ensures.value
     c.lower_both.ensures)))

@@ -3,10 +3,10 @@ use Rattle.std.proofs.lemmas.List.{take_all}
 use Rattle.aa_glob_nfa.specs.declared.state.End.{End}
 use Rattle.aa_glob_pairs.proofs.EndLemmas.{end_among, told_all, told_more, told_none}
 use Rattle.aa_glob_pairs.specs.code.Gathered.{AreTold}
-use Rattle.aa_glob_pairs.proofs.ends.endings_at.Goals as goal
+use Rattle.aa_glob_pairs.proofs.ends.put_endings.Goals as goal
 
 pub loop-end-init : goal.loop-end-init
-loop-end-init c = told_none c.args.classes.now c.new-endings.result.items c.new-endings.ensures.items
+loop-end-init c = told_none c.args.classes.now c.clear.new.self.items c.clear.ensures.items
 
 pub bounds-classes-end : goal.bounds-classes-end
 bounds-classes-end c =
