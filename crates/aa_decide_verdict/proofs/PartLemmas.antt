@@ -1,12 +1,14 @@
 -- Parts of children, and what has no rules.
-use Rattle.std.proofs.Common.{◌≡◌, ℕ, zero, suc, ◌+◌, ◌<◌, ◌≤◌, Bor, List, [], ◌∷◌, ◌++◌, length, take, get_or, Option, None, Some, arith, ap, refl}
+use Rattle.std.proofs.Common.{◌≡◌, ℕ, zero, suc, ◌+◌, ◌<◌, ◌≤◌, Bor, List, [], ◌∷◌, ◌++◌, length, reverse, take, get_or, Option, None, Some, arith, ap, refl}
 use Rattle.std.specs.Prelude.{IfSome, MatchOption, slice_get}
 use Rattle.aa_glob_syntax.specs.Patterns.{AreMatching}
 use Rattle.aa_profile_data.specs.declared.profile.Child.{Child}
 use Rattle.aa_profile_data.specs.declared.profile.Rule.{Rule}
 use Rattle.aa_profile_data.specs.declared.profile.Rule.TheVariants.{Cap, File, Net, Other}
+use Rattle.aa_glob_automaton.specs.Visits.{IsReadOf}
 use Rattle.aa_glob_prefixes.specs.Beginnings.{HasStates}
-use Rattle.aa_decide_verdict.specs.Visits.{AreVisitsOf, child_attachments}
+use Rattle.aa_glob_run.specs.Visits.{AreEach, AreVisits}
+use Rattle.aa_decide_verdict.specs.Visits.{AreAllVisitsOf, AreVisitsOf, child_attachments}
 use Rattle.aa_profile_data.specs.FileRules.{file_patterns}
 use Rattle.aa_profile_data.specs.Matching.{AreMatchingRules}
 use Rattle.aa_decide_verdict.specs.Ready.{child_rules}
@@ -71,9 +73,26 @@ none-match path place = (λ there. let w = there.1 in absurd (omega arith), λ m
 pub none-attached : (path : List ℕ) → AreMatching [] path []
 none-attached path place = (λ there. let w = there.1 in absurd (omega arith), λ m. let (rule, at, passes) = m in absurd (cc))
 
--- no step is within any bound
-pub no-visits : (patterns : List (List ℕ)) (path : List ℕ) (steps : ℕ) → AreVisitsOf patterns path steps steps
-no-visits patterns path steps states has = (0, omega arith, omega arith, refl)
+-- where there is no pattern, nothing is read
+none-read : (past : List ℕ) → AreEach (IsReadOf [] past) []
+none-read past = record {
+  members = λ trail. (λ there. let w = there.1 in absurd (omega arith), λ read. let (text, among, part) = read.0 in let w = among.1 in absurd (omega arith));
+  apart = λ i j d before within. absurd (omega arith);
+}
+
+no-reads : (path : List ℕ) (places : ℕ) → AreVisits (IsReadOf []) path places 0
+no-reads path zero = refl
+no-reads path (suc place) = (0, no-reads path place, [], none-read (reverse (take place path)), refl)
+
+-- and so nothing is visited
+pub no-visits : (path : List ℕ) (steps : ℕ) → AreVisitsOf [] path steps steps
+no-visits path steps = record {
+  within = λ states has. (0, omega arith, omega arith, refl);
+  first = (0, omega arith, (0, refl, refl));
+}
+
+pub no-visits-all : (path : List ℕ) (steps : ℕ) → AreAllVisitsOf [] path steps steps
+no-visits-all path steps = (0, no-reads path (suc (length path)), refl)
 
 -- the patterns of rules and of others behind them
 pub file_patterns-append : (rules others : List Rule) → file_patterns (rules ++ others) ≡ file_patterns rules ++ file_patterns others

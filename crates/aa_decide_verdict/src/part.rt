@@ -1,13 +1,13 @@
 //! What is made ready of a profile, and of each of its children and hats.
 
-ghost use Rattle.std.specs.Prelude.{◌≡◌, ◌++◌, ◌∷◌, [], ℕ, List, IfOk};
+ghost use Rattle.std.specs.Prelude.{◌≡◌, ◌++◌, ◌∷◌, [], ℕ, List, IfOk, OnOk};
 ghost use Rattle.std.specs.List.Sorted.{IsStrictlyIncreasing};
 ghost use Rattle.aa_glob_automaton.specs.Automata.{IsAutomatonOf};
 ghost use Rattle.aa_glob_syntax.specs.Patterns.{AreMatching};
 ghost use Rattle.aa_glob_automaton.specs.Built.{IsBuilt};
 ghost use Rattle.aa_profile_data.specs.declared.profile.Rule.{Rule};
 ghost use Rattle.aa_glob_prefixes.specs.Beginnings.{HasStates};
-ghost use Rattle.aa_decide_verdict.specs.Visits.{AreVisitsOf};
+ghost use Rattle.aa_decide_verdict.specs.Visits.{AreAllVisitsOf, AreVisitsOf};
 ghost use Rattle.aa_profile_data.specs.Matching.{AreMatchingRules};
 ghost use Rattle.aa_decide_verdict.specs.code.Parts.{ArePartsOf, IsPartOf};
 ghost use Rattle.aa_profile_data.specs.FileRules.{places_from, file_patterns};
@@ -146,6 +146,7 @@ impl Part {
         ensures found { IfOk result (λ places. (rules : List Rule) (attachments : List (List ℕ)) → IsPartOf self.now rules attachments → AreMatchingRules rules path.now places.items) }
         ensures rise { IfOk result (λ places. (rules : List Rule) (attachments : List (List ℕ)) → IsPartOf self.now rules attachments → IsStrictlyIncreasing places.items) }
         ensures steps { (rules : List Rule) (attachments : List (List ℕ)) → IsPartOf self.now rules attachments → AreVisitsOf (file_patterns rules) path.now steps.old steps.new }
+        ensures all { (rules : List Rule) (attachments : List (List ℕ)) → IsPartOf self.now rules attachments → OnOk result (AreAllVisitsOf (file_patterns rules) path.now steps.old steps.new) }
     {
         which_rules_match();
         let found = self.files.matching(alloc, path, steps)?;
@@ -166,6 +167,7 @@ impl Part {
         ensures found { IfOk result (λ places. (rules : List Rule) (attachments : List (List ℕ)) → IsPartOf self.now rules attachments → AreMatching attachments path.now places.items) }
         ensures rise { IfOk result (λ places. IsStrictlyIncreasing places.items) }
         ensures steps { (rules : List Rule) (attachments : List (List ℕ)) → IsPartOf self.now rules attachments → AreVisitsOf attachments path.now steps.old steps.new }
+        ensures all { (rules : List Rule) (attachments : List (List ℕ)) → IsPartOf self.now rules attachments → OnOk result (AreAllVisitsOf attachments path.now steps.old steps.new) }
     {
         self.attachments.matching(alloc, path, steps)
     }

@@ -1,11 +1,11 @@
 //! Profiles that requests are decided by.
 
-ghost use Rattle.std.specs.Prelude.{◌≡◌, true, IfOk, MatchOption, OnErr};
+ghost use Rattle.std.specs.Prelude.{◌≡◌, true, IfOk, OnOk, MatchOption, OnErr};
 ghost use Rattle.std.specs.List.{All};
 ghost use Rattle.std.specs.List.Sorted.{IsStrictlyIncreasing};
 ghost use Rattle.aa_glob_syntax.specs.Patterns.{AreMatching};
 ghost use Rattle.aa_glob_prefixes.specs.Beginnings.{HasStates};
-ghost use Rattle.aa_decide_verdict.specs.Visits.{AreFewStates, AreStepsOf, AreVisitsOf, attachments_at};
+ghost use Rattle.aa_decide_verdict.specs.Visits.{AreAllStepsOf, AreAllVisitsOf, AreFewStates, AreStepsOf, AreVisitsOf, attachments_at};
 ghost use Rattle.aa_profile_data.specs.ConflictLaws.{HasReadPattern};
 ghost use Rattle.aa_profile_data.specs.Conflicts.{agree, profile_agrees};
 ghost use Rattle.aa_profile_data.specs.FileRules.{file_patterns};
@@ -180,6 +180,7 @@ impl Ready {
         ensures found { IfOk result (λ places. AreMatchingRules (rules_at self.now child) path.now places.items) }
         ensures rise { IfOk result (λ places. IsStrictlyIncreasing places.items) }
         ensures steps { AreVisitsOf (file_patterns (rules_at self.now child)) path.now steps.old steps.new }
+        ensures all { OnOk result (AreAllVisitsOf (file_patterns (rules_at self.now child)) path.now steps.old steps.new) }
     {
         match self.part_at(child) {
             None => Ok(Vec::new(alloc)),
@@ -202,6 +203,7 @@ impl Ready {
         ensures found { IfOk result (λ places. AreMatching (attachments_at self.now child) path.now places.items) }
         ensures rise { IfOk result (λ places. IsStrictlyIncreasing places.items) }
         ensures steps { AreVisitsOf (attachments_at self.now child) path.now steps.old steps.new }
+        ensures all { OnOk result (AreAllVisitsOf (attachments_at self.now child) path.now steps.old steps.new) }
     {
         match self.part_at(child) {
             None => Ok(Vec::new(alloc)),
@@ -226,6 +228,7 @@ impl Ready {
     ) -> Result<Verdict, AllocError>
         ensures verdict { IfOk result (λ verdict. verdict ≡ decided self.now child mode (request_of request.entry.now)) }
         ensures steps { AreStepsOf (rules_at self.now child) (request_of request.entry.now) steps.old steps.new }
+        ensures all { OnOk result (AreAllStepsOf (rules_at self.now child) (request_of request.entry.now) steps.old steps.new) }
         ensures memory { OnErr result (is_for_file (request_of request.entry.now) ≡ true) }
     {
         which_rules_match();

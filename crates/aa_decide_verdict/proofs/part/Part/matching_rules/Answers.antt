@@ -5,7 +5,8 @@ use Rattle.aa_profile_data.specs.Picked.{picked}
 use Rattle.aa_decide_verdict.proofs.part.Part.matching_rules.Goals as goal
 
 pub returns-in_err-found-clause-steps : goal.returns-in_err-found-clause-steps
-returns-in_err-found-clause-steps c rules attachments is states has = c.matching.ensures.steps (file_patterns rules) states is.files has
+returns-in_err-found-clause-steps c rules attachments is =
+    record { within = λ states. c.matching.ensures.steps (file_patterns rules) states is.files; first = c.matching.ensures.first (file_patterns rules) is.files }
 
 pub returns-clause-found : goal.returns-clause-found
 returns-clause-found c =
@@ -28,4 +29,5 @@ returns-clause-rise c =
     c.picked.ensures
 
 pub returns-clause-steps : goal.returns-clause-steps
-returns-clause-steps c rules attachments is states has = c.matching.ensures.steps (file_patterns rules) states is.files has
+returns-clause-steps c rules attachments is =
+    record { within = λ states. c.matching.ensures.steps (file_patterns rules) states is.files; first = c.matching.ensures.first (file_patterns rules) is.files }
