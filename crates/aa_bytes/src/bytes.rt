@@ -46,7 +46,9 @@ pub fn behind(size: usize, text: &[u8]) -> &[u8]
 pub fn length_while<F: Fn(u8) -> bool>(text: &[u8], passes: F) -> usize
     requires { F.IsAlwaysCallable passes }
     // For each test in definitions that the call answers, it is the length of the front that passes.
-    ensures value { (test : ℕ → Bool) → ((b : ℕ) (r : Bool) → b < 256 → F.post passes b r → r ≡ test b) → result ≡ prefix_len test text.now }
+    ensures value { (test : ℕ → Bool)
+        → ((b : ℕ) (r : Bool) → b < 256 → F.post passes b r → r ≡ test b)
+        → result ≡ prefix_len test text.now }
     ensures within { result ≤ length text.now }
 {
     for (at, byte) in text.iter().enumerate() {

@@ -97,7 +97,8 @@ fn first_undefined_name(
     assignments: &[Assignment<'_>],
     patterns: &[Spliced<'_>],
 ) -> Option<Place>
-    ensures { result ≡ option_map place_of (first_undefined variables.now (naming (map seen_assignment assignments.now) (seen_tokens patterns.now))) }
+    ensures { result
+        ≡ option_map place_of (first_undefined variables.now (naming (map seen_assignment assignments.now) (seen_tokens patterns.now))) }
 {
     match first_undefined_value(variables, assignments) {
         Some(place) => Some(place),

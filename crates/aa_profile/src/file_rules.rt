@@ -86,7 +86,8 @@ pub fn push_file_rules(
     patterns: Vec<Pattern>,
     rules: &mut Vec<Rule>,
 ) -> Result<(), AllocError>
-    ensures { OnOk result (rules.new.items ≡ rules.old.items ++ map (file_rule qualifiers access (option_map seen_spliced target.entry)) patterns.items) }
+    ensures { OnOk result (rules.new.items
+        ≡ rules.old.items ++ map (file_rule qualifiers access (option_map seen_spliced target.entry)) patterns.items) }
 {
     let text = text_of_target(alloc, target)?;
     for pattern in patterns {

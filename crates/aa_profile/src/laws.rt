@@ -38,8 +38,8 @@ pub fn which_rules_agree()
         → IfOk (file_profiles files name) (λ profiles. list_all profile_agrees profiles ≡ true) }
 {}
 
-/// Where all patterns of a file's profiles can be made and read, it is refused for a conflict exactly where two rules of one of its profiles, children
-/// or hats conflict: they lead to different places, both by exact patterns or both by others, and some path matches both.
+/// Where all patterns of a file's profiles can be made and read, it is refused for a conflict exactly where two rules of one of its profiles,
+/// children or hats conflict: they lead to different places, both by exact patterns or both by others, and some path matches both.
 pub fn when_conflicts_are_refused()
     ensures { ConflictsAreRefused }
 {

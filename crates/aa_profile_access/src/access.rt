@@ -29,7 +29,8 @@ impl Flags for Perms {
 
     ghost exact = { ⊤ };
 
-    ghost table = { (codes "READ", 1) ∷ (codes "WRITE", 2) ∷ (codes "APPEND", 4) ∷ (codes "LINK", 8) ∷ (codes "LOCK", 16) ∷ (codes "MAP", 32) ∷ (codes "EXEC", 64) ∷ [] };
+    ghost table = { (codes "READ", 1) ∷ (codes "WRITE", 2) ∷ (codes "APPEND", 4) ∷ (codes "LINK", 8)
+        ∷ (codes "LOCK", 16) ∷ (codes "MAP", 32) ∷ (codes "EXEC", 64) ∷ [] };
 
     ghost set_of = { λ p. p.0 };
 

@@ -1,8 +1,10 @@
 -- Classes of leads: which of them have the same transition.
-use Rattle.std.specs.Prelude.{◌≡◌, ℕ, Bool, true, false, List, [], ◌∷◌, None, Some, map, slice_get}
+use Rattle.std.specs.Prelude.{◌≡◌, ℕ, Bool, true, false, List, [], ◌∷◌, ◌++◌, Option, None, Some, MatchOption, map, slice_get}
 use Rattle.std.specs.Borrow.{Bor}
 use Rattle.aa_profile_conflicts.specs.declared.classes.Classes.{Classes}
+use Rattle.aa_profile_conflicts.specs.Leads.{leads}
 use Rattle.aa_profile_data.specs.Conflicts.{Lead, same_transition}
+use Rattle.aa_profile_data.specs.declared.profile.Rule.{Rule}
 use Rattle.aa_profile_data.specs.declared.profile.Transition.{Transition}
 
 -- transitions of the code
@@ -16,6 +18,11 @@ is_class_of transitions class transition = elim (slice_get transitions class) [ 
 -- none of some transitions is the same as this one
 abbrev pub IsNew : List Transition → Transition → Type 0
 IsNew transitions transition = (class : ℕ) → is_class_of transitions class transition ≡ false
+
+-- The class of a transition among some, or none where it is none of them.
+abbrev pub IsClassIn : List Transition → Transition → Option ℕ → Type 0
+IsClassIn transitions transition class =
+    MatchOption class (IsNew transitions transition) (λ class. is_class_of transitions class transition ≡ true)
 
 -- no two of some transitions are the same
 abbrev pub AreDifferent : List Transition → Type 0
@@ -38,3 +45,8 @@ pub record AreClassesBy (leads : List Lead) (transitions : List Transition) (cla
 -- these are the classes of some leads
 abbrev pub AreClassesOfLeads : Classes → List Lead → Type 0
 AreClassesOfLeads classes leads = AreClassesBy leads (seen_transitions classes.transitions.items) classes.classes.items
+
+-- Classes of where any rules lead so have become those of where these lead and one rule more.
+abbrev pub AddsRule : Bool → Rule → Classes → Classes → Type 0
+AddsRule exact rule before after =
+    (rules : List Rule) → AreClassesOfLeads before (leads exact rules) → AreClassesOfLeads after (leads exact (rules ++ rule ∷ []))

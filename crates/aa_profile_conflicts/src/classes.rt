@@ -1,10 +1,9 @@
 //! Classes of leads: those have one class whose transitions are the same.
 
-ghost use Rattle.std.specs.Prelude.{◌≡◌, ◌++◌, ◌∷◌, [], List, MatchOption, IfOk, OnOk, true};
-ghost use Rattle.aa_profile_conflicts.specs.Classes.{AreClassesOfLeads, IsNew, is_class_of, seen_transitions};
+ghost use Rattle.std.specs.Prelude.{◌≡◌, ◌++◌, ◌∷◌, [], List, IfOk, OnOk};
+ghost use Rattle.aa_profile_conflicts.specs.Classes.{AddsRule, AreClassesOfLeads, IsClassIn, is_class_of, seen_transitions};
 ghost use Rattle.aa_profile_conflicts.specs.Leads.{leads};
 ghost use Rattle.aa_profile_data.specs.Conflicts.{Lead};
-ghost use Rattle.aa_profile_data.specs.declared.profile.Rule.{Rule};
 
 use crate::lead::lead_by;
 use aa_profile_data::{Rule, Transition};
@@ -31,7 +30,7 @@ fn is_class_of(transitions: &[&Transition], class: usize, transition: &Transitio
 
 // The class of a transition, or none where it is none of those so far.
 fn class_among(transitions: &[&Transition], transition: &Transition) -> Option<usize>
-    ensures { MatchOption result (IsNew (seen_transitions transitions.now) transition.now) (λ class. is_class_of (seen_transitions transitions.now) class transition.now ≡ true) }
+    ensures { IsClassIn (seen_transitions transitions.now) transition.now result }
 {
     for class in 0..transitions.len() {
         if is_class_of(transitions, class, transition) {
@@ -43,7 +42,7 @@ fn class_among(transitions: &[&Transition], transition: &Transition) -> Option<u
 
 // The same. The class of the lead before is asked first, since the rules that one written rule makes share their transition.
 fn class_of(transitions: &[&Transition], classes: &[u32], transition: &Transition) -> Option<usize>
-    ensures { MatchOption result (IsNew (seen_transitions transitions.now) transition.now) (λ class. is_class_of (seen_transitions transitions.now) class transition.now ≡ true) }
+    ensures { IsClassIn (seen_transitions transitions.now) transition.now result }
 {
     let Some(last) = classes.last() else {
         return class_among(transitions, transition);
@@ -87,7 +86,7 @@ impl<'a> Classes<'a> {
 
     // Where a rule leads more, if it leads somewhere by a pattern that is exact, or by one that isn't.
     fn add_rule(&mut self, exact: bool, rule: &'a Rule) -> Result<(), AllocError>
-        ensures { OnOk result ((rules : List Rule) → AreClassesOfLeads self.old (leads exact rules) → AreClassesOfLeads self.new (leads exact (rules ++ rule.now ∷ []))) }
+        ensures { OnOk result (AddsRule exact rule.now self.old self.new) }
     {
         match lead_by(exact, rule) {
             None => Ok(()),

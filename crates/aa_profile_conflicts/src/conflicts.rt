@@ -24,7 +24,9 @@ fn with_lead(
     exact: bool,
     rule: &Rule,
 ) -> Result<AutomatonBuilder, AllocError>
-    ensures { IfOk result (λ added. (patterns : List (List ℕ)) → IsBuilt builder patterns → IsBuilt added (patterns ++ patterns_by exact (rule.now ∷ []))) }
+    ensures { IfOk result (λ added. (patterns : List (List ℕ))
+        → IsBuilt builder patterns
+        → IsBuilt added (patterns ++ patterns_by exact (rule.now ∷ []))) }
 {
     match lead_by(exact, rule) {
         None => Ok(builder),

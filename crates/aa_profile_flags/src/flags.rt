@@ -7,7 +7,8 @@ ghost use Rattle.aa_text_splicing.specs.SeenTokens.{seen_spliced};
 ghost use Rattle.aa_profile_parsing.specs.Readings.{IsFault};
 ghost use Rattle.aa_profile_parsing.specs.SeenTokens.{seen_tokens};
 ghost use Rattle.aa_profile_flags.specs.code.FlagWords.{words_of_rest};
-ghost use Rattle.aa_profile_flags.specs.Flags.{behind_keyword, behind_sign, finished, flags, is_idle, listed, opened, separates, unflagged, with_flag, with_flags, with_item, with_token, with_word};
+ghost use Rattle.aa_profile_flags.specs.Flags.{behind_keyword, behind_sign, finished, flags, is_idle, listed, opened, separates};
+ghost use Rattle.aa_profile_flags.specs.Flags.{unflagged, with_flag, with_flags, with_item, with_token, with_word};
 
 use aa_bytes::{begins_with, behind, length_while};
 use aa_profile_parsing::{Fault, GrammarRefusal, refusal_at};

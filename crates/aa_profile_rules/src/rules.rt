@@ -4,7 +4,8 @@ ghost use Rattle.std.specs.Prelude.{◌≡◌, ◌<◌, IfOk, IfErr, length};
 ghost use Rattle.aa_text_splicing.specs.SeenTokens.{seen_spliced};
 ghost use Rattle.aa_profile_parsing.specs.Readings.{IsFault, IsRead};
 ghost use Rattle.aa_profile_rules.specs.Rules.{access_first, all_files, file_rule, pattern_first, rule_behind_file, targeted_rule, whole_rule};
-ghost use Rattle.aa_profile_rules.specs.Rules.{begins_unowned, capability_rule, ended, kept_rule, network_rule, plain_rule, rule, rule_behind, unowned_rule};
+ghost use Rattle.aa_profile_rules.specs.Rules.{begins_unowned, capability_rule, ended, kept_rule, network_rule, plain_rule};
+ghost use Rattle.aa_profile_rules.specs.Rules.{rule, rule_behind, unowned_rule};
 ghost use Rattle.aa_profile_rules.specs.SeenRules.{seen_rule};
 
 use crate::access::{Access, read_access, whole_access};

@@ -1,0 +1,26 @@
+//! What a profile answers a request.
+
+use aa_decide::{Answer, Entry, Request, Steps, find_named};
+use aa_profile::{Mode, Perms};
+use std::alloc::{AllocError, Global};
+
+/// Whether the profile `web` lets a file of another owner be written, in enforce mode, if it is loaded.
+pub fn lets_write(
+    alloc: Global,
+    slots: &[Option<Entry>],
+    path: &[u8],
+) -> Result<Option<bool>, AllocError> {
+    let Some((_, web)) = find_named(slots, b"web") else {
+        return Ok(None);
+    };
+    let request = Request::File {
+        needs: Perms::WRITE,
+        owned: false,
+        path,
+    };
+    let mut steps = Steps::new();
+    let verdict = web
+        .ready()
+        .decide(alloc, None, Mode::Enforce, &request, &mut steps)?;
+    Ok(Some(verdict.answer == Answer::Allow))
+}
