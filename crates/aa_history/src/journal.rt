@@ -9,16 +9,19 @@ use crate::change::Change;
 use crate::marks::Marks;
 use std::alloc::{AllocError, Global};
 use std::marker::Model;
+use thiserror::Error;
 
 /// So many changes can't be undone or redone, but `have` can.
-#[derive(Clone, Copy, Debug, PartialEq, Eq)]
+#[derive(Clone, Copy, Debug, PartialEq, Eq, Error)]
+#[error("no more than {have} changes can be undone or redone")]
 pub struct Short {
     /// How many changes can be undone, or redone.
     pub have: usize,
 }
 
 /// Nothing is marked by the name.
-#[derive(Clone, Copy, Debug, PartialEq, Eq)]
+#[derive(Clone, Copy, Debug, PartialEq, Eq, Error)]
+#[error("nothing is marked by the name")]
 pub struct NoMark;
 
 /// A state, with the changes that lead back to the earlier states and on to the later ones, and with names for some of these states.

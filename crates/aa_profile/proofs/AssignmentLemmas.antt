@@ -15,12 +15,13 @@ use Rattle.aa_text_splicing.specs.Splicing.{Placed}
 use Rattle.aa_text_variables.specs.Variables.{Variable, after_append, after_define, is_defined, named, names_undefined, same_texts, with_added}
 use Rattle.aa_text_files.specs.declared.text_error.Place.{Place}
 use Rattle.aa_text_files.specs.declared.text_error.TextRefusal.{TextRefusal}
+use Rattle.aa_text_files.specs.declared.text_error.TextRefusal.TheVariants.{Cycle, Undefined}
 use Rattle.aa_profile.specs.Assignments.{all_assigned, assigned, cycle, first_of, first_undefined, naming, undefined_name}
 use Rattle.aa_profile.specs.code.FileReadingProgress.{first_undefined_value, have_expansions}
 use Rattle.aa_profile_grammar.specs.Preamble.{Assignment}
 use Rattle.aa_profile_parsing.specs.Tokens.{place_of, text_of}
 use Rattle.aa_profile_errors.specs.ProfileError.{placed}
-use Rattle.aa_profile_errors.specs.declared.profile_error.ProfileRefusal.TheVariants.{Cycle, Undefined}
+use Rattle.aa_profile_errors.specs.declared.profile_error.ProfileRefusal.TheVariants.{Text}
 
 -- what is found in some tokens is found in them and others
 pub find-front : {X : Type 0} (p : X → Bool) (xs ys : List X) (x : X) → find p xs ≡ Some x → find p (xs ++ ys) ≡ Some x
@@ -211,10 +212,10 @@ pub file-expands : (variables : List Variable) (assignments : List Assignment) (
     → have_expansions variables patterns ≡ true
 file-expands variables assignments patterns defined acyclic assigned named ends =
     let values : List Placed = flat_map (λ assignment. assignment.values) assignments in
-    let none = found-none variables (naming assignments patterns) (none-of (λ token. placed Undefined (place_of token)) (first_undefined variables (naming assignments patterns)) named) in
+    let none = found-none variables (naming assignments patterns) (none-of (λ token. placed (Text Undefined) (place_of token)) (first_undefined variables (naming assignments patterns)) named) in
     let split : list_any (names_undefined variables) (map text_of values ++ map text_of patterns) ≡ false = rw map-append at none in
     let words = all_assigned-none (names_undefined variables) [] variables assignments refl (none-front (names_undefined variables) (map text_of values) (map text_of patterns) split) assigned in
-    let no_cycle : find (is_cyclic variables) variables ≡ None = none-of (λ variable. record { refusal = Cycle; place = option_map (λ assignment. place_of assignment.sign) (first_of variable.name assignments) }) (find (is_cyclic variables) variables) ends in
+    let no_cycle : find (is_cyclic variables) variables ≡ None = none-of (λ variable. record { refusal = Text Cycle; place = option_map (λ assignment. place_of assignment.sign) (first_of variable.name assignments) }) (find (is_cyclic variables) variables) ends in
     patterns-expand variables patterns (λ text. defined variables text words) (λ text. acyclic variables text no_cycle)
     (none-behind (names_undefined variables) (map text_of values) (map text_of patterns) split)
 
@@ -241,11 +242,11 @@ cycle-none variables assignments h = rw (position-none (is_cyclic variables) var
 
 pub cycle-named : (variables : List Variable) (assignments : List Assignment) (at : ℕ) (name : List ℕ) → position (is_cyclic variables) variables ≡ Some at
     → Some name ≡ option_map (λ variable. variable.name) (slice_get variables at)
-    → cycle variables assignments ≡ Some (record { refusal = Cycle; place = option_map (λ assignment. place_of assignment.sign) (first_of name assignments) })
+    → cycle variables assignments ≡ Some (record { refusal = Text Cycle; place = option_map (λ assignment. place_of assignment.sign) (first_of name assignments) })
 cycle-named variables assignments at name h named = by (slice_get variables at) refl
   where
     by : (found : Option Variable) → slice_get variables at ≡ found
-        → cycle variables assignments ≡ Some (record { refusal = Cycle; place = option_map (λ assignment. place_of assignment.sign) (first_of name assignments) })
+        → cycle variables assignments ≡ Some (record { refusal = Text Cycle; place = option_map (λ assignment. place_of assignment.sign) (first_of name assignments) })
     by None e = let there : Some name ≡ None = rw e at named in absurd (cc)
     by (Some variable) e =
         let there : Some name ≡ Some variable.name = rw e at named in

@@ -8,10 +8,11 @@ use Rattle.aa_glob_syntax.specs.Reading.{longest}
 use Rattle.aa_text_expansion.specs.Joining.{most_kept}
 use Rattle.aa_profile.specs.Patterns.{collapsed, refusal_of_expansion, refusal_of_expansions}
 use Rattle.aa_profile_errors.specs.declared.profile_error.ProfileRefusal.{ProfileRefusal}
-use Rattle.aa_profile_errors.specs.declared.profile_error.ProfileRefusal.TheVariants.{TooLong}
+use Rattle.aa_glob_syntax.specs.declared.pattern_error.PatternError.TheVariants.{TooLong}
+use Rattle.aa_profile_errors.specs.declared.profile_error.ProfileRefusal.TheVariants.{Pattern}
 
 -- a text that is too long makes no pattern
-refusal-long : (text : List ℕ) → longest < length text → refusal_of_expansion text ≡ Some TooLong
+refusal-long : (text : List ℕ) → longest < length text → refusal_of_expansion text ≡ Some (Pattern TooLong)
 refusal-long text h = let over : nat_le (length text) longest ≡ false = grind (arith, nat_tests) in rw over refl
 
 -- the front of an expansion that is told decides its refusal
@@ -25,7 +26,7 @@ refusal-told text = elim (cases_lt (length text) most_kept) [
 whole : (text : List ℕ) → refusal_of_expansion text ≡ None → take most_kept text ≡ text
 whole text fine = elim (cases_lt (length text) most_kept) [
   | inl short ↦ take_all most_kept text (omega arith)
-  | inr long ↦ let wrong : Some TooLong ≡ None = sym (refusal-long text (omega arith)) ∙ fine in absurd (cc)
+  | inr long ↦ let wrong : Some (Pattern TooLong) ≡ None = sym (refusal-long text (omega arith)) ∙ fine in absurd (cc)
 ]
 
 -- a first refusal, before that of others

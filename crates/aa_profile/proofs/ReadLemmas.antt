@@ -21,7 +21,8 @@ use Rattle.aa_profile.specs.Profiles.{children_of, file_rule, rules_of, rules_of
 use Rattle.aa_profile_errors.specs.ProfileError.{placed, refusal_of_pattern}
 use Rattle.aa_profile_errors.specs.declared.profile_error.ProfileError.{ProfileError}
 use Rattle.aa_profile_errors.specs.declared.profile_error.ProfileRefusal.{ProfileRefusal}
-use Rattle.aa_profile_errors.specs.declared.profile_error.ProfileRefusal.TheVariants.{TooLong}
+use Rattle.aa_glob_syntax.specs.declared.pattern_error.PatternError.TheVariants.{TooLong}
+use Rattle.aa_profile_errors.specs.declared.profile_error.ProfileRefusal.TheVariants.{Pattern as OfPattern}
 use Rattle.aa_profile.proofs.ProfileLemmas.{first_bad_behind, first_bad_front}
 
 -- an expansion that isn't refused reads as a pattern
@@ -34,7 +35,7 @@ expansion-read text fine = by (nat_le (length text) longest) refl
 
     by : (b : Bool) → nat_le (length text) longest ≡ b → reading (collapsed text) ≡ Ok (items_of (collapsed text))
     by true e = within (reading (collapsed text)) refl e
-    by false e = let wrong : Some TooLong ≡ None = rw (refusal_of_expansion, e) at fine in absurd (cc)
+    by false e = let wrong : Some (OfPattern TooLong) ≡ None = rw (refusal_of_expansion, e) at fine in absurd (cc)
 
 -- so do those of a token, and the rules that they make have patterns that read
 expansions-read : (make : List ℕ → Rule) → ((pattern : List ℕ) → reading pattern ≡ Ok (items_of pattern) → HasReadPattern (make pattern))

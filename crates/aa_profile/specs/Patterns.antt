@@ -4,6 +4,7 @@ use Rattle.std.specs.Prelude.{ℕ, ◌+◌, ◌&&◌, ◌==◌, nat_le, if◌the
 use Rattle.aa_bytes.specs.Bytes.{slash}
 use Rattle.aa_bytes.specs.Texts.{begins_with_byte}
 use Rattle.aa_glob_syntax.specs.Reading.{longest, reading}
+use Rattle.aa_glob_syntax.specs.declared.pattern_error.PatternError.TheVariants.{TooLong}
 use Rattle.aa_profile_parsing.specs.Tokens.{place_of, text_of}
 use Rattle.aa_text_splicing.specs.Splicing.{Placed}
 use Rattle.aa_text_variables.specs.Expansions.{expansions}
@@ -12,7 +13,7 @@ use Rattle.aa_profile.specs.Limits.{most_rules}
 use Rattle.aa_profile_errors.specs.ProfileError.{placed, refusal_of_pattern}
 use Rattle.aa_profile_errors.specs.declared.profile_error.ProfileError.{ProfileError}
 use Rattle.aa_profile_errors.specs.declared.profile_error.ProfileRefusal.{ProfileRefusal}
-use Rattle.aa_profile_errors.specs.declared.profile_error.ProfileRefusal.TheVariants.{TooLong, TooManyRules}
+use Rattle.aa_profile_errors.specs.declared.profile_error.ProfileRefusal.TheVariants.{Pattern, TooManyRules}
 
 -- The first pattern with which a file has too many, where so many come of the tokens before: a token makes one pattern for each of its
 -- expansions.
@@ -37,7 +38,7 @@ abbrev pub refusal_of_expansion : List ℕ → Option ProfileRefusal
 refusal_of_expansion text =
     if nat_le (length text) longest
     then elim (reading (collapsed text)) [ Ok items ↦ None | Err error ↦ Some (refusal_of_pattern error) ]
-    else Some TooLong
+    else Some (Pattern TooLong)
 
 -- the refusal of the first of some expansions that makes none
 abbrev pub refusal_of_expansions : List (List ℕ) → Option ProfileRefusal

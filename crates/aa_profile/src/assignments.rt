@@ -16,7 +16,7 @@ ghost use Rattle.aa_profile_errors.specs.declared.profile_error.ProfileRefusal.T
 use aa_profile_errors::{ProfileError, ProfileRefusal, placed};
 use aa_profile_grammar::Assignment;
 use aa_profile_parsing::place_of;
-use aa_text_files::{Place, TextError};
+use aa_text_files::{Place, TextError, TextRefusal};
 use aa_text_splicing::Spliced;
 use aa_text_variables::{Variables, what_a_text_leads_to};
 use std::alloc::{AllocError, Global};
@@ -116,7 +116,7 @@ fn check_names(
     ensures refused { IfErr result (λ e. undefined_name variables.now (map seen_assignment assignments.now) (seen_tokens patterns.now) ≡ Some e) }
 {
     match first_undefined_name(variables, assignments, patterns) {
-        Some(place) => Err(placed(ProfileRefusal::Undefined, place)),
+        Some(place) => Err(placed(ProfileRefusal::Text(TextRefusal::Undefined), place)),
         None => Ok(()),
     }
 }
@@ -146,7 +146,7 @@ fn check_cycles(variables: &Variables, assignments: &[Assignment<'_>]) -> Result
         None => None,
     };
     Err(ProfileError {
-        refusal: ProfileRefusal::Cycle,
+        refusal: ProfileRefusal::Text(TextRefusal::Cycle),
         place,
     })
 }

@@ -16,6 +16,7 @@ pub use aa_profile_data::{
     CapRule, Child, FileRule, Mode, NetRule, OtherRule, Profile, Rule, Transition,
 };
 pub use aa_profile_errors::{ProfileError, ProfileRefusal};
+pub use aa_profile_parsing::GrammarRefusal;
 pub use laws::{
     how_profiles_are_named, when_conflicts_are_refused, which_numbers_rules_have, which_rules_agree,
 };

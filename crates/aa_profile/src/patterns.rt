@@ -11,6 +11,7 @@ ghost use Rattle.aa_profile_errors.specs.declared.profile_error.ProfileRefusal.T
 
 use aa_bytes::begins_with_byte;
 use aa_glob_pattern::{LONGEST_PATTERN, Pattern};
+use aa_glob_syntax::PatternError;
 use aa_profile_errors::{ProfileError, ProfileRefusal, placed};
 use aa_profile_parsing::place_of;
 use aa_text_files::Place;
@@ -67,7 +68,7 @@ fn read_expansion(alloc: Global, text: &[u8]) -> Result<Pattern, ProfileRefusal>
     ensures refused { IfErr result (λ refusal. refusal ≢ Memory → refusal_of_expansion text.now ≡ Some refusal) }
 {
     if text.len() > LONGEST_PATTERN {
-        return Err(ProfileRefusal::TooLong);
+        return Err(ProfileRefusal::Pattern(PatternError::TooLong));
     }
     let text = match collapsed(alloc, text) {
         Ok(text) => text,

@@ -1,4 +1,5 @@
 pub mod GrammarError
+pub mod GrammarRefusal
 pub mod Parts
 pub mod Readings
 pub mod SeenTokens

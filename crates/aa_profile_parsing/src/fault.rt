@@ -2,6 +2,7 @@
 
 ghost use Rattle.std.specs.Prelude.{◌≡◌};
 ghost use Rattle.aa_text_splicing.specs.SeenTokens.{seen_spliced};
+ghost use Rattle.aa_profile_parsing.specs.GrammarRefusal.{name_of, number_of};
 ghost use Rattle.aa_profile_parsing.specs.Tokens.{place_of};
 ghost use Rattle.aa_profile_parsing.specs.declared.fault.Fault.TheVariants.{At, Memory};
 
@@ -45,6 +46,56 @@ pub enum GrammarRefusal {
     BadName,
     /// Memory ran out.
     Memory,
+}
+
+impl GrammarRefusal {
+    /// The number of the refusal: 40 to 54, or 99.
+    pub fn number(self) -> u8
+        ensures { result ≡ number_of self }
+    {
+        match self {
+            GrammarRefusal::BadToken => 40,
+            GrammarRefusal::OpenBlock => 41,
+            GrammarRefusal::BadFlag => 42,
+            GrammarRefusal::BadAccess => 43,
+            GrammarRefusal::WriteAppend => 44,
+            GrammarRefusal::TwoExec => 45,
+            GrammarRefusal::ExecQualifier => 46,
+            GrammarRefusal::TargetWithoutExec => 47,
+            GrammarRefusal::BadCapability => 48,
+            GrammarRefusal::BadNetwork => 49,
+            GrammarRefusal::TwiceNamed => 50,
+            GrammarRefusal::NestedChild => 51,
+            GrammarRefusal::LateAssignment => 52,
+            GrammarRefusal::NoProfile => 53,
+            GrammarRefusal::BadName => 54,
+            GrammarRefusal::Memory => 99,
+        }
+    }
+
+    /// The name of the refusal, as the variant is written.
+    pub fn name(self) -> &'static str
+        ensures { result.now ≡ name_of self }
+    {
+        match self {
+            GrammarRefusal::BadToken => "BadToken",
+            GrammarRefusal::OpenBlock => "OpenBlock",
+            GrammarRefusal::BadFlag => "BadFlag",
+            GrammarRefusal::BadAccess => "BadAccess",
+            GrammarRefusal::WriteAppend => "WriteAppend",
+            GrammarRefusal::TwoExec => "TwoExec",
+            GrammarRefusal::ExecQualifier => "ExecQualifier",
+            GrammarRefusal::TargetWithoutExec => "TargetWithoutExec",
+            GrammarRefusal::BadCapability => "BadCapability",
+            GrammarRefusal::BadNetwork => "BadNetwork",
+            GrammarRefusal::TwiceNamed => "TwiceNamed",
+            GrammarRefusal::NestedChild => "NestedChild",
+            GrammarRefusal::LateAssignment => "LateAssignment",
+            GrammarRefusal::NoProfile => "NoProfile",
+            GrammarRefusal::BadName => "BadName",
+            GrammarRefusal::Memory => "Memory",
+        }
+    }
 }
 
 /// Why a part of a file can't be read.

@@ -3,7 +3,9 @@
 ghost use Rattle.std.specs.Prelude.{◌≡◌};
 
 use crate::fault::{Fault, GrammarRefusal};
-use aa_text_files::Place;
+use aa_text_files::{Place, write_error};
+use std::error::Error;
+use std::fmt::{self, Display, Formatter, Write};
 
 /// The first fault of a file's grammar.
 #[derive(Clone, Copy, Debug, PartialEq, Eq)]
@@ -14,6 +16,20 @@ pub struct GrammarError {
     /// memory ran out.
     pub place: Option<Place>,
 }
+
+impl Display for GrammarError {
+    ghost use Rattle.std.specs.Prelude.{Some};
+    ghost use Rattle.aa_text_files.specs.TextError.{error_text};
+    ghost use Rattle.aa_profile_parsing.specs.GrammarRefusal.{name_of, number_of};
+
+    ghost output = { λ error. Some (error_text (number_of error.refusal) (name_of error.refusal) error.place) };
+
+    fn fmt<W: Write>(&self, f: &mut Formatter<W>) -> fmt::Result {
+        write_error(f, self.refusal.number(), self.refusal.name(), self.place)
+    }
+}
+
+impl Error for GrammarError {}
 
 // What is told of a fault.
 impl From<Fault> for GrammarError {

@@ -1,5 +1,7 @@
--- The refusals of a text: each one's number and name.
-use Rattle.std.specs.Prelude.{ℕ, List, codes, None}
+-- The refusals of a text: each one's number and name; and the texts of errors.
+use Rattle.std.specs.Prelude.{ℕ, List, ◌++◌, codes, Option, None, Some}
+use Rattle.std.specs.Fmt.{decimal}
+use Rattle.aa_text_files.specs.declared.text_error.Place.{Place}
 use Rattle.aa_text_files.specs.declared.text_error.TextError.{TextError}
 use Rattle.aa_text_files.specs.declared.text_error.TextRefusal.{TextRefusal}
 use Rattle.aa_text_files.specs.declared.text_error.TextRefusal.TheVariants.{ZeroByte, OpenQuote, OpenOther, NoFile, IncludeDepth, TextTooBig, Undefined, Redefined, AppendUndefined, Cycle, Memory}
@@ -27,3 +29,12 @@ name_of refusal = (described refusal).1
 -- a refusal without a place
 abbrev pub plain : TextRefusal → TextError
 plain refusal = record { refusal = refusal; place = None }
+
+-- how an error's text tells a place: the file's number among the files, from 0 on, and the offset in bytes
+abbrev pub place_text : Place → List ℕ
+place_text place = codes "file " ++ decimal place.file ++ codes " at " ++ decimal place.at
+
+-- the text of an error: its refusal's number and name, and its place, if it has one
+abbrev pub error_text : ℕ → List ℕ → Option Place → List ℕ
+error_text number name None = decimal number ++ codes " " ++ name
+error_text number name (Some place) = decimal number ++ codes " " ++ name ++ codes " " ++ place_text place

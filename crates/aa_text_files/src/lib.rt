@@ -9,4 +9,4 @@ mod text_error;
 pub use files::{Files, FilesError};
 pub use folder::members;
 pub use limit::MOST_BYTES;
-pub use text_error::{Place, TextError, TextRefusal, plain};
+pub use text_error::{Place, TextError, TextRefusal, plain, write_error};

@@ -1,12 +1,13 @@
 //! Why the text of a file was refused, and where.
 
-ghost use Rattle.std.specs.Prelude.{◌≡◌};
-ghost use Rattle.aa_text_files.specs.TextError.{name_of, number_of, plain};
+ghost use Rattle.std.specs.Prelude.{◌≡◌, Some};
+ghost use Rattle.std.specs.Fmt.{DisplaysOnOk};
+ghost use Rattle.aa_text_files.specs.TextError.{error_text, name_of, number_of, plain};
 ghost use Rattle.aa_text_files.specs.declared.text_error.TextRefusal.TheVariants.{Memory};
 
 use std::alloc::{AllocError, AllocFailed};
+use std::error::Error;
 use std::fmt::{self, Display, Formatter, Write};
-use thiserror::Error;
 
 /// A place in the files that were handed in.
 #[derive(Clone, Copy, Debug, PartialEq, Eq)]
@@ -15,6 +16,20 @@ pub struct Place {
     pub file: usize,
     /// How many bytes of the file stand before the place.
     pub at: usize,
+}
+
+// The file by its index, since a place doesn't know its name.
+impl Display for Place {
+    ghost use Rattle.std.specs.Prelude.{Some};
+    ghost use Rattle.aa_text_files.specs.TextError.{place_text};
+
+    ghost output = { λ place. Some (place_text place) };
+
+    fn fmt<W: Write>(&self, f: &mut Formatter<W>) -> fmt::Result {
+        let file = self.file;
+        let at = self.at;
+        write!(f, "file {file} at {at}")
+    }
 }
 
 /// Why the text of a file was refused.
@@ -63,8 +78,7 @@ impl Display for TextRefusal {
 }
 
 /// Why the text of a file was refused, and where.
-#[derive(Clone, Copy, Debug, PartialEq, Eq, Error)]
-#[error("{refusal}")]
+#[derive(Clone, Copy, Debug, PartialEq, Eq)]
 pub struct TextError {
     /// What is wrong.
     pub refusal: TextRefusal,
@@ -82,12 +96,12 @@ pub fn plain(refusal: TextRefusal) -> TextError
     }
 }
 
-impl TextError {
+impl TextRefusal {
     /// The number of the refusal: 20 to 29, or 99.
     pub fn number(self) -> u8
-        ensures { result ≡ number_of self.refusal }
+        ensures { result ≡ number_of self }
     {
-        match self.refusal {
+        match self {
             TextRefusal::ZeroByte => 20,
             TextRefusal::OpenQuote => 21,
             TextRefusal::OpenOther => 22,
@@ -104,9 +118,9 @@ impl TextError {
 
     /// The name of the refusal, as the variant is written.
     pub fn name(self) -> &'static str
-        ensures { result.now ≡ name_of self.refusal }
+        ensures { result.now ≡ name_of self }
     {
-        match self.refusal {
+        match self {
             TextRefusal::ZeroByte => "ZeroByte",
             TextRefusal::OpenQuote => "OpenQuote",
             TextRefusal::OpenOther => "OpenOther",
@@ -121,6 +135,50 @@ impl TextError {
         }
     }
 }
+
+impl TextError {
+    /// The number of its refusal.
+    pub fn number(self) -> u8
+        ensures { result ≡ number_of self.refusal }
+    {
+        self.refusal.number()
+    }
+
+    /// The name of its refusal.
+    pub fn name(self) -> &'static str
+        ensures { result.now ≡ name_of self.refusal }
+    {
+        self.refusal.name()
+    }
+}
+
+/// Writes the text of an error: the number and the name of its refusal, and its place, if it has one.
+pub fn write_error<W: Write>(
+    f: &mut Formatter<W>,
+    number: u8,
+    name: &str,
+    place: Option<Place>,
+) -> fmt::Result
+    ensures { DisplaysOnOk W.write_str_gives f.old result (Some (error_text number name.now place)) f.new }
+{
+    match place {
+        None => write!(f, "{number} {name}"),
+        Some(place) => write!(f, "{number} {name} {place}"),
+    }
+}
+
+impl Display for TextError {
+    ghost use Rattle.std.specs.Prelude.{Some};
+    ghost use Rattle.aa_text_files.specs.TextError.{error_text, name_of, number_of};
+
+    ghost output = { λ error. Some (error_text (number_of error.refusal) (name_of error.refusal) error.place) };
+
+    fn fmt<W: Write>(&self, f: &mut Formatter<W>) -> fmt::Result {
+        write_error(f, self.number(), self.name(), self.place)
+    }
+}
+
+impl Error for TextError {}
 
 impl From<AllocError> for TextError {
     ghost from_gives = { λ _ error. error ≡ plain Memory };

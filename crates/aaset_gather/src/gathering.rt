@@ -9,14 +9,17 @@ use crate::file_system::FileSystem;
 use crate::reading::{ReadFault, bytes_of};
 use aa_text_files::Files;
 use std::alloc::Global;
+use thiserror::Error;
 
 /// Why the files that are named couldn't be taken.
-#[derive(Debug, Drop)]
+#[derive(Debug, Drop, Error)]
 pub enum GatherFault {
     /// The first name that can't be taken: its file can't be read or is too long, it comes twice, or it is no name
     /// for a file.
+    #[error("cannot take {0}")]
     Untaken(String),
     /// Memory ran out.
+    #[error("memory ran out")]
     Memory,
 }
 

@@ -1,7 +1,7 @@
 //! Rows of the numbers and names of refusals.
 
 use aa_glob::PatternError;
-use aa_set::{Refusal, RefusalKind};
+use aa_set::{GrammarRefusal, ProfileRefusal, Refusal, RefusalKind};
 use aa_text::{CutFault, CutRefusal, FilesError, TextError, TextRefusal};
 use row_texts::{Part, RowError, Tally, put_number_word};
 
@@ -42,44 +42,27 @@ const TEXT_REFUSALS: [TextRefusal; 11] = [
     TextRefusal::Memory,
 ];
 
-const REFUSAL_KINDS: [RefusalKind; 47] = [
-    RefusalKind::NotAbsolute,
-    RefusalKind::UnclosedClass,
-    RefusalKind::EmptyClass,
-    RefusalKind::BadRange,
-    RefusalKind::UnclosedGroup,
-    RefusalKind::StrayClose,
-    RefusalKind::FewAlternatives,
-    RefusalKind::BadEscape,
-    RefusalKind::TooLong,
-    RefusalKind::TooDeep,
-    RefusalKind::ZeroByte,
-    RefusalKind::OpenQuote,
-    RefusalKind::OpenOther,
-    RefusalKind::NoFile,
-    RefusalKind::IncludeDepth,
-    RefusalKind::TextTooBig,
-    RefusalKind::Undefined,
-    RefusalKind::Redefined,
-    RefusalKind::AppendUndefined,
-    RefusalKind::Cycle,
-    RefusalKind::TooManyRules,
-    RefusalKind::BadToken,
-    RefusalKind::OpenBlock,
-    RefusalKind::BadFlag,
-    RefusalKind::BadAccess,
-    RefusalKind::WriteAppend,
-    RefusalKind::TwoExec,
-    RefusalKind::ExecQualifier,
-    RefusalKind::TargetWithoutExec,
-    RefusalKind::BadCapability,
-    RefusalKind::BadNetwork,
-    RefusalKind::TwiceNamed,
-    RefusalKind::NestedChild,
-    RefusalKind::LateAssignment,
-    RefusalKind::NoProfile,
-    RefusalKind::BadName,
-    RefusalKind::ExecConflict,
+const GRAMMAR_REFUSALS: [GrammarRefusal; 16] = [
+    GrammarRefusal::BadToken,
+    GrammarRefusal::OpenBlock,
+    GrammarRefusal::BadFlag,
+    GrammarRefusal::BadAccess,
+    GrammarRefusal::WriteAppend,
+    GrammarRefusal::TwoExec,
+    GrammarRefusal::ExecQualifier,
+    GrammarRefusal::TargetWithoutExec,
+    GrammarRefusal::BadCapability,
+    GrammarRefusal::BadNetwork,
+    GrammarRefusal::TwiceNamed,
+    GrammarRefusal::NestedChild,
+    GrammarRefusal::LateAssignment,
+    GrammarRefusal::NoProfile,
+    GrammarRefusal::BadName,
+    GrammarRefusal::Memory,
+];
+
+// The refusals of a command that are none of a file.
+const COMMAND_REFUSALS: [RefusalKind; 10] = [
     RefusalKind::Exists,
     RefusalKind::Absent,
     RefusalKind::Disabled,
@@ -121,9 +104,34 @@ fn text_error(at: usize) -> Option<Described> {
     Some((error.number(), error.name()))
 }
 
+fn grammar_refusal(at: usize) -> Option<Described> {
+    let refusal = GRAMMAR_REFUSALS.get(at)?;
+    Some((refusal.number(), refusal.name()))
+}
+
+// The refusal of a file so many behind the first, by their numbers: ten of patterns, ten of its text, fifteen of its grammar, and its own.
+fn file_refusal(at: usize) -> Option<ProfileRefusal> {
+    match at {
+        0..=9 => Some(ProfileRefusal::from(*PATTERN_ERRORS.get(at)?)),
+        10..=19 => Some(ProfileRefusal::from(*TEXT_REFUSALS.get(at - 10)?)),
+        20 => Some(ProfileRefusal::TooManyRules),
+        21..=35 => Some(ProfileRefusal::from(*GRAMMAR_REFUSALS.get(at - 21)?)),
+        36 => Some(ProfileRefusal::ExecConflict),
+        _ => None,
+    }
+}
+
+// The refusal of a command so many behind the first: those of a file, and then its own.
+fn command_refusal(at: usize) -> Option<RefusalKind> {
+    match file_refusal(at) {
+        Some(refusal) => Some(RefusalKind::from(refusal)),
+        None => COMMAND_REFUSALS.get(at.checked_sub(37)?).copied(),
+    }
+}
+
 fn refusal(at: usize) -> Option<Described> {
     let refusal = Refusal {
-        refusal: *REFUSAL_KINDS.get(at)?,
+        refusal: command_refusal(at)?,
         place: None,
     };
     Some((refusal.number(), refusal.name()))
@@ -136,6 +144,7 @@ fn described(kind: &str, at: usize) -> Option<Described> {
         "CutFault" => cut_fault(at),
         "FilesError" => files_error(at),
         "TextError" => text_error(at),
+        "GrammarRefusal" => grammar_refusal(at),
         "Refusal" => refusal(at),
         _ => None,
     }

@@ -11,37 +11,37 @@ returns-clause-ok g c =
     let first = Tells-trans (Tells-trans (Tells-trans (Tells-trans c.in_ok-tell.ensures.ok c.in_ok-tell_number.ensures.ok) c.in_ok-tell-2.ensures.ok) c.in_ok-tell-3.ensures.ok) c.in_ok-tell_place.ensures.ok in
     let place = place_text c.args.files.now c.args.refusal.place in
     let numbered = ap (λ (n : ℕ). codes "refused " ++ decimal n ++ codes " " ++ c.as_bytes.result.now ++ place ++ 10 ∷ []) (c.from.ensures ∙ c.number.ensures) in
-    let named = ap (λ (name : List ℕ). codes "refused " ++ decimal (number_of c.args.refusal) ++ codes " " ++ name ++ place ++ 10 ∷ []) (c.as_bytes.ensures.value ∙ c.name.ensures) in
+    let named = ap (λ (name : List ℕ). codes "refused " ++ decimal (number_of c.args.refusal.refusal) ++ codes " " ++ name ++ place ++ 10 ∷ []) (c.as_bytes.ensures.value ∙ c.name.ensures) in
     on_ok_weaker c.tell-4.result (λ last. Tells-same (Tells-trans first last) (numbered ∙ named)) c.tell-4.ensures.ok
 
 pub returns-in_err-tell-clause-err : goal.returns-in_err-tell-clause-err
 returns-in_err-tell-clause-err g c =
     let place = place_text c.args.files.now c.args.refusal.place in
     where_err c.from_residual.result
-    (Front-told _ (codes "refused ") (decimal (number_of c.args.refusal) ∷ codes " " ∷ name_of c.args.refusal ∷ place ∷ (10 ∷ []) ∷ []) (refusal_text c.args.files.now c.args.refusal)
+    (Front-told _ (codes "refused ") (decimal (number_of c.args.refusal.refusal) ∷ codes " " ∷ name_of c.args.refusal.refusal ∷ place ∷ (10 ∷ []) ∷ []) (refusal_text c.args.files.now c.args.refusal)
     (Tells-nil _ _) c.in_err-tell.ensures.err refl)
 
 pub returns-in_err-tell_number-clause-err : goal.returns-in_err-tell_number-clause-err
 returns-in_err-tell_number-clause-err g c =
     let place = place_text c.args.files.now c.args.refusal.place in
     where_err c.from_residual-in_err-tell_number.result
-    (Front-told _ (decimal c.from.result) (codes " " ∷ name_of c.args.refusal ∷ place ∷ (10 ∷ []) ∷ []) (refusal_text c.args.files.now c.args.refusal)
+    (Front-told _ (decimal c.from.result) (codes " " ∷ name_of c.args.refusal.refusal ∷ place ∷ (10 ∷ []) ∷ []) (refusal_text c.args.files.now c.args.refusal)
     c.in_ok-tell.ensures.ok c.in_err-tell_number.ensures.err
-    (ap (λ (n : ℕ). codes "refused " ++ decimal n ++ codes " " ++ name_of c.args.refusal ++ place ++ 10 ∷ []) (c.from.ensures ∙ c.number.ensures)))
+    (ap (λ (n : ℕ). codes "refused " ++ decimal n ++ codes " " ++ name_of c.args.refusal.refusal ++ place ++ 10 ∷ []) (c.from.ensures ∙ c.number.ensures)))
 
 pub returns-in_err-tell-2-clause-err : goal.returns-in_err-tell-2-clause-err
 returns-in_err-tell-2-clause-err g c =
     let place = place_text c.args.files.now c.args.refusal.place in
     where_err c.from_residual-in_err-tell-2.result
-    (Front-told _ (codes " ") (name_of c.args.refusal ∷ place ∷ (10 ∷ []) ∷ []) (refusal_text c.args.files.now c.args.refusal)
+    (Front-told _ (codes " ") (name_of c.args.refusal.refusal ∷ place ∷ (10 ∷ []) ∷ []) (refusal_text c.args.files.now c.args.refusal)
     (Tells-trans c.in_ok-tell.ensures.ok c.in_ok-tell_number.ensures.ok) c.in_err-tell-2.ensures.err
-    (ap (λ (n : ℕ). codes "refused " ++ decimal n ++ codes " " ++ name_of c.args.refusal ++ place ++ 10 ∷ []) (c.from.ensures ∙ c.number.ensures)))
+    (ap (λ (n : ℕ). codes "refused " ++ decimal n ++ codes " " ++ name_of c.args.refusal.refusal ++ place ++ 10 ∷ []) (c.from.ensures ∙ c.number.ensures)))
 
 pub returns-in_err-tell-3-clause-err : goal.returns-in_err-tell-3-clause-err
 returns-in_err-tell-3-clause-err g c =
     let place = place_text c.args.files.now c.args.refusal.place in
     let numbered = ap (λ (n : ℕ). codes "refused " ++ decimal n ++ codes " " ++ c.as_bytes.result.now ++ place ++ 10 ∷ []) (c.from.ensures ∙ c.number.ensures) in
-    let named = ap (λ (name : List ℕ). codes "refused " ++ decimal (number_of c.args.refusal) ++ codes " " ++ name ++ place ++ 10 ∷ []) (c.as_bytes.ensures.value ∙ c.name.ensures) in
+    let named = ap (λ (name : List ℕ). codes "refused " ++ decimal (number_of c.args.refusal.refusal) ++ codes " " ++ name ++ place ++ 10 ∷ []) (c.as_bytes.ensures.value ∙ c.name.ensures) in
     where_err c.from_residual-in_err-tell-3.result
     (Front-told _ c.as_bytes.result.now (place ∷ (10 ∷ []) ∷ []) (refusal_text c.args.files.now c.args.refusal)
     (Tells-trans (Tells-trans c.in_ok-tell.ensures.ok c.in_ok-tell_number.ensures.ok) c.in_ok-tell-2.ensures.ok) c.in_err-tell-3.ensures.err (numbered ∙ named))
@@ -50,7 +50,7 @@ pub returns-in_err-tell_place-clause-err : goal.returns-in_err-tell_place-clause
 returns-in_err-tell_place-clause-err g c =
     let place = place_text c.args.files.now c.args.refusal.place in
     let numbered = ap (λ (n : ℕ). codes "refused " ++ decimal n ++ codes " " ++ c.as_bytes.result.now ++ place ++ 10 ∷ []) (c.from.ensures ∙ c.number.ensures) in
-    let named = ap (λ (name : List ℕ). codes "refused " ++ decimal (number_of c.args.refusal) ++ codes " " ++ name ++ place ++ 10 ∷ []) (c.as_bytes.ensures.value ∙ c.name.ensures) in
+    let named = ap (λ (name : List ℕ). codes "refused " ++ decimal (number_of c.args.refusal.refusal) ++ codes " " ++ name ++ place ++ 10 ∷ []) (c.as_bytes.ensures.value ∙ c.name.ensures) in
     where_err c.from_residual-in_err-tell_place.result
     (Front-told _ place ((10 ∷ []) ∷ []) (refusal_text c.args.files.now c.args.refusal)
     (Tells-trans (Tells-trans (Tells-trans c.in_ok-tell.ensures.ok c.in_ok-tell_number.ensures.ok) c.in_ok-tell-2.ensures.ok) c.in_ok-tell-3.ensures.ok) c.in_err-tell_place.ensures.err
@@ -61,5 +61,5 @@ returns-clause-err g c =
     let first = Tells-trans (Tells-trans (Tells-trans (Tells-trans c.in_ok-tell.ensures.ok c.in_ok-tell_number.ensures.ok) c.in_ok-tell-2.ensures.ok) c.in_ok-tell-3.ensures.ok) c.in_ok-tell_place.ensures.ok in
     let place = place_text c.args.files.now c.args.refusal.place in
     let numbered = ap (λ (n : ℕ). codes "refused " ++ decimal n ++ codes " " ++ c.as_bytes.result.now ++ place ++ 10 ∷ []) (c.from.ensures ∙ c.number.ensures) in
-    let named = ap (λ (name : List ℕ). codes "refused " ++ decimal (number_of c.args.refusal) ++ codes " " ++ name ++ place ++ 10 ∷ []) (c.as_bytes.ensures.value ∙ c.name.ensures) in
+    let named = ap (λ (name : List ℕ). codes "refused " ++ decimal (number_of c.args.refusal.refusal) ++ codes " " ++ name ++ place ++ 10 ∷ []) (c.as_bytes.ensures.value ∙ c.name.ensures) in
     weaker_err c.tell-4.result (λ broken. Front-told _ (10 ∷ []) [] (refusal_text c.args.files.now c.args.refusal) first broken (numbered ∙ named)) c.tell-4.ensures.err
