@@ -1,6 +1,6 @@
 -- What an automaton is to its caller: the patterns that it was built of, in their order. Contracts see which patterns these are by
 -- `IsAutomatonOf`; how many states they have, and so how many visits a path takes at most, is said of the patterns by `HasStates`.
-use Rattle.std.specs.Prelude.{◌≡◌, ◌↔◌, ℕ, ◌+◌, ◌*◌, ◌<◌, ◌≤◌, List, [], length, Ok, Option, None, Some}
+use Rattle.std.specs.Prelude.{◌≡◌, ◌↔◌, ℕ, ◌<◌, ◌≤◌, List, [], length, Ok, Option, None, Some}
 use Rattle.std.specs.List.{All}
 use Rattle.aa_glob_nfa_laws.specs.Drawn.{IsDrawn, trail_at}
 use Rattle.aa_glob_syntax.specs.Reading.{items_of, reading}
@@ -36,7 +36,3 @@ IsAutomatonOf (Some g) patterns = IsGraphOf g patterns
 -- there is a class for each of the patterns that an automaton is of
 abbrev pub AreClassesOf : Option Graph → List ℕ → Type 0
 AreClassesOf automaton classes = (patterns : List (List ℕ)) × IsAutomatonOf automaton patterns × (length patterns ≤ length classes)
-
--- how many visits a path takes at most where there are so many states: each may be visited once before each byte, and once at the end
-abbrev pub most_visits : List ℕ → ℕ → ℕ
-most_visits path states = (length path + 1) * states

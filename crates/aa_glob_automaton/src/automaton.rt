@@ -2,12 +2,12 @@
 
 ghost use Rattle.std.specs.Prelude.{◌≡◌, ◌≤◌, ℕ, List, IfOk, None, OnOk, Some};
 ghost use Rattle.std.specs.List.Sorted.{IsStrictlyIncreasing};
-ghost use Rattle.aa_glob_automaton.specs.Automata.{AreClassesOf, IsAutomatonOf, most_visits};
+ghost use Rattle.aa_glob_automaton.specs.Automata.{AreClassesOf, IsAutomatonOf};
 ghost use Rattle.aa_glob_automaton.specs.Visits.{IsReadOf};
 ghost use Rattle.aa_glob_pairs.specs.Clashes.{IsLeast};
 ghost use Rattle.aa_glob_syntax.specs.Overlap.{ClashesAmong};
 ghost use Rattle.aa_glob_syntax.specs.Patterns.{AreMatching};
-ghost use Rattle.aa_glob_run.specs.Steps.{IsCounted};
+ghost use Rattle.aa_glob_run.specs.Steps.{IsCounted, most_visits};
 ghost use Rattle.aa_glob_run.specs.Visits.{CountsAllVisits, CountsFirstVisits};
 ghost use Rattle.aa_glob_prefixes.specs.Beginnings.{HasStates, most_states};
 

@@ -15,7 +15,7 @@ use Rattle.aa_glob_nfa.specs.declared.state.Gate.{Gate}
 use Rattle.aa_glob_nfa.specs.declared.state.Gate.TheVariants.{Free}
 use Rattle.aa_glob_nfa.specs.Tables.{State}
 use Rattle.aa_glob_nfa.specs.declared.state.Way.{Way}
-use Rattle.aa_glob_nfa.specs.declared.state.Class.{Class as ClassRow}
+use Rattle.aa_glob_nfa.specs.declared.state.ClassRow.{ClassRow}
 use Rattle.aa_glob_nfa.specs.declared.state.End.{End}
 use Rattle.aa_glob_nfa.proofs.ListLemmas.{Contains-map, Contains-map_cases}
 

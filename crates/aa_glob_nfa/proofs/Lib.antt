@@ -1,5 +1,6 @@
 pub mod BlockLemmas
 pub mod GrownLemmas
+pub mod LeavingLemmas
 pub mod ListLemmas
 pub mod MapLemmas
 pub mod RowLemmas

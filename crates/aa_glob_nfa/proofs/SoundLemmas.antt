@@ -10,7 +10,7 @@ use Rattle.aa_glob_nfa.specs.Tables.{entry_behind, by_of, no_byte, set_of, entri
 use Rattle.aa_glob_nfa.specs.declared.state.Gate.TheVariants.{Free}
 use Rattle.aa_glob_nfa.specs.Tables.{State}
 use Rattle.aa_glob_nfa.specs.declared.state.Way.{Way}
-use Rattle.aa_glob_nfa.specs.declared.state.Class.{Class as ClassRow}
+use Rattle.aa_glob_nfa.specs.declared.state.ClassRow.{ClassRow}
 use Rattle.aa_glob_nfa.specs.declared.state.End.{End}
 use Rattle.aa_glob_nfa.specs.declared.tables.Tables.{Tables}
 use Rattle.aa_glob_nfa.proofs.TableLemmas.{length-entries_in, Leads-cases, Leads-on, Leads-way}

@@ -13,7 +13,7 @@ use Rattle.aa_glob_nfa.specs.Tables.{entry_behind, no_byte, order_of, no_bytes, 
 use Rattle.aa_glob_nfa.specs.declared.entry.Entry.TheVariants.{Free as FreeEntry}
 use Rattle.aa_glob_nfa.specs.Tables.{State}
 use Rattle.aa_glob_nfa.specs.declared.state.Way.{Way}
-use Rattle.aa_glob_nfa.specs.declared.state.Class.{Class as ClassRow}
+use Rattle.aa_glob_nfa.specs.declared.state.ClassRow.{ClassRow}
 use Rattle.aa_glob_nfa.specs.declared.state.End.{End}
 use Rattle.aa_glob_nfa.proofs.ListLemmas.{Contains-cons_cases, Contains-first, Contains-later, Contains-map, Contains-map_cases}
 

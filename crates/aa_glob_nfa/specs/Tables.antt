@@ -1,5 +1,5 @@
 -- The tables of a graph: its states with their flags, and in tables of their own the ways, the sets of classes and the ends.
-use Rattle.std.specs.Prelude.{◌≡◌, ℕ, suc, ◌+◌, ◌*◌, ◌^◌, ◌<◌, ◌≤◌, Bool, true, false, ◌==◌, if◌then◌else◌, List, [], ◌∷◌, ◌++◌, length, map, slice_index_or, All, AllPairs, Contains}
+use Rattle.std.specs.Prelude.{◌≡◌, ◌⊎◌, ℕ, suc, ◌+◌, ◌*◌, ◌^◌, ◌<◌, ◌≤◌, Bool, true, false, ◌==◌, ◌&&◌, ◌||◌, if◌then◌else◌, Option, None, Some, List, [], ◌∷◌, ◌++◌, length, map, slice_index_or, All, AllPairs, Contains}
 use Rattle.aa_glob_nfa.specs.Graphs.{Graph}
 use Rattle.aa_bytes.specs.declared.byte_map.ByteMap.{ByteMap}
 use Rattle.aa_glob_nfa.specs.declared.entry.Entry.{Entry}
@@ -7,7 +7,7 @@ use Rattle.aa_glob_nfa.specs.declared.entry.Entry.TheVariants.{Free as FreeEntry
 use Rattle.aa_glob_nfa.specs.declared.state.Gate.{Gate}
 use Rattle.aa_glob_nfa.specs.declared.state.Gate.TheVariants.{Free, Byte, Inside, Class, Star, DoubleStar}
 use Rattle.aa_glob_nfa.specs.declared.state.Way.{Way}
-use Rattle.aa_glob_nfa.specs.declared.state.Class.{Class as ClassRow}
+use Rattle.aa_glob_nfa.specs.declared.state.ClassRow.{ClassRow}
 use Rattle.aa_glob_nfa.specs.declared.state.End.{End}
 
 -- A state: its gate, and flags that say where there is more of it: a way leads on to the next state; there are ways in the table; it's an end.
@@ -127,8 +127,31 @@ pub record IsSound (states : List State) (ways : List Way) (classes : List Class
   pub each_class : All (λ c. c.state < length states) classes
   pub each_end : All (λ e. (state_at states e.state).ends ≡ true) ends
 
+-- a way leads on from the state q to another
+abbrev pub LeadsOn : List State → ℕ → ℕ → Type 0
+LeadsOn states q r = ((state_at states q).leads_on ≡ true) × (r ≡ q + 1)
+
+-- one of these ways leads from the state q to another
+abbrev pub LeadsAway : List Way → ℕ → ℕ → Type 0
+LeadsAway ways q r = (way : Way) × Contains ways way × (way.from ≡ q) × (way.to ≡ r)
+
 -- a way of the table leads from a state by this number
 pub record IsAlong (ways : List Way) (q by : ℕ) (way : Way) : Type 0 where
   pub among : Contains ways way
   pub from : way.from ≡ q
   pub by_it : way.by ≡ by
+
+-- a number is that of the byte, if there is one
+abbrev pub is_byte : ℕ → Option ℕ → Bool
+is_byte number None = false
+is_byte number (Some c) = c == number
+
+-- a way may lead from the state q when the byte comes, or none: it has no byte of its own, or it has this one
+abbrev pub may_lead : ℕ → Option ℕ → Way → Bool
+may_lead q byte way = way.from == q && (way.by == no_byte || is_byte way.by byte)
+
+-- two parts of some ways have each that may lead from the state q when the byte comes, or none
+pub record AreLeaving (ways : List Way) (q : ℕ) (byte : Option ℕ) (any own : List Way) : Type 0 where
+  pub only_any : All (Contains ways) any
+  pub only_own : All (Contains ways) own
+  pub each : (way : Way) → Contains ways way → may_lead q byte way ≡ true → Contains any way ⊎ Contains own way

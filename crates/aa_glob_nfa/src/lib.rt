@@ -10,6 +10,6 @@ mod ways;
 
 pub use entry::Entry;
 pub use rows::Rows;
-pub use state::{Class, End, Gate, NO_BYTE, Way};
+pub use state::{ClassRow, End, Gate, Way};
 pub use tables::Tables;
-pub use ways::ways_along;
+pub use ways::Leaving;

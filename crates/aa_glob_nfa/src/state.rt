@@ -1,7 +1,7 @@
 //! The rows of an automaton's tables.
 
 ghost use Rattle.std.specs.Prelude.{◌≡◌, ◌≤◌};
-ghost use Rattle.aa_glob_nfa.specs.Tables.{by_of, entry_behind, gate_of, no_byte, order_of};
+ghost use Rattle.aa_glob_nfa.specs.Tables.{by_of, entry_behind, gate_of, is_byte, may_lead, no_byte, order_of};
 ghost use Rattle.aa_bytes.specs.declared.byte_map.ByteMap.{ByteMap};
 ghost use Rattle.aa_glob_nfa.specs.Entries.{is_free, stays_at};
 
@@ -30,7 +30,7 @@ pub struct Way {
 
 /// The set of a class, and the state that it leads into.
 #[derive(Clone, Copy, Debug)]
-pub struct Class {
+pub struct ClassRow {
     pub state: u32,
     pub map: ByteMap,
 }
@@ -99,5 +99,22 @@ impl Way {
         ensures { result ≡ order_of self.now }
     {
         self.from as u64 * 512 + self.by as u64
+    }
+
+    /// Whether it may lead from a state when the byte comes, or none: it has no byte of its own, or it has this one.
+    pub fn may_lead(&self, from: u32, byte: Option<u8>) -> bool
+        ensures { result ≡ may_lead from byte self.now }
+    {
+        self.from == from && (self.by == NO_BYTE || is_byte(self.by, byte))
+    }
+}
+
+// Whether a number is that of the byte, if there is one.
+fn is_byte(number: u16, byte: Option<u8>) -> bool
+    ensures { result ≡ is_byte number byte }
+{
+    match byte {
+        Some(own) => own as u16 == number,
+        None => false,
     }
 }

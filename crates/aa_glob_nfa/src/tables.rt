@@ -8,12 +8,12 @@ ghost use Rattle.aa_bytes.specs.ByteMaps.{in_map};
 ghost use Rattle.aa_glob_nfa.specs.Graphs.{AddsEnd, AddsWay, entry_of, SameGraph, start_alone, with_entry};
 ghost use Rattle.aa_glob_nfa.specs.declared.state.End.{End};
 ghost use Rattle.aa_glob_nfa.specs.declared.state.Way.{Way};
-ghost use Rattle.aa_glob_nfa.specs.Tables.{entry_behind, order_of, set_of, sets_in};
+ghost use Rattle.aa_glob_nfa.specs.Tables.{AreLeaving, entry_behind, order_of, set_of, sets_in};
 
 use crate::entry::Entry;
 use crate::rows::Rows;
-use crate::state::{Class, End, Gate, Way};
-use crate::ways::{begin_block, find_firsts, ways_of_block};
+use crate::state::{ClassRow, End, Gate, Way};
+use crate::ways::{Leaving, begin_block, find_firsts, leaving_among, ways_of_block};
 use aa_bytes::is_inside;
 use std::alloc::{AllocError, Global};
 
@@ -24,7 +24,7 @@ pub struct Tables {
     pub ways: Vec<Way>,
     // For each block of states where its ways begin, once they are in order.
     pub firsts: Vec<u32>,
-    pub classes: Vec<Class>,
+    pub classes: Vec<ClassRow>,
     pub ends: Vec<End>,
 }
 
@@ -186,6 +186,15 @@ impl Tables {
         ways_of_block(&self.ways, &self.firsts, from)
     }
 
+    /// The ways of the table by which states are entered from a state freely, or by the byte, if one comes. Others may be among them.
+    pub fn leaving(&self, from: u32, byte: Option<u8>) -> Leaving<'_>
+        requires sound { AreSound self.now }
+        requires sorted { AreSorted self.now }
+        ensures { AreLeaving self.now.ways.items from byte result.any.now result.own.now }
+    {
+        leaving_among(self.ways_around(from), from, byte)
+    }
+
     /// The ends at a state.
     pub fn ends_of(&self, state: u32) -> &[End]
         requires sound { AreSound self.now }
@@ -203,12 +212,12 @@ impl Tables {
 }
 
 // Puts the set of a state's entry behind those of others, if it is a class.
-fn keep_set(classes: &mut Vec<Class>, number: u32, entry: &Entry) -> Result<(), AllocError>
+fn keep_set(classes: &mut Vec<ClassRow>, number: u32, entry: &Entry) -> Result<(), AllocError>
     ensures ok { OnOk result (classes.new.items ≡ classes.old.items ++ sets_in number entry.now) }
     ensures err { OnErr result (classes.new.items ≡ classes.old.items) }
 {
     if let Entry::Class(map) = entry {
-        classes.push(Class {
+        classes.push(ClassRow {
             state: number,
             map: *map,
         })?;
@@ -217,7 +226,7 @@ fn keep_set(classes: &mut Vec<Class>, number: u32, entry: &Entry) -> Result<(), 
 }
 
 // Whether the byte is one that is taken to come into a state with this gate.
-fn takes(gate: Gate, classes: &[Class], number: u32, byte: u8) -> bool
+fn takes(gate: Gate, classes: &[ClassRow], number: u32, byte: u8) -> bool
     requires { AllPairs (λ a b. a.state < b.state) classes.now }
     ensures { result ≡ takes_byte (entry_behind gate (set_of classes.now number)) byte }
 {
@@ -230,7 +239,7 @@ fn takes(gate: Gate, classes: &[Class], number: u32, byte: u8) -> bool
 }
 
 // Whether the set of a state's class has the byte.
-fn class_has(classes: &[Class], state: u32, byte: u8) -> bool
+fn class_has(classes: &[ClassRow], state: u32, byte: u8) -> bool
     requires { AllPairs (λ a b. a.state < b.state) classes.now }
     ensures { result ≡ in_map (set_of classes.now state) byte }
 {
@@ -241,7 +250,7 @@ fn class_has(classes: &[Class], state: u32, byte: u8) -> bool
 }
 
 // Where the classes of states from this one on begin.
-fn first_class(classes: &[Class], state: u32) -> usize
+fn first_class(classes: &[ClassRow], state: u32) -> usize
     requires { IsNonDecreasingBy (λ c. c.state) classes.now }
     ensures within { result ≤ length classes.now }
     ensures before { AllWithin (λ c. c.state < state) classes.now 0 result }

@@ -4,14 +4,26 @@ ghost use Rattle.std.specs.Prelude.{◌≡◌, ◌<◌, ◌≤◌, length, All, 
 ghost use Rattle.std.specs.List.{AllWithin};
 ghost use Rattle.std.specs.List.Sorted.{IsNonDecreasingBy};
 ghost use Rattle.aa_glob_nfa.specs.code.Blocks.{AreFirsts, Begins, block_of, place_or, unknown};
-ghost use Rattle.aa_glob_nfa.specs.Tables.{IsAlong, no_byte, order_of};
+ghost use Rattle.aa_glob_nfa.specs.Tables.{AreLeaving, IsAlong, no_byte, order_of};
 ghost use Rattle.aa_glob_nfa.specs.declared.state.Way.{Way};
 
-use crate::state::Way;
+use crate::state::{NO_BYTE, Way};
 use std::alloc::AllocError;
 
 // How many states a block has.
 const BLOCK: u32 = 8;
+
+// Up to so many ways are told as they are; among more, those of a state and a byte are found by halving.
+const FEW: usize = 12;
+
+/// Ways that lead from a state when a byte comes, or none, maybe among others.
+#[derive(Clone, Copy, Debug)]
+pub struct Leaving<'a> {
+    /// Those without a byte of their own.
+    pub any: &'a [Way],
+    /// Those of the byte. Where there are few ways, these stand among the first ones.
+    pub own: &'a [Way],
+}
 
 /// Makes room for where the ways of a state's block begin, if the state is the block's first.
 pub fn begin_block(firsts: &mut Vec<u32>, state: u32) -> Result<(), AllocError> {
@@ -68,8 +80,30 @@ fn place_or(places: &[u32], at: usize, other: usize) -> usize
     }
 }
 
-/// Those of some ways, in their order, that lead from a state by this number.
-pub fn ways_along(ways: &[Way], from: u32, by: u16) -> &[Way]
+/// Those of some ways, in their order, that may lead from a state when the byte comes, or none.
+pub fn leaving_among(ways: &[Way], from: u32, byte: Option<u8>) -> Leaving<'_>
+    requires sorted { IsNonDecreasingBy order_of ways.now }
+    requires each { All (λ w. w.by ≤ no_byte) ways.now }
+    ensures { AreLeaving ways.now from byte result.any.now result.own.now }
+{
+    if ways.len() <= FEW {
+        return Leaving {
+            any: ways,
+            own: &[],
+        };
+    }
+    let any = ways_along(ways, from, NO_BYTE);
+    match byte {
+        Some(own) => Leaving {
+            any,
+            own: ways_along(ways, from, own as u16),
+        },
+        None => Leaving { any, own: &[] },
+    }
+}
+
+// Those of some ways, in their order, that lead from a state by this number.
+fn ways_along(ways: &[Way], from: u32, by: u16) -> &[Way]
     requires sorted { IsNonDecreasingBy order_of ways.now }
     requires each { All (λ w. w.by ≤ no_byte) ways.now }
     requires is_number { by ≤ no_byte }

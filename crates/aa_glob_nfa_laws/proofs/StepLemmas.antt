@@ -4,7 +4,7 @@ use Rattle.std.proofs.lemmas.Bool.{cases_lt}
 use Rattle.std.proofs.lemmas.List.{get_or_append_left, get_or_at, get_or_default, length-append}
 use Rattle.std.proofs.lemmas.List.Elements.{All-contains, Contains-append_left, Contains-push, Contains-push_cases}
 use Rattle.aa_glob_syntax.specs.Elements.{Element}
-use Rattle.aa_glob_nfa_laws.specs.Drawn.{AddsState, AddsWay, HaveSources, IsDrawn, Suits, SuitsLast, trail_at}
+use Rattle.aa_glob_nfa_laws.specs.Drawn.{AddsState, HaveSources, IsDrawn, Suits, SuitsLast, trail_at}
 use Rattle.aa_glob_nfa.specs.Graphs.{entry_of, Graph, Leads}
 use Rattle.aa_glob_nfa.specs.declared.entry.Entry.{Entry}
 use Rattle.aa_glob_nfa.specs.declared.entry.Entry.TheVariants.{Free}
@@ -178,36 +178,6 @@ drawn-start g entries none = record {
     λ h. let first : r ≡ 0 = omega arith in absurd (none_within (trail_at ([] ∷ []) q) (subst (λ (n : ℕ). Contains (sources (trail_at ([] ∷ []) n)) (trail_at ([] ∷ []) q)) first h)),
   );
 }
-
--- a state to which no way leads is added
-pub adds-alone : (old new : Graph) (entry : Entry) → new.entries ≡ old.entries ++ entry ∷ [] → ((q r : ℕ) → (Leads new q r ↔ Leads old q r)) → AddsState old new entry []
-adds-alone old new entry entries ways = record { entries = entries; ways = λ q r. (λ leads. inl ((ways q r).0 leads), λ h. before q r h) }
-  where
-    before : (q r : ℕ) → Leads old q r ⊎ ((r ≡ length old.entries) × Contains [] q) → Leads new q r
-    before q r (inl leads) = (ways q r).1 leads
-    before q r (inr link) = absurd (none_within q link.1)
-
--- one more way leads to the state that is added
-pub adds-way : (old with_ways new : Graph) (entry : Entry) (from : List ℕ) (q : ℕ) → AddsState old with_ways entry from → AddsWay with_ways new q (length old.entries) → AddsState old new entry (from ++ q ∷ [])
-adds-way old with_ways new entry from q adds added = record {
-  entries = added.entries ∙ adds.entries;
-  ways = λ p r. (λ leads. after p r ((added.ways p r).0 leads), λ h. (added.ways p r).1 (before p r h));
-}
-  where
-    earlier : (p r : ℕ) → Leads old p r ⊎ ((r ≡ length old.entries) × Contains from p) → Leads old p r ⊎ ((r ≡ length old.entries) × Contains (from ++ q ∷ []) p)
-    earlier p r (inl leads) = inl leads
-    earlier p r (inr link) = inr (link.0, Contains-append_left from (q ∷ []) p link.1)
-
-    after : (p r : ℕ) → Leads with_ways p r ⊎ ((p ≡ q) × (r ≡ length old.entries)) → Leads old p r ⊎ ((r ≡ length old.entries) × Contains (from ++ q ∷ []) p)
-    after p r (inl leads) = earlier p r ((adds.ways p r).0 leads)
-    after p r (inr link) = inr (link.1, subst (λ (n : ℕ). Contains (from ++ q ∷ []) n) (sym link.0) (Contains-push from q))
-
-    before : (p r : ℕ) → Leads old p r ⊎ ((r ≡ length old.entries) × Contains (from ++ q ∷ []) p) → Leads with_ways p r ⊎ ((p ≡ q) × (r ≡ length old.entries))
-    before p r (inl leads) = inl ((adds.ways p r).1 (inl leads))
-    before p r (inr link) = elim (Contains-push_cases from q p link.1) [
-      | inl linked ↦ inl ((adds.ways p r).1 (inr (link.0, linked)))
-      | inr last ↦ inr (sym last, link.0)
-    ]
 
 -- which ways and entries there are is all that counts
 pub drawn-same : (g h : Graph) (trails : List Trail) → g.entries ≡ h.entries → ((q r : ℕ) → (Leads g q r ↔ Leads h q r)) → IsDrawn g trails → IsDrawn h trails

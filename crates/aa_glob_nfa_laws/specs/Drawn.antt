@@ -61,8 +61,3 @@ HaveSources trails from trail =
 pub record AddsState (old new : Graph) (entry : Entry) (from : List ℕ) : Type 0 where
   pub entries : new.entries ≡ old.entries ++ entry ∷ []
   pub ways : (q r : ℕ) → (Leads new q r ↔ (Leads old q r ⊎ ((r ≡ length old.entries) × Contains from q)))
-
--- one more way leads from a state to another
-pub record AddsWay (old new : Graph) (from to : ℕ) : Type 0 where
-  pub entries : new.entries ≡ old.entries
-  pub ways : (q r : ℕ) → (Leads new q r ↔ (Leads old q r ⊎ ((q ≡ from) × (r ≡ to))))

@@ -7,7 +7,7 @@ use Rattle.aa_glob_syntax.specs.Reading.{items_of, reading}
 use Rattle.aa_glob_nfa.specs.Graphs.{AreBytes, Graph, Leads, Reaches}
 use Rattle.aa_glob_nfa.specs.declared.entry.Entry.{Entry}
 use Rattle.aa_glob_nfa.specs.declared.entry.Entry.TheVariants.{Free}
-use Rattle.aa_glob_nfa_laws.specs.Drawn.{AddsState, AddsWay, HaveSources, IsDrawn, Suits, trail_at}
+use Rattle.aa_glob_nfa_laws.specs.Drawn.{AddsState, HaveSources, IsDrawn, Suits, trail_at}
 use Rattle.aa_glob_prefixes.specs.Reads.{reads}
 use Rattle.aa_glob_prefixes.specs.Trails.{Trail, trail_of}
 
@@ -37,18 +37,6 @@ AddedIsDrawn =
     → (Contains trails (e ∷ trail) → ⊥) → Suits e entry
     → HaveSources trails from (e ∷ trail) → AddsState old new entry from
     → IsDrawn new (trails ++ (e ∷ trail) ∷ [])
-
--- a state to which no way leads is added
-abbrev pub AddedAlone : Type 0
-AddedAlone =
-    (old new : Graph) (entry : Entry)
-    → new.entries ≡ old.entries ++ entry ∷ [] → ((q r : ℕ) → (Leads new q r ↔ Leads old q r)) → AddsState old new entry []
-
--- a state is added, and then one more way to it at a time
-abbrev pub AddedByWays : Type 0
-AddedByWays =
-    (old with_ways new : Graph) (entry : Entry) (from : List ℕ) (q : ℕ)
-    → AddsState old with_ways entry from → AddsWay with_ways new q (length old.entries) → AddsState old new entry (from ++ q ∷ [])
 
 -- which ways and entries there are is all that counts
 abbrev pub SameIsDrawn : Type 0

@@ -1,6 +1,6 @@
 //! What holds of graphs that are drawn of trails, as laws over the definitions of both.
 
-ghost use Rattle.aa_glob_nfa_laws.specs.Laws.{AddedAlone, AddedByWays, AddedIsDrawn, ReachingIsReading, ReachingTheEndIsMatching, SameIsDrawn, StartIsDrawn};
+ghost use Rattle.aa_glob_nfa_laws.specs.Laws.{AddedIsDrawn, ReachingIsReading, ReachingTheEndIsMatching, SameIsDrawn, StartIsDrawn};
 
 use aa_glob_prefixes::{how_trails_are_read, what_reads_to_the_end_matches};
 
@@ -19,8 +19,6 @@ pub fn what_reaches_a_state()
 pub fn how_graphs_are_drawn()
     ensures start { StartIsDrawn }
     ensures added { AddedIsDrawn }
-    ensures alone { AddedAlone }
-    ensures by_ways { AddedByWays }
     ensures same { SameIsDrawn }
 {
     how_trails_are_read();

@@ -11,10 +11,10 @@ use Rattle.aa_glob_nfa.specs.OfTables.{graph_of}
 use Rattle.aa_glob_nfa.specs.declared.state.End.{End}
 use Rattle.aa_glob_nfa.specs.declared.state.Way.{Way}
 use Rattle.aa_glob_nfa.specs.declared.tables.Tables.{Tables}
-use Rattle.aa_glob_pairs.proofs.MoveLemmas.{away_around, away_more, leads_both}
+use Rattle.aa_glob_nfa.proofs.LeavingLemmas.{away_around, away_more, leads_both}
 use Rattle.aa_glob_pairs.specs.Below.{can_clash, Covers, Includes}
 use Rattle.aa_glob_pairs.specs.Graphs.{class_at, IsBelowAt, IsLaid}
-use Rattle.aa_glob_pairs.specs.code.Gathered.{IsAway, IsOn}
+use Rattle.aa_glob_nfa.specs.Tables.{LeadsAway, LeadsOn}
 use Rattle.aa_glob_pairs.specs.code.Numbered.{as_kept, below_of, numbered_classes}
 use Rattle.aa_glob_pairs.specs.declared.below.Below.{Below}
 use Rattle.aa_glob_pairs.specs.declared.below.Below.TheVariants.{Nothing, One, Several}
@@ -31,9 +31,9 @@ covers_more classes ends i d old new within before includes one e h =
 
 -- one more of the ways of a state
 pub includes_more : (belows : List Below) (q : ℕ) (ways : List Way) (i : ℕ) (d : Way) (old new : Below) → i < length ways
-    → ((x : ℕ) → IsAway (take i ways) q x → Includes old (slice_index_or belows x Nothing)) → Includes new old
+    → ((x : ℕ) → LeadsAway (take i ways) q x → Includes old (slice_index_or belows x Nothing)) → Includes new old
     → ((get_or ways i d).from ≡ q → Includes new (slice_index_or belows (get_or ways i d).to Nothing))
-    → (x : ℕ) → IsAway (take (i + 1) ways) q x → Includes new (slice_index_or belows x Nothing)
+    → (x : ℕ) → LeadsAway (take (i + 1) ways) q x → Includes new (slice_index_or belows x Nothing)
 includes_more belows q ways i d old new within before includes one x away = elim ((away_more ways i d q x within).0 away) [
   | inl early ↦ λ class covers. includes class (before x early class covers)
   | inr last ↦ subst (λ y. Includes new (slice_index_or belows y Nothing)) (sym last.1) (one last.0)
@@ -45,8 +45,8 @@ pub below_is : (t : Tables) (classes : List ℕ) (belows : List Below) (q : ℕ)
     → ((end : End) → Contains t.ends.items end → end.state ≡ q → Contains ends end)
     → All (Contains t.ways.items) ways → ((way : Way) → Contains t.ways.items way → way.from ≡ q → Contains ways way)
     → ((e : End) → Contains ends e → Covers first (class_at classes e.pattern))
-    → Includes second first → ((x : ℕ) → IsOn t q x → Includes second (slice_index_or belows x Nothing))
-    → Includes third second → ((x : ℕ) → IsAway ways q x → Includes third (slice_index_or belows x Nothing))
+    → Includes second first → ((x : ℕ) → LeadsOn t.states q x → Includes second (slice_index_or belows x Nothing))
+    → Includes third second → ((x : ℕ) → LeadsAway ways q x → Includes third (slice_index_or belows x Nothing))
     → IsBelowAt (graph_of t) classes belows q third
 below_is t classes belows q ends ways first second third inside each_end only each own on next more away = record {
   own = λ p at.

@@ -1,9 +1,8 @@
 -- Moves that are gathered one after the other.
-use Rattle.std.proofs.Common.{◌≡◌, ◌⊎◌, ◌↔◌, ℕ, ◌+◌, ◌^◌, ◌<◌, true, false, Bool, List, [], ◌∷◌, ◌++◌, length, take, get_or, refl, sym, ap, subst, ◌∙◌, inl, inr}
-use Rattle.std.proofs.lemmas.List.{take_more}
+use Rattle.std.proofs.Common.{◌≡◌, ◌⊎◌, ◌↔◌, ℕ, ◌^◌, ◌<◌, true, false, Bool, List, [], ◌∷◌, ◌++◌, length, refl, sym, ap, subst, ◌∙◌, inl, inr}
 use Rattle.std.proofs.lemmas.List.Elements.{Contains-append_left, Contains-push, Contains-push_cases}
-use Rattle.std.specs.Prelude.{All, Contains, None, Option, Some}
-use Rattle.aa_glob_nfa.proofs.TableLemmas.{entry_of-graph_in, Leads-cases, Leads-on, Leads-way}
+use Rattle.std.specs.Prelude.{Contains, None, Option, Some}
+use Rattle.aa_glob_nfa.proofs.TableLemmas.{entry_of-graph_in}
 use Rattle.aa_glob_nfa.specs.Entries.{is_free, stays_at, takes_byte}
 use Rattle.aa_glob_nfa.specs.Graphs.{entry_of, Graph, IsFree, Leads, Takes}
 use Rattle.aa_glob_nfa.specs.Tables.{entry_behind, set_of, state_at}
@@ -11,13 +10,12 @@ use Rattle.aa_glob_nfa.specs.declared.entry.Entry.{Entry}
 use Rattle.aa_glob_nfa.specs.declared.entry.Entry.TheVariants.{Free, Byte, Inside, Class, Star, DoubleStar}
 use Rattle.aa_glob_nfa.specs.declared.state.Gate.{Gate}
 use Rattle.aa_glob_nfa.specs.OfTables.{graph_of}
-use Rattle.aa_glob_nfa.specs.declared.state.Way.{Way}
 use Rattle.aa_glob_nfa.specs.declared.tables.Tables.{Tables}
-use Rattle.aa_glob_pairs.proofs.GainLemmas.{nothing_there}
+use Rattle.aa_glob_waiting.proofs.GainLemmas.{nothing_there}
 use Rattle.aa_glob_pairs.specs.Bytes.{in_bytes, is_among}
 use Rattle.aa_glob_pairs.specs.Graphs.{AreMoves}
 use Rattle.aa_glob_pairs.specs.Nodes.{HasStep}
-use Rattle.aa_glob_pairs.specs.code.Gathered.{Gets, GetsLed, GetsStay, IsAway, IsOn}
+use Rattle.aa_glob_pairs.specs.code.Gathered.{Gets, GetsLed, GetsStay}
 use Rattle.aa_glob_pairs.specs.declared.bytes.Bytes.{Bytes}
 use Rattle.aa_glob_pairs.specs.declared.moves.Moves.{Moves}
 use Rattle.aa_glob_pairs.specs.declared.moves.Step.{Step}
@@ -71,43 +69,6 @@ gets_led_as g old new L M gets same = record {
     λ h. elim h [ inl before ↦ (gets.steps c x small).1 (inl before) | inr new ↦ (gets.steps c x small).1 (inr ((same x).0 new.0, new.1)) ],
   );
 }
-
--- one more of some ways
-pub away_more : (ways : List Way) (i : ℕ) (d : Way) (q x : ℕ) → i < length ways
-    → (IsAway (take (i + 1) ways) q x ↔ (IsAway (take i ways) q x ⊎ (((get_or ways i d).from ≡ q) × (x ≡ (get_or ways i d).to))))
-away_more ways i d q x within = rw (take_more ways i d within) (
-  λ h. elim (Contains-push_cases (take i ways) (get_or ways i d) h.0 h.1) [
-    | inl early ↦ inl (h.0, early, h.2, h.3)
-    | inr last ↦ inr (ap (λ w. w.from) last ∙ h.2, sym (ap (λ w. w.to) last ∙ h.3))
-  ],
-  λ h. elim h [
-    | inl early ↦ (early.0, Contains-append_left (take i ways) (get_or ways i d ∷ []) early.0 early.1, early.2, early.3)
-    | inr last ↦ (get_or ways i d, Contains-push (take i ways) (get_or ways i d), last.0, sym last.1)
-  ],
-)
-
--- the ways of the table around a state are those that lead from it
-pub away_around : (all ways : List Way) (q x : ℕ) → All (Contains all) ways → ((way : Way) → Contains all way → way.from ≡ q → Contains ways way) → (IsAway all q x ↔ IsAway ways q x)
-away_around all ways q x only each = (
-  λ h. (h.0, each h.0 h.1 h.2, h.2, h.3),
-  λ h. (h.0, All-has all ways h.0 only h.1, h.2, h.3),
-)
-  where
-    All-has : (all ways : List Way) (way : Way) → All (Contains all) ways → Contains ways way → Contains all way
-    All-has all ways way only has = subst (λ w. Contains all w) has.2 (only has.0 way has.1)
-
--- a state is led to by the way that leads on or by one of the table
-pub leads_both : (t : Tables) (q x : ℕ) → q < length t.states → (Leads (graph_of t) q x ↔ (IsOn t q x ⊎ IsAway t.ways.items q x))
-leads_both t q x within = (
-  λ leads. elim (Leads-cases t.states t.ways.items t.classes.items t.ends.items q x leads) [
-    | inl on ↦ inl (on.1, on.2)
-    | inr away ↦ inr away
-  ],
-  λ h. elim h [
-    | inl on ↦ subst (λ n. Leads (graph_of t) q n) (sym on.1) (Leads-on t.states t.ways.items t.classes.items t.ends.items q within on.0)
-    | inr away ↦ subst (λ n. Leads (graph_of t) q n) away.3 (subst (λ n. Leads (graph_of t) n away.0.to) away.2 (Leads-way t.states t.ways.items t.classes.items t.ends.items away.0 away.1))
-  ],
-)
 
 -- no moves, and then those that lead away and that stay
 pub moves_gathered : (g : Graph) (q : ℕ) (none mid new : Moves) → none.free.items ≡ [] → none.steps.items ≡ [] → GetsLed g none mid (Leads g q) → GetsStay g mid new q

@@ -5,4 +5,3 @@ pub mod Clashes
 pub mod Graphs
 pub mod Nodes
 pub mod Pairs
-pub mod Waiting

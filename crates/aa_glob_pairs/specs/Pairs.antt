@@ -1,10 +1,10 @@
 -- The pairs of states that one text reaches, as far as patterns of different classes may end behind them.
 use Rattle.std.specs.Prelude.{◌≡◌, ◌⊎◌, ℕ, ◌^◌, ◌<◌, true, List, length, slice_index_or}
 use Rattle.aa_glob_nfa.specs.Graphs.{EndsAt, Graph}
-use Rattle.aa_glob_nfa.specs.OfTables.{graph_of}
+use Rattle.aa_glob_nfa.specs.OfTables.{AreSorted, AreSound, graph_of}
 use Rattle.aa_glob_nfa.specs.declared.tables.Tables.{Tables}
 use Rattle.aa_glob_pairs.specs.Below.{can_clash}
-use Rattle.aa_glob_pairs.specs.Graphs.{class_at, Goes, GoesFreely}
+use Rattle.aa_glob_pairs.specs.Graphs.{AreBelow, class_at, Goes, GoesFreely, IsLaid}
 use Rattle.aa_glob_pairs.specs.declared.below.Below.{Below}
 use Rattle.aa_glob_pairs.specs.declared.below.Below.TheVariants.{Nothing}
 
@@ -47,3 +47,15 @@ ClashOf g q r pattern =
 -- it does so at a pair that is met
 abbrev pub MeetsAt : Classed → ℕ → Type 0
 MeetsAt g pattern = (q r : ℕ) × Met g q r × ClashOf g q r pattern
+
+-- tables are sound and in order, and there is a class for each pattern that ends somewhere
+pub record AreClassed (t : Tables) (classes : List ℕ) : Type 0 where
+  pub sound : AreSound t
+  pub sorted : AreSorted t
+  pub each_pattern : (q p : ℕ) → EndsAt (graph_of t) q p → p < length classes
+
+-- what pairs are looked at by: tables with classes, whose ways lead to later states, and the classes below each state
+pub record AreReady (t : Tables) (classes : List ℕ) (belows : List Below) : Type 0 where
+  pub classed : AreClassed t classes
+  pub later : IsLaid (graph_of t)
+  pub each_below : AreBelow (graph_of t) classes belows

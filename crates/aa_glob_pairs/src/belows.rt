@@ -1,12 +1,12 @@
 //! Which classes the patterns have that end at each state of a graph or behind it.
 
 ghost use Rattle.std.specs.Prelude.{◌≡◌, ◌<◌, ℕ, All, Contains, length, replicate, set, slice_index_or, IfOk};
-ghost use Rattle.aa_glob_nfa.specs.Graphs.{EndsAt};
-ghost use Rattle.aa_glob_nfa.specs.OfTables.{AreSorted, AreSound, graph_of};
+ghost use Rattle.aa_glob_nfa.specs.OfTables.{AreSound, graph_of};
 ghost use Rattle.aa_glob_nfa.specs.declared.state.End.{End};
 ghost use Rattle.aa_glob_pairs.specs.Below.{Covers, Includes};
 ghost use Rattle.aa_glob_pairs.specs.Graphs.{AreBelow, IsBelowAt, IsLaid, class_at};
-ghost use Rattle.aa_glob_pairs.specs.code.Gathered.{IsAway, IsOn};
+ghost use Rattle.aa_glob_nfa.specs.Tables.{LeadsAway, LeadsOn};
+ghost use Rattle.aa_glob_pairs.specs.Pairs.{AreClassed};
 ghost use Rattle.aa_glob_pairs.specs.code.Numbered.{as_kept, below_of, number_of};
 ghost use Rattle.aa_glob_pairs.specs.declared.below.Below.TheVariants.{Nothing};
 
@@ -101,7 +101,7 @@ fn beside_next(below: Below, tables: &Tables, state: u32, belows: &Belows) -> Be
     requires is_state { state < length tables.now.states }
     requires room { length belows.now ≡ length tables.now.states }
     ensures first { Includes result below }
-    ensures on { (x : ℕ) → IsOn tables.now state x → Includes result (slice_index_or belows.now x Nothing) }
+    ensures on { (x : ℕ) → LeadsOn tables.now.states state x → Includes result (slice_index_or belows.now x Nothing) }
 {
     if tables.states.leads_on(state) {
         below.beside(belows.at(state + 1))
@@ -114,7 +114,7 @@ fn beside_next(below: Below, tables: &Tables, state: u32, belows: &Belows) -> Be
 fn beside_ways(below: Below, ways: &[Way], state: u32, belows: &Belows) -> Below
     requires { All (λ w. w.to < length belows.now) ways.now }
     ensures first { Includes result below }
-    ensures away { (x : ℕ) → IsAway ways.now state x → Includes result (slice_index_or belows.now x Nothing) }
+    ensures away { (x : ℕ) → LeadsAway ways.now state x → Includes result (slice_index_or belows.now x Nothing) }
 {
     let mut all = below;
     for way in ways {
@@ -138,9 +138,7 @@ fn beside_way(below: Below, way: &Way, state: u32, belows: &Belows) -> Below
 
 // Those of a state, where those of all later ones are known.
 fn below_at(tables: &Tables, classes: &[u32], state: u32, belows: &Belows) -> Below
-    requires sound { AreSound tables.now }
-    requires sorted { AreSorted tables.now }
-    requires classes { (q p : ℕ) → EndsAt (graph_of tables.now) q p → p < length classes.now }
+    requires classed { AreClassed tables.now classes.now }
     requires is_state { state < length tables.now.states }
     requires room { length belows.now ≡ length tables.now.states }
     ensures { IsBelowAt (graph_of tables.now) classes.now belows.now state result }
@@ -152,10 +150,8 @@ fn below_at(tables: &Tables, classes: &[u32], state: u32, belows: &Belows) -> Be
 
 /// Those of each state of a graph whose ways lead to later states, the last one first.
 pub fn belows_of(alloc: Global, tables: &Tables, classes: &[u32]) -> Result<Belows, AllocError>
-    requires sound { AreSound tables.now }
-    requires sorted { AreSorted tables.now }
+    requires classed { AreClassed tables.now classes.now }
     requires later { IsLaid (graph_of tables.now) }
-    requires classes { (q p : ℕ) → EndsAt (graph_of tables.now) q p → p < length classes.now }
     ensures { IfOk result (AreBelow (graph_of tables.now) classes.now) }
 {
     let mut belows = Belows::new(alloc, tables.states.len())?;

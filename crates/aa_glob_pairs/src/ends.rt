@@ -1,10 +1,10 @@
 //! The patterns that end at a state, with their classes, and the least that clashes with an earlier one.
 
-ghost use Rattle.std.specs.Prelude.{◌≡◌, ◌⊎◌, ◌<◌, ◌∷◌, [], ℕ, length, IfOk, OnOk};
-ghost use Rattle.aa_glob_nfa.specs.Graphs.{EndsAt};
-ghost use Rattle.aa_glob_nfa.specs.OfTables.{AreSorted, AreSound, graph_of};
+ghost use Rattle.std.specs.Prelude.{◌≡◌, ◌⊎◌, ◌<◌, ◌∷◌, [], length, OnOk};
+ghost use Rattle.aa_glob_nfa.specs.OfTables.{graph_of};
 ghost use Rattle.aa_glob_pairs.specs.Graphs.{AreEndingsOf};
 ghost use Rattle.aa_glob_pairs.specs.Clashes.{Clash, Lowers};
+ghost use Rattle.aa_glob_pairs.specs.Pairs.{AreClassed};
 
 use aa_glob_nfa::Tables;
 use std::alloc::{AllocError, Global};
@@ -25,9 +25,7 @@ pub fn put_endings(
     state: u32,
     endings: &mut Vec<Ending>,
 ) -> Result<(), AllocError>
-    requires sound { AreSound tables.now }
-    requires sorted { AreSorted tables.now }
-    requires classes { (q p : ℕ) → EndsAt (graph_of tables.now) q p → p < length classes.now }
+    requires classed { AreClassed tables.now classes.now }
     requires is_state { state < length tables.now.states }
     ensures { OnOk result (AreEndingsOf (graph_of tables.now) classes.now state endings.new.items) }
 {

@@ -9,8 +9,6 @@ mod ends;
 mod meeting;
 mod moves;
 mod nodes;
-mod rows;
 mod visit;
-mod waiting;
 
 pub use clash::first_clash;

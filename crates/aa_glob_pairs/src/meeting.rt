@@ -1,20 +1,19 @@
 //! The least pattern that clashes with an earlier one, by the pairs of states that one text reaches.
 
-ghost use Rattle.std.specs.Prelude.{◌≡◌, ◌<◌, ◌+◌, ◌^◌, ℕ, length, slice_get, Some, IfOk, OnOk};
-ghost use Rattle.aa_glob_nfa.specs.Graphs.{EndsAt};
-ghost use Rattle.aa_glob_nfa.specs.OfTables.{AreSorted, AreSound, graph_of};
+ghost use Rattle.std.specs.Prelude.{◌≡◌, ◌<◌, ◌+◌, ◌^◌, length, slice_get, Some, IfOk, OnOk};
+ghost use Rattle.aa_glob_nfa.specs.OfTables.{graph_of};
 ghost use Rattle.aa_glob_pairs.specs.Clashes.{IsLeast};
-ghost use Rattle.aa_glob_pairs.specs.Graphs.{AreBelow, IsLaid, IsNodeOf};
-ghost use Rattle.aa_glob_pairs.specs.Pairs.{MeetsAt, classed};
-ghost use Rattle.aa_glob_pairs.specs.Waiting.{row_at};
+ghost use Rattle.aa_glob_pairs.specs.Graphs.{IsNodeOf};
+ghost use Rattle.aa_glob_pairs.specs.Pairs.{AreReady, MeetsAt, classed};
+ghost use Rattle.aa_glob_waiting.specs.Waiting.{row_at};
 ghost use Rattle.aa_glob_pairs.specs.code.Progress.{IsMeeting, no_marks};
 
 use crate::belows::Belows;
 use crate::ends::lower_both;
 use crate::nodes::{Node, put_node};
 use crate::visit::visit;
-use crate::waiting::Waiting;
 use aa_glob_nfa::Tables;
+use aa_glob_waiting::Waiting;
 use std::alloc::{AllocError, Global};
 
 /// How far the pairs were looked at.
@@ -43,11 +42,7 @@ pub fn least_clash(
     classes: &[u32],
     belows: &Belows,
 ) -> Result<Option<u32>, AllocError>
-    requires sound { AreSound tables.now }
-    requires sorted { AreSorted tables.now }
-    requires later { IsLaid (graph_of tables.now) }
-    requires classes { (q p : ℕ) → EndsAt (graph_of tables.now) q p → p < length classes.now }
-    requires belows { AreBelow (graph_of tables.now) classes.now belows.now }
+    requires { AreReady tables.now classes.now belows.now }
     ensures { IfOk result (λ found. IsLeast found (MeetsAt (classed tables.now classes.now belows.now))) }
 {
     let mut meeting = begin(alloc, tables, classes, belows)?;
@@ -68,8 +63,7 @@ fn begin(
     classes: &[u32],
     belows: &Belows,
 ) -> Result<Meeting, AllocError>
-    requires sound { AreSound tables.now }
-    requires later { IsLaid (graph_of tables.now) }
+    requires { AreReady tables.now classes.now belows.now }
     ensures { IfOk result (IsMeeting (classed tables.now classes.now belows.now) 0 0) }
 {
     let states = tables.states.len();
@@ -99,11 +93,7 @@ fn meet_row(
     pair: &mut Pair,
     meeting: &mut Meeting,
 ) -> Result<(), AllocError>
-    requires sound { AreSound tables.now }
-    requires sorted { AreSorted tables.now }
-    requires later { IsLaid (graph_of tables.now) }
-    requires classes { (q p : ℕ) → EndsAt (graph_of tables.now) q p → p < length classes.now }
-    requires belows { AreBelow (graph_of tables.now) classes.now belows.now }
+    requires ready { AreReady tables.now classes.now belows.now }
     requires row { row < length tables.now.states }
     requires met { IsMeeting (classed tables.now classes.now belows.now) row 0 meeting.old }
     ensures { OnOk result (IsMeeting (classed tables.now classes.now belows.now) (row + 1) 0 meeting.new) }
@@ -138,11 +128,7 @@ fn meet_all(
     second: &mut Node,
     meeting: &mut Meeting,
 ) -> Result<(), AllocError>
-    requires sound { AreSound tables.now }
-    requires sorted { AreSorted tables.now }
-    requires later { IsLaid (graph_of tables.now) }
-    requires classes { (q p : ℕ) → EndsAt (graph_of tables.now) q p → p < length classes.now }
-    requires belows { AreBelow (graph_of tables.now) classes.now belows.now }
+    requires ready { AreReady tables.now classes.now belows.now }
     requires row { row < length tables.now.states }
     requires first { IsNodeOf (graph_of tables.now) classes.now row first.now }
     requires met { IsMeeting (classed tables.now classes.now belows.now) row 0 meeting.old }
@@ -172,11 +158,7 @@ fn meet(
     second: &mut Node,
     meeting: &mut Meeting,
 ) -> Result<(), AllocError>
-    requires sound { AreSound tables.now }
-    requires sorted { AreSorted tables.now }
-    requires later { IsLaid (graph_of tables.now) }
-    requires classes { (q p : ℕ) → EndsAt (graph_of tables.now) q p → p < length classes.now }
-    requires belows { AreBelow (graph_of tables.now) classes.now belows.now }
+    requires ready { AreReady tables.now classes.now belows.now }
     requires row { row < length tables.now.states }
     requires column { slice_get (row_at meeting.old.waiting row) at ≡ Some column }
     requires first { IsNodeOf (graph_of tables.now) classes.now row first.now }

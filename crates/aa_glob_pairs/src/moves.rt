@@ -10,7 +10,8 @@ ghost use Rattle.aa_glob_nfa.specs.Tables.{entry_behind, state_at};
 ghost use Rattle.aa_glob_pairs.specs.Bytes.{in_bytes, is_among};
 ghost use Rattle.aa_glob_nfa.specs.declared.state.Way.{Way};
 ghost use Rattle.aa_glob_pairs.specs.Graphs.{AreMoves};
-ghost use Rattle.aa_glob_pairs.specs.code.Gathered.{GetsLed, GetsStay, IsAway, IsOn};
+ghost use Rattle.aa_glob_pairs.specs.code.Gathered.{GetsLed, GetsStay};
+ghost use Rattle.aa_glob_nfa.specs.Tables.{LeadsAway, LeadsOn};
 
 use crate::bytes::Bytes;
 use aa_bytes::ByteMap;
@@ -67,7 +68,7 @@ pub fn put_moves(tables: &Tables, state: u32, moves: &mut Moves) -> Result<(), A
 fn lead_on(tables: &Tables, state: u32, moves: &mut Moves) -> Result<(), AllocError>
     requires sound { AreSound tables.now }
     requires is_state { state < length tables.now.states }
-    ensures { OnOk result (GetsLed (graph_of tables.now) moves.old moves.new (IsOn tables.now state)) }
+    ensures { OnOk result (GetsLed (graph_of tables.now) moves.old moves.new (LeadsOn tables.now.states state)) }
 {
     if tables.states.leads_on(state) {
         add(tables, state + 1, moves)
@@ -80,7 +81,7 @@ fn lead_on(tables: &Tables, state: u32, moves: &mut Moves) -> Result<(), AllocEr
 fn lead_away(tables: &Tables, state: u32, moves: &mut Moves) -> Result<(), AllocError>
     requires sound { AreSound tables.now }
     requires sorted { AreSorted tables.now }
-    ensures { OnOk result (GetsLed (graph_of tables.now) moves.old moves.new (IsAway tables.now.ways.items state)) }
+    ensures { OnOk result (GetsLed (graph_of tables.now) moves.old moves.new (LeadsAway tables.now.ways.items state)) }
 {
     for way in tables.ways_around(state) {
         add_if_from(tables, way, state, moves)?;

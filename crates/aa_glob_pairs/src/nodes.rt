@@ -1,9 +1,9 @@
 //! A state of a graph with what leads away from it and the patterns that end there, as lists.
 
-ghost use Rattle.std.specs.Prelude.{◌<◌, ℕ, length, OnOk};
-ghost use Rattle.aa_glob_nfa.specs.Graphs.{EndsAt};
-ghost use Rattle.aa_glob_nfa.specs.OfTables.{AreSorted, AreSound, graph_of};
+ghost use Rattle.std.specs.Prelude.{◌<◌, length, OnOk};
+ghost use Rattle.aa_glob_nfa.specs.OfTables.{graph_of};
 ghost use Rattle.aa_glob_pairs.specs.Graphs.{IsNodeOf};
+ghost use Rattle.aa_glob_pairs.specs.Pairs.{AreClassed};
 
 use crate::ends::{Ending, put_endings};
 use crate::moves::{Moves, put_moves};
@@ -34,9 +34,7 @@ pub fn put_node(
     state: u32,
     node: &mut Node,
 ) -> Result<(), AllocError>
-    requires sound { AreSound tables.now }
-    requires sorted { AreSorted tables.now }
-    requires classes { (q p : ℕ) → EndsAt (graph_of tables.now) q p → p < length classes.now }
+    requires classed { AreClassed tables.now classes.now }
     requires is_state { state < length tables.now.states }
     ensures { OnOk result (IsNodeOf (graph_of tables.now) classes.now state node.new) }
 {

@@ -1,14 +1,13 @@
--- Where a state leads, by the ways that lead on and by those of the table.
-use Rattle.std.proofs.Common.{◌≡◌, ◌≢◌, ℕ, ◌+◌, ◌<◌, ◌⊎◌, Bool, true, false, cond, List, [], ◌∷◌, ◌++◌, length, map, Option, Some, None, refl, sym, ◌∙◌, ap, subst, inl, inr, true≢false, arith}
-use Rattle.std.proofs.lemmas.Bool.{both_ways, eqb-true}
-use Rattle.std.proofs.lemmas.List.Elements.{All-contains, All-weaker, Contains-append_cases, Contains-append_left, Contains-append_right, Contains-push, Contains-push_cases}
-use Rattle.std.specs.Prelude.{All, Contains}
+-- Where a state leads, by the way that leads on and by those of the table.
+use Rattle.std.proofs.Common.{◌≡◌, ℕ, ◌+◌, ◌<◌, ◌⊎◌, Bool, true, false, cond, ◌==◌, ◌||◌, List, [], ◌∷◌, ◌++◌, length, Option, Some, None, refl, sym, ◌∙◌, ap, subst, inl, inr, true≢false, arith, eq-eqb}
+use Rattle.std.proofs.lemmas.Bool.{and_parts, both_ways, eqb-true}
+use Rattle.std.proofs.lemmas.List.Elements.{All-contains, Contains-append_left, Contains-push, Contains-push_cases}
 use Rattle.aa_glob_nfa.specs.Entries.{is_free, takes_if}
 use Rattle.aa_glob_nfa.specs.Graphs.{Graph, entry_of, Leads}
 use Rattle.aa_glob_run.specs.code.Fronts.{Live, with_state, Adds}
 use Rattle.aa_glob_nfa.specs.OfTables.{AreSound, graph_of}
-use Rattle.aa_glob_run.specs.code.Runs.{FollowsIf, is_byte, IsEntered, IsEnteredAmong, IsEnteredAway, IsEnteredBy, IsEnteredFrom, IsEnteredNext, StaysAt}
-use Rattle.aa_glob_nfa.specs.Tables.{by_of, entry_behind, IsAlong, IsWay, no_byte, set_of, state_at}
+use Rattle.aa_glob_run.specs.code.Runs.{Enters, FollowsIf, IsEntered, IsReady, StaysAt}
+use Rattle.aa_glob_nfa.specs.Tables.{AreLeaving, by_of, entry_behind, is_byte, IsWay, LeadsAway, LeadsOn, may_lead, no_byte, set_of, state_at}
 use Rattle.aa_bytes.specs.declared.byte_map.ByteMap.{ByteMap}
 use Rattle.aa_glob_nfa.specs.declared.entry.Entry.{Entry}
 use Rattle.aa_glob_nfa.specs.declared.entry.Entry.TheVariants.{Free as FreeEntry, Byte as ByteEntry, Inside as InsideEntry, Class as ClassEntry, Star as StarEntry, DoubleStar as DoubleStarEntry}
@@ -16,119 +15,13 @@ use Rattle.aa_glob_nfa.specs.declared.state.Gate.{Gate}
 use Rattle.aa_glob_nfa.specs.declared.state.Gate.TheVariants.{Free, Byte, Inside, Class, Star, DoubleStar}
 use Rattle.aa_glob_nfa.specs.declared.state.Way.{Way}
 use Rattle.aa_glob_nfa.specs.declared.tables.Tables.{Tables}
-use Rattle.aa_glob_run.proofs.FrontLemmas.{Adds-as, Adds-tested, Adds-then}
-use Rattle.aa_glob_nfa.proofs.ListLemmas.{some_same, Contains-cons_cases, Contains-first, Contains-map, Contains-map_cases}
-use Rattle.aa_glob_nfa.proofs.TableLemmas.{entry_of-graph_in, Leads-cases, Leads-on, Leads-way}
+use Rattle.aa_glob_run.proofs.FrontLemmas.{Adds-as, Adds-nothing, Adds-tested, Adds-then}
+use Rattle.aa_glob_nfa.proofs.LeavingLemmas.{away_among, leads_both}
+use Rattle.aa_glob_nfa.proofs.TableLemmas.{entry_of-graph_in}
 
--- one state more among which those whose entry passes a test are put into a front
-pub entered_more : (g : Graph) (test : Entry → Bool) (tos : List ℕ) (to : ℕ) (old mid new : Live) → Adds old mid (IsEnteredAmong g test tos)
-    → new ≡ cond (test (entry_of g to)) (with_state to mid) mid → Adds old new (IsEnteredAmong g test (tos ++ to ∷ []))
-entered_more g test tos to old mid new before is =
-    Adds-then old mid new (IsEnteredAmong g test tos) (λ x. (x ≡ to) × (test (entry_of g to) ≡ true)) (IsEnteredAmong g test (tos ++ to ∷ []))
-    before (Adds-tested to (test (entry_of g to)) mid new is)
-    (λ r kind. (Contains-append_left tos (to ∷ []) r kind.0, kind.1))
-    (λ r kind. (subst (λ x. Contains (tos ++ to ∷ []) x) (sym kind.0) (Contains-push tos to), ap (λ x. test (entry_of g x)) kind.0 ∙ kind.1))
-    (λ r kind. elim (Contains-push_cases tos to r kind.0) [
-      | inl early ↦ inl (early, kind.1)
-      | inr last ↦ inr (sym last, ap (λ x. test (entry_of g x)) last ∙ kind.1)
-    ])
-
--- the state behind another, if its entry passes a test
-pub entered_next : (t : Tables) (test : Entry → Bool) (q : ℕ) (old new : Live) → (state_at t.states q).leads_on ≡ true
-    → new ≡ cond (test (entry_of (graph_of t) (q + 1))) (with_state (q + 1) old) old → Adds old new (IsEnteredNext t test q)
-entered_next t test q old new on is =
-    let g = graph_of t in
-    Adds-as old new (λ x. (x ≡ q + 1) × (test (entry_of g (q + 1)) ≡ true)) (IsEnteredNext t test q)
-    (Adds-tested (q + 1) (test (entry_of g (q + 1))) old new is)
-    (λ r kind. (on, kind.0, ap (λ x. test (entry_of g x)) kind.0 ∙ kind.1))
-    (λ r kind. (kind.1, ap (λ x. test (entry_of g x)) (sym kind.1) ∙ kind.2))
-
--- nothing is entered by the table from a state without the flag
-pub none_away : (t : Tables) (test : Entry → Bool) (q : ℕ) → AreSound t → (state_at t.states q).leads_away ≡ false → (r : ℕ) → IsEnteredAway t test q r → ⊥
-none_away t test q sound off r kind =
-    let known = All-contains (IsWay t.states) t.ways.items kind.0.0 sound.each_way kind.0.1 in
-    both_ways _ off (sym (ap (λ x. (state_at t.states x).leads_away) kind.0.2) ∙ known.flagged)
-
--- what is entered from a state by some of the ways, among which are all that lead from it
-pub entered_away : (t : Tables) (test : Entry → Bool) (q : ℕ) (ways : List Way) (old new : Live)
-    → All (Contains t.ways.items) ways → ((way : Way) → Contains t.ways.items way → way.from ≡ q → Contains ways way)
-    → Adds old new (IsEnteredFrom (graph_of t) ways test q) → Adds old new (IsEnteredAway t test q)
-entered_away t test q ways old new only each adds =
-    Adds-as old new (IsEnteredFrom (graph_of t) ways test q) (IsEnteredAway t test q) adds
-    (λ r kind. ((kind.0.0, All-contains (Contains t.ways.items) ways kind.0.0 only kind.0.1, kind.0.2, kind.0.3), kind.1))
-    (λ r kind. ((kind.0.0, each kind.0.0 kind.0.1 kind.0.2, kind.0.2, kind.0.3), kind.1))
-
--- one way more by which states may be entered
-pub entered_from_more : (g : Graph) (test : Entry → Bool) (q : ℕ) (ways : List Way) (way : Way) (old mid new : Live)
-    → Adds old mid (IsEnteredFrom g ways test q) → Adds mid new (IsEnteredFrom g (way ∷ []) test q) → Adds old new (IsEnteredFrom g (ways ++ way ∷ []) test q)
-entered_from_more g test q ways way old mid new before more =
-    Adds-then old mid new (IsEnteredFrom g ways test q) (IsEnteredFrom g (way ∷ []) test q) (IsEnteredFrom g (ways ++ way ∷ []) test q) before more
-    (λ r kind. ((kind.0.0, Contains-append_left ways (way ∷ []) kind.0.0 kind.0.1, kind.0.2, kind.0.3), kind.1))
-    (λ r kind. ((kind.0.0, Contains-append_right ways (way ∷ []) kind.0.0 kind.0.1, kind.0.2, kind.0.3), kind.1))
-    (λ r kind. elim (Contains-append_cases ways (way ∷ []) kind.0.0 kind.0.1) [
-      | inl early ↦ inl ((kind.0.0, early, kind.0.2, kind.0.3), kind.1)
-      | inr last ↦ inr ((kind.0.0, last, kind.0.2, kind.0.3), kind.1)
-    ])
-
--- the way alone that leads from a state
-alone : (way other : Way) → Contains (way ∷ []) other → way ≡ other
-alone way other h = elim (Contains-cons_cases way [] other h) [ inl same ↦ same | inr none ↦ absurd (omega (arith, none.1)) ]
-
-pub entered_from_one : (g : Graph) (test : Entry → Bool) (q : ℕ) (way : Way) (old new : Live) → way.from ≡ q
-    → new ≡ cond (test (entry_of g way.to)) (with_state way.to old) old → Adds old new (IsEnteredFrom g (way ∷ []) test q)
-entered_from_one g test q way old new from is =
-    Adds-as old new (λ x. (x ≡ way.to) × (test (entry_of g way.to) ≡ true)) (IsEnteredFrom g (way ∷ []) test q)
-    (Adds-tested way.to (test (entry_of g way.to)) old new is)
-    (λ r kind. ((way, Contains-first way [], from, sym kind.0), ap (λ x. test (entry_of g x)) kind.0 ∙ kind.1))
-    (λ r kind.
-    let to : r ≡ way.to = sym kind.0.3 ∙ ap (λ w. w.to) (sym (alone way kind.0.0 kind.0.1)) in
-    (to, ap (λ x. test (entry_of g x)) (sym to) ∙ kind.1))
-
--- no way alone that leads from another state
-pub entered_from_other : (g : Graph) (test : Entry → Bool) (q : ℕ) (way : Way) → way.from ≢ q → (r : ℕ) → IsEnteredFrom g (way ∷ []) test q r → ⊥
-entered_from_other g test q way other r kind = other (ap (λ w. w.from) (alone way kind.0.0 kind.0.1) ∙ kind.0.2)
-
--- what is entered among those of some ways that have a number
-pub entered_along : (g : Graph) (ways : List Way) (test : Entry → Bool) (q by : ℕ) (part : List Way) (old new : Live)
-    → All (IsAlong ways q by) part → ((way : Way) → IsAlong ways q by way → Contains part way)
-    → Adds old new (IsEnteredAmong g test (map (λ w. w.to) part)) → Adds old new (IsEnteredBy g ways test by q)
-entered_along g ways test q by part old new only each adds =
-    Adds-as old new (IsEnteredAmong g test (map (λ w. w.to) part)) (IsEnteredBy g ways test by q) adds
-    (λ r kind.
-    let found = Contains-map_cases (λ w. w.to) part r kind.0 in
-    ((found.0, All-contains (IsAlong ways q by) part found.0 only found.1, found.2), kind.1))
-    (λ r kind. (subst (λ x. Contains (map (λ w. w.to) part) x) kind.0.2 (Contains-map (λ w. w.to) part kind.0.0 (each kind.0.0 kind.0.1)), kind.1))
-
--- ways of the table, and those of some that have a number
-pub known_ways : (t : Tables) (ways : List Way) → AreSound t → All (Contains t.ways.items) ways → All (IsWay t.states) ways
-known_ways t ways sound only =
-    All-weaker (Contains t.ways.items) (IsWay t.states) (λ way h. All-contains (IsWay t.states) t.ways.items way sound.each_way h) ways only
-
-pub known_along : (t : Tables) (q by : ℕ) (ways part : List Way) → All (IsWay t.states) ways → All (IsAlong ways q by) part → All (IsWay t.states) part
-known_along t q by ways part known only =
-    All-weaker (IsAlong ways q by) (IsWay t.states) (λ way along. All-contains (IsWay t.states) ways way known along.among) part only
-
--- what passes a test comes in along a way by no byte, or by the byte that comes
-abbrev pub ComesBy : (Entry → Bool) → Option ℕ → Type 0
-ComesBy test byte =
-    (gate : Gate) (set : ByteMap) → test (entry_behind gate set) ≡ true → (by_of gate ≡ no_byte) ⊎ ((c : ℕ) × (byte ≡ Some c) × (by_of gate ≡ c))
-
-pub comes_freely : (byte : Option ℕ) → ComesBy is_free byte
-comes_freely byte Free set h = inl refl
-comes_freely byte (Byte b) set h = absurd (true≢false (sym h))
-comes_freely byte Inside set h = inl refl
-comes_freely byte Class set h = inl refl
-comes_freely byte Star set h = inl refl
-comes_freely byte DoubleStar set h = inl refl
-
-pub comes_if : (byte : Option ℕ) → ComesBy (takes_if byte) byte
-comes_if None gate set h = absurd (true≢false (sym h))
-comes_if (Some c) Free set h = inl refl
-comes_if (Some c) (Byte b) set h = inr (c, refl, sym (eqb-true c b h))
-comes_if (Some c) Inside set h = inl refl
-comes_if (Some c) Class set h = inl refl
-comes_if (Some c) Star set h = inl refl
-comes_if (Some c) DoubleStar set h = inl refl
+-- a state is entered freely, or by the byte, if one comes
+abbrev IsOpen : Option ℕ → Entry → Type 0
+IsOpen byte entry = (is_free entry ≡ true) ⊎ (takes_if byte entry ≡ true)
 
 -- what comes in freely takes no byte
 pub free_takes_none : (entry : Entry) (byte : Option ℕ) → is_free entry ≡ true → takes_if byte entry ≡ false
@@ -140,104 +33,184 @@ free_takes_none (ClassEntry set) (Some c) h = absurd (true≢false (sym h))
 free_takes_none StarEntry (Some c) h = refl
 free_takes_none DoubleStarEntry (Some c) h = refl
 
--- a way by a byte leads to a state that this byte leads into
-own_byte : (gate : Gate) (set : ByteMap) → by_of gate ≢ no_byte → entry_behind gate set ≡ ByteEntry (by_of gate)
-own_byte Free set h = absurd (h refl)
-own_byte (Byte b) set h = refl
-own_byte Inside set h = absurd (h refl)
-own_byte Class set h = absurd (h refl)
-own_byte Star set h = absurd (h refl)
-own_byte DoubleStar set h = absurd (h refl)
+-- by which number a state is entered
+open_byte : (byte : Option ℕ) (b : ℕ) (set : ByteMap) → IsOpen byte (entry_behind (Byte b) set) → is_byte b byte ≡ true
+open_byte byte b set (inl free) = absurd (true≢false (sym free))
+open_byte None b set (inr takes) = absurd (true≢false (sym takes))
+open_byte (Some c) b set (inr takes) = takes
 
-pub entry_along : (t : Tables) (way : Way) → IsWay t.states way → way.by ≢ no_byte → entry_of (graph_of t) way.to ≡ ByteEntry way.by
-entry_along t way known other =
-    entry_of-graph_in t.states t.ways.items t.classes.items t.ends.items way.to known.to
-    ∙ own_byte (state_at t.states way.to).gate (set_of t.classes.items way.to) (λ h. other (known.by ∙ h))
-    ∙ ap ByteEntry (sym known.by)
+open_by : (byte : Option ℕ) (gate : Gate) (set : ByteMap) → IsOpen byte (entry_behind gate set) → (by_of gate == no_byte || is_byte (by_of gate) byte) ≡ true
+open_by byte Free set opens = refl
+open_by byte (Byte b) set opens = grind (arith, open_byte byte b set opens)
+open_by byte Inside set opens = refl
+open_by byte Class set opens = refl
+open_by byte Star set opens = refl
+open_by byte DoubleStar set opens = refl
 
-pub takes_own : (number : ℕ) (byte : Option ℕ) → takes_if byte (ByteEntry number) ≡ is_byte number byte
-takes_own number None = refl
-takes_own number (Some c) = refl
+-- a way to a state that is entered may lead there
+may_lead-open : (t : Tables) (q : ℕ) (byte : Option ℕ) (way : Way) → IsWay t.states way → way.from ≡ q → IsOpen byte (entry_of (graph_of t) way.to)
+    → may_lead q byte way ≡ true
+may_lead-open t q byte way known from opens =
+    let gate = (state_at t.states way.to).gate in
+    let set = set_of t.classes.items way.to in
+    let is : entry_of (graph_of t) way.to ≡ entry_behind gate set = entry_of-graph_in t.states t.ways.items t.classes.items t.ends.items way.to known.to in
+    rw (eq-eqb way.from q from, known.by) (open_by byte gate set (subst (λ entry. IsOpen byte entry) is opens))
 
--- by which way a state is entered from another
-pub entered_cases : (t : Tables) (test : Entry → Bool) (q r : ℕ) → IsEntered (graph_of t) test q r → IsEnteredNext t test q r ⊎ IsEnteredAway t test q r
-entered_cases t test q r entered =
-    elim (Leads-cases t.states t.ways.items t.classes.items t.ends.items q r entered.0) [
-      | inl on ↦ inl (on.1, on.2, entered.1)
-      | inr found ↦ inr (found, entered.1)
-    ]
+may_lead-from : (q : ℕ) (byte : Option ℕ) (way : Way) → may_lead q byte way ≡ true → way.from ≡ q
+may_lead-from q byte way h = eqb-true way.from q (and_parts (way.from == q) (way.by == no_byte || is_byte way.by byte) h).0
 
--- what is entered by either is entered
-pub IsEntered-next : (t : Tables) (test : Entry → Bool) (q r : ℕ) → q < length t.states → IsEnteredNext t test q r → IsEntered (graph_of t) test q r
-IsEntered-next t test q r within next =
-    (subst (λ x. Leads (graph_of t) q x) (sym next.1) (Leads-on t.states t.ways.items t.classes.items t.ends.items q within next.0), next.2)
+-- what a visit needs is there still when states were entered
+pub still_ready : (t : Tables) (byte : Option ℕ) (Kind : ℕ → Type 0) (here there next later : Live) → IsReady t here next → Enters (graph_of t) byte Kind here there next later
+    → IsReady t there later
+still_ready t byte Kind here there next later ready entered = record {
+  sound = ready.sound;
+  sorted = ready.sorted;
+  room = entered.freely.room ∙ ready.room;
+  next_room = entered.by_it.room ∙ ready.next_room;
+}
 
-pub IsEntered-away : (t : Tables) (test : Entry → Bool) (q r : ℕ) → IsEnteredAway t test q r → IsEntered (graph_of t) test q r
-IsEntered-away t test q r entered =
-    let way = entered.0.0 in
-    let leads : Leads (graph_of t) way.from way.to = Leads-way t.states t.ways.items t.classes.items t.ends.items way entered.0.1 in
-    (subst (λ x. Leads (graph_of t) q x) entered.0.3 (subst (λ x. Leads (graph_of t) x way.to) entered.0.2 leads), entered.1)
+-- no state is entered of a kind of which none is open
+enters_nothing : (g : Graph) (byte : Option ℕ) (Kind : ℕ → Type 0) (here next : Live) → ((r : ℕ) → Kind r → IsOpen byte (entry_of g r) → ⊥)
+    → Enters g byte Kind here here next next
+enters_nothing g byte Kind here next none = record {
+  freely = Adds-nothing here (λ r. Kind r × (is_free (entry_of g r) ≡ true)) (λ r kind. none r kind.0 (inl kind.1));
+  by_it = Adds-nothing next (λ r. Kind r × (takes_if byte (entry_of g r) ≡ true)) (λ r kind. none r kind.0 (inr kind.1));
+}
 
--- what is added by the way that leads on, and by those of the table
-pub Adds-lead : (t : Tables) (test : Entry → Bool) (q : ℕ) (old mid new : Live) → q < length t.states
-    → Adds old mid (IsEnteredNext t test q) → Adds mid new (IsEnteredAway t test q) → Adds old new (IsEntered (graph_of t) test q)
-Adds-lead t test q old mid new within on away =
-    Adds-then old mid new (IsEnteredNext t test q) (IsEnteredAway t test q) (IsEntered (graph_of t) test q) on away
-    (λ r next. IsEntered-next t test q r within next)
-    (λ r kind. IsEntered-away t test q r kind)
-    (λ r kind. entered_cases t test q r kind)
+-- the same states by another kind
+enters_as : (g : Graph) (byte : Option ℕ) (Kind Other : ℕ → Type 0) (here there next later : Live) → Enters g byte Kind here there next later
+    → ((r : ℕ) → Kind r → Other r) → ((r : ℕ) → Other r → IsOpen byte (entry_of g r) → Kind r) → Enters g byte Other here there next later
+enters_as g byte Kind Other here there next later entered to from = record {
+  freely = Adds-as here there (λ r. Kind r × (is_free (entry_of g r) ≡ true)) (λ r. Other r × (is_free (entry_of g r) ≡ true)) entered.freely
+      (λ r kind. (to r kind.0, kind.1)) (λ r other. (from r other.0 (inl other.1), other.1));
+  by_it = Adds-as next later (λ r. Kind r × (takes_if byte (entry_of g r) ≡ true)) (λ r. Other r × (takes_if byte (entry_of g r) ≡ true)) entered.by_it
+      (λ r kind. (to r kind.0, kind.1)) (λ r other. (from r other.0 (inr other.1), other.1));
+}
 
-none_same : (c : ℕ) → None ≡ Some c → ⊥
-none_same c e = cc
+-- states of two kinds, one behind the other
+then_of : (g : Graph) (test : Entry → Bool) (First Second Both : ℕ → Type 0) (old mid new : Live)
+    → Adds old mid (λ r. First r × (test (entry_of g r) ≡ true)) → Adds mid new (λ r. Second r × (test (entry_of g r) ≡ true))
+    → ((r : ℕ) → First r → Both r) → ((r : ℕ) → Second r → Both r) → ((r : ℕ) → Both r → test (entry_of g r) ≡ true → First r ⊎ Second r)
+    → Adds old new (λ r. Both r × (test (entry_of g r) ≡ true))
+then_of g test First Second Both old mid new one two first second cases =
+    Adds-then old mid new (λ r. First r × (test (entry_of g r) ≡ true)) (λ r. Second r × (test (entry_of g r) ≡ true)) (λ r. Both r × (test (entry_of g r) ≡ true)) one two
+    (λ r kind. (first r kind.0, kind.1))
+    (λ r kind. (second r kind.0, kind.1))
+    (λ r kind. elim (cases r kind.0 kind.1) [ inl early ↦ inl (early, kind.1) | inr late ↦ inr (late, kind.1) ])
 
--- what is entered by a number among some of the ways is entered by one of the table
-away_by : (t : Tables) (test : Entry → Bool) (q by r : ℕ) (ways : List Way) → All (Contains t.ways.items) ways
-    → IsEnteredBy (graph_of t) ways test by q r → IsEnteredAway t test q r
-away_by t test q by r ways only kind =
-    ((kind.0.0, All-contains (Contains t.ways.items) ways kind.0.0 only kind.0.1.among, kind.0.1.from, kind.0.2), kind.1)
+enters_then : (g : Graph) (byte : Option ℕ) (First Second Both : ℕ → Type 0) (here there yonder next later latest : Live)
+    → Enters g byte First here there next later → Enters g byte Second there yonder later latest
+    → ((r : ℕ) → First r → Both r) → ((r : ℕ) → Second r → Both r) → ((r : ℕ) → Both r → IsOpen byte (entry_of g r) → First r ⊎ Second r)
+    → Enters g byte Both here yonder next latest
+enters_then g byte First Second Both here there yonder next later latest one two first second cases = record {
+  freely = then_of g is_free First Second Both here there yonder one.freely two.freely first second (λ r kind free. cases r kind (inl free));
+  by_it = then_of g (takes_if byte) First Second Both next later latest one.by_it two.by_it first second (λ r kind takes. cases r kind (inr takes));
+}
 
--- by which number a state is entered by one of the table
-away_cases : (t : Tables) (test : Entry → Bool) (byte : Option ℕ) (q r : ℕ) (ways : List Way) → ComesBy test byte → AreSound t
-    → ((way : Way) → Contains t.ways.items way → way.from ≡ q → Contains ways way) → IsEnteredAway t test q r
-    → IsEnteredBy (graph_of t) ways test no_byte q r ⊎ ((c : ℕ) × (byte ≡ Some c) × IsEnteredBy (graph_of t) ways test c q r)
-away_cases t test byte q r ways comes sound each kind =
-    let way = kind.0.0 in
-    let known = All-contains (IsWay t.states) t.ways.items way sound.each_way kind.0.1 in
-    let is : entry_of (graph_of t) r ≡ entry_behind (state_at t.states way.to).gate (set_of t.classes.items way.to) =
-    ap (entry_of (graph_of t)) (sym kind.0.3) ∙ entry_of-graph_in t.states t.ways.items t.classes.items t.ends.items way.to known.to in
-    let among = each way kind.0.1 kind.0.2 in
-    elim (comes (state_at t.states way.to).gate (set_of t.classes.items way.to) (ap test (sym is) ∙ kind.1)) [
-      | inl none ↦ inl ((way, record { among = among; from = kind.0.2; by_it = known.by ∙ none }, kind.0.3), kind.1)
-      | inr own ↦ inr (own.0, own.1, ((way, record { among = among; from = kind.0.2; by_it = known.by ∙ own.2 }, kind.0.3), kind.1))
-    ]
+-- one state, if it is entered
+tested : (g : Graph) (test : Entry → Bool) (number : ℕ) (old new : Live) → new ≡ cond (test (entry_of g number)) (with_state number old) old
+    → Adds old new (λ r. (r ≡ number) × (test (entry_of g r) ≡ true))
+tested g test number old new is =
+    Adds-as old new (λ r. (r ≡ number) × (test (entry_of g number) ≡ true)) (λ r. (r ≡ number) × (test (entry_of g r) ≡ true))
+    (Adds-tested number (test (entry_of g number)) old new is)
+    (λ r kind. (kind.0, ap (λ x. test (entry_of g x)) kind.0 ∙ kind.1))
+    (λ r kind. (kind.0, ap (λ x. test (entry_of g x)) (sym kind.0) ∙ kind.1))
 
--- what is added by number: by those without a byte, and by those of the byte that comes
-pub Adds-by_number : (t : Tables) (test : Entry → Bool) (byte : Option ℕ) (c q : ℕ) (ways : List Way) (old mid new : Live) → ComesBy test byte → byte ≡ Some c
-    → AreSound t → All (Contains t.ways.items) ways → ((way : Way) → Contains t.ways.items way → way.from ≡ q → Contains ways way)
-    → Adds old mid (IsEnteredBy (graph_of t) ways test no_byte q) → Adds mid new (IsEnteredBy (graph_of t) ways test c q)
-    → Adds old new (IsEnteredAway t test q)
-Adds-by_number t test byte c q ways old mid new comes is sound only each other own =
-    Adds-then old mid new (IsEnteredBy (graph_of t) ways test no_byte q) (IsEnteredBy (graph_of t) ways test c q) (IsEnteredAway t test q) other own
-    (λ r kind. away_by t test q no_byte r ways only kind)
-    (λ r kind. away_by t test q c r ways only kind)
-    (λ r kind. elim (away_cases t test byte q r ways comes sound each kind) [
-      | inl none ↦ inl none
-      | inr found ↦
-          let same : found.0 ≡ c = sym (some_same c found.0 (sym is ∙ found.1)) in
-          inr (subst (λ b. IsEnteredBy (graph_of t) ways test b q r) same found.2)
+one_of : (g : Graph) (byte : Option ℕ) (number : ℕ) (here there next later : Live) → there ≡ cond (is_free (entry_of g number)) (with_state number here) here
+    → later ≡ cond (takes_if byte (entry_of g number)) (with_state number next) next → Enters g byte (λ r. r ≡ number) here there next later
+one_of g byte number here there next later is_here is_next = record {
+  freely = tested g is_free number here there is_here;
+  by_it = tested g (takes_if byte) number next later is_next;
+}
+
+pub one_freely : (g : Graph) (byte : Option ℕ) (number : ℕ) (here there next : Live) → is_free (entry_of g number) ≡ true → there ≡ with_state number here
+    → Enters g byte (λ r. r ≡ number) here there next next
+one_freely g byte number here there next free is =
+    one_of g byte number here there next next (rw free is) (rw (free_takes_none (entry_of g number) byte free) refl)
+
+pub one_by_it : (g : Graph) (byte : Option ℕ) (number : ℕ) (here next later : Live) → is_free (entry_of g number) ≡ false → takes_if byte (entry_of g number) ≡ true
+    → later ≡ with_state number next → Enters g byte (λ r. r ≡ number) here here next later
+one_by_it g byte number here next later not takes is = one_of g byte number here here next later (rw not refl) (rw takes is)
+
+pub one_not : (g : Graph) (byte : Option ℕ) (number : ℕ) (here next : Live) → is_free (entry_of g number) ≡ false → takes_if byte (entry_of g number) ≡ false
+    → Enters g byte (λ r. r ≡ number) here here next next
+one_not g byte number here next not takes = one_of g byte number here here next next (rw not refl) (rw takes refl)
+
+-- the state that a way leads on to, and none where no way leads on
+pub enters_on : (t : Tables) (byte : Option ℕ) (q : ℕ) (here there next later : Live) → (state_at t.states q).leads_on ≡ true
+    → Enters (graph_of t) byte (λ r. r ≡ q + 1) here there next later → Enters (graph_of t) byte (LeadsOn t.states q) here there next later
+enters_on t byte q here there next later on one =
+    enters_as (graph_of t) byte (λ r. r ≡ q + 1) (LeadsOn t.states q) here there next later one (λ r same. (on, same)) (λ r kind opens. kind.1)
+
+pub none_on : (t : Tables) (byte : Option ℕ) (q : ℕ) (here next : Live) → (state_at t.states q).leads_on ≡ false
+    → Enters (graph_of t) byte (LeadsOn t.states q) here here next next
+none_on t byte q here next off = enters_nothing (graph_of t) byte (LeadsOn t.states q) here next (λ r kind opens. both_ways _ off kind.0)
+
+-- no state is entered by the table from one without the flag
+pub none_away : (t : Tables) (byte : Option ℕ) (q : ℕ) (here next : Live) → AreSound t → (state_at t.states q).leads_away ≡ false
+    → Enters (graph_of t) byte (LeadsAway t.ways.items q) here here next next
+none_away t byte q here next sound off =
+    enters_nothing (graph_of t) byte (LeadsAway t.ways.items q) here next
+    (λ r kind opens.
+    let known = All-contains (IsWay t.states) t.ways.items kind.0 sound.each_way kind.1 in
+    both_ways _ off (sym (ap (λ x. (state_at t.states x).leads_away) kind.2) ∙ known.flagged))
+
+-- no states by no ways, and one way more: it leads from the state, or to none that is entered
+pub none_yet : (t : Tables) (byte : Option ℕ) (q : ℕ) (here next : Live) → Enters (graph_of t) byte (LeadsAway [] q) here here next next
+none_yet t byte q here next = enters_nothing (graph_of t) byte (LeadsAway [] q) here next (λ r kind opens. omega (arith, kind.1.1))
+
+pub one_more : (t : Tables) (byte : Option ℕ) (q : ℕ) (ways : List Way) (way : Way) (here there yonder next later latest : Live) → may_lead q byte way ≡ true
+    → Enters (graph_of t) byte (LeadsAway ways q) here there next later → Enters (graph_of t) byte (λ r. r ≡ way.to) there yonder later latest
+    → Enters (graph_of t) byte (LeadsAway (ways ++ way ∷ []) q) here yonder next latest
+one_more t byte q ways way here there yonder next later latest leads before one =
+    let from = may_lead-from q byte way leads in
+    enters_then (graph_of t) byte (LeadsAway ways q) (λ r. r ≡ way.to) (LeadsAway (ways ++ way ∷ []) q) here there yonder next later latest before one
+    (λ r kind. (kind.0, Contains-append_left ways (way ∷ []) kind.0 kind.1, kind.2, kind.3))
+    (λ r same. (way, Contains-push ways way, from, sym same))
+    (λ r kind opens. elim (Contains-push_cases ways way kind.0 kind.1) [
+      | inl early ↦ inl (kind.0, early, kind.2, kind.3)
+      | inr last ↦ inr (sym kind.3 ∙ ap (λ w. w.to) (sym last))
     ])
 
--- the same where no byte comes
-pub Adds-by_none : (t : Tables) (test : Entry → Bool) (byte : Option ℕ) (q : ℕ) (ways : List Way) (old new : Live) → ComesBy test byte → byte ≡ None
-    → AreSound t → All (Contains t.ways.items) ways → ((way : Way) → Contains t.ways.items way → way.from ≡ q → Contains ways way)
-    → Adds old new (IsEnteredBy (graph_of t) ways test no_byte q) → Adds old new (IsEnteredAway t test q)
-Adds-by_none t test byte q ways old new comes is sound only each adds =
-    Adds-as old new (IsEnteredBy (graph_of t) ways test no_byte q) (IsEnteredAway t test q) adds
-    (λ r kind. away_by t test q no_byte r ways only kind)
-    (λ r kind. elim (away_cases t test byte q r ways comes sound each kind) [
-      | inl none ↦ none
-      | inr found ↦ absurd (none_same found.0 (sym is ∙ found.1))
+pub none_more : (t : Tables) (byte : Option ℕ) (q : ℕ) (ways : List Way) (way : Way) (here there next later : Live) → IsWay t.states way → may_lead q byte way ≡ false
+    → Enters (graph_of t) byte (LeadsAway ways q) here there next later → Enters (graph_of t) byte (LeadsAway (ways ++ way ∷ []) q) here there next later
+none_more t byte q ways way here there next later known not before =
+    enters_as (graph_of t) byte (LeadsAway ways q) (LeadsAway (ways ++ way ∷ []) q) here there next later before
+    (λ r kind. (kind.0, Contains-append_left ways (way ∷ []) kind.0 kind.1, kind.2, kind.3))
+    (λ r kind opens. elim (Contains-push_cases ways way kind.0 kind.1) [
+      | inl early ↦ (kind.0, early, kind.2, kind.3)
+      | inr last ↦
+          let from : way.from ≡ q = ap (λ w. w.from) last ∙ kind.2 in
+          let to : way.to ≡ r = ap (λ w. w.to) last ∙ kind.3 in
+          let enters : IsOpen byte (entry_of (graph_of t) way.to) = subst (λ x. IsOpen byte (entry_of (graph_of t) x)) (sym to) opens in
+          absurd (both_ways _ not (may_lead-open t q byte way known from enters))
     ])
+
+-- what is entered by both parts of those that lead from the state
+pub enters_away : (t : Tables) (byte : Option ℕ) (q : ℕ) (any own : List Way) (here there yonder next later latest : Live) → AreSound t → AreLeaving t.ways.items q byte any own
+    → Enters (graph_of t) byte (LeadsAway any q) here there next later → Enters (graph_of t) byte (LeadsAway own q) there yonder later latest
+    → Enters (graph_of t) byte (LeadsAway t.ways.items q) here yonder next latest
+enters_away t byte q any own here there yonder next later latest sound leaving one two =
+    enters_then (graph_of t) byte (LeadsAway any q) (LeadsAway own q) (LeadsAway t.ways.items q) here there yonder next later latest one two
+    (λ r. away_among t.ways.items any q r leaving.only_any)
+    (λ r. away_among t.ways.items own q r leaving.only_own)
+    (λ r kind opens.
+    let known = All-contains (IsWay t.states) t.ways.items kind.0 sound.each_way kind.1 in
+    let enters : IsOpen byte (entry_of (graph_of t) kind.0.to) = subst (λ x. IsOpen byte (entry_of (graph_of t) x)) (sym kind.3) opens in
+    elim (leaving.each kind.0 kind.1 (may_lead-open t q byte kind.0 known kind.2 enters)) [
+      | inl among ↦ inl (kind.0, among, kind.2, kind.3)
+      | inr among ↦ inr (kind.0, among, kind.2, kind.3)
+    ])
+
+-- what is entered by the way that leads on, and by those of the table
+pub enters_all : (t : Tables) (byte : Option ℕ) (q : ℕ) (here there yonder next later latest : Live) → q < length t.states
+    → Enters (graph_of t) byte (LeadsOn t.states q) here there next later → Enters (graph_of t) byte (LeadsAway t.ways.items q) there yonder later latest
+    → Enters (graph_of t) byte (Leads (graph_of t) q) here yonder next latest
+enters_all t byte q here there yonder next later latest within on away =
+    enters_then (graph_of t) byte (LeadsOn t.states q) (LeadsAway t.ways.items q) (Leads (graph_of t) q) here there yonder next later latest on away
+    (λ r kind. (leads_both t q r within).1 (inl kind))
+    (λ r kind. (leads_both t q r within).1 (inr kind))
+    (λ r leads opens. (leads_both t q r within).0 leads)
 
 -- what follows behind a byte: what it leads into, and the state itself if it stays
 pub follows_some : (g : Graph) (byte : Option ℕ) (c q : ℕ) (old mid new : Live) → byte ≡ Some c → Adds old mid (IsEntered g (takes_if byte) q)

@@ -1,6 +1,5 @@
 -- How much work a run was. A step is the visit of one state at one place of a text.
 use Rattle.std.specs.Prelude.{◌≡◌, ℕ, zero, suc, ◌+◌, ◌-◌, ◌*◌, ◌^◌, ◌≤◌, List, length, min}
-use Rattle.aa_glob_nfa.specs.Graphs.{Graph}
 
 -- the greatest count that is told
 abbrev pub most_steps : ℕ
@@ -15,6 +14,6 @@ counted old (suc steps) = min (old + suc steps) most_steps
 abbrev pub IsCounted : ℕ → ℕ → ℕ → ℕ → Type 0
 IsCounted least most old new = (steps : ℕ) × (least ≤ steps) × (steps ≤ most) × (new ≡ counted old steps)
 
--- each state may be visited once before each byte of a text, and once at its end
-abbrev pub most_visits : Graph → List ℕ → ℕ
-most_visits g text = (length text + 1) * length g.entries
+-- how many visits a text takes at most where there are so many states: each may be visited once before each byte, and once at the end
+abbrev pub most_visits : List ℕ → ℕ → ℕ
+most_visits text states = (length text + 1) * states

@@ -1,7 +1,7 @@
 //! A run over a text, from its first byte to its last: which states are reached.
 
-ghost use Rattle.std.specs.Prelude.{◌≡◌, ◌+◌, ◌*◌, [], length, reverse, OnErr, OnOk};
-ghost use Rattle.aa_glob_run.specs.Steps.{counted, IsCounted};
+ghost use Rattle.std.specs.Prelude.{◌≡◌, [], length, reverse, OnErr, OnOk};
+ghost use Rattle.aa_glob_run.specs.Steps.{counted, IsCounted, most_visits};
 ghost use Rattle.aa_glob_run.specs.Visits.{CountsAllVisits, CountsFirstVisits};
 ghost use Rattle.aa_glob_nfa.specs.Graphs.{Reaches};
 ghost use Rattle.aa_glob_nfa.specs.OfTables.{AreSound, AreSorted, graph_of};
@@ -28,8 +28,8 @@ pub fn run(
     requires next { next.old ≡ record { states = []; room = length tables.now.states } }
     ensures whole { OnOk result (IsWhole (graph_of tables.now) (reverse text.now) here.new.states) }
     ensures room { OnOk result (here.new.room ≡ length tables.now.states) }
-    ensures steps { IsCounted 0 ((length text.now + 1) * length tables.now.states) steps.old steps.new }
-    ensures visits { OnOk result (IsCounted 1 ((length text.now + 1) * length tables.now.states) steps.old steps.new) }
+    ensures steps { IsCounted 0 (most_visits text.now (length tables.now.states)) steps.old steps.new }
+    ensures visits { OnOk result (IsCounted 1 (most_visits text.now (length tables.now.states)) steps.old steps.new) }
     ensures all { OnOk result (CountsAllVisits (Reaches (graph_of tables.now)) text.now steps.old steps.new) }
     ensures first { CountsFirstVisits (Reaches (graph_of tables.now)) text.now steps.old steps.new }
 {

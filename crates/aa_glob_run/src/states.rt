@@ -97,8 +97,8 @@ impl States {
     ) -> Result<Vec<usize>, AllocError>
         ensures found { IfOk result (λ patterns. IsFound self.now text.now patterns.items) }
         ensures rise { IfOk result (λ patterns. IsStrictlyIncreasing patterns.items) }
-        ensures steps { IsCounted 0 (most_visits self.now text.now) steps.old steps.new }
-        ensures visits { OnOk result (IsCounted 1 (most_visits self.now text.now) steps.old steps.new) }
+        ensures steps { IsCounted 0 (most_visits text.now (length self.now.entries)) steps.old steps.new }
+        ensures visits { OnOk result (IsCounted 1 (most_visits text.now (length self.now.entries)) steps.old steps.new) }
         ensures all { OnOk result (CountsAllVisits (Reaches self.now) text.now steps.old steps.new) }
         ensures first { CountsFirstVisits (Reaches self.now) text.now steps.old steps.new }
     {

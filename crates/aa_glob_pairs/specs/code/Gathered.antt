@@ -1,10 +1,7 @@
 -- Moves and ends that are gathered one after the other.
-use Rattle.std.specs.Prelude.{◌≡◌, ◌↔◌, ◌⊎◌, ℕ, ◌+◌, ◌^◌, ◌<◌, true, Contains, List}
+use Rattle.std.specs.Prelude.{◌≡◌, ◌↔◌, ◌⊎◌, ℕ, ◌^◌, ◌<◌, Contains, List}
 use Rattle.aa_glob_nfa.specs.Graphs.{Graph, IsFree, Stays, Takes}
-use Rattle.aa_glob_nfa.specs.Tables.{state_at}
 use Rattle.aa_glob_nfa.specs.declared.state.End.{End}
-use Rattle.aa_glob_nfa.specs.declared.state.Way.{Way}
-use Rattle.aa_glob_nfa.specs.declared.tables.Tables.{Tables}
 use Rattle.aa_glob_pairs.specs.Graphs.{class_at}
 use Rattle.aa_glob_pairs.specs.Nodes.{HasStep}
 use Rattle.aa_glob_pairs.specs.declared.ends.Ending.{Ending}
@@ -22,14 +19,6 @@ GetsLed g old new Led = Gets old new (λ x. Led x × IsFree g x) (λ c x. Led x 
 -- moves got those that leave a state as it is
 abbrev pub GetsStay : Graph → Moves → Moves → ℕ → Type 0
 GetsStay g old new q = Gets old new (λ x. ⊥) (λ c x. (x ≡ q) × Stays g q c)
-
--- the way that leads on from a state leads to another
-abbrev pub IsOn : Tables → ℕ → ℕ → Type 0
-IsOn t q x = ((state_at t.states q).leads_on ≡ true) × (x ≡ q + 1)
-
--- one of some ways leads from a state to another
-abbrev pub IsAway : List Way → ℕ → ℕ → Type 0
-IsAway ways q x = (way : Way) × Contains ways way × (way.from ≡ q) × (way.to ≡ x)
 
 -- the patterns of some ends are told, with their classes
 abbrev pub AreTold : List ℕ → List End → List Ending → Type 0

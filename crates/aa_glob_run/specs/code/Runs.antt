@@ -1,13 +1,11 @@
 -- How far a run over a text has come: which states are known to live behind what was read.
-use Rattle.std.specs.Prelude.{◌≡◌, ◌⊎◌, ℕ, ◌+◌, ◌*◌, ◌<◌, ◌≤◌, Bool, true, false, ◌==◌, List, [], ◌∷◌, length, Contains, All, Option, Some, None, slice_get}
+use Rattle.std.specs.Prelude.{◌≡◌, ◌⊎◌, ℕ, ◌*◌, ◌<◌, ◌≤◌, Bool, true, List, [], ◌∷◌, length, Contains, All, Option, Some, None, slice_get}
 use Rattle.aa_glob_nfa.specs.Entries.{is_free, takes_if}
 use Rattle.aa_glob_run.specs.Steps.{counted}
 use Rattle.aa_glob_nfa.specs.Graphs.{Graph, entry_of, Leads, Stays, Reaches}
-use Rattle.aa_glob_run.specs.code.Fronts.{AreDistinct, Live}
-use Rattle.aa_glob_nfa.specs.OfTables.{graph_of}
-use Rattle.aa_glob_nfa.specs.Tables.{state_at, IsAlong}
+use Rattle.aa_glob_run.specs.code.Fronts.{Adds, AreDistinct, Live}
+use Rattle.aa_glob_nfa.specs.OfTables.{AreSorted, AreSound}
 use Rattle.aa_glob_nfa.specs.declared.entry.Entry.{Entry}
-use Rattle.aa_glob_nfa.specs.declared.state.Way.{Way}
 use Rattle.aa_glob_nfa.specs.declared.tables.Tables.{Tables}
 
 -- the list has those states alone that are reached behind a text
@@ -18,34 +16,21 @@ AreReached g past live = All (Reaches g past) live
 abbrev pub HasReached : Graph → List ℕ → List ℕ → Type 0
 HasReached g past live = (r : ℕ) → Reaches g past r → Contains live r
 
--- a number is that of the byte, if there is one
-abbrev pub is_byte : ℕ → Option ℕ → Bool
-is_byte number None = false
-is_byte number (Some c) = c == number
-
 -- a state is entered from the state q, if its entry passes a test
 abbrev pub IsEntered : Graph → (Entry → Bool) → ℕ → ℕ → Type 0
 IsEntered g test q r = Leads g q r × (test (entry_of g r) ≡ true)
 
--- a state whose entry passes a test is among these
-abbrev pub IsEnteredAmong : Graph → (Entry → Bool) → List ℕ → ℕ → Type 0
-IsEnteredAmong g test targets r = Contains targets r × (test (entry_of g r) ≡ true)
+-- of states of a kind a list got those that are entered freely, and the next list those that are entered by the byte, if one comes
+pub record Enters (g : Graph) (byte : Option ℕ) (Kind : ℕ → Type 0) (here here_now next next_now : Live) : Type 0 where
+  pub freely : Adds here here_now (λ r. Kind r × (is_free (entry_of g r) ≡ true))
+  pub by_it : Adds next next_now (λ r. Kind r × (takes_if byte (entry_of g r) ≡ true))
 
--- a state whose entry passes a test is entered by the way that leads on from the state q
-abbrev pub IsEnteredNext : Tables → (Entry → Bool) → ℕ → ℕ → Type 0
-IsEnteredNext t test q r = ((state_at t.states q).leads_on ≡ true) × (r ≡ q + 1) × (test (entry_of (graph_of t) r) ≡ true)
-
--- a state whose entry passes a test is entered from the state q by one of these ways by this number
-abbrev pub IsEnteredBy : Graph → List Way → (Entry → Bool) → ℕ → ℕ → ℕ → Type 0
-IsEnteredBy g ways test by q r = ((way : Way) × IsAlong ways q by way × (way.to ≡ r)) × (test (entry_of g r) ≡ true)
-
--- a state whose entry passes a test is entered from the state q by one of these ways
-abbrev pub IsEnteredFrom : Graph → List Way → (Entry → Bool) → ℕ → ℕ → Type 0
-IsEnteredFrom g ways test q r = ((way : Way) × Contains ways way × (way.from ≡ q) × (way.to ≡ r)) × (test (entry_of g r) ≡ true)
-
--- a state whose entry passes a test is entered from the state q by a way of the table
-abbrev pub IsEnteredAway : Tables → (Entry → Bool) → ℕ → ℕ → Type 0
-IsEnteredAway t test q r = IsEnteredFrom (graph_of t) t.ways.items test q r
+-- what a visit needs: tables that are sound and in order, and lists that have room for all states
+pub record IsReady (t : Tables) (here next : Live) : Type 0 where
+  pub sound : AreSound t
+  pub sorted : AreSorted t
+  pub room : here.room ≡ length t.states
+  pub next_room : next.room ≡ length t.states
 
 -- a state is q, and stays when the byte comes
 abbrev pub StaysAt : Graph → ℕ → ℕ → ℕ → Type 0

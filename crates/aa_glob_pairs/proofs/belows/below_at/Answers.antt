@@ -12,13 +12,13 @@ pub of_ends-below-requires : goal.of_ends-below-requires
 of_ends-below-requires c =
     let t = c.args.tables.now in
     All-weaker (λ (e : End). Contains t.ends.items e × (e.state ≡ c.args.state)) (λ (e : End). e.pattern < length c.args.classes.now)
-    (λ e at. c.requires.classes c.args.state e.pattern (end_is t c.args.state e at.0 at.1)) c.ends_of.result.now c.ends_of.ensures.only
+    (λ e at. c.requires.classed.each_pattern c.args.state e.pattern (end_is t c.args.state e at.0 at.1)) c.ends_of.result.now c.ends_of.ensures.only
 
 pub beside_ways-requires : goal.beside_ways-requires
 beside_ways-requires c =
     let t = c.args.tables.now in
     All-weaker (Contains t.ways.items) (λ (way : Way). way.to < length c.args.belows.now)
-    (λ way h. subst (λ n. way.to < n) (sym c.requires.room) (All-contains (IsWay t.states) t.ways.items way c.requires.sound.each_way h).to) c.ways_around.result.now c.ways_around.ensures.only
+    (λ way h. subst (λ n. way.to < n) (sym c.requires.room) (All-contains (IsWay t.states) t.ways.items way c.requires.classed.sound.each_way h).to) c.ways_around.result.now c.ways_around.ensures.only
 
 pub returns : goal.returns
 returns c =

@@ -4,7 +4,7 @@ use Rattle.std.specs.Prelude.{slice_index_or}
 use Rattle.aa_glob_nfa.specs.declared.state.Way.{Way}
 use Rattle.aa_glob_pairs.proofs.BelowLemmas.{includes_more}
 use Rattle.aa_glob_pairs.specs.Below.{Includes}
-use Rattle.aa_glob_pairs.specs.code.Gathered.{IsAway}
+use Rattle.aa_glob_nfa.specs.Tables.{LeadsAway}
 use Rattle.aa_glob_pairs.specs.declared.below.Below.TheVariants.{Nothing}
 use Rattle.aa_glob_pairs.proofs.belows.beside_ways.Goals as goal
 
@@ -17,4 +17,4 @@ loop-way-preserved c = record {
 pub returns-clause-away : goal.returns-clause-away
 returns-clause-away c =
     let end : length c.args.ways.now ≤ c.loop-way.way-index = omega arith in
-    subst (λ (l : List Way). (x : ℕ) → IsAway l c.args.state x → Includes c.loop-way.all (slice_index_or c.args.belows.now x Nothing)) (take_all c.loop-way.way-index c.args.ways.now end) c.loop-way.invariant.each
+    subst (λ (l : List Way). (x : ℕ) → LeadsAway l c.args.state x → Includes c.loop-way.all (slice_index_or c.args.belows.now x Nothing)) (take_all c.loop-way.way-index c.args.ways.now end) c.loop-way.invariant.each

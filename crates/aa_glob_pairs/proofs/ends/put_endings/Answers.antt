@@ -10,7 +10,7 @@ loop-end-init c = told_none c.args.classes.now c.clear.new.self.items c.clear.en
 
 pub bounds-classes-end : goal.bounds-classes-end
 bounds-classes-end c =
-    c.requires.classes c.args.state _ (end_among c.args.tables.now c.args.state c.loop-end.end-index c.ends_of-end-items.result.now _ c.ends_of-end-items.ensures.only c.loop-end-test.true)
+    c.requires.classed.each_pattern c.args.state _ (end_among c.args.tables.now c.args.state c.loop-end.end-index c.ends_of-end-items.result.now _ c.ends_of-end-items.ensures.only c.loop-end-test.true)
 
 pub loop-end-preserved : goal.loop-end-preserved
 loop-end-preserved c =

@@ -14,7 +14,7 @@ index-requires c =
     let g = classed t c.args.classes.now c.args.belows.now in
     let old = c.args.meeting.now in
     let size = length-entries_in t.classes.items 0 t.states in
-    let column = column_within g c.args.row c.args.at c.args.column old c.requires.later c.requires.column c.requires.met in
+    let column = column_within g c.args.row c.args.at c.args.column old c.requires.ready.later c.requires.column c.requires.met in
     omega (arith, column, c.requires.met.marks, old.seen.ok.0)
 
 pub index_mut-requires : goal.index_mut-requires
@@ -23,11 +23,11 @@ index_mut-requires c =
     let g = classed t c.args.classes.now c.args.belows.now in
     let old = c.args.meeting.now in
     let size = length-entries_in t.classes.items 0 t.states in
-    let column = column_within g c.args.row c.args.at c.args.column old c.requires.later c.requires.column c.requires.met in
+    let column = column_within g c.args.row c.args.at c.args.column old c.requires.ready.later c.requires.column c.requires.met in
     omega (arith, column, c.requires.met.marks, old.seen.ok.0)
 
 pub at-requires : goal.at-requires
-at-requires c = omega (arith, c.requires.row, c.requires.belows.count, length-entries_in c.args.tables.now.classes.items 0 c.args.tables.now.states)
+at-requires c = omega (arith, c.requires.row, c.requires.ready.each_below.count, length-entries_in c.args.tables.now.classes.items 0 c.args.tables.now.states)
 
 pub at-requires-2 : goal.at-requires-2
 at-requires-2 c =
@@ -35,8 +35,8 @@ at-requires-2 c =
     let g = classed t c.args.classes.now c.args.belows.now in
     let old = c.args.meeting.now in
     let size = length-entries_in t.classes.items 0 t.states in
-    let column = column_within g c.args.row c.args.at c.args.column old c.requires.later c.requires.column c.requires.met in
-    omega (arith, column, c.requires.belows.count)
+    let column = column_within g c.args.row c.args.at c.args.column old c.requires.ready.later c.requires.column c.requires.met in
+    omega (arith, column, c.requires.ready.each_below.count)
 
 pub returns-then-index-row : goal.returns-then-index-row
 returns-then-index-row c =
@@ -44,7 +44,7 @@ returns-then-index-row c =
     let g = classed t c.args.classes.now c.args.belows.now in
     let old = c.args.meeting.now in
     let size = length-entries_in t.classes.items 0 t.states in
-    let column = column_within g c.args.row c.args.at c.args.column old c.requires.later c.requires.column c.requires.met in
+    let column = column_within g c.args.row c.args.at c.args.column old c.requires.ready.later c.requires.column c.requires.met in
     let within : c.args.column < length old.seen.items = omega (arith, column, c.requires.met.marks) in
     let seen =
     get_or_from_slice_get old.seen.items c.args.column c.index.result.now 0
@@ -58,11 +58,11 @@ returns-then-not-can_clash c =
     let g = classed t c.args.classes.now c.args.belows.now in
     let old = c.args.meeting.now in
     let size = length-entries_in t.classes.items 0 t.states in
-    let column = column_within g c.args.row c.args.at c.args.column old c.requires.later c.requires.column c.requires.met in
+    let column = column_within g c.args.row c.args.at c.args.column old c.requires.ready.later c.requires.column c.requires.met in
     let inside : c.args.row < length g.graph.entries = omega (arith, c.requires.row, size) in
     let off = ap₂ can_clash (sym c.at.ensures) (sym c.at-2.ensures) ∙ sym c.can_clash.ensures ∙ c.if-not-can_clash.true in
     meeting_visited g c.args.row c.args.at c.args.column old _ inside c.requires.column column c.requires.met (follows_none g c.args.row c.args.column old.waiting off) refl
-    (clashes_none g c.requires.belows c.args.row c.args.column old.found inside column off)
+    (clashes_none g c.requires.ready.each_below c.args.row c.args.column old.found inside column off)
 
 pub put_node-requires-clause-is_state : goal.put_node-requires-clause-is_state
 put_node-requires-clause-is_state c =
@@ -70,7 +70,7 @@ put_node-requires-clause-is_state c =
     let g = classed t c.args.classes.now c.args.belows.now in
     let old = c.args.meeting.now in
     let size = length-entries_in t.classes.items 0 t.states in
-    let column = column_within g c.args.row c.args.at c.args.column old c.requires.later c.requires.column c.requires.met in
+    let column = column_within g c.args.row c.args.at c.args.column old c.requires.ready.later c.requires.column c.requires.met in
     omega (arith, column, size)
 
 pub returns : goal.returns
@@ -79,7 +79,7 @@ returns c =
     let g = classed t c.args.classes.now c.args.belows.now in
     let old = c.args.meeting.now in
     let size = length-entries_in t.classes.items 0 t.states in
-    let column = column_within g c.args.row c.args.at c.args.column old c.requires.later c.requires.column c.requires.met in
+    let column = column_within g c.args.row c.args.at c.args.column old c.requires.ready.later c.requires.column c.requires.met in
     let inside : c.args.row < length g.graph.entries = omega (arith, c.requires.row, size) in
     let may = ap₂ can_clash (sym c.at.ensures) (sym c.at-2.ensures) ∙ sym c.can_clash.ensures ∙ c.if-not-can_clash.false in
     let n = c.args.first.now in

@@ -1,5 +1,5 @@
 use Rattle.std.proofs.Common.{[], ◌∷◌}
-use Rattle.aa_glob_pairs.proofs.GainLemmas.{go_beside_more}
+use Rattle.aa_glob_pairs.proofs.GoLemmas.{go_beside_more}
 use Rattle.aa_glob_pairs.proofs.visit.go_beside.Goals as goal
 
 pub loop-other-preserved : goal.loop-other-preserved

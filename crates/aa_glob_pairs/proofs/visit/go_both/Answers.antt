@@ -1,4 +1,4 @@
-use Rattle.aa_glob_pairs.proofs.GainLemmas.{go_both_more}
+use Rattle.aa_glob_pairs.proofs.GoLemmas.{go_both_more}
 use Rattle.aa_glob_pairs.proofs.visit.go_both.Goals as goal
 
 pub loop-step-preserved : goal.loop-step-preserved

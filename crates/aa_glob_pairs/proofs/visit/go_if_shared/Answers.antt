@@ -1,5 +1,5 @@
 use Rattle.std.proofs.lemmas.Result.{on_ok_weaker}
-use Rattle.aa_glob_pairs.proofs.GainLemmas.{go_shared}
+use Rattle.aa_glob_pairs.proofs.GoLemmas.{go_shared}
 use Rattle.aa_glob_pairs.proofs.visit.go_if_shared.Goals as goal
 
 pub returns-then-share : goal.returns-then-share

@@ -1,13 +1,11 @@
 use Rattle.std.proofs.Common.{sym, ◌∙◌}
 use Rattle.std.proofs.lemmas.Result.{on_ok_weaker}
-use Rattle.aa_glob_nfa.specs.Entries.{is_free, takes_if}
-use Rattle.aa_glob_run.proofs.LeadLemmas.{entered_next}
+use Rattle.aa_glob_run.proofs.LeadLemmas.{enters_on, none_on}
 use Rattle.aa_glob_run.proofs.leading.lead_on.Goals as goal
 
-pub returns-then-leads_on-clause-here : goal.returns-then-leads_on-clause-here
-returns-then-leads_on-clause-here c =
-    on_ok_weaker c.enter.result (entered_next c.args.tables.now is_free c.args.from _ _ (sym c.leads_on.ensures ∙ c.if-leads_on.true)) c.enter.ensures.here
+pub returns-then-leads_on : goal.returns-then-leads_on
+returns-then-leads_on c =
+    on_ok_weaker c.enter.result (enters_on c.args.tables.now c.args.byte c.args.from _ _ _ _ (sym c.leads_on.ensures ∙ c.if-leads_on.true)) c.enter.ensures
 
-pub returns-then-leads_on-clause-next : goal.returns-then-leads_on-clause-next
-returns-then-leads_on-clause-next c =
-    on_ok_weaker c.enter.result (entered_next c.args.tables.now (takes_if c.args.byte) c.args.from _ _ (sym c.leads_on.ensures ∙ c.if-leads_on.true)) c.enter.ensures.next
+pub returns-else-leads_on : goal.returns-else-leads_on
+returns-else-leads_on c = none_on c.args.tables.now c.args.byte c.args.from c.args.here.now c.args.next.now (sym c.leads_on.ensures ∙ c.if-leads_on.false)

@@ -1,7 +1,7 @@
 //! Pairs of states that wait to be looked at.
 
 ghost use Rattle.std.specs.Prelude.{◌≡◌, ◌⊎◌, ℕ, [], ◌<◌, ◌+◌, ◌^◌, slice_get, None, OnOk, Decides};
-ghost use Rattle.aa_glob_pairs.specs.Waiting.{Gains, Ordered, row_at, SetsRow};
+ghost use Rattle.aa_glob_waiting.specs.Waiting.{Gains, Ordered, row_at, SetsRow};
 
 use crate::rows::{Row, Rows};
 use std::alloc::{AllocError, Global};

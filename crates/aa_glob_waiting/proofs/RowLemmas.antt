@@ -6,8 +6,8 @@ use Rattle.std.specs.Cmp.{unsigned_tied}
 use Rattle.std.specs.Map.{lookup}
 use Rattle.std.specs.Ordering.{nat_cmp}
 use Rattle.std.specs.Prelude.{if◌then◌else◌, Some, unwrap_or}
-use Rattle.aa_glob_pairs.proofs.GainLemmas.{row_other, row_set, same_or_not}
-use Rattle.aa_glob_pairs.specs.Waiting.{row_at, SetsRow}
+use Rattle.aa_glob_waiting.proofs.GainLemmas.{row_other, row_set, same_or_not}
+use Rattle.aa_glob_waiting.specs.Waiting.{row_at, SetsRow}
 
 abbrev Rows : Type 0
 Rows = List (ℕ × List ℕ)

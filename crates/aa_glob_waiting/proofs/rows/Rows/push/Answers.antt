@@ -4,9 +4,9 @@ use Rattle.std.specs.BTreeMap.{BTreeMap, get}
 use Rattle.std.specs.Option.{option_copied_mut}
 use Rattle.std.specs.Ordering.{nat_cmp}
 use Rattle.std.specs.Prelude.{IsSome, unwrap_or}
-use Rattle.aa_glob_pairs.proofs.GainLemmas.{row_updated}
-use Rattle.aa_glob_pairs.specs.Waiting.{row_at, SetsRow}
-use Rattle.aa_glob_pairs.proofs.rows.Rows.push.Goals as goal
+use Rattle.aa_glob_waiting.proofs.GainLemmas.{row_updated}
+use Rattle.aa_glob_waiting.specs.Waiting.{row_at, SetsRow}
+use Rattle.aa_glob_waiting.proofs.rows.Rows.push.Goals as goal
 
 pub returns-in-Some : goal.returns-in-Some
 returns-in-Some c =

@@ -1,9 +1,9 @@
 use Rattle.std.proofs.Common.{◌≡◌, ◌∙◌, ◌+◌, ◌++◌, ◌∷◌, [], ℕ, List, true, false, ap, subst, sym}
 use Rattle.std.proofs.lemmas.Result.{on_ok_weaker}
-use Rattle.aa_glob_pairs.proofs.GainLemmas.{gains_pushed}
-use Rattle.aa_glob_pairs.proofs.RowLemmas.{row_here, row_next, row_others, sets_front, sets_next, sets_others}
-use Rattle.aa_glob_pairs.specs.Waiting.{Gains, row_at, SetsRow}
-use Rattle.aa_glob_pairs.proofs.waiting.Waiting.insert.Goals as goal
+use Rattle.aa_glob_waiting.proofs.GainLemmas.{gains_pushed}
+use Rattle.aa_glob_waiting.proofs.RowLemmas.{row_here, row_next, row_others, sets_front, sets_next, sets_others}
+use Rattle.aa_glob_waiting.specs.Waiting.{Gains, row_at, SetsRow}
+use Rattle.aa_glob_waiting.proofs.waiting.Waiting.insert.Goals as goal
 
 abbrev Rows : Type 0
 Rows = List (ℕ × List ℕ)

@@ -1,7 +1,7 @@
 //! Rows of pairs of states, by their first state.
 
 ghost use Rattle.std.specs.Prelude.{◌≡◌, ◌⊎◌, ◌++◌, ◌∷◌, [], ◌<◌, ◌+◌, ◌^◌, slice_get, None, OnOk};
-ghost use Rattle.aa_glob_pairs.specs.Waiting.{row_at, SetsRow};
+ghost use Rattle.aa_glob_waiting.specs.Waiting.{row_at, SetsRow};
 
 use std::alloc::{AllocError, Global};
 use std::collections::BTreeMap;
