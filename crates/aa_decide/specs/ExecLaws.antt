@@ -16,7 +16,8 @@ HaveDistinctNames entries = have_distinct_names entries ≡ true
 
 -- two lists have the same entries, in whatever order
 abbrev pub HaveSameEntries : List Loaded → List Loaded → Type 0
-HaveSameEntries entries others = ((entry : Loaded) → Contains entries entry → Contains others entry) × ((entry : Loaded) → Contains others entry → Contains entries entry)
+HaveSameEntries entries others =
+    ((entry : Loaded) → Contains entries entry → Contains others entry) × ((entry : Loaded) → Contains others entry → Contains entries entry)
 
 -- two lists differ in the order of their entries alone, and no two entries have one name
 abbrev pub DifferInOrder : List Loaded → List Loaded → Type 0
@@ -34,4 +35,5 @@ FitsBest path entries entry = Contains entries entry × (0 < entry_rank path ent
 -- some rule of a profile, or of its child or hat at a place, denies the start of the program of a path
 abbrev pub SomeRuleDenies : Bool → List ℕ → Profile → Option ℕ → Type 0
 SomeRuleDenies owned path profile child =
-    (rule : Rule) × (audited : Bool) × Contains (rules_at profile child) rule × (said_of (audits profile child) owned path rule ≡ Some (Denying audited))
+    (rule : Rule) × (audited : Bool)
+    × Contains (rules_at profile child) rule × (said_of (audits profile child) owned path rule ≡ Some (Denying audited))

@@ -7,8 +7,17 @@ use Rattle.aa_decide_verdict.specs.Slots.{entry_at}
 use Rattle.aa_decide_audit.specs.declared.exec_verdict.ExecTo.{ExecTo}
 use Rattle.aa_decide_audit.specs.declared.exec_verdict.ExecTo.TheVariants as to
 use Rattle.aa_decide_audit.specs.declared.exec_verdict.ExecVerdict.{ExecVerdict}
-use Rattle.aa_decide.specs.declared.slots.Who.{Who}
-use Rattle.aa_decide.specs.declared.slots.Who.TheVariants as who
+use Rattle.aa_decide.specs.declared.asker.Asker.{Asker as FoundAsker}
+use Rattle.aa_decide.specs.declared.asker.Who.{Who}
+use Rattle.aa_decide.specs.declared.asker.Who.TheVariants as who
+
+-- who asks, as the code has it
+abbrev pub seen_asker : FoundAsker → Asker
+seen_asker asker = record { entry = asker.entry.now; child = asker.child }
+
+-- the slot of who asks holds its entry
+abbrev pub IsIn : List (Option Loaded) → FoundAsker → Type 0
+IsIn slots asker = entry_at slots asker.slot ≡ Some asker.entry.now
 
 -- who asks by a loaded profile: one whose slot isn't filled is no one in particular
 abbrev pub asker_in : List (Option Loaded) → Who → Option Asker

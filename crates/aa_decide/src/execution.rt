@@ -2,18 +2,20 @@
 
 ghost use Rattle.std.specs.Prelude.{◌≡◌, IfOk, IfSome, None, Some};
 ghost use Rattle.std.specs.Option.{option_copied, option_map};
-ghost use Rattle.aa_decide.specs.Exec.{by_choice, by_full_name, carried_out, exec_answer, exec_verdict, in_profile, led, led_by, missing, place_of_child, stopped, tag_if, to_child, to_profile, unconfined_start};
+ghost use Rattle.aa_decide.specs.Exec.{by_choice, by_full_name, carried_out, exec_answer, exec_verdict, in_profile, led, led_by, missing};
+ghost use Rattle.aa_decide.specs.Exec.{place_of_child, stopped, tag_if, to_child, to_profile, unconfined_start};
 ghost use Rattle.aa_decide_verdict.specs.Slots.{filled};
-ghost use Rattle.aa_decide.specs.code.SeenExec.{IsAnswerAnywhere, IsDestination, IsDestinationFrom, IsIn, seen_asker};
-ghost use Rattle.aa_decide.specs.SeenExec.{IsAnswer, asker_in};
+ghost use Rattle.aa_decide.specs.code.SeenExec.{IsAnswerAnywhere, IsDestination, IsDestinationFrom, IsDestinationOf};
+ghost use Rattle.aa_decide.specs.SeenExec.{IsAnswer, IsIn, asker_in, seen_asker};
 ghost use Rattle.aa_decide_audit.specs.declared.verdict.Answer.TheVariants.{Allow};
 ghost use Rattle.aa_decide_audit.specs.declared.verdict.Tag.TheVariants.{Audit};
 ghost use Rattle.aa_decide_verdict.specs.Ready.{audits, rules_at};
 ghost use Rattle.aa_decide_exec_rules.specs.Choices.{choice};
 ghost use Rattle.aa_decide_exec_rules.specs.SeenChoices.{seen_choice};
 
+use crate::asker::{Asker, Who, asker_in};
 use crate::attachment::{attach, attached_child};
-use crate::slots::{Who, entry_at, find_in_force};
+use crate::slots::find_in_force;
 use aa_decide_audit::{Answer, ExecTo, ExecVerdict, Tag, Verdict};
 use aa_decide_exec_rules::{ExecChoice, exec_choice};
 use aa_decide_verdict::{Confinement, Entry, Ready, Steps};
@@ -22,32 +24,6 @@ use aa_profile_data::{Mode, Transition, child_place};
 use aa_profile_names::cut_full_name;
 use aa_shared_bytes::SharedBytes;
 use std::alloc::{AllocError, Global};
-
-// Who asks by a loaded profile.
-#[derive(Clone, Copy)]
-struct Asker<'a> {
-    loaded: &'a Entry,
-    slot: usize,
-    child: Option<usize>,
-}
-
-// Who asks by a loaded profile, if its slot is filled.
-fn asker_in(slots: &[Option<Entry>], who: Who) -> Option<Asker<'_>>
-    ensures asker { option_map seen_asker result ≡ asker_in slots.now who }
-    ensures filled { IfSome result (IsIn slots.now) }
-{
-    match who {
-        Who::Unconfined => None,
-        Who::Entry { slot, child } => {
-            let loaded = entry_at(slots, slot)?;
-            Some(Asker {
-                loaded,
-                slot,
-                child,
-            })
-        }
-    }
-}
 
 // A verdict on the start of a program.
 fn exec_verdict(answer: Answer, tag: Option<Tag>) -> Verdict
@@ -176,12 +152,12 @@ fn to_child(
     path: &[u8],
     target: &Option<SharedBytes>,
 ) -> Result<Option<ExecTo>, AllocError>
-    ensures { IfOk result (λ to. IsDestinationFrom asker.entry.slot asker.entry.loaded.now to (to_child path.now target.now (seen_asker asker.entry))) }
+    ensures { IfOk result (λ to. IsDestinationOf asker.entry to (to_child path.now target.now (seen_asker asker.entry))) }
 {
     if asker.child.is_some() {
         return Ok(None);
     }
-    match place_of_child(alloc, asker.loaded.ready(), path, target)? {
+    match place_of_child(alloc, asker.entry.ready(), path, target)? {
         None => Ok(None),
         Some(place) => Ok(Some(ExecTo::Profile {
             slot: asker.slot,
@@ -200,7 +176,8 @@ fn led(
     destination: Destination,
 ) -> Result<Option<ExecTo>, AllocError>
     requires { IsIn slots.now asker }
-    ensures { IfOk result (λ to. IsDestination slots.now to (led path.now target.now (filled slots.now) (seen_asker asker.entry) destination)) }
+    ensures { IfOk result (λ to.
+        IsDestination slots.now to (led path.now target.now (filled slots.now) (seen_asker asker.entry) destination)) }
 {
     match destination {
         Destination::Profile => to_profile(alloc, slots, path, target),
@@ -222,7 +199,8 @@ fn led_by(
     transition: &Transition,
 ) -> Result<Option<ExecTo>, AllocError>
     requires { IsIn slots.now asker }
-    ensures { IfOk result (λ to. IsDestination slots.now to (led_by path.now (filled slots.now) (seen_asker asker.entry) transition.now)) }
+    ensures { IfOk result (λ to.
+        IsDestination slots.now to (led_by path.now (filled slots.now) (seen_asker asker.entry) transition.now)) }
 {
     let target = &transition.target;
     let destination = transition.word.destination();
@@ -246,7 +224,9 @@ fn carried_out(
     audited: bool,
 ) -> Result<ExecVerdict, AllocError>
     requires { IsIn slots.now asker }
-    ensures { IfOk result (λ found. IsAnswer slots.now found (carried_out path.now (filled slots.now) (seen_asker asker.entry) mode transition.now audited)) }
+    ensures { IfOk result (λ found.
+        IsAnswer slots.now found
+        (carried_out path.now (filled slots.now) (seen_asker asker.entry) mode transition.now audited)) }
 {
     match led_by(alloc, slots, asker, path, transition)? {
         None => Ok(missing(mode)),
@@ -264,7 +244,9 @@ fn by_choice(
     choice: ExecChoice<'_>,
 ) -> Result<ExecVerdict, AllocError>
     requires { IsIn slots.now asker }
-    ensures { IfOk result (λ found. IsAnswer slots.now found (by_choice path.now (filled slots.now) (seen_asker asker.entry) mode (seen_choice choice.entry))) }
+    ensures { IfOk result (λ found.
+        IsAnswer slots.now found
+        (by_choice path.now (filled slots.now) (seen_asker asker.entry) mode (seen_choice choice.entry))) }
 {
     match choice {
         ExecChoice::Denied { audited } => Ok(stopped(Answer::Deny, tag_if(audited, Tag::Denied))),
@@ -314,9 +296,10 @@ fn asked_by(
     path: &[u8],
 ) -> Result<ExecVerdict, AllocError>
     requires { IsIn slots.now asker }
-    ensures { IfOk result (λ found. IsAnswer slots.now found (exec_answer (filled slots.now) (Some (seen_asker asker.entry)) owned path.now)) }
+    ensures { IfOk result (λ found.
+        IsAnswer slots.now found (exec_answer (filled slots.now) (Some (seen_asker asker.entry)) owned path.now)) }
 {
-    match asker.loaded.confinement(asker.child) {
+    match asker.entry.confinement(asker.child) {
         Confinement::Unconfined => unconfined_start(alloc, slots, path),
         Confinement::By { ready, child, mode } => {
             let choice = choice_at(alloc, ready, child, owned, path)?;
@@ -325,13 +308,37 @@ fn asked_by(
     }
 }
 
-/// Under what the program of a path runs that is started, and how that is logged (docs/policy.md, "Exec and attachment"). Asked by a task that nothing
-/// confines, by a disabled profile, and by an empty slot: under the profile in force that the path is attached to, or else under none. Asked by a
-/// profile in force, by its own rules, or those of its child or hat: `Deny` where a deny rule with `x` applies; what its mode says, `Refuse` or
-/// `Complain`, where no allow rule with an exec word does; else where the first of those leads that dominate. The rules of a profile that was made
-/// ready agree ([`Ready::rules_agree`]), and of such rules all that dominate have one transition (`where_agreeing_rules_lead` of
-/// `aa_decide_exec_rules`). A disabled profile is never gone to. `owned` says whether the task's user owns the file. What it answers is said of the
-/// filled slots in their order, and a profile that it tells is in a filled one.
+/// Under what the program of a path runs that is started, and how that is logged (docs/policy.md, "Exec and
+/// attachment"). Asked by no one in particular, as a task is that nothing confines, and by a disabled profile: under
+/// the profile in force that the path is attached to, or else under none. Asked by a profile in force, by its own
+/// rules, or those of its child or hat: `Deny` where a deny rule with `x` applies; what its mode says, `Refuse` or
+/// `Complain`, where no allow rule with an exec word does; else where the first of those leads that dominate. The rules
+/// of a profile that was made ready agree ([`Ready::rules_agree`]), and of such rules all that dominate have one
+/// transition (`where_agreeing_rules_lead` of `aa_decide_exec_rules`). A disabled profile is never gone to. `owned`
+/// says whether the task's user owns the file. What it answers is said of the filled slots in their order, and a
+/// profile that it tells is in a filled one.
+///
+/// # Errors
+///
+/// Where memory runs out.
+pub fn exec_by(
+    alloc: Global,
+    slots: &[Option<Entry>],
+    asker: Option<Asker<'_>>,
+    owned: bool,
+    path: &[u8],
+) -> Result<ExecVerdict, AllocError>
+    requires { IfSome asker (IsIn slots.now) }
+    ensures { IfOk result (λ found.
+        IsAnswer slots.now found (exec_answer (filled slots.now) (option_map seen_asker asker.entry) owned path.now)) }
+{
+    match asker {
+        None => unconfined_start(alloc, slots, path),
+        Some(asker) => asked_by(alloc, slots, asker, owned, path),
+    }
+}
+
+/// The same by slot ([`exec_by`]): a task that nothing confines, and an empty slot, are no one in particular.
 ///
 /// # Errors
 ///
@@ -343,10 +350,8 @@ pub fn exec(
     owned: bool,
     path: &[u8],
 ) -> Result<ExecVerdict, AllocError>
-    ensures { IfOk result (λ found. IsAnswer slots.now found (exec_answer (filled slots.now) (asker_in slots.now who) owned path.now)) }
+    ensures { IfOk result (λ found.
+        IsAnswer slots.now found (exec_answer (filled slots.now) (asker_in slots.now who) owned path.now)) }
 {
-    match asker_in(slots, who) {
-        None => unconfined_start(alloc, slots, path),
-        Some(asker) => asked_by(alloc, slots, asker, owned, path),
-    }
+    exec_by(alloc, slots, asker_in(slots, who), owned, path)
 }

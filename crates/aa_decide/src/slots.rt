@@ -1,4 +1,4 @@
-//! Slots, each of which is empty or holds a loaded profile, and who asks by one of them.
+//! Slots, each of which is empty or holds a loaded profile.
 
 ghost use Rattle.std.specs.Prelude.{◌≡◌, IfSome, Some};
 ghost use Rattle.std.specs.Option.{option_copied, option_map};
@@ -7,20 +7,6 @@ ghost use Rattle.aa_decide.specs.Named.{entry_named};
 ghost use Rattle.aa_decide_verdict.specs.Slots.{entry_at, filled};
 
 use aa_decide_verdict::Entry;
-
-/// Who asks to start a program.
-#[derive(Clone, Copy, Debug, PartialEq, Eq)]
-pub enum Who {
-    /// A task that nothing confines.
-    Unconfined,
-    /// One that is confined by a loaded profile, as long as this is in force.
-    Entry {
-        /// The profile's slot.
-        slot: usize,
-        /// The place of the child or hat that confines it; none where that is the profile itself.
-        child: Option<usize>,
-    },
-}
 
 /// The entry in a slot, if it is there and filled. It takes no memory.
 pub fn entry_at(slots: &[Option<Entry>], slot: usize) -> Option<&Entry>

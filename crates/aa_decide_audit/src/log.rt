@@ -2,7 +2,8 @@
 
 ghost use Rattle.std.specs.Prelude.{◌≡◌, ◌++◌, IfOk, IsSome, OnErr, OnOk};
 ghost use Rattle.aa_profile_access.specs.Access.{letters_of};
-ghost use Rattle.aa_decide_audit.specs.LogLines.{beginning, capability_subject, exec_line, file_subject, log_line, mask_key, operation, socket_subject, subject, tag_word};
+ghost use Rattle.aa_decide_audit.specs.LogLines.{beginning, capability_subject, exec_line, file_subject, log_line};
+ghost use Rattle.aa_decide_audit.specs.LogLines.{mask_key, operation, socket_subject, subject, tag_word};
 ghost use Rattle.aa_profile_access.specs.SeenRequests.{request_of};
 ghost use Rattle.aa_profile_tables.specs.Names.{name_or_none};
 ghost use Rattle.aa_quoting.specs.Texts.{quoted, told_text};

@@ -3,7 +3,8 @@
 ghost use Rattle.std.specs.Prelude.{◌≡◌, IfOk};
 ghost use Rattle.std.specs.List.{list_any};
 ghost use Rattle.std.specs.Option.{option_map};
-ghost use Rattle.aa_decide_exec_rules.specs.Choices.{IsChoiceFor, chosen, choice_of, denies, denies_aloud, dominates, first_lead, is_exact_lead, leads_aloud};
+ghost use Rattle.aa_decide_exec_rules.specs.Choices.{IsChoiceFor, chosen, choice_of, denies, denies_aloud, dominates};
+ghost use Rattle.aa_decide_exec_rules.specs.Choices.{first_lead, is_exact_lead, leads_aloud};
 ghost use Rattle.aa_decide_exec_rules.specs.SeenChoices.{seen_choice};
 ghost use Rattle.aa_decide_exec_rules.specs.code.SeenRules.{seen_rule, seen_rules};
 
@@ -173,11 +174,12 @@ fn choice_of<'a>(rules: &[ExecRule<'a>]) -> ExecChoice<'a>
     }
 }
 
-/// What rules say together of the start of the program of a path (docs/policy.md, "Exec and attachment"): that it is denied, as soon as one deny rule
-/// with `x` applies; that no rule speaks of it; or where it leads. Of the rules that lead somewhere those with an exact pattern dominate the
-/// others, and it leads where the first that dominates does; in rules that agree all of them have one transition
-/// ([`where_agreeing_rules_lead`](crate::where_agreeing_rules_lead)). `flag` says whether each of the rules is audited, whatever its own words are: that
-/// is the flag of their profile. `owned` says whether the task's user owns the file. `places` are the places of the rules on files whose pattern
+/// What rules say together of the start of the program of a path (docs/policy.md, "Exec and attachment"): that it is
+/// denied, as soon as one deny rule with `x` applies; that no rule speaks of it; or where it leads. Of the rules that
+/// lead somewhere those with an exact pattern dominate the others, and it leads where the first that dominates does; in
+/// rules that agree all of them have one transition ([`where_agreeing_rules_lead`](crate::where_agreeing_rules_lead)).
+/// `flag` says whether each of the rules is audited, whatever its own words are: that is the flag of their profile.
+/// `owned` says whether the task's user owns the file. `places` are the places of the rules on files whose pattern
 /// matches the path, in rising order; it goes over these alone.
 ///
 /// # Errors

@@ -18,4 +18,5 @@ in_complain verdict = complained verdict.answer verdict
 
 -- two lists have the same rules, in whatever order and however often each stands
 abbrev pub HaveSameRules : List Rule → List Rule → Type 0
-HaveSameRules rules others = ((rule : Rule) → Contains rules rule → Contains others rule) × ((rule : Rule) → Contains others rule → Contains rules rule)
+HaveSameRules rules others =
+    ((rule : Rule) → Contains rules rule → Contains others rule) × ((rule : Rule) → Contains others rule → Contains rules rule)

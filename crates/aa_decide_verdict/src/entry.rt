@@ -100,7 +100,8 @@ impl Entry {
         &self.state
     }
 
-    /// Exchanges the state for another, which then holds the one from before. One that doesn't fit the profile is left, and so is the entry. It takes no memory.
+    /// Exchanges the state for another, which then holds the one from before. One that doesn't fit the profile is left,
+    /// and so is the entry. It takes no memory.
     pub fn exchange_state(&mut self, state: &mut State)
         ensures entry { self.new ≡ with_state state.old self.old }
         ensures state { state.new ≡ state_left state.old self.old }

@@ -10,9 +10,10 @@ ghost use Rattle.aa_decide_verdict.specs.Verdict.{denies, verdict};
 ghost use Rattle.aa_decide_verdict.specs.VerdictLaws.{HaveSameRules, in_complain};
 ghost use Rattle.aa_decide_audit.specs.declared.verdict.Answer.TheVariants.{Allow};
 
-/// In complain mode what enforce mode refuses is let through and logged with the same needs, and nothing else changes: what is denied is denied
-/// there too. The order of the rules changes no answer, no tag, no mask and no line, nor does a rule that is written twice. One allow rule more leaves
-/// what is allowed. One deny rule more allows nothing that wasn't.
+/// In complain mode what enforce mode refuses is let through and logged with the same needs, and nothing else changes:
+/// what is denied is denied there too. The order of the rules changes no answer, no tag, no mask and no line, nor does
+/// a rule that is written twice. One allow rule more leaves what is allowed. One deny rule more allows nothing that
+/// wasn't.
 pub fn what_rules_decide()
     ensures complain { (audit : Bool) (rules : List Rule) (request : Request)
         → verdict Complain audit rules request ≡ in_complain (verdict Enforce audit rules request) }

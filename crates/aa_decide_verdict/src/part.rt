@@ -5,11 +5,10 @@ ghost use Rattle.std.specs.List.Sorted.{IsStrictlyIncreasing};
 ghost use Rattle.aa_glob_automaton.specs.Automata.{IsAutomatonOf};
 ghost use Rattle.aa_glob_syntax.specs.Patterns.{AreMatching};
 ghost use Rattle.aa_glob_automaton.specs.Built.{IsBuilt};
-ghost use Rattle.aa_profile_data.specs.declared.profile.Rule.{Rule};
 ghost use Rattle.aa_glob_prefixes.specs.Beginnings.{HasStates};
 ghost use Rattle.aa_decide_verdict.specs.Visits.{AreAllVisitsOf, AreVisitsOf};
 ghost use Rattle.aa_profile_data.specs.Matching.{AreMatchingRules};
-ghost use Rattle.aa_decide_verdict.specs.code.Parts.{ArePartsOf, IsPartOf};
+ghost use Rattle.aa_decide_verdict.specs.code.Parts.{ArePartsOf, HoldsOf, IsPartOf};
 ghost use Rattle.aa_profile_data.specs.FileRules.{places_from, file_patterns};
 ghost use Rattle.aa_profile_data.specs.Picked.{picked};
 
@@ -37,7 +36,9 @@ fn with_file(
     alloc: Global,
     rule: &Rule,
 ) -> Result<AutomatonBuilder, AllocError>
-    ensures { IfOk result (λ added. (patterns : List (List ℕ)) → IsBuilt builder patterns → IsBuilt added (patterns ++ file_patterns (rule.now ∷ []))) }
+    ensures { IfOk result (λ added. (patterns : List (List ℕ))
+        → IsBuilt builder patterns
+        → IsBuilt added (patterns ++ file_patterns (rule.now ∷ []))) }
 {
     match rule {
         Rule::File(rule) => builder.add(alloc, &rule.pattern),
@@ -127,7 +128,7 @@ impl Part {
 
     /// How many states the automaton of the file rules has.
     pub fn states(&self) -> usize
-        ensures { (rules : List Rule) (attachments : List (List ℕ)) → IsPartOf self.now rules attachments → HasStates (file_patterns rules) result }
+        ensures { HoldsOf self.now (λ rules attachments. HasStates (file_patterns rules) result) }
     {
         self.files.states()
     }
@@ -143,10 +144,10 @@ impl Part {
         path: &[u8],
         steps: &mut Steps,
     ) -> Result<Vec<usize>, AllocError>
-        ensures found { IfOk result (λ places. (rules : List Rule) (attachments : List (List ℕ)) → IsPartOf self.now rules attachments → AreMatchingRules rules path.now places.items) }
-        ensures rise { IfOk result (λ places. (rules : List Rule) (attachments : List (List ℕ)) → IsPartOf self.now rules attachments → IsStrictlyIncreasing places.items) }
-        ensures steps { (rules : List Rule) (attachments : List (List ℕ)) → IsPartOf self.now rules attachments → AreVisitsOf (file_patterns rules) path.now steps.old steps.new }
-        ensures all { (rules : List Rule) (attachments : List (List ℕ)) → IsPartOf self.now rules attachments → OnOk result (AreAllVisitsOf (file_patterns rules) path.now steps.old steps.new) }
+        ensures found { IfOk result (λ places. HoldsOf self.now (λ rules attachments. AreMatchingRules rules path.now places.items)) }
+        ensures rise { IfOk result (λ places. HoldsOf self.now (λ rules attachments. IsStrictlyIncreasing places.items)) }
+        ensures steps { HoldsOf self.now (λ rules attachments. AreVisitsOf (file_patterns rules) path.now steps.old steps.new) }
+        ensures all { HoldsOf self.now (λ rules attachments. OnOk result (AreAllVisitsOf (file_patterns rules) path.now steps.old steps.new)) }
     {
         which_rules_match();
         let found = self.files.matching(alloc, path, steps)?;
@@ -164,10 +165,10 @@ impl Part {
         path: &[u8],
         steps: &mut Steps,
     ) -> Result<Vec<usize>, AllocError>
-        ensures found { IfOk result (λ places. (rules : List Rule) (attachments : List (List ℕ)) → IsPartOf self.now rules attachments → AreMatching attachments path.now places.items) }
+        ensures found { IfOk result (λ places. HoldsOf self.now (λ rules attachments. AreMatching attachments path.now places.items)) }
         ensures rise { IfOk result (λ places. IsStrictlyIncreasing places.items) }
-        ensures steps { (rules : List Rule) (attachments : List (List ℕ)) → IsPartOf self.now rules attachments → AreVisitsOf attachments path.now steps.old steps.new }
-        ensures all { (rules : List Rule) (attachments : List (List ℕ)) → IsPartOf self.now rules attachments → OnOk result (AreAllVisitsOf attachments path.now steps.old steps.new) }
+        ensures steps { HoldsOf self.now (λ rules attachments. AreVisitsOf attachments path.now steps.old steps.new) }
+        ensures all { HoldsOf self.now (λ rules attachments. OnOk result (AreAllVisitsOf attachments path.now steps.old steps.new)) }
     {
         self.attachments.matching(alloc, path, steps)
     }

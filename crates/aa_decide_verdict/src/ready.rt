@@ -12,7 +12,7 @@ ghost use Rattle.aa_profile_data.specs.FileRules.{file_patterns};
 ghost use Rattle.aa_profile_data.specs.Matching.{AreMatchingRules};
 ghost use Rattle.aa_decide_verdict.specs.Ready.{audits, decided, rules_at};
 ghost use Rattle.aa_decide_verdict.specs.Verdict.{is_for_file};
-ghost use Rattle.aa_decide_verdict.specs.code.Parts.{HasNothingAt, IsPartOf};
+ghost use Rattle.aa_decide_verdict.specs.code.Parts.{HasNothingAt, IsPartAt};
 ghost use Rattle.aa_profile_access.specs.SeenRequests.{request_of};
 
 use crate::part::{Part, copied_parts, parts_of};
@@ -49,12 +49,15 @@ impl Model for Ready {
 
     ghost use Rattle.aa_decide_verdict.specs.code.Parts.{ArePartsOf, IsPartOf};
 
-    ghost invariant = { λ r. IsPartOf r.own r.profile.rules r.profile.attachments × ArePartsOf r.parts r.profile.children × IsTrue (profile_agrees r.profile) };
+    ghost invariant = { λ r.
+        IsPartOf r.own r.profile.rules r.profile.attachments
+        × ArePartsOf r.parts r.profile.children
+        × IsTrue (profile_agrees r.profile) };
 }
 
 impl Ready {
-    /// A profile whose rules agree, made ready: an automaton is made of the patterns of its file rules, one of its attachments, and such of each child and
-    /// hat.
+    /// A profile whose rules agree, made ready: an automaton is made of the patterns of its file rules, one of its
+    /// attachments, and such of each child and hat.
     ///
     /// # Errors
     ///
@@ -76,8 +79,8 @@ impl Ready {
         })
     }
 
-    /// Of the rules by which the profile decides, or its child or hat at a place, no two conflict, and the pattern of each on files reads (docs/policy.md,
-    /// "Rules that conflict").
+    /// Of the rules by which the profile decides, or its child or hat at a place, no two conflict, and the pattern of
+    /// each on files reads (docs/policy.md, "Rules that conflict").
     pub fn rules_agree(&self, child: Option<usize>)
         ensures agree { agree (rules_at self.now child) ≡ true }
         ensures read { All HasReadPattern (rules_at self.now child) }
@@ -145,7 +148,7 @@ impl Ready {
 
     // What was made of the rules and attachments of the profile, or of its child or hat at a place.
     fn part_at(&self, child: Option<usize>) -> Option<&Part>
-        ensures { MatchOption result (HasNothingAt self.now child) (λ part. IsPartOf part.now (rules_at self.now child) (attachments_at self.now child)) }
+        ensures { MatchOption result (HasNothingAt self.now child) (λ part. IsPartAt self.now child part.now) }
     {
         match child {
             None => Some(&self.own),

@@ -1,7 +1,8 @@
 //! What rules say of a request, and how that is logged.
 
 ghost use Rattle.std.specs.Prelude.{◌≡◌, false};
-ghost use Rattle.aa_decide_verdict.specs.Verdict.{allows, allows_aloud, applies, audited, covered_by_file, covers, denied, denies, denies_aloud, granted, is_audited, is_for_file, letters_among, logged, loud, needs, the_need, verdict, with_rule};
+ghost use Rattle.aa_decide_verdict.specs.Verdict.{allows, allows_aloud, applies, audited, covered_by_file, covers, denied, denies, denies_aloud};
+ghost use Rattle.aa_decide_verdict.specs.Verdict.{granted, is_audited, is_for_file, letters_among, logged, loud, needs, the_need, verdict, with_rule};
 ghost use Rattle.aa_decide_verdict.specs.code.Masks.{verdict_by};
 ghost use Rattle.aa_decide_verdict.specs.code.Found.{covers_found, found_mask, found_verdict, put_if};
 ghost use Rattle.aa_profile_data.specs.Picked.{picked};
@@ -86,8 +87,8 @@ pub fn rules_verdict(mode: Mode, audit: bool, rules: &[Rule], request: &Request<
     verdict_by(mode, masks_of(audit, rules, request), request)
 }
 
-/// The same of a request for a file, by the rules at some places alone, of which it is known that their pattern matches the file's path: no pattern is
-/// tried.
+/// The same of a request for a file, by the rules at some places alone, of which it is known that their pattern matches
+/// the file's path: no pattern is tried.
 pub fn found_verdict(
     mode: Mode,
     audit: bool,

@@ -4,7 +4,7 @@ use Rattle.std.proofs.lemmas.Bool.{cond-false, cond-true, le-leb, true≢false}
 use Rattle.aa_history.specs.Machine.{Machine, MarksItsSets, accepted, all_sets, can_go_back, can_go_on, gone_back, gone_on, gone_where, marked, with_mark}
 use Rattle.aa_history.specs.MachineLaws.{BackAfterOn, BackFromNewSets, BackKeepsSets, CanGoBackInParts, CanGoOnInParts, GoesBackInParts, GoesOnInParts, LengthsAfterBack, LengthsAfterOn, OnAfterBack, OnKeepsSets}
 use Rattle.aa_history.specs.MarkLaws.{MarkKeepsAll, StartedMarksItsSets, StepsMarkTheirSets}
-use Rattle.aa_set_commands.specs.Command.{Ask, Back, Listed, Make, Mark, Order, Redo, Show, Undo}
+use Rattle.aa_set_commands.specs.Command.{Ask, Back, Command, Listed, Make, Mark, Redo, Show, Undo}
 use Rattle.aa_set_commands.specs.Refusal.{plain}
 use Rattle.aa_set_commands.specs.declared.refusal.Refusal.{Refusal}
 use Rattle.aa_set_commands.specs.declared.refusal.RefusalKind.TheVariants.{BadRequest, LineTooLong, Memory, NoMark, NothingToRedo, NothingToUndo}
@@ -15,10 +15,10 @@ use Rattle.aa_decide.specs.Named.{have_distinct_names}
 use Rattle.aa_set_lines.specs.Limits.{longest_line}
 use Rattle.aa_set_lines.specs.Lines.{lines}
 use Rattle.aa_set_listing.specs.List.{list_lines}
-use Rattle.aa_set.specs.Laws.{AreDistinct, GivesBack, NoneFlagged, NoneGoes, PiecesChangeNoReply, StepsAdd, StepsReturn, changes, goes, is_change, order_in}
+use Rattle.aa_set.specs.Laws.{AreDistinct, GivesBack, NoneFlagged, NoneGoes, PiecesChangeNoReply, StepsAdd, StepsReturn, changes, command_in, goes, is_change}
 use Rattle.aa_set.specs.Manager.{Managed, after_change, back_at, is_mark_name, marking, new_manager, next, redone, undone}
 use Rattle.aa_set.specs.Reply.{is_refusal}
-use Rattle.aa_set.specs.Run.{Outcome, after_lines, changed, flagged, line_outcome, obeyed, order_outcome, refused, replies_to, takes_memory, told}
+use Rattle.aa_set.specs.Run.{Outcome, after_lines, changed, command_outcome, flagged, line_outcome, obeyed, refused, replies_to, takes_memory, told}
 use Rattle.aa_decide_verdict.specs.Entries.{Loaded}
 use Rattle.aa_set.proofs.StepLemmas.{line_marks}
 use Rattle.aa_set.specs.declared.reply.Reply.{Reply}
@@ -61,29 +61,29 @@ unfolding Grows
 mark_grows m name true = ([], sym (append-nil (sets_of m)), refl)
 mark_grows m name false = refusal_stays false m (plain BadRequest)
 
--- an order that takes memory as it says, and else is obeyed
-flag_grows : (files : Files) (m : Managed) (flag change : Bool) (order : Order) → Grows change m (obeyed files m order)
-    → Grows change m (cond (flag && takes_memory m order) (refused m (plain Memory)) (obeyed files m order))
-flag_grows files m flag change order grown =
-    either_grows (flag && takes_memory m order) change m (refused m (plain Memory)) (obeyed files m order) (refusal_stays change m (plain Memory)) grown
+-- a command that takes memory as it says, and else is obeyed
+flag_grows : (files : Files) (m : Managed) (flag change : Bool) (command : Command) → Grows change m (obeyed files m command)
+    → Grows change m (cond (flag && takes_memory m command) (refused m (plain Memory)) (obeyed files m command))
+flag_grows files m flag change command grown =
+    either_grows (flag && takes_memory m command) change m (refused m (plain Memory)) (obeyed files m command) (refusal_stays change m (plain Memory)) grown
 
-order_grows : (files : Files) (m : Managed) (flag : Bool) (order : Result (Option Order) Refusal) → goes order ≡ false → Grows (is_change order) m (order_outcome files m flag order)
-order_grows files m flag (Err refusal) h = refusal_stays false m refusal
-order_grows files m flag (Ok None) h = stays false m Silent refl
-order_grows files m flag (Ok (Some (Undo n))) h = absurd (true≢false h)
-order_grows files m flag (Ok (Some (Redo n))) h = absurd (true≢false h)
-order_grows files m flag (Ok (Some (Back name))) h = absurd (true≢false h)
-order_grows files m flag (Ok (Some (Mark name))) h = flag_grows files m flag false (Mark name) (mark_grows m name (is_mark_name name))
-order_grows files m flag (Ok (Some (Make change))) h =
+command_grows : (files : Files) (m : Managed) (flag : Bool) (command : Result (Option Command) Refusal) → goes command ≡ false → Grows (is_change command) m (command_outcome files m flag command)
+command_grows files m flag (Err refusal) h = refusal_stays false m refusal
+command_grows files m flag (Ok None) h = stays false m Silent refl
+command_grows files m flag (Ok (Some (Undo n))) h = absurd (true≢false h)
+command_grows files m flag (Ok (Some (Redo n))) h = absurd (true≢false h)
+command_grows files m flag (Ok (Some (Back name))) h = absurd (true≢false h)
+command_grows files m flag (Ok (Some (Mark name))) h = flag_grows files m flag false (Mark name) (mark_grows m name (is_mark_name name))
+command_grows files m flag (Ok (Some (Make change))) h =
     flag_grows files m flag true (Make change) (change_grows m (parts_of files change) (change_of_set files m.force_complain m.machine.now change))
-order_grows files m flag (Ok (Some (Ask question))) h = flag_grows files m flag false (Ask question) (told_grows m (reply_lines m.machine.now question))
-order_grows files m flag (Ok (Some Listed)) h = flag_grows files m flag false Listed (told_grows m (Ok (list_lines m.machine.now)))
-order_grows files m flag (Ok (Some (Show name))) h = flag_grows files m flag false (Show name) (told_grows m (shown m.machine.now name))
+command_grows files m flag (Ok (Some (Ask question))) h = flag_grows files m flag false (Ask question) (told_grows m (reply_lines m.machine.now question))
+command_grows files m flag (Ok (Some Listed)) h = flag_grows files m flag false Listed (told_grows m (Ok (list_lines m.machine.now)))
+command_grows files m flag (Ok (Some (Show name))) h = flag_grows files m flag false (Show name) (told_grows m (shown m.machine.now name))
 
-line_grows : (files : Files) (m : Managed) (line : List ℕ) (flag : Bool) → goes (order_in line) ≡ false → Grows (is_change (order_in line)) m (line_outcome files m line flag)
+line_grows : (files : Files) (m : Managed) (line : List ℕ) (flag : Bool) → goes (command_in line) ≡ false → Grows (is_change (command_in line)) m (line_outcome files m line flag)
 line_grows files m line flag h =
-    either_grows (leb (length line) longest_line) (is_change (order_in line)) m (order_outcome files m flag (order_in line)) (refused m (plain LineTooLong))
-    (order_grows files m flag (order_in line) h) (refusal_stays (is_change (order_in line)) m (plain LineTooLong))
+    either_grows (leb (length line) longest_line) (is_change (command_in line)) m (command_outcome files m flag (command_in line)) (refused m (plain LineTooLong))
+    (command_grows files m flag (command_in line) h) (refusal_stays (is_change (command_in line)) m (plain LineTooLong))
 
 -- lines of which none goes back or on put as many sets behind the others as they made changes
 lines_grow : (files : Files) (m : Managed) (lines : List (List ℕ × Bool)) → NoneGoes lines
@@ -96,7 +96,7 @@ lines_grow files m (line ∷ lines) h =
     let rest = lines_grow files first.managed lines h.1 in (
       one.0 ++ rest.0,
       rest.1 ∙ ap (λ sets. sets ++ rest.0) one.1 ∙ append_assoc (sets_of m) one.0 rest.0,
-      length-append one.0 rest.0 ∙ ap (λ n. n + length rest.0) one.2 ∙ ap (λ n. cond (is_change (order_in line.0) && not (is_refusal first.reply)) 1 0 + n) rest.2,
+      length-append one.0 rest.0 ∙ ap (λ n. n + length rest.0) one.2 ∙ ap (λ n. cond (is_change (command_in line.0) && not (is_refusal first.reply)) 1 0 + n) rest.2,
     )
 
 done_back : (n : ℕ) (m : Managed) → can_go_back n m.machine ≡ true → undone n m ≡ Ok (record m { machine = gone_back n m.machine })
@@ -191,8 +191,8 @@ pub record Keeping : Type 0 where
   pub started : StartedMarksItsSets (List Loaded)
   pub steps : StepsMarkTheirSets (List Loaded)
 
-obeyed_distinct : Keeping → (files : Files) (m : Managed) (order : Order) → MarksItsSets m.machine → AreDistinct (all_sets m.machine)
-    → AreDistinct (all_sets (obeyed files m order).managed.machine)
+obeyed_distinct : Keeping → (files : Files) (m : Managed) (command : Command) → MarksItsSets m.machine → AreDistinct (all_sets m.machine)
+    → AreDistinct (all_sets (obeyed files m command).managed.machine)
 obeyed_distinct keep files m (Undo n) there h = undone_distinct keep.back m n h
 obeyed_distinct keep files m (Redo n) there h = redone_distinct keep.on m n h
 obeyed_distinct keep files m (Mark name) there h = mark_distinct m name h
@@ -204,19 +204,19 @@ obeyed_distinct keep files m (Ask question) there h = told_distinct m (reply_lin
 obeyed_distinct keep files m Listed there h = told_distinct m (Ok (list_lines m.machine.now)) h
 obeyed_distinct keep files m (Show name) there h = told_distinct m (shown m.machine.now name) h
 
-order_distinct : Keeping → (files : Files) (m : Managed) (flag : Bool) (order : Result (Option Order) Refusal) → MarksItsSets m.machine → AreDistinct (all_sets m.machine)
-    → AreDistinct (all_sets (order_outcome files m flag order).managed.machine)
-order_distinct keep files m flag (Err refusal) there h = h
-order_distinct keep files m flag (Ok None) there h = h
-order_distinct keep files m flag (Ok (Some order)) there h =
-    either_distinct (flag && takes_memory m order) (refused m (plain Memory)) (obeyed files m order) h (obeyed_distinct keep files m order there h)
+command_distinct : Keeping → (files : Files) (m : Managed) (flag : Bool) (command : Result (Option Command) Refusal) → MarksItsSets m.machine → AreDistinct (all_sets m.machine)
+    → AreDistinct (all_sets (command_outcome files m flag command).managed.machine)
+command_distinct keep files m flag (Err refusal) there h = h
+command_distinct keep files m flag (Ok None) there h = h
+command_distinct keep files m flag (Ok (Some command)) there h =
+    either_distinct (flag && takes_memory m command) (refused m (plain Memory)) (obeyed files m command) h (obeyed_distinct keep files m command there h)
 
 lines_distinct : Keeping → (files : Files) (m : Managed) (lines : List (List ℕ × Bool)) → MarksItsSets m.machine → AreDistinct (all_sets m.machine)
     → AreDistinct (all_sets (after_lines files m lines).machine)
 lines_distinct keep files m [] there h = h
 lines_distinct keep files m (line ∷ lines) there h = lines_distinct keep files (line_outcome files m line.0 line.1).managed lines (line_marks keep.steps files m line there)
-    (either_distinct (leb (length line.0) longest_line) (order_outcome files m line.1 (order_in line.0)) (refused m (plain LineTooLong))
-    (order_distinct keep files m line.1 (order_in line.0) there h) h)
+    (either_distinct (leb (length line.0) longest_line) (command_outcome files m line.1 (command_in line.0)) (refused m (plain LineTooLong))
+    (command_distinct keep files m line.1 (command_in line.0) there h) h)
 
 pub distinct : Keeping → (files : Files) (force_complain : Bool) (lines : List (List ℕ × Bool)) → AreDistinct (all_sets (after_lines files (new_manager force_complain) lines).machine)
 distinct keep files force_complain lines = lines_distinct keep files (new_manager force_complain) lines (keep.started []) (refl, tt)

@@ -6,15 +6,15 @@ use Rattle.std.specs.Str.{bytes_eq}
 use Rattle.aa_decide_verdict.specs.Entries.{Loaded}
 use Rattle.aa_history.specs.Machine.{Machine, MarksItsSets, all_sets, gone_to_mark, gone_where, is_marked, marked, with_mark}
 use Rattle.aa_history.specs.MarkLaws.{MarkKeepsAll, MarkLeadsBack, MarkTwiceIsOnce, SparesThroughout, StartedMarksItsSets, StepsMarkTheirSets, run}
-use Rattle.aa_set_commands.specs.Command.{Ask, Back, Listed, Make, Mark, Order, Redo, Show, Undo}
+use Rattle.aa_set_commands.specs.Command.{Ask, Back, Command, Listed, Make, Mark, Redo, Show, Undo}
 use Rattle.aa_set_commands.specs.Refusal.{plain}
 use Rattle.aa_set_commands.specs.declared.refusal.Refusal.{Refusal}
 use Rattle.aa_set_commands.specs.declared.refusal.RefusalKind.TheVariants.{BadRequest, LineTooLong, Memory, NoMark}
 use Rattle.aa_set_lines.specs.Limits.{longest_line}
-use Rattle.aa_set.specs.Laws.{BackNeverFails, BackTwiceIsOnce, GivesBack, MarkGivesBack, MarkLeavesSets, SameMarksLeadToOne, marks, order_in}
+use Rattle.aa_set.specs.Laws.{BackNeverFails, BackTwiceIsOnce, GivesBack, MarkGivesBack, MarkLeavesSets, SameMarksLeadToOne, command_in, marks}
 use Rattle.aa_set.specs.Manager.{Managed, back_at, is_mark_name, marking, new_manager, next}
 use Rattle.aa_set.specs.Reply.{is_refusal}
-use Rattle.aa_set.specs.Run.{Outcome, after_lines, changed, line_outcome, obeyed, order_outcome, refused, takes_memory}
+use Rattle.aa_set.specs.Run.{Outcome, after_lines, changed, command_outcome, line_outcome, obeyed, refused, takes_memory}
 use Rattle.aa_set.specs.declared.reply.Reply.TheVariants.{Done}
 use Rattle.aa_set.proofs.StepLemmas.{lines_mark, lines_steps}
 
@@ -36,34 +36,34 @@ marking_sets m name = by (is_mark_name name)
     by true = refl
     by false = refl
 
-order_sets : (files : Files) (m : Managed) (flag : Bool) (order : Result (Option Order) Refusal) → marks order ≡ true → LeavesSets m (order_outcome files m flag order)
-order_sets files m flag (Err refusal) h = absurd (cc)
-order_sets files m flag (Ok None) h = absurd (cc)
-order_sets files m flag (Ok (Some (Make change))) h = absurd (cc)
-order_sets files m flag (Ok (Some (Undo n))) h = absurd (cc)
-order_sets files m flag (Ok (Some (Redo n))) h = absurd (cc)
-order_sets files m flag (Ok (Some (Back name))) h = absurd (cc)
-order_sets files m flag (Ok (Some (Ask question))) h = absurd (cc)
-order_sets files m flag (Ok (Some Listed)) h = absurd (cc)
-order_sets files m flag (Ok (Some (Show name))) h = absurd (cc)
-order_sets files m flag (Ok (Some (Mark name))) h =
+command_sets : (files : Files) (m : Managed) (flag : Bool) (command : Result (Option Command) Refusal) → marks command ≡ true → LeavesSets m (command_outcome files m flag command)
+command_sets files m flag (Err refusal) h = absurd (cc)
+command_sets files m flag (Ok None) h = absurd (cc)
+command_sets files m flag (Ok (Some (Make change))) h = absurd (cc)
+command_sets files m flag (Ok (Some (Undo n))) h = absurd (cc)
+command_sets files m flag (Ok (Some (Redo n))) h = absurd (cc)
+command_sets files m flag (Ok (Some (Back name))) h = absurd (cc)
+command_sets files m flag (Ok (Some (Ask question))) h = absurd (cc)
+command_sets files m flag (Ok (Some Listed)) h = absurd (cc)
+command_sets files m flag (Ok (Some (Show name))) h = absurd (cc)
+command_sets files m flag (Ok (Some (Mark name))) h =
     either_sets (flag && takes_memory m (Mark name)) m (refused m (plain Memory)) (obeyed files m (Mark name)) refl (marking_sets m name)
 
 -- a line that marks leaves all but the marks
 pub mark-leaves : MarkLeavesSets
 mark-leaves files m line flag h =
-    either_sets (leb (length line) longest_line) m (order_outcome files m flag (order_in line)) (refused m (plain LineTooLong)) (order_sets files m flag (order_in line) h) refl
+    either_sets (leb (length line) longest_line) m (command_outcome files m flag (command_in line)) (refused m (plain LineTooLong)) (command_sets files m flag (command_in line) h) refl
 
 -- the way back to a mark, where it is one
 back_is : (name : List ℕ) (m : Managed) → is_marked name m.machine ≡ true → back_at name m ≡ Ok (record m { machine = gone_to_mark name m.machine })
 back_is name m h = cond-true _ _ _ h
 
 -- a line that isn't too long is answered by its command
-line_is : (files : Files) (m : Managed) (line : List ℕ) (flag : Bool) (order : Order) → leb (length line) longest_line ≡ true → order_in line ≡ Ok (Some order)
-    → line_outcome files m line flag ≡ order_outcome files m flag (Ok (Some order))
-line_is files m line flag order short is = cond-true _ _ _ short ∙ ap (order_outcome files m flag) is
+line_is : (files : Files) (m : Managed) (line : List ℕ) (flag : Bool) (command : Command) → leb (length line) longest_line ≡ true → command_in line ≡ Ok (Some command)
+    → line_outcome files m line flag ≡ command_outcome files m flag (Ok (Some command))
+line_is files m line flag command short is = cond-true _ _ _ short ∙ ap (command_outcome files m flag) is
 
-back_line : (files : Files) (m : Managed) (line name : List ℕ) (flag : Bool) → leb (length line) longest_line ≡ true → order_in line ≡ Ok (Some (Back name))
+back_line : (files : Files) (m : Managed) (line name : List ℕ) (flag : Bool) → leb (length line) longest_line ≡ true → command_in line ≡ Ok (Some (Back name))
     → is_marked name m.machine ≡ true → line_outcome files m line flag ≡ record { reply = Done; managed = record m { machine = gone_to_mark name m.machine } }
 back_line files m line name flag short is h =
     line_is files m line flag (Back name) short is ∙ unflagged flag ∙ ap (changed m) (back_is name m h)
@@ -82,10 +82,10 @@ back-never-fails started steps keep files force_complain lines line name flag sh
     (sym (back_line files m line name flag short is h)) (refl, kept.0, kept.1)
 
 -- an accepted `mark` marks
-marked_is : (files : Files) (m : Managed) (line name : List ℕ) (flag : Bool) → order_in line ≡ Ok (Some (Mark name)) → is_refusal (line_outcome files m line flag).reply ≡ false
+marked_is : (files : Files) (m : Managed) (line name : List ℕ) (flag : Bool) → command_in line ≡ Ok (Some (Mark name)) → is_refusal (line_outcome files m line flag).reply ≡ false
     → (line_outcome files m line flag).managed ≡ record m { machine = with_mark name m.machine }
 marked_is files m line name flag is h =
-    by (leb (length line) longest_line) (order_in line) is h
+    by (leb (length line) longest_line) (command_in line) is h
   where
     named : (t : Bool) → is_refusal (changed m (cond t (Ok (record m { machine = with_mark name m.machine })) (Err (plain BadRequest)))).reply ≡ false
         → (changed m (cond t (Ok (record m { machine = with_mark name m.machine })) (Err (plain BadRequest)))).managed ≡ record m { machine = with_mark name m.machine }
@@ -97,12 +97,12 @@ marked_is files m line name flag is h =
     flagged true h = absurd (cc)
     flagged false h = named (is_mark_name name) h
 
-    by : (t : Bool) (order : Result (Option Order) Refusal) → order ≡ Ok (Some (Mark name)) → is_refusal (cond t (order_outcome files m flag order) (refused m (plain LineTooLong))).reply ≡ false
-        → (cond t (order_outcome files m flag order) (refused m (plain LineTooLong))).managed ≡ record m { machine = with_mark name m.machine }
-    by false order e h = absurd (cc)
-    by true order e h =
-        ap (λ order. (order_outcome files m flag order).managed) e
-        ∙ flagged (flag && is_mark_name name) (subst (λ order. is_refusal (order_outcome files m flag order).reply ≡ false) e h)
+    by : (t : Bool) (command : Result (Option Command) Refusal) → command ≡ Ok (Some (Mark name)) → is_refusal (cond t (command_outcome files m flag command) (refused m (plain LineTooLong))).reply ≡ false
+        → (cond t (command_outcome files m flag command) (refused m (plain LineTooLong))).managed ≡ record m { machine = with_mark name m.machine }
+    by false command e h = absurd (cc)
+    by true command e h =
+        ap (λ command. (command_outcome files m flag command).managed) e
+        ∙ flagged (flag && is_mark_name name) (subst (λ command. is_refusal (command_outcome files m flag command).reply ≡ false) e h)
 
 -- `back` gives back the very policy set that was marked
 pub mark-gives-back : StartedMarksItsSets (List Loaded) → StepsMarkTheirSets (List Loaded) → MarkLeadsBack (List Loaded) → MarkGivesBack

@@ -4,7 +4,7 @@ use Rattle.std.specs.Prelude.{slice_get}
 use Rattle.std.specs.Option.{option_map}
 use Rattle.std.specs.Result.{IfOk, IfErr, OnOk, OnErr, MatchResult}
 use Rattle.aa_set_changes.specs.Changes.{change_takes_memory, is_disabled, is_loaded}
-use Rattle.aa_set_commands.specs.Command.{Change, Make, Mark, Order}
+use Rattle.aa_set_commands.specs.Command.{Command, Make, Mark, PolicyChange}
 use Rattle.aa_set.specs.Manager.{Managed, is_mark_name, made, marking}
 use Rattle.aa_decide_verdict.specs.Entries.{Loaded}
 use Rattle.aa_set_commands.specs.Refusal.{plain}
@@ -45,23 +45,23 @@ disable-takes name entries (Ok done) loaded in_force = tt
 disable-takes name entries (Err refusal) loaded in_force = λ memory. rw (loaded memory, in_force memory) refl
 
 -- a command was accepted, refused, or found no memory
-obeyed-changed : (files : List File) (managed after : Managed) (order : Order) (becomes : Result Managed Refusal) (outcome : Result (Unit {0}) Refusal) (reply : Reply)
-    → obeyed files managed order ≡ changed managed becomes
+obeyed-changed : (files : List File) (managed after : Managed) (command : Command) (becomes : Result Managed Refusal) (outcome : Result (Unit {0}) Refusal) (reply : Reply)
+    → obeyed files managed command ≡ changed managed becomes
     → OnOk outcome (becomes ≡ Ok after)
     → IfErr outcome (λ refusal. refusal ≢ plain Memory → becomes ≡ Err refusal)
     → OnErr outcome (after ≡ managed)
-    → IfErr outcome (λ refusal. refusal ≡ plain Memory → takes_memory managed order ≡ true)
+    → IfErr outcome (λ refusal. refusal ≡ plain Memory → takes_memory managed command ≡ true)
     → MatchResult outcome (λ _. reply ≡ Done) (λ refusal. reply ≡ Refused refusal)
-    → (flag : Bool) × (record { reply = reply; managed = after } ≡ obeyed_flagged files managed flag order)
-obeyed-changed files managed after order becomes (Ok done) reply is accepted is_refused stays takes answer =
+    → (flag : Bool) × (record { reply = reply; managed = after } ≡ obeyed_flagged files managed flag command)
+obeyed-changed files managed after command becomes (Ok done) reply is accepted is_refused stays takes answer =
     (false, rw (answer, is, accepted) refl)
-obeyed-changed files managed after order becomes (Err refusal) reply is accepted is_refused stays takes answer = elim (memory_or_not refusal) [
+obeyed-changed files managed after command becomes (Err refusal) reply is accepted is_refused stays takes answer = elim (memory_or_not refusal) [
   | inl memory ↦ (true, rw (answer, memory, stays, takes memory) refl)
   | inr other ↦ (false, rw (answer, is, is_refused other, stays) refl)
 ]
 
 -- so a change
-pub obeyed-made : (files : List File) (managed after : Managed) (change : Change) (outcome : Result (Unit {0}) Refusal) (reply : Reply)
+pub obeyed-made : (files : List File) (managed after : Managed) (change : PolicyChange) (outcome : Result (Unit {0}) Refusal) (reply : Reply)
     → OnOk outcome (made files managed change ≡ Ok after)
     → IfErr outcome (λ refusal. refusal ≢ plain Memory → made files managed change ≡ Err refusal)
     → OnErr outcome (after ≡ managed)
@@ -81,16 +81,16 @@ pub obeyed-mark : (files : List File) (managed after : Managed) (name : List ℕ
 obeyed-mark files managed after name outcome reply = obeyed-changed files managed after (Mark name) (marking name managed) outcome reply refl
 
 -- what is asked was told, refused, or found no memory
-pub obeyed-told : {V : Type 0} (items : V → List ℕ) (files : List File) (managed : Managed) (order : Order) (answer : Result (List ℕ) Refusal) (outcome : Result V Refusal) (reply : Reply)
-    → obeyed files managed order ≡ told managed answer
+pub obeyed-told : {V : Type 0} (items : V → List ℕ) (files : List File) (managed : Managed) (command : Command) (answer : Result (List ℕ) Refusal) (outcome : Result V Refusal) (reply : Reply)
+    → obeyed files managed command ≡ told managed answer
     → IfOk outcome (λ lines. answer ≡ Ok (items lines))
     → IfErr outcome (λ refusal. refusal ≢ plain Memory → answer ≡ Err refusal)
-    → IfErr outcome (λ refusal. refusal ≡ plain Memory → takes_memory managed order ≡ true)
+    → IfErr outcome (λ refusal. refusal ≡ plain Memory → takes_memory managed command ≡ true)
     → MatchResult outcome (λ lines. reply ≡ Told (items lines)) (λ refusal. reply ≡ Refused refusal)
-    → (flag : Bool) × (record { reply = reply; managed = managed } ≡ obeyed_flagged files managed flag order)
-obeyed-told items files managed order answer (Ok lines) reply is done is_refused takes said =
+    → (flag : Bool) × (record { reply = reply; managed = managed } ≡ obeyed_flagged files managed flag command)
+obeyed-told items files managed command answer (Ok lines) reply is done is_refused takes said =
     (false, rw (said, is, done) refl)
-obeyed-told items files managed order answer (Err refusal) reply is done is_refused takes said = elim (memory_or_not refusal) [
+obeyed-told items files managed command answer (Err refusal) reply is done is_refused takes said = elim (memory_or_not refusal) [
   | inl memory ↦ (true, rw (said, memory, takes memory) refl)
   | inr other ↦ (false, rw (said, is, is_refused other) refl)
 ]

@@ -5,14 +5,14 @@ use Rattle.aa_history.specs.Machine.{Machine, MarksItsSets, can_go_back, can_go_
 use Rattle.aa_history.specs.MarkLaws.{Accept, Mark as StepMark, Redo as StepOn, Return, SparesThroughout, StartedMarksItsSets, Step, StepsMarkTheirSets, Undo as StepBack, run, stepped}
 use Rattle.aa_set_answers.specs.Answers.{reply_lines, shown}
 use Rattle.aa_set_changes.specs.Changes.{changed as change_of_set, parts_of}
-use Rattle.aa_set_commands.specs.Command.{Ask, Back, Change, Listed, Make, Mark, Order, Redo, Show, Undo}
+use Rattle.aa_set_commands.specs.Command.{Ask, Back, Command, Listed, Make, Mark, PolicyChange, Redo, Show, Undo}
 use Rattle.aa_set_commands.specs.Refusal.{plain}
 use Rattle.aa_set_commands.specs.declared.refusal.Refusal.{Refusal}
 use Rattle.aa_set_commands.specs.declared.refusal.RefusalKind.TheVariants.{BadRequest, LineTooLong, Memory, NoMark, NothingToRedo, NothingToUndo}
 use Rattle.aa_set_lines.specs.Limits.{longest_line}
-use Rattle.aa_set.specs.Laws.{LeaveMark, MarkStands, order_in}
+use Rattle.aa_set.specs.Laws.{LeaveMark, MarkStands, command_in}
 use Rattle.aa_set.specs.Manager.{Managed, after_change, back_at, is_mark_name, marking, new_manager, redone, undone}
-use Rattle.aa_set.specs.Run.{Outcome, after_lines, changed, line_outcome, obeyed, order_outcome, refused, takes_memory}
+use Rattle.aa_set.specs.Run.{Outcome, after_lines, changed, command_outcome, line_outcome, obeyed, refused, takes_memory}
 use Rattle.aa_set.proofs.StayLaws.{told-leaves}
 
 abbrev Files : Type 0
@@ -21,21 +21,21 @@ Files = List (List ℕ × List ℕ)
 abbrev Steps : Type 0
 Steps = List (Step (List Loaded))
 
--- An outcome of an order is that of some steps, which spare each mark that the outcome leaves.
-record StepsTo (m : Managed) (order : Result (Option Order) Refusal) (a : Outcome) : Type 0 where
+-- An outcome of a command is that of some steps, which spare each mark that the outcome leaves.
+record StepsTo (m : Managed) (command : Result (Option Command) Refusal) (a : Outcome) : Type 0 where
   steps : Steps
   is : a.managed.machine ≡ run m.machine steps
-  spares : (name : List ℕ) (number : ℕ) → MarkStands name number m order a.reply → SparesThroughout name number m.machine steps
+  spares : (name : List ℕ) (number : ℕ) → MarkStands name number m command a.reply → SparesThroughout name number m.machine steps
 
 -- an outcome that leaves the manager
-no_steps : (m : Managed) (order : Result (Option Order) Refusal) (a : Outcome) → a.managed ≡ m → StepsTo m order a
-no_steps m order a h = record { steps = []; is = ap (λ managed. managed.machine) h; spares = λ name number stands. tt }
+no_steps : (m : Managed) (command : Result (Option Command) Refusal) (a : Outcome) → a.managed ≡ m → StepsTo m command a
+no_steps m command a h = record { steps = []; is = ap (λ managed. managed.machine) h; spares = λ name number stands. tt }
 
-either_steps : (t : Bool) (m : Managed) (order : Result (Option Order) Refusal) (a b : Outcome) → StepsTo m order a → StepsTo m order b → StepsTo m order (cond t a b)
-either_steps true m order a b p q = p
-either_steps false m order a b p q = q
+either_steps : (t : Bool) (m : Managed) (command : Result (Option Command) Refusal) (a b : Outcome) → StepsTo m command a → StepsTo m command b → StepsTo m command (cond t a b)
+either_steps true m command a b p q = p
+either_steps false m command a b p q = q
 
-made_steps : (m : Managed) (change : Change) (size : ℕ) (result : Result (List Loaded) Refusal) → StepsTo m (Ok (Some (Make change))) (changed m (after_change m size result))
+made_steps : (m : Managed) (change : PolicyChange) (size : ℕ) (result : Result (List Loaded) Refusal) → StepsTo m (Ok (Some (Make change))) (changed m (after_change m size result))
 made_steps m change size (Ok entries) = record { steps = Accept entries ∷ []; is = refl; spares = λ name number stands. (stands refl, tt) }
 made_steps m change size (Err refusal) = record { steps = []; is = refl; spares = λ name number stands. tt }
 
@@ -67,7 +67,7 @@ mark_steps m name = by (is_mark_name name)
     by true = record { steps = StepMark name ∷ []; is = refl; spares = λ other number stands. (stands refl, tt) }
     by false = record { steps = []; is = refl; spares = λ other number stands. tt }
 
-obeyed_steps : (files : Files) (m : Managed) (order : Order) → StepsTo m (Ok (Some order)) (obeyed files m order)
+obeyed_steps : (files : Files) (m : Managed) (command : Command) → StepsTo m (Ok (Some command)) (obeyed files m command)
 obeyed_steps files m (Make change) = made_steps m change (parts_of files change) (change_of_set files m.force_complain m.machine.now change)
 obeyed_steps files m (Undo n) = back_steps m n
 obeyed_steps files m (Redo n) = on_steps m n
@@ -77,17 +77,17 @@ obeyed_steps files m (Ask question) = no_steps m (Ok (Some (Ask question))) (obe
 obeyed_steps files m Listed = no_steps m (Ok (Some Listed)) (obeyed files m Listed) refl
 obeyed_steps files m (Show name) = no_steps m (Ok (Some (Show name))) (obeyed files m (Show name)) (told-leaves m (shown m.machine.now name))
 
-order_steps : (files : Files) (m : Managed) (flag : Bool) (order : Result (Option Order) Refusal) → StepsTo m order (order_outcome files m flag order)
-order_steps files m flag (Err refusal) = no_steps m (Err refusal) (refused m refusal) refl
-order_steps files m flag (Ok None) = no_steps m (Ok None) (order_outcome files m flag (Ok None)) refl
-order_steps files m flag (Ok (Some order)) =
-    either_steps (flag && takes_memory m order) m (Ok (Some order)) (refused m (plain Memory)) (obeyed files m order)
-    (no_steps m (Ok (Some order)) (refused m (plain Memory)) refl) (obeyed_steps files m order)
+command_steps : (files : Files) (m : Managed) (flag : Bool) (command : Result (Option Command) Refusal) → StepsTo m command (command_outcome files m flag command)
+command_steps files m flag (Err refusal) = no_steps m (Err refusal) (refused m refusal) refl
+command_steps files m flag (Ok None) = no_steps m (Ok None) (command_outcome files m flag (Ok None)) refl
+command_steps files m flag (Ok (Some command)) =
+    either_steps (flag && takes_memory m command) m (Ok (Some command)) (refused m (plain Memory)) (obeyed files m command)
+    (no_steps m (Ok (Some command)) (refused m (plain Memory)) refl) (obeyed_steps files m command)
 
-line_steps : (files : Files) (m : Managed) (line : List ℕ × Bool) → StepsTo m (order_in line.0) (line_outcome files m line.0 line.1)
+line_steps : (files : Files) (m : Managed) (line : List ℕ × Bool) → StepsTo m (command_in line.0) (line_outcome files m line.0 line.1)
 line_steps files m line =
-    either_steps (leb (length line.0) longest_line) m (order_in line.0) (order_outcome files m line.1 (order_in line.0)) (refused m (plain LineTooLong))
-    (order_steps files m line.1 (order_in line.0)) (no_steps m (order_in line.0) (refused m (plain LineTooLong)) refl)
+    either_steps (leb (length line.0) longest_line) m (command_in line.0) (command_outcome files m line.1 (command_in line.0)) (refused m (plain LineTooLong))
+    (command_steps files m line.1 (command_in line.0)) (no_steps m (command_in line.0) (refused m (plain LineTooLong)) refl)
 
 run-append : (machine : Machine (List Loaded)) (some more : Steps) → run machine (some ++ more) ≡ run (run machine some) more
 run-append machine [] more = refl

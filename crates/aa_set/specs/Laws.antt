@@ -1,8 +1,9 @@
 -- The laws of the machine, and what they speak of: which lines change the policy set, which ones go back or on, and which ones mark it.
-use Rattle.std.specs.Prelude.{◌≡◌, ◌≢◌, ℕ, ◌+◌, ◌≤◌, nat_le, length, Bool, true, false, not, ◌&&◌, if◌then◌else◌, List, ◌∷◌, [], ◌++◌, IfOk, Option, Some, Result, Ok, Err}
+use Rattle.std.specs.Prelude.{◌≡◌, ◌≢◌, ℕ, ◌+◌, ◌≤◌, nat_le, length, Bool, true, false, not, ◌&&◌, if◌then◌else◌}
+use Rattle.std.specs.Prelude.{List, ◌∷◌, [], ◌++◌, IfOk, Option, Some, Result, Ok, Err}
 use Rattle.aa_text_files.specs.Files.{File}
 use Rattle.aa_history.specs.Machine.{all_sets, is_marked, marked}
-use Rattle.aa_set_commands.specs.Command.{Ask, Back, Listed, Make, Mark, Order, Redo, Show, Undo, line_order}
+use Rattle.aa_set_commands.specs.Command.{Ask, Back, Command, Listed, Make, Mark, Redo, Show, Undo, line_command}
 use Rattle.aa_set_commands.specs.declared.refusal.Refusal.{Refusal}
 use Rattle.aa_decide.specs.Named.{have_distinct_names}
 use Rattle.aa_set_lines.specs.Words.{words_of}
@@ -15,28 +16,28 @@ use Rattle.aa_set.specs.Run.{after_lines, line_outcome, output, output_so_far, r
 use Rattle.aa_decide_verdict.specs.Entries.{Loaded}
 
 -- the command in a line
-abbrev pub order_in : List ℕ → Result (Option Order) Refusal
-order_in line = line_order (words_of line)
+abbrev pub command_in : List ℕ → Result (Option Command) Refusal
+command_in line = line_command (words_of line)
 
 -- a command changes the policy set, unless it is refused
-abbrev pub is_change : Result (Option Order) Refusal → Bool
+abbrev pub is_change : Result (Option Command) Refusal → Bool
 is_change (Ok (Some (Make change))) = true
 is_change _ = false
 
 -- a command goes back or on
-abbrev pub goes : Result (Option Order) Refusal → Bool
+abbrev pub goes : Result (Option Command) Refusal → Bool
 goes (Ok (Some (Undo n))) = true
 goes (Ok (Some (Redo n))) = true
 goes (Ok (Some (Back name))) = true
 goes _ = false
 
 -- a command marks the policy set, unless it is refused
-abbrev pub marks : Result (Option Order) Refusal → Bool
+abbrev pub marks : Result (Option Command) Refusal → Bool
 marks (Ok (Some (Mark name))) = true
 marks _ = false
 
 -- a command asks for what the policy set says, or of what it consists
-abbrev pub is_question : Result (Option Order) Refusal → Bool
+abbrev pub is_question : Result (Option Command) Refusal → Bool
 is_question (Ok (Some (Ask question))) = true
 is_question (Ok (Some Listed)) = true
 is_question (Ok (Some (Show name))) = true
@@ -45,14 +46,14 @@ is_question _ = false
 -- none of these lines goes back or on
 abbrev pub NoneGoes : List (List ℕ × Bool) → Type 0
 NoneGoes [] = Unit {0}
-NoneGoes (line ∷ lines) = (goes (order_in line.0) ≡ false) × NoneGoes lines
+NoneGoes (line ∷ lines) = (goes (command_in line.0) ≡ false) × NoneGoes lines
 
 -- how many of these lines are accepted changes
 abbrev pub changes : List File → Managed → List (List ℕ × Bool) → ℕ
 changes files managed [] = 0
 changes files managed (line ∷ lines) =
     let first = line_outcome files managed line.0 line.1 in
-    (if is_change (order_in line.0) && not (is_refusal first.reply) then 1 else 0) + changes files first.managed lines
+    (if is_change (command_in line.0) && not (is_refusal first.reply) then 1 else 0) + changes files first.managed lines
 
 -- An undo was accepted, and it gave back the very policy set of another manager, and the sets before it.
 abbrev pub GivesBack : Managed → Result Managed Refusal → Type 0
@@ -75,16 +76,16 @@ RefusedLineLeavesAll =
 abbrev pub OtherLineLeavesAll : Type 0
 OtherLineLeavesAll =
     (files : List File) (managed : Managed) (line : List ℕ) (flag : Bool)
-    → is_change (order_in line) ≡ false
-    → goes (order_in line) ≡ false
-    → marks (order_in line) ≡ false
+    → is_change (command_in line) ≡ false
+    → goes (command_in line) ≡ false
+    → marks (command_in line) ≡ false
     → (line_outcome files managed line flag).managed ≡ managed
 
 -- A line whose command marks leaves all but the marks.
 abbrev pub MarkLeavesSets : Type 0
 MarkLeavesSets =
     (files : List File) (managed : Managed) (line : List ℕ) (flag : Bool)
-    → marks (order_in line) ≡ true
+    → marks (command_in line) ≡ true
     → let after = (line_outcome files managed line flag).managed in
     after ≡ record managed { machine = record managed.machine { marks = after.machine.marks } }
 
@@ -99,7 +100,7 @@ UndoGivesBack =
 abbrev pub SetDecidesAnswer : Type 0
 SetDecidesAnswer =
     (files : List File) (one other : Managed) (line : List ℕ) (flag : Bool)
-    → is_question (order_in line) ≡ true
+    → is_question (command_in line) ≡ true
     → one.machine.now ≡ other.machine.now
     → (line_outcome files one line flag).reply ≡ (line_outcome files other line flag).reply
 
@@ -113,7 +114,8 @@ SetsHaveDistinctNames =
 abbrev pub StepsAdd : Type 0
 StepsAdd =
     (some more : ℕ) (managed : Managed)
-    → (undone (some + more) managed ≡ next (undone more) (undone some managed)) × (redone (some + more) managed ≡ next (redone more) (redone some managed))
+    → (undone (some + more) managed ≡ next (undone more) (undone some managed))
+    × (redone (some + more) managed ≡ next (redone more) (redone some managed))
 
 -- Redoing what was undone gives back the manager, policy set and history, and so does undoing what was redone.
 abbrev pub StepsReturn : Type 0
@@ -125,7 +127,8 @@ StepsReturn =
 abbrev pub SoFarIsFront : Type 0
 SoFarIsFront =
     (files : List File) (force_complain : Bool) (input more : List ℕ) (flags : List Bool)
-    → (later : List Bool) × (rest : List ℕ) × (output files force_complain (input ++ more) later ≡ output_so_far files force_complain input flags ++ rest)
+    → (later : List Bool) × (rest : List ℕ)
+    × (output files force_complain (input ++ more) later ≡ output_so_far files force_complain input flags ++ rest)
 
 -- none of these flags says that a line found no memory
 abbrev pub NoneFlagged : List Bool → Type 0
@@ -140,20 +143,21 @@ PiecesChangeNoReply =
     → NoneFlagged others
     → replies files force_complain input some ≡ replies files force_complain input others
 
--- A name that is marked always leads back: in any run `back` of it is answered `ok`, whether memory is left or not, and it drops no policy set and no mark.
+-- A name that is marked always leads back: in any run `back` of it is answered `ok`, whether memory is left or not, and
+-- it drops no policy set and no mark.
 abbrev pub BackNeverFails : Type 0
 BackNeverFails =
     (files : List File) (force_complain : Bool) (lines : List (List ℕ × Bool)) (line name : List ℕ) (flag : Bool)
     → let managed = after_lines files (new_manager force_complain) lines in
     let outcome = line_outcome files managed line flag in
     nat_le (length line) longest_line ≡ true
-    → order_in line ≡ Ok (Some (Back name))
+    → command_in line ≡ Ok (Some (Back name))
     → is_marked name managed.machine ≡ true
     → (outcome.reply ≡ Done) × (all_sets outcome.managed.machine ≡ all_sets managed.machine) × (outcome.managed.machine.marks ≡ managed.machine.marks)
 
 -- With its reply a command leaves what a name marks: it isn't a change accepted with fewer earlier policy sets than so many, and gives the name to no
 -- other set.
-abbrev pub MarkStands : List ℕ → ℕ → Managed → Result (Option Order) Refusal → Reply → Type 0
+abbrev pub MarkStands : List ℕ → ℕ → Managed → Result (Option Command) Refusal → Reply → Type 0
 MarkStands name number managed (Ok (Some (Make change))) reply = is_refusal reply ≡ false → number ≤ length managed.machine.earlier
 MarkStands name number managed (Ok (Some (Mark other))) reply = is_refusal reply ≡ false → other ≢ name
 MarkStands name number managed _ reply = Unit {0}
@@ -163,16 +167,16 @@ abbrev pub LeaveMark : List File → List ℕ → ℕ → Managed → List (List
 LeaveMark files name number managed [] = Unit {0}
 LeaveMark files name number managed (line ∷ lines) =
     let first = line_outcome files managed line.0 line.1 in
-    MarkStands name number managed (order_in line.0) first.reply × LeaveMark files name number first.managed lines
+    MarkStands name number managed (command_in line.0) first.reply × LeaveMark files name number first.managed lines
 
--- Whatever lines follow in a run on an accepted `mark` of a name, as long as they leave what it marks, `back` of it gives back the very policy set that was
--- marked, and the sets before it.
+-- Whatever lines follow in a run on an accepted `mark` of a name, as long as they leave what it marks, `back` of it
+-- gives back the very policy set that was marked, and the sets before it.
 abbrev pub MarkGivesBack : Type 0
 MarkGivesBack =
     (files : List File) (force_complain : Bool) (before lines : List (List ℕ × Bool)) (line name : List ℕ) (flag : Bool)
     → let managed = after_lines files (new_manager force_complain) before in
     let marked = line_outcome files managed line flag in
-    order_in line ≡ Ok (Some (Mark name))
+    command_in line ≡ Ok (Some (Mark name))
     → is_refusal marked.reply ≡ false
     → LeaveMark files name (length managed.machine.earlier) marked.managed lines
     → GivesBack managed (back_at name (after_lines files marked.managed lines))

@@ -4,7 +4,7 @@ use Rattle.aa_text_files.specs.Files.{File}
 use Rattle.aa_history.specs.Machine.{Kept, Machine, begun, can_go_back, can_go_on, committed, gone_back, gone_on, gone_to_mark, is_marked, with_mark}
 use Rattle.aa_profile_data.specs.declared.profile.Mode.{Mode}
 use Rattle.aa_decide_verdict.specs.Entries.{Loaded}
-use Rattle.aa_set_commands.specs.Command.{Change}
+use Rattle.aa_set_commands.specs.Command.{PolicyChange}
 use Rattle.aa_set_commands.specs.Refusal.{plain}
 use Rattle.aa_set_commands.specs.declared.refusal.Refusal.{Refusal}
 use Rattle.aa_set_commands.specs.declared.refusal.RefusalKind.TheVariants.{BadRequest, NoMark, NothingToRedo, NothingToUndo}
@@ -40,7 +40,7 @@ after_change managed size (Ok entries) = Ok (after_commit managed entries size)
 after_change managed size (Err refusal) = Err refusal
 
 -- the manager after a change, or the refusal
-abbrev pub made : List File → Managed → Change → Result Managed Refusal
+abbrev pub made : List File → Managed → PolicyChange → Result Managed Refusal
 made files managed change = after_change managed (parts_of files change) (changed files managed.force_complain managed.machine.now change)
 
 -- the manager after `enforce NAME` or `complain NAME`, or the refusal: that change needs no files
@@ -69,7 +69,8 @@ marking name managed = if is_mark_name name then Ok (record managed { machine = 
 
 -- the manager after `back NAME`, or the refusal
 abbrev pub back_at : List ℕ → Managed → Result Managed Refusal
-back_at name managed = if is_marked name managed.machine then Ok (record managed { machine = gone_to_mark name managed.machine }) else Err (plain NoMark)
+back_at name managed =
+    if is_marked name managed.machine then Ok (record managed { machine = gone_to_mark name managed.machine }) else Err (plain NoMark)
 
 -- a further step, where the one before was accepted
 abbrev pub next : (Managed → Result Managed Refusal) → Result Managed Refusal → Result Managed Refusal

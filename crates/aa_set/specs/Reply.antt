@@ -17,7 +17,8 @@ place_text files (Some place) = codes " " ++ told_text (name_at files place.file
 
 -- the one line that tells a refusal
 abbrev pub refusal_text : List File → Refusal → List ℕ
-refusal_text files refusal = line_with (codes "refused " ++ decimal (number_of refusal.refusal) ++ codes " " ++ name_of refusal.refusal ++ place_text files refusal.place)
+refusal_text files refusal =
+    line_with (codes "refused " ++ decimal (number_of refusal.refusal) ++ codes " " ++ name_of refusal.refusal ++ place_text files refusal.place)
 
 -- the text of a reply; a blank line has none
 abbrev pub reply_text : List File → Reply → List ℕ

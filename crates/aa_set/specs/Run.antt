@@ -1,13 +1,14 @@
 -- The run of lines: what an input is answered, line by line, by the machine that keeps whole policy sets
 -- (docs/guarantees.md).
-use Rattle.std.specs.Prelude.{ℕ, Bool, true, false, ◌&&◌, not, nat_le, if◌then◌else◌, List, [], ◌∷◌, length, Option, None, Some, IfSome, Result, Ok, Err, ◌≡◌, ◌≤◌, count_by}
+use Rattle.std.specs.Prelude.{ℕ, Bool, true, false, ◌&&◌, not, nat_le, if◌then◌else◌, List, [], ◌∷◌, length}
+use Rattle.std.specs.Prelude.{Option, None, Some, IfSome, Result, Ok, Err, ◌≡◌, ◌≤◌, count_by}
 use Rattle.std.specs.List.{flat_map}
 use Rattle.std.specs.Io.KnownBytes.{Appends, Consumes}
 use Rattle.aa_set_answers.specs.Answers.{asks_absent, reply_lines, shown, shows_absent}
 use Rattle.aa_set_changes.specs.Changes.{change_takes_memory}
 use Rattle.aa_set_listing.specs.List.{list_lines}
 use Rattle.aa_text_files.specs.Files.{File}
-use Rattle.aa_set_commands.specs.Command.{Order, Make, Undo, Redo, Mark, Back, Ask, Listed, Show, line_order}
+use Rattle.aa_set_commands.specs.Command.{Command, Make, Undo, Redo, Mark, Back, Ask, Listed, Show, line_command}
 use Rattle.aa_set.specs.Manager.{Managed, back_at, is_mark_name, made, marking, new_manager, redone, undone}
 use Rattle.aa_set_lines.specs.Lines.{lines, whole_lines}
 use Rattle.aa_set_lines.specs.Streams.{AppendsFront}
@@ -38,7 +39,7 @@ told managed (Ok lines) = record { reply = Told lines; managed = managed }
 told managed (Err refusal) = refused managed refusal
 
 -- what a command is answered where memory suffices
-abbrev pub obeyed : List File → Managed → Order → Outcome
+abbrev pub obeyed : List File → Managed → Command → Outcome
 obeyed files managed (Make change) = changed managed (made files managed change)
 obeyed files managed (Undo n) = changed managed (undone n managed)
 obeyed files managed (Redo n) = changed managed (redone n managed)
@@ -50,7 +51,7 @@ obeyed files managed (Show name) = told managed (shown managed.machine.now name)
 
 -- A command may find no memory, but `undo`, `redo` and `back`, a switch that is refused, a name that no mark can have, a question of a profile, a
 -- child or a hat that isn't there, and `show` of one.
-abbrev pub takes_memory : Managed → Order → Bool
+abbrev pub takes_memory : Managed → Command → Bool
 takes_memory managed (Make change) = change_takes_memory managed.machine.now change
 takes_memory managed (Undo n) = false
 takes_memory managed (Redo n) = false
@@ -61,18 +62,22 @@ takes_memory managed Listed = true
 takes_memory managed (Show name) = not (shows_absent managed.machine.now name)
 
 -- what a command is answered, with the flag that it found no memory; of other commands the flag says nothing
-abbrev pub obeyed_flagged : List File → Managed → Bool → Order → Outcome
-obeyed_flagged files managed flag order = if flag && takes_memory managed order then refused managed (plain Memory) else obeyed files managed order
+abbrev pub obeyed_flagged : List File → Managed → Bool → Command → Outcome
+obeyed_flagged files managed flag command =
+    if flag && takes_memory managed command then refused managed (plain Memory) else obeyed files managed command
 
 -- what the command of a line is answered: nothing where there is none
-abbrev pub order_outcome : List File → Managed → Bool → Result (Option Order) Refusal → Outcome
-order_outcome files managed flag (Err refusal) = refused managed refusal
-order_outcome files managed flag (Ok None) = record { reply = Silent; managed = managed }
-order_outcome files managed flag (Ok (Some order)) = obeyed_flagged files managed flag order
+abbrev pub command_outcome : List File → Managed → Bool → Result (Option Command) Refusal → Outcome
+command_outcome files managed flag (Err refusal) = refused managed refusal
+command_outcome files managed flag (Ok None) = record { reply = Silent; managed = managed }
+command_outcome files managed flag (Ok (Some command)) = obeyed_flagged files managed flag command
 
 -- what a line is answered
 abbrev pub line_outcome : List File → Managed → List ℕ → Bool → Outcome
-line_outcome files managed line flag = if nat_le (length line) longest_line then order_outcome files managed flag (line_order (words_of line)) else refused managed (plain LineTooLong)
+line_outcome files managed line flag =
+    if nat_le (length line) longest_line
+    then command_outcome files managed flag (line_command (words_of line))
+    else refused managed (plain LineTooLong)
 
 -- the replies to lines in order, each with its flag
 abbrev pub replies_to : List File → Managed → List (List ℕ × Bool) → List Reply
@@ -115,7 +120,8 @@ IsLeftAnswered files force_complain left before now summary = IfSome left (IsAns
 
 -- what is written for the whole lines of an input, those that a line feed ends: the texts of their replies, joined
 abbrev pub output_so_far : List File → Bool → List ℕ → List Bool → List ℕ
-output_so_far files force_complain input flags = flat_map (reply_text files) (replies_to files (new_manager force_complain) (flagged (whole_lines input) flags))
+output_so_far files force_complain input flags =
+    flat_map (reply_text files) (replies_to files (new_manager force_complain) (flagged (whole_lines input) flags))
 
 -- The whole lines of an input were answered, for some flags on them, and nothing else was written: an unfinished line has no reply.
 pub record IsAnsweredSoFar (files : List File) (force_complain : Bool) (before now : Option (List ℕ)) (input : List ℕ) : Type 0 where

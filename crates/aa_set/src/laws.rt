@@ -2,7 +2,8 @@
 //! follow.
 
 ghost use Rattle.aa_set.specs.Laws.{BackNeverFails, BackTwiceIsOnce, MarkGivesBack, MarkLeavesSets, SameMarksLeadToOne};
-ghost use Rattle.aa_set.specs.Laws.{OtherLineLeavesAll, PiecesChangeNoReply, RefusedLineLeavesAll, SetDecidesAnswer, SetsHaveDistinctNames, SoFarIsFront, StepsAdd, StepsReturn, UndoGivesBack};
+ghost use Rattle.aa_set.specs.Laws.{OtherLineLeavesAll, PiecesChangeNoReply, RefusedLineLeavesAll, SetDecidesAnswer};
+ghost use Rattle.aa_set.specs.Laws.{SetsHaveDistinctNames, SoFarIsFront, StepsAdd, StepsReturn, UndoGivesBack};
 
 use aa_bytes::Sequence;
 use aa_decide::Entry;
@@ -34,10 +35,11 @@ pub fn the_way_back()
     what_changes_keep();
 }
 
-/// A line that marks leaves all but the marks. A name that is marked always leads back, whether memory is left or not, and going there drops nothing that
-/// could be undone or redone, and no mark. Whatever lines follow on a `mark`, as long as no change is accepted with fewer changes made than there were
-/// at the mark, and the name isn't given to another policy set, `back` gives back the very policy set that was marked, with its history. Two names of one
-/// policy set lead to one place, and going to a mark twice is going there once.
+/// A line that marks leaves all but the marks. A name that is marked always leads back, whether memory is left or not,
+/// and going there drops nothing that could be undone or redone, and no mark. Whatever lines follow on a `mark`, as
+/// long as no change is accepted with fewer changes made than there were at the mark, and the name isn't given to
+/// another policy set, `back` gives back the very policy set that was marked, with its history. Two names of one policy
+/// set lead to one place, and going to a mark twice is going there once.
 pub fn where_marks_lead()
     ensures sets { MarkLeavesSets }
     ensures never_fails { BackNeverFails }
@@ -50,8 +52,8 @@ pub fn where_marks_lead()
     marks_lead_back::<Sequence<Entry>>();
 }
 
-/// What a run writes before a fault of its reader, the replies to the whole lines that were read, is a front of what a run writes that reads these bytes
-/// and any more to the end: for some flags on lines that found no memory.
+/// What a run writes before a fault of its reader, the replies to the whole lines that were read, is a front of what a
+/// run writes that reads these bytes and any more to the end: for some flags on lines that found no memory.
 pub fn what_faults_leave()
     ensures { SoFarIsFront }
 {}

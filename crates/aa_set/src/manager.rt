@@ -4,7 +4,7 @@ ghost use Rattle.std.specs.Prelude.{◌≡◌, ◌≢◌, Ok, Err, IfOk, IfErr, 
 ghost use Rattle.aa_set_answers.specs.Answers.{asks_absent, reply_lines, shown, shows_absent};
 ghost use Rattle.aa_set_changes.specs.Changes.{is_disabled, is_loaded};
 ghost use Rattle.aa_set_commands.specs.Command.{Add, Remove, Replace};
-ghost use Rattle.aa_set_commands.specs.Question.{IsWellFormed, asked};
+ghost use Rattle.aa_set_commands.specs.Question.{IsWellFormed, seen_question};
 ghost use Rattle.aa_set_commands.specs.Refusal.{plain};
 ghost use Rattle.aa_set_commands.specs.declared.refusal.RefusalKind.TheVariants.{Memory};
 ghost use Rattle.aa_set_listing.specs.List.{list_lines};
@@ -33,8 +33,9 @@ const LONGEST_MARK: usize = 255;
 
 /// A policy set, the policy sets that changes and undoing have left behind, and the marks of such sets.
 ///
-/// Contracts see the machine that keeps whole policy sets: the set now, the earlier ones and the later ones, and the marks; and how many parts each change has. What is
-/// kept are the slots of the set now, and of each change the parts that it exchanges with them.
+/// Contracts see the machine that keeps whole policy sets: the set now, the earlier ones and the later ones, and the
+/// marks; and how many parts each change has. What is kept are the slots of the set now, and of each change the parts
+/// that it exchanges with them.
 #[derive(Drop)]
 pub struct Manager {
     alloc: Global,
@@ -77,16 +78,17 @@ impl Manager {
         PolicySet::of(self.journal.state())
     }
 
-    /// How many parts all changes have together, of those that can be undone and of those that can be redone: one for a switch, and for `add`, `replace`
-    /// and `remove` the number of the file's profiles. It takes no memory.
+    /// How many parts all changes have together, of those that can be undone and of those that can be redone: one for a
+    /// switch, and for `add`, `replace` and `remove` the number of the file's profiles. It takes no memory.
     pub fn kept(&self) -> u128
         ensures { result ≡ sum self.now.sizes }
     {
         self.journal.kept()
     }
 
-    /// Adds the profiles of a file, each in force in the modes of its own flags, or with `force_complain` in complain mode, at the end of the policy
-    /// set, in the file's order: all of them or none. At `Ok` that is one change, and the sets that `undo` had left can't be gone forward to any more.
+    /// Adds the profiles of a file, each in force in the modes of its own flags, or with `force_complain` in complain
+    /// mode, at the end of the policy set, in the file's order: all of them or none. At `Ok` that is one change, and
+    /// the sets that `undo` had left can't be gone forward to any more.
     ///
     /// # Errors
     ///
@@ -119,9 +121,10 @@ impl Manager {
         make(&mut self.journal, exchange)
     }
 
-    /// Puts each profile of a file in the place of the one of its name, or where there is none at the end of the policy set, in the file's order:
-    /// all of them or none. Each comes in force in the modes of its own flags, or with `force_complain` in complain mode, whatever the mode of the one
-    /// before. At `Ok` that is one change, and the sets that `undo` had left can't be gone forward to any more.
+    /// Puts each profile of a file in the place of the one of its name, or where there is none at the end of the policy
+    /// set, in the file's order: all of them or none. Each comes in force in the modes of its own flags, or with
+    /// `force_complain` in complain mode, whatever the mode of the one before. At `Ok` that is one change, and the sets
+    /// that `undo` had left can't be gone forward to any more.
     ///
     /// # Errors
     ///
@@ -192,8 +195,9 @@ impl Manager {
         make(&mut self.journal, exchange)
     }
 
-    /// Takes the profile of a name out of force, and its children and hats: it confines nothing, no program is started under it, and it keeps its place.
-    /// At `Ok` that is one change, and the sets that `undo` had left can't be gone forward to any more.
+    /// Takes the profile of a name out of force, and its children and hats: it confines nothing, no program is started
+    /// under it, and it keeps its place. At `Ok` that is one change, and the sets that `undo` had left can't be gone
+    /// forward to any more.
     ///
     /// # Errors
     ///
@@ -249,14 +253,14 @@ impl Manager {
         }
     }
 
-    /// Marks the policy set now by a name of 1 to 255 bytes, in place of the one that the name has marked so far. That is no change: it can't be undone,
-    /// and drops nothing that could be redone. A mark stands until a change is accepted with fewer changes made than there were at the mark, so that
-    /// the marked set can't be gone to any more.
+    /// Marks the policy set now by a name of 1 to 255 bytes, in place of the one that the name has marked so far. That
+    /// is no change: it can't be undone, and drops nothing that could be redone. A mark stands until a change is
+    /// accepted with fewer changes made than there were at the mark, so that the marked set can't be gone to any more.
     ///
     /// # Errors
     ///
-    /// `BadRequest` where the name is empty or longer, which is found without memory, and `Memory` where memory ran out. After each the policy set, its
-    /// history and the marks are as they were.
+    /// `BadRequest` where the name is empty or longer, which is found without memory, and `Memory` where memory ran
+    /// out. After each the policy set, its history and the marks are as they were.
     pub fn mark(&mut self, name: &[u8]) -> Result<(), Refusal>
         ensures ok { OnOk result (marking name.now self.old ≡ Ok self.new) }
         ensures refused { IfErr result (λ refusal. refusal ≢ plain Memory → marking name.now self.old ≡ Err refusal) }
@@ -328,10 +332,12 @@ impl Manager {
     /// `Absent` where no profile, child or hat of the full name is loaded, and `Memory` where memory ran out.
     pub fn ask(&self, question: &Question<'_>) -> Result<Vec<u8>, Refusal>
         requires { IsWellFormed question.now }
-        ensures told { IfOk result (λ lines. reply_lines self.now.machine.now (asked question.entry.now) ≡ Ok lines.items) }
-        ensures refused { IfErr result (λ refusal. refusal ≢ plain Memory → reply_lines self.now.machine.now (asked question.entry.now) ≡ Err refusal) }
+        ensures told { IfOk result (λ lines. reply_lines self.now.machine.now (seen_question question.entry.now) ≡ Ok lines.items) }
+        ensures refused { IfErr result (λ refusal.
+            refusal ≢ plain Memory → reply_lines self.now.machine.now (seen_question question.entry.now) ≡ Err refusal) }
         // That it is absent is found without memory.
-        ensures memory { IfErr result (λ refusal. refusal ≡ plain Memory → asks_absent self.now.machine.now (asked question.entry.now) ≡ false) }
+        ensures memory { IfErr result (λ refusal.
+            refusal ≡ plain Memory → asks_absent self.now.machine.now (seen_question question.entry.now) ≡ false) }
     {
         let slots = self.policy_set().slots();
         match question {

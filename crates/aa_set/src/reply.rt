@@ -1,7 +1,7 @@
 //! Replies: what a line is answered.
 
 ghost use Rattle.std.specs.Prelude.{◌≡◌, Bool, MatchResult};
-ghost use Rattle.aa_set_commands.specs.Command.{AsksWell, Make, meant, ordered};
+ghost use Rattle.aa_set_commands.specs.Command.{AsksWell, Make, seen_change, seen_command};
 ghost use Rattle.aa_set.specs.Run.{line_outcome, obeyed_flagged};
 ghost use Rattle.aa_set.specs.declared.reply.Reply.TheVariants.{Done, Refused, Told};
 
@@ -41,7 +41,9 @@ pub fn reply_to(files: &Files, manager: &mut Manager, line: &[u8]) -> Reply
 // The reply to a command.
 fn obey(files: &Files, manager: &mut Manager, command: Command<'_>) -> Reply
     requires { AsksWell command }
-    ensures { (flag : Bool) × (record { reply = result; managed = manager.new } ≡ obeyed_flagged files.now manager.old flag (ordered command.entry)) }
+    ensures { (flag : Bool)
+        × (record { reply = result; managed = manager.new }
+        ≡ obeyed_flagged files.now manager.old flag (seen_command command.entry)) }
 {
     match command {
         Command::Change(change) => make(files, manager, change),
@@ -57,7 +59,9 @@ fn obey(files: &Files, manager: &mut Manager, command: Command<'_>) -> Reply
 
 // The reply to a change.
 fn make(files: &Files, manager: &mut Manager, change: PolicyChange<'_>) -> Reply
-    ensures { (flag : Bool) × (record { reply = result; managed = manager.new } ≡ obeyed_flagged files.now manager.old flag (Make (meant change.entry))) }
+    ensures { (flag : Bool)
+        × (record { reply = result; managed = manager.new }
+        ≡ obeyed_flagged files.now manager.old flag (Make (seen_change change.entry))) }
 {
     match change {
         PolicyChange::Add(file) => done(manager.add(files, file)),

@@ -1,6 +1,7 @@
 //! The run of command lines: lines from a reader, replies to a writer.
 
-ghost use Rattle.std.specs.Prelude.{◌≡◌, ◌+◌, ◌-◌, ◌^◌, ◌<◌, ◌≤◌, ◌||◌, ◌∷◌, [], length, vec_len, count_by, false, true, OnOk, OnErr, IfOk, IsErrOf, ◌⊎◌};
+ghost use Rattle.std.specs.Prelude.{◌≡◌, ◌+◌, ◌-◌, ◌^◌, ◌<◌, ◌≤◌, ◌||◌, ◌∷◌, [], length, vec_len, count_by};
+ghost use Rattle.std.specs.Prelude.{false, true, OnOk, OnErr, IfOk, IsErrOf, ◌⊎◌};
 ghost use Rattle.std.specs.List.{list_any};
 ghost use Rattle.std.specs.Io.{ReadsAtMost};
 ghost use Rattle.std.specs.Io.KnownBytes.{IsAtEnd, ReadConsumes};
@@ -10,7 +11,8 @@ ghost use Rattle.aa_set.specs.Limits.{most_reads};
 ghost use Rattle.aa_set.specs.Run.{HasGiven, HoldsOfRead, IsAnsweredSoFar, IsFrontAnswered, IsLeftAnswered};
 ghost use Rattle.aa_set_lines.specs.Streams.{comes_to_end};
 ghost use Rattle.aa_set_answers.specs.Answers.{line_with};
-ghost use Rattle.aa_set.specs.code.Session.{AnswersLine, BreaksAfter, BreaksOff, BreaksOffEnd, BreaksOffLine, EndsInput, EndsLine, Feeds, IsFresh, Serves, StopsAfter, counted, piece_size};
+ghost use Rattle.aa_set.specs.code.Session.{AnswersLine, BreaksAfter, BreaksOff, BreaksOffEnd, BreaksOffLine, EndsInput};
+ghost use Rattle.aa_set.specs.code.Session.{EndsLine, Feeds, IsFresh, Serves, StopsAfter, counted, piece_size};
 
 use crate::manager::Manager;
 use crate::reply::{Reply, reply_to};
@@ -176,7 +178,8 @@ fn serve<S: Source, W: Sink>(
     requires whole_reader { S.failed reader.old ≡ false }
     requires whole_writer { W.failed writer.old ≡ false }
     requires reads { S.reads reader.old ≤ 2 ^ 63 }
-    ensures answered { OnOk result (Serves files.now (S.left reader.old) (W.written writer.old) (W.written writer.new) session.old held.old session.new) }
+    ensures answered { OnOk result
+        (Serves files.now (S.left reader.old) (W.written writer.old) (W.written writer.new) session.old held.old session.new) }
     ensures ended { OnOk result (IsAtEnd (S.left reader.new)) }
     ensures end { OnOk result (S.ended reader.new ≡ true) }
     ensures whole { OnOk result ((S.failed reader.new ≡ false) × (W.failed writer.new ≡ false)) }
@@ -184,8 +187,10 @@ fn serve<S: Source, W: Sink>(
     ensures going { IsErrOf result RunFault.Read → S.failed reader.new ≡ false → S.ended reader.new ≡ S.ended reader.old }
     ensures given { IsErrOf result RunFault.Read → S.failed reader.new ≡ false → HasGiven reads (S.left reader.old) (S.left reader.new) }
     ensures write { IsErrOf result RunFault.Write → W.failed writer.new ≡ true }
-    ensures so_far { IsErrOf result RunFault.Read → StopsAfter files.now (S.left reader.old) (S.left reader.new) (W.written writer.old) (W.written writer.new) session.old held.old }
-    ensures front { IsErrOf result RunFault.Write → BreaksAfter files.now (S.left reader.old) (S.left reader.new) (W.written writer.old) (W.written writer.new) session.old held.old }
+    ensures so_far { IsErrOf result RunFault.Read
+        → StopsAfter files.now (S.left reader.old) (S.left reader.new) (W.written writer.old) (W.written writer.new) session.old held.old }
+    ensures front { IsErrOf result RunFault.Write
+        → BreaksAfter files.now (S.left reader.old) (S.left reader.new) (W.written writer.old) (W.written writer.new) session.old held.old }
     ensures memory { IsErrOf result RunFault.Memory → ⊥ }
     ensures bound { S.reads reader.new ≤ S.reads reader.old + reads }
 {

@@ -25,7 +25,8 @@ pub fn tell_reply<W: Sink>(
     files: &Files,
     reply: &Reply,
 ) -> Result<(), Failed>
-    ensures ok { OnOk result (Tells (W.written writer.old) (W.written writer.new) waiting.old.items waiting.new.items (reply_text files.now reply.now)) }
+    ensures ok { OnOk result
+        (Tells (W.written writer.old) (W.written writer.new) waiting.old.items waiting.new.items (reply_text files.now reply.now)) }
     ensures err { OnErr result (AppendsFront (W.written writer.old) (W.written writer.new) (waiting.old.items ++ (reply_text files.now reply.now))) }
     ensures flag { OnOk result (W.failed writer.new ≡ W.failed writer.old) }
     ensures fault { OnErr result (W.failed writer.new ≡ true) }
@@ -45,7 +46,8 @@ fn tell_refusal<W: Sink>(
     files: &Files,
     refusal: Refusal,
 ) -> Result<(), Failed>
-    ensures ok { OnOk result (Tells (W.written writer.old) (W.written writer.new) waiting.old.items waiting.new.items (refusal_text files.now refusal)) }
+    ensures ok { OnOk result
+        (Tells (W.written writer.old) (W.written writer.new) waiting.old.items waiting.new.items (refusal_text files.now refusal)) }
     ensures err { OnErr result (AppendsFront (W.written writer.old) (W.written writer.new) (waiting.old.items ++ (refusal_text files.now refusal))) }
     ensures flag { OnOk result (W.failed writer.new ≡ W.failed writer.old) }
     ensures fault { OnErr result (W.failed writer.new ≡ true) }

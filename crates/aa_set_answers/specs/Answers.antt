@@ -2,7 +2,7 @@
 use Rattle.std.specs.Prelude.{ℕ, Bool, if◌then◌else◌, List, [], ◌∷◌, ◌++◌, Option, None, Some, Result, Ok, Err, codes, is_none}
 use Rattle.aa_bytes.specs.Bytes.{line_feed}
 use Rattle.aa_profile_access.specs.Request.{Request}
-use Rattle.aa_set_commands.specs.Question.{Asked, OfAccess, OfExec}
+use Rattle.aa_set_commands.specs.Question.{OfAccess, OfExec, Question}
 use Rattle.aa_set_commands.specs.Refusal.{plain}
 use Rattle.aa_set_commands.specs.declared.refusal.Refusal.{Refusal}
 use Rattle.aa_set_commands.specs.declared.refusal.RefusalKind.TheVariants.{Absent}
@@ -35,6 +35,10 @@ abbrev pub answer_lines : List ℕ → Request → Option Verdict → List ℕ
 answer_lines who request None = line_with (codes "unconfined")
 answer_lines who request (Some verdict) = line_with (answer_word verdict.answer) ++ log_line who request verdict
 
+-- the lines of the answer to a request, by what confines who asks
+abbrev pub confined_lines : List ℕ → Request → Confinement → List ℕ
+confined_lines who request confinement = answer_lines who request (confined_answer confinement request)
+
 -- how it is told that a program's environment is scrubbed
 abbrev pub scrub_text : Bool → List ℕ
 scrub_text scrub = if scrub then codes " scrub" else []
@@ -59,25 +63,25 @@ abbrev pub exec_lines : List ℕ → List ℕ → ExecAnswer → List ℕ
 exec_lines who path answer = line_with (started_text answer.verdict.answer answer.to answer.scrub) ++ exec_line who path answer.verdict
 
 -- the lines of the reply, by who asks, if it is there
-abbrev pub lines_by : List Loaded → Asked → Option Asker → List ℕ
-lines_by entries (OfAccess who request) asker = answer_lines who request (confined_answer (confinement asker) request)
+abbrev pub lines_by : List Loaded → Question → Option Asker → List ℕ
+lines_by entries (OfAccess who request) asker = confined_lines who request (confinement asker)
 lines_by entries (OfExec who owned path) asker = exec_lines who path (exec_answer entries asker owned path)
 
 -- who a question says asks
-abbrev pub who_asks : Asked → List ℕ
+abbrev pub who_asks : Question → List ℕ
 who_asks (OfAccess who request) = who
 who_asks (OfExec who owned path) = who
 
 -- the lines of the reply to a question
-abbrev pub reply_lines : List Loaded → Asked → Result (List ℕ) Refusal
-reply_lines entries asked = elim (asker entries (who_asks asked)) [
+abbrev pub reply_lines : List Loaded → Question → Result (List ℕ) Refusal
+reply_lines entries question = elim (asker entries (who_asks question)) [
   | None ↦ Err (plain Absent)
-  | Some asker ↦ Ok (lines_by entries asked asker)
+  | Some asker ↦ Ok (lines_by entries question asker)
 ]
 
 -- a question is asked of a profile, a child or a hat that isn't there
-abbrev pub asks_absent : List Loaded → Asked → Bool
-asks_absent entries asked = is_none (asker entries (who_asks asked))
+abbrev pub asks_absent : List Loaded → Question → Bool
+asks_absent entries question = is_none (asker entries (who_asks question))
 
 -- the lines of the reply to `show NAME`
 abbrev pub shown : List Loaded → List ℕ → Result (List ℕ) Refusal

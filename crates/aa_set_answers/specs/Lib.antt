@@ -1,3 +1,4 @@
 pub mod Answers
 pub mod Askers
+pub mod Laws
 pub mod code

@@ -1,3 +1,2 @@
--- What is about the code: who asks and what is answered, by slots.
-pub mod SeenAskers
+-- What is about the code: what is answered, by slots.
 pub mod SeenTexts

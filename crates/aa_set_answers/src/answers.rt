@@ -8,12 +8,13 @@ ghost use Rattle.aa_decide_verdict.specs.Slots.{filled};
 ghost use Rattle.aa_decide_verdict.specs.Confinement.{found};
 ghost use Rattle.aa_profile_access.specs.SeenRequests.{request_of};
 ghost use Rattle.aa_decide_audit.specs.LogLines.{exec_line};
-ghost use Rattle.aa_set_answers.specs.Answers.{answer_lines, asks_absent, confined_answer, line_with, reply_lines, scrub_text, shown, shows_absent, unconfined_text, under_text};
+ghost use Rattle.aa_set_answers.specs.Answers.{asks_absent, confined_lines, line_with, reply_lines};
+ghost use Rattle.aa_set_answers.specs.Answers.{scrub_text, shown, shows_absent, unconfined_text, under_text};
 ghost use Rattle.aa_set_answers.specs.code.SeenTexts.{seen_text};
 
-use crate::asker::{find_asker, find_loaded};
+use crate::asker::{confinement, find_asker, find_loaded};
 use aa_decide::{
-    Confinement, Entry, ExecTo, ExecVerdict, Request, Steps, entry_at, exec, exec_line, log_line,
+    Confinement, Entry, ExecTo, ExecVerdict, Request, Steps, entry_at, exec_by, exec_line, log_line,
 };
 use aa_profile_data::Profile;
 use aa_quoting::push_text;
@@ -40,7 +41,7 @@ fn confined_lines(
     request: &Request<'_>,
     confinement: Confinement<'_>,
 ) -> Result<Vec<u8>, AllocError>
-    ensures { IfOk result (λ lines. lines.items ≡ answer_lines who.now (request_of request.entry.now) (confined_answer (found confinement.entry) (request_of request.entry.now))) }
+    ensures { IfOk result (λ lines. lines.items ≡ confined_lines who.now (request_of request.entry.now) (found confinement.entry)) }
 {
     match confinement {
         Confinement::Unconfined => lines_of(alloc, b"unconfined", b""),
@@ -64,13 +65,15 @@ pub fn access_lines(
     request: &Request<'_>,
 ) -> Result<Vec<u8>, Refusal>
     ensures told { IfOk result (λ lines. reply_lines (filled slots.now) (OfAccess who.now (request_of request.entry.now)) ≡ Ok lines.items) }
-    ensures refused { IfErr result (λ refusal. refusal ≢ plain Memory → reply_lines (filled slots.now) (OfAccess who.now (request_of request.entry.now)) ≡ Err refusal) }
-    ensures memory { IfErr result (λ refusal. refusal ≡ plain Memory → asks_absent (filled slots.now) (OfAccess who.now (request_of request.entry.now)) ≡ false) }
+    ensures refused { IfErr result (λ refusal.
+        refusal ≢ plain Memory → reply_lines (filled slots.now) (OfAccess who.now (request_of request.entry.now)) ≡ Err refusal) }
+    ensures memory { IfErr result (λ refusal.
+        refusal ≡ plain Memory → asks_absent (filled slots.now) (OfAccess who.now (request_of request.entry.now)) ≡ false) }
 {
     let Some(asker) = find_asker(slots, who) else {
         return Err(plain(RefusalKind::Absent));
     };
-    Ok(confined_lines(alloc, who, request, asker.confinement())?)
+    Ok(confined_lines(alloc, who, request, confinement(asker))?)
 }
 
 // Puts behind a text that a program's environment is scrubbed, if it is.
@@ -155,13 +158,14 @@ pub fn exec_lines(
     path: &[u8],
 ) -> Result<Vec<u8>, Refusal>
     ensures told { IfOk result (λ lines. reply_lines (filled slots.now) (OfExec who.now owned path.now) ≡ Ok lines.items) }
-    ensures refused { IfErr result (λ refusal. refusal ≢ plain Memory → reply_lines (filled slots.now) (OfExec who.now owned path.now) ≡ Err refusal) }
+    ensures refused { IfErr result (λ refusal.
+        refusal ≢ plain Memory → reply_lines (filled slots.now) (OfExec who.now owned path.now) ≡ Err refusal) }
     ensures memory { IfErr result (λ refusal. refusal ≡ plain Memory → asks_absent (filled slots.now) (OfExec who.now owned path.now) ≡ false) }
 {
     let Some(asker) = find_asker(slots, who) else {
         return Err(plain(RefusalKind::Absent));
     };
-    let verdict = exec(alloc, slots, asker.who(), owned, path)?;
+    let verdict = exec_by(alloc, slots, asker, owned, path)?;
     Ok(verdict_lines(alloc, slots, who, path, &verdict)?)
 }
 

@@ -3,5 +3,7 @@
 
 mod answers;
 mod asker;
+mod laws;
 
 pub use answers::{access_lines, exec_lines, shown_lines};
+pub use laws::where_listed_names_lead;

@@ -3,12 +3,12 @@ use Rattle.std.specs.Prelude.{◌≡◌, Bool, true, List, IfOk}
 use Rattle.aa_text_files.specs.Files.{File}
 use Rattle.aa_decide_verdict.specs.Entries.{Loaded}
 use Rattle.aa_decide.specs.Named.{have_distinct_names}
-use Rattle.aa_set_commands.specs.Command.{Change}
+use Rattle.aa_set_commands.specs.Command.{PolicyChange}
 use Rattle.aa_set_changes.specs.Changes.{changed}
 
 -- no change gives two entries one name
 abbrev pub ChangesKeepNamesApart : Type 0
 ChangesKeepNamesApart =
-    (files : List File) (force_complain : Bool) (entries : List Loaded) (change : Change)
+    (files : List File) (force_complain : Bool) (entries : List Loaded) (change : PolicyChange)
     → have_distinct_names entries ≡ true
     → IfOk (changed files force_complain entries change) (λ set. have_distinct_names set ≡ true)

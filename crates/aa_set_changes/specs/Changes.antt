@@ -1,5 +1,6 @@
 -- The change that a command makes of a policy set: a new policy set, or a refusal (docs/commands.md, "Changes").
-use Rattle.std.specs.Prelude.{ℕ, Bool, true, false, not, ◌&&◌, if◌then◌else◌, List, [], ◌∷◌, ◌++◌, length, map, filter, fold, Option, None, Some, is_none, Result, Ok, Err}
+use Rattle.std.specs.Prelude.{ℕ, Bool, true, false, not, ◌&&◌, if◌then◌else◌, List, [], ◌∷◌, ◌++◌, length, map}
+use Rattle.std.specs.Prelude.{filter, fold, Option, None, Some, is_none, Result, Ok, Err}
 use Rattle.std.specs.List.{list_any}
 use Rattle.aa_text_files.specs.Files.{File}
 use Rattle.aa_profile_data.specs.Profile.{is_named as is_profile_named}
@@ -11,7 +12,7 @@ use Rattle.aa_decide_verdict.specs.declared.entry.State.TheVariants.{Disabled as
 use Rattle.aa_decide.specs.Named.{entry_named, has_name, is_named}
 use Rattle.aa_profile.specs.FileReading.{file_profiles}
 use Rattle.aa_profile_errors.specs.declared.profile_error.ProfileError.{ProfileError}
-use Rattle.aa_set_commands.specs.Command.{Change, Add, Replace, Remove, Enforce, Complain, Disable}
+use Rattle.aa_set_commands.specs.Command.{PolicyChange, Add, Replace, Remove, Enforce, Complain, Disable}
 use Rattle.aa_set_commands.specs.Refusal.{plain, refusal_of_profile}
 use Rattle.aa_set_commands.specs.declared.refusal.Refusal.{Refusal}
 use Rattle.aa_set_commands.specs.declared.refusal.RefusalKind.TheVariants.{Absent, Disabled, Exists}
@@ -104,7 +105,7 @@ by_file change (Err error) = Err (refusal_of_profile error)
 by_file change (Ok profiles) = change profiles
 
 -- The policy set after a change, or its refusal.
-abbrev pub changed : List File → Bool → List Loaded → Change → Result (List Loaded) Refusal
+abbrev pub changed : List File → Bool → List Loaded → PolicyChange → Result (List Loaded) Refusal
 changed files force_complain entries (Add file) = by_file (with_added force_complain entries) (file_profiles files file)
 changed files force_complain entries (Replace file) = by_file (with_replaced force_complain entries) (file_profiles files file)
 changed files force_complain entries (Remove file) = by_file (with_removed entries) (file_profiles files file)
@@ -118,7 +119,7 @@ profile_count (Ok profiles) = length profiles
 profile_count (Err error) = 0
 
 -- how many parts a change has: one for each profile of its file, or one for a switch
-abbrev pub parts_of : List File → Change → ℕ
+abbrev pub parts_of : List File → PolicyChange → ℕ
 parts_of files (Add file) = profile_count (file_profiles files file)
 parts_of files (Replace file) = profile_count (file_profiles files file)
 parts_of files (Remove file) = profile_count (file_profiles files file)
@@ -131,7 +132,7 @@ abbrev pub is_loaded : List ℕ → List Loaded → Bool
 is_loaded name entries = not (is_none (entry_named name entries))
 
 -- A change may find no memory, but a switch that is refused doesn't take any.
-abbrev pub change_takes_memory : List Loaded → Change → Bool
+abbrev pub change_takes_memory : List Loaded → PolicyChange → Bool
 change_takes_memory entries (Add file) = true
 change_takes_memory entries (Replace file) = true
 change_takes_memory entries (Remove file) = true

@@ -6,7 +6,8 @@ ghost use Rattle.aa_decide.specs.Named.{have_distinct_names};
 ghost use Rattle.aa_decide_verdict.specs.Slots.{filled};
 ghost use Rattle.aa_profile_data.specs.Conflicts.{profile_agrees};
 ghost use Rattle.aa_profile_data.specs.Profile.{are_distinct};
-ghost use Rattle.aa_set_changes.specs.Changes.{are_there, is_disabled, is_loaded, some_are_absent, some_are_disabled, with_added, with_disabled, with_mode, with_removed, with_replaced};
+ghost use Rattle.aa_set_changes.specs.Changes.{are_there, is_disabled, is_loaded, some_are_absent, some_are_disabled};
+ghost use Rattle.aa_set_changes.specs.Changes.{with_added, with_disabled, with_mode, with_removed, with_replaced};
 ghost use Rattle.aa_set_commands.specs.Refusal.{plain};
 ghost use Rattle.aa_set_commands.specs.declared.refusal.RefusalKind.TheVariants.{Memory};
 ghost use Rattle.aa_set_parts.specs.Parts.{after};
@@ -21,8 +22,9 @@ use aa_set_commands::{Refusal, RefusalKind, plain};
 use aa_set_parts::{Exchange, Slots};
 use std::alloc::Global;
 
-/// The change that adds the profiles of a file, whose names are their own and whose rules agree, at the end of a policy set: each in force in the modes of
-/// its own flags, or in complain mode where that is forced (docs/commands.md, "Changes"). It has a part for each profile. The slots stay as they are.
+/// The change that adds the profiles of a file, whose names are their own and whose rules agree, at the end of a policy
+/// set: each in force in the modes of its own flags, or in complain mode where that is forced (docs/commands.md,
+/// "Changes"). It has a part for each profile. The slots stay as they are.
 ///
 /// # Errors
 ///
@@ -35,7 +37,8 @@ pub fn adding(
 ) -> Result<Exchange, Refusal>
     requires own { are_distinct profiles.items ≡ true }
     requires agree { list_all profile_agrees profiles.items ≡ true }
-    ensures ok { IfOk result (λ exchange. with_added force_complain (filled slots.now) profiles.items ≡ Ok (filled (after slots.now exchange.parts))) }
+    ensures ok { IfOk result (λ exchange.
+        with_added force_complain (filled slots.now) profiles.items ≡ Ok (filled (after slots.now exchange.parts))) }
     ensures parts { IfOk result (λ exchange. length exchange.parts ≡ length profiles.items) }
     ensures refused { IfErr result (λ refusal. refusal ≢ plain Memory → with_added force_complain (filled slots.now) profiles.items ≡ Err refusal) }
     ensures memory { IfErr result (λ refusal. refusal ≡ plain Memory → are_there profiles.items (filled slots.now) ≡ false) }
@@ -44,9 +47,10 @@ pub fn adding(
     Ok(loading(alloc, slots, forced(force_complain), profiles, &found)?)
 }
 
-/// The change that puts the profiles of a file, whose names are their own and whose rules agree, in the places of those of their names, or at the end, in
-/// the file's order, where there is none: each in force in the modes of its own flags, or in complain mode where that is forced (docs/commands.md,
-/// "Changes"). It has a part for each profile. The slots stay as they are.
+/// The change that puts the profiles of a file, whose names are their own and whose rules agree, in the places of those
+/// of their names, or at the end, in the file's order, where there is none: each in force in the modes of its own
+/// flags, or in complain mode where that is forced (docs/commands.md, "Changes"). It has a part for each profile. The
+/// slots stay as they are.
 ///
 /// # Errors
 ///
@@ -59,17 +63,19 @@ pub fn replacing(
 ) -> Result<Exchange, Refusal>
     requires own { are_distinct profiles.items ≡ true }
     requires agree { list_all profile_agrees profiles.items ≡ true }
-    ensures ok { IfOk result (λ exchange. with_replaced force_complain (filled slots.now) profiles.items ≡ Ok (filled (after slots.now exchange.parts))) }
+    ensures ok { IfOk result (λ exchange.
+        with_replaced force_complain (filled slots.now) profiles.items ≡ Ok (filled (after slots.now exchange.parts))) }
     ensures parts { IfOk result (λ exchange. length exchange.parts ≡ length profiles.items) }
-    ensures refused { IfErr result (λ refusal. refusal ≢ plain Memory → with_replaced force_complain (filled slots.now) profiles.items ≡ Err refusal) }
+    ensures refused { IfErr result (λ refusal.
+        refusal ≢ plain Memory → with_replaced force_complain (filled slots.now) profiles.items ≡ Err refusal) }
     ensures memory { IfErr result (λ refusal. refusal ≡ plain Memory → some_are_disabled profiles.items (filled slots.now) ≡ false) }
 {
     let found = found_to_replace(alloc, slots.as_slice(), &profiles)?;
     Ok(loading(alloc, slots, forced(force_complain), profiles, &found)?)
 }
 
-/// The change that takes out the profiles of these names, which are their own (docs/commands.md, "Changes"). It has a part for each. The slots, in which
-/// no two profiles have one name, stay as they are.
+/// The change that takes out the profiles of these names, which are their own (docs/commands.md, "Changes"). It has a
+/// part for each. The slots, in which no two profiles have one name, stay as they are.
 ///
 /// # Errors
 ///
@@ -86,8 +92,8 @@ pub fn removing(alloc: Global, slots: &Slots, profiles: &[Profile]) -> Result<Ex
     Ok(unloading(alloc, slots, profiles, &found)?)
 }
 
-/// The change that brings the profile of a name into force, it and all its children and hats in one mode (docs/commands.md, "Changes"). It has one part.
-/// The slots stay as they are.
+/// The change that brings the profile of a name into force, it and all its children and hats in one mode
+/// (docs/commands.md, "Changes"). It has one part. The slots stay as they are.
 ///
 /// # Errors
 ///
@@ -105,8 +111,8 @@ pub fn switching(alloc: Global, slots: &Slots, mode: Mode, name: &[u8]) -> Resul
     Ok(in_state(alloc, slot, State::Modes(Sequence::from_vec(modes)))?)
 }
 
-/// The change that takes the profile of a name out of force, and its children and hats (docs/commands.md, "Changes"). It has one part. The slots stay as
-/// they are.
+/// The change that takes the profile of a name out of force, and its children and hats (docs/commands.md, "Changes").
+/// It has one part. The slots stay as they are.
 ///
 /// # Errors
 ///

@@ -63,8 +63,8 @@ fn filling(
     Ok(parts)
 }
 
-/// The change that puts profiles into the slots where their names were found, and the others, in their order, behind all: each in the mode that is set,
-/// or else in those of its own flags.
+/// The change that puts profiles into the slots where their names were found, and the others, in their order, behind
+/// all: each in the mode that is set, or else in those of its own flags.
 ///
 /// # Errors
 ///

@@ -1,5 +1,6 @@
 -- Questions: what the words after `ask` ask (docs/commands.md).
-use Rattle.std.specs.Prelude.{ℕ, ◌<◌, Bool, true, false, ◌&&◌, not, if◌then◌else◌, List, [], ◌∷◌, Option, None, Some, Result, Ok, Err, codes, option_and_then}
+use Rattle.std.specs.Prelude.{ℕ, ◌<◌, Bool, true, false, ◌&&◌, not, if◌then◌else◌, List, [], ◌∷◌, Option}
+use Rattle.std.specs.Prelude.{None, Some, Result, Ok, Err, codes, option_and_then}
 use Rattle.std.specs.Str.{bytes_eq}
 use Rattle.aa_bytes.specs.Bytes.{slash}
 use Rattle.aa_bytes.specs.Texts.{begins_with_byte, has_byte}
@@ -9,26 +10,26 @@ use Rattle.aa_profile_tables.specs.Capabilities.{capability_number}
 use Rattle.aa_profile_tables.specs.Domains.{domain_number}
 use Rattle.aa_profile_tables.specs.Kinds.{is_protocol, kind_number}
 use Rattle.aa_set_commands.specs.Refusal.{plain}
-use Rattle.aa_set_commands.specs.declared.question.Question.{Question}
+use Rattle.aa_set_commands.specs.declared.question.Question.{Question as CodeQuestion}
 use Rattle.aa_set_commands.specs.declared.question.Question.TheVariants.{Cap, Exec, File, Net}
 use Rattle.aa_set_commands.specs.declared.refusal.Refusal.{Refusal}
 use Rattle.aa_set_commands.specs.declared.refusal.RefusalKind.TheVariants.{BadCommand, BadRequest}
 
 -- What is asked: whether a task has access, confined as the asker's full name says, or the word `unconfined`; or under what a program runs that
 -- such a task starts.
-pub data Asked : Type 0 where
-  OfAccess : (who : List ℕ) (request : Request) → Asked
-  OfExec : (who : List ℕ) (owned : Bool) (path : List ℕ) → Asked
+pub data Question : Type 0 where
+  OfAccess : (who : List ℕ) (request : Request) → Question
+  OfExec : (who : List ℕ) (owned : Bool) (path : List ℕ) → Question
 
--- what a question of the code asks
-abbrev pub asked : Question → Asked
-asked (File who needs owned path) = OfAccess who.now (ForFile needs.0 owned path.now)
-asked (Exec who owned path) = OfExec who.now owned path.now
-asked (Cap who number) = OfAccess who.now (ForCapability number)
-asked (Net who domain kind) = OfAccess who.now (ForSockets domain kind)
+-- a question of the code
+abbrev pub seen_question : CodeQuestion → Question
+seen_question (File who needs owned path) = OfAccess who.now (ForFile needs.0 owned path.now)
+seen_question (Exec who owned path) = OfExec who.now owned path.now
+seen_question (Cap who number) = OfAccess who.now (ForCapability number)
+seen_question (Net who domain kind) = OfAccess who.now (ForSockets domain kind)
 
 -- a question's needs are made of the letters alone that may be asked for, and its numbers stand in the tables
-abbrev pub IsWellFormed : Question → Type 0
+abbrev pub IsWellFormed : CodeQuestion → Type 0
 IsWellFormed (File who needs owned path) = needs.0 < asked_letters
 IsWellFormed (Exec who owned path) = Unit {0}
 IsWellFormed (Cap who number) = number < 41
@@ -42,16 +43,16 @@ owned_of word = if bytes_eq word (codes "owner") then Some true else (if bytes_e
 abbrev pub is_path : List ℕ → Bool
 is_path word = begins_with_byte slash word && not (has_byte 0 word)
 
-abbrev pub file_question : List ℕ → Option ℕ → Option Bool → List ℕ → Result Asked Refusal
+abbrev pub file_question : List ℕ → Option ℕ → Option Bool → List ℕ → Result Question Refusal
 file_question who (Some needs) (Some owned) path = if is_path path then Ok (OfAccess who (ForFile needs owned path)) else Err (plain BadRequest)
 file_question who None owned path = Err (plain BadRequest)
 file_question who (Some needs) None path = Err (plain BadRequest)
 
-abbrev pub exec_question : List ℕ → Option Bool → List ℕ → Result Asked Refusal
+abbrev pub exec_question : List ℕ → Option Bool → List ℕ → Result Question Refusal
 exec_question who (Some owned) path = if is_path path then Ok (OfExec who owned path) else Err (plain BadRequest)
 exec_question who None path = Err (plain BadRequest)
 
-abbrev pub capability_question : List ℕ → Option ℕ → Result Asked Refusal
+abbrev pub capability_question : List ℕ → Option ℕ → Result Question Refusal
 capability_question who (Some number) = Ok (OfAccess who (ForCapability number))
 capability_question who None = Err (plain BadRequest)
 
@@ -59,14 +60,15 @@ capability_question who None = Err (plain BadRequest)
 abbrev pub type_number : List ℕ → Option ℕ
 type_number name = option_and_then (λ kind. if is_protocol kind then None else Some kind) (kind_number name)
 
-abbrev pub socket_question : List ℕ → Option ℕ → Option ℕ → Result Asked Refusal
+abbrev pub socket_question : List ℕ → Option ℕ → Option ℕ → Result Question Refusal
 socket_question who (Some domain) (Some kind) = Ok (OfAccess who (ForSockets domain kind))
 socket_question who None kind = Err (plain BadRequest)
 socket_question who (Some domain) None = Err (plain BadRequest)
 
 -- What the words after `ask` ask: `cap NAME CAPABILITY`, `net NAME DOMAIN TYPE`, `exec NAME OWNED PATH`, or `file NAME ACCESS OWNED PATH`.
-abbrev pub question_of : List (List ℕ) → Result Asked Refusal
-question_of (kind ∷ who ∷ name ∷ []) = if bytes_eq kind (codes "cap") then capability_question who (capability_number name) else Err (plain BadCommand)
+abbrev pub question_of : List (List ℕ) → Result Question Refusal
+question_of (kind ∷ who ∷ name ∷ []) =
+    if bytes_eq kind (codes "cap") then capability_question who (capability_number name) else Err (plain BadCommand)
 question_of (kind ∷ who ∷ third ∷ fourth ∷ []) =
     if bytes_eq kind (codes "net") then socket_question who (domain_number third) (type_number fourth) else
     if bytes_eq kind (codes "exec") then exec_question who (owned_of third) fourth else Err (plain BadCommand)

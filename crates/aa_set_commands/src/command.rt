@@ -4,7 +4,8 @@ ghost use Rattle.std.specs.Prelude.{◌≡◌, ◌≤◌, true, Ok, Err, IfOk, I
 ghost use Rattle.std.specs.List.{list_all};
 ghost use Rattle.std.specs.Option.{option_map};
 ghost use Rattle.aa_bytes.specs.Bytes.{is_digit};
-ghost use Rattle.aa_set_commands.specs.Command.{AsksWell, Listed, change_of, change_order, count_of, is_count, line_order, meant, most_digits, no_word, number_of_digits, order_of, ordered, the_word};
+ghost use Rattle.aa_set_commands.specs.Command.{AsksWell, Listed, change_of, change_command, count_of, is_count, line_command, seen_change};
+ghost use Rattle.aa_set_commands.specs.Command.{most_digits, no_word, number_of_digits, command_of, seen_command, the_word};
 ghost use Rattle.aa_set_lines.specs.Words.{words_of};
 
 use crate::question::Question;
@@ -60,8 +61,8 @@ pub enum Command<'a> {
 ///   no number from 1 to 999,999,999.
 /// - Else as `Question::read` refuses a question.
 pub fn read(line: &[u8]) -> Result<Option<Command<'_>>, Refusal>
-    ensures ok { IfOk result (λ found. line_order (words_of line.now) ≡ Ok (option_map ordered found)) }
-    ensures refused { IfErr result (λ refusal. line_order (words_of line.now) ≡ Err refusal) }
+    ensures ok { IfOk result (λ found. line_command (words_of line.now) ≡ Ok (option_map seen_command found)) }
+    ensures refused { IfErr result (λ refusal. line_command (words_of line.now) ≡ Err refusal) }
     ensures well { IfOk result (λ found. IfSome found AsksWell) }
 {
     let Ok(words) = Words::cut(line) else {
@@ -75,8 +76,8 @@ pub fn read(line: &[u8]) -> Result<Option<Command<'_>>, Refusal>
 
 // The command of a first word and those after it.
 fn read_words<'a>(first: &[u8], rest: &[&'a [u8]]) -> Result<Command<'a>, Refusal>
-    ensures ok { IfOk result (λ command. order_of first.now (map (λ word. word.now) rest.now) ≡ Ok (ordered command)) }
-    ensures refused { IfErr result (λ refusal. order_of first.now (map (λ word. word.now) rest.now) ≡ Err refusal) }
+    ensures ok { IfOk result (λ command. command_of first.now (map (λ word. word.now) rest.now) ≡ Ok (seen_command command)) }
+    ensures refused { IfErr result (λ refusal. command_of first.now (map (λ word. word.now) rest.now) ≡ Err refusal) }
     ensures well { IfOk result AsksWell }
 {
     if first == b"undo".as_slice() {
@@ -101,8 +102,8 @@ fn read_words<'a>(first: &[u8], rest: &[&'a [u8]]) -> Result<Command<'a>, Refusa
 
 // The change of a first word and those after it.
 fn read_change<'a>(first: &[u8], rest: &[&'a [u8]]) -> Result<Command<'a>, Refusal>
-    ensures ok { IfOk result (λ command. change_order first.now (map (λ word. word.now) rest.now) ≡ Ok (ordered command)) }
-    ensures refused { IfErr result (λ refusal. change_order first.now (map (λ word. word.now) rest.now) ≡ Err refusal) }
+    ensures ok { IfOk result (λ command. change_command first.now (map (λ word. word.now) rest.now) ≡ Ok (seen_command command)) }
+    ensures refused { IfErr result (λ refusal. change_command first.now (map (λ word. word.now) rest.now) ≡ Err refusal) }
     ensures well { IfOk result AsksWell }
 {
     match rest {
@@ -116,7 +117,7 @@ fn read_change<'a>(first: &[u8], rest: &[&'a [u8]]) -> Result<Command<'a>, Refus
 
 // The change that a first word makes with the name behind it, if it is a word of a change.
 fn change_of<'a>(first: &[u8], name: &'a [u8]) -> Option<PolicyChange<'a>>
-    ensures { option_map meant result ≡ change_of first.now name.now }
+    ensures { option_map seen_change result ≡ change_of first.now name.now }
 {
     if first == b"add".as_slice() {
         Some(PolicyChange::Add(name))

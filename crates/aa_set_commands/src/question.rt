@@ -3,7 +3,8 @@
 ghost use Rattle.std.specs.Prelude.{◌≡◌, ◌==◌, ◌<◌, [], ◌∷◌, Ok, Err, IfOk, IfErr, IfSome, map, codes};
 ghost use Rattle.std.specs.Str.{bytes_eq};
 ghost use Rattle.aa_profile_access.specs.Access.{needs_of};
-ghost use Rattle.aa_set_commands.specs.Question.{asked, capability_question, exec_question, file_question, is_path, owned_of, question_of, socket_question, type_number, IsWellFormed};
+ghost use Rattle.aa_set_commands.specs.Question.{seen_question, capability_question, exec_question, file_question, is_path, owned_of};
+ghost use Rattle.aa_set_commands.specs.Question.{question_of, socket_question, type_number, IsWellFormed};
 ghost use Rattle.aa_profile_tables.specs.Capabilities.{capability_number};
 ghost use Rattle.aa_profile_tables.specs.Domains.{domain_number};
 
@@ -66,7 +67,7 @@ impl<'a> Question<'a> {
     /// - Then `BadRequest` where a letter is unknown or stands twice or none does, where the owner's word is another, where the path doesn't
     ///   begin with `/` or holds a zero byte, and where no capability, domain or type has the name.
     pub fn read(words: &[&'a [u8]]) -> Result<Question<'a>, Refusal>
-        ensures ok { IfOk result (λ question. question_of (map (λ word. word.now) words.now) ≡ Ok (asked question)) }
+        ensures ok { IfOk result (λ question. question_of (map (λ word. word.now) words.now) ≡ Ok (seen_question question)) }
         ensures refused { IfErr result (λ refusal. question_of (map (λ word. word.now) words.now) ≡ Err refusal) }
         ensures known { IfOk result (λ question. IsWellFormed question) }
     {
@@ -81,7 +82,7 @@ impl<'a> Question<'a> {
 
 // The question of three words: for a capability.
 fn of_three_words<'a>(kind: &[u8], who: &'a [u8], name: &[u8]) -> Result<Question<'a>, Refusal>
-    ensures ok { IfOk result (λ question. question_of (kind.now ∷ who.now ∷ name.now ∷ []) ≡ Ok (asked question)) }
+    ensures ok { IfOk result (λ question. question_of (kind.now ∷ who.now ∷ name.now ∷ []) ≡ Ok (seen_question question)) }
     ensures refused { IfErr result (λ refusal. question_of (kind.now ∷ who.now ∷ name.now ∷ []) ≡ Err refusal) }
     ensures known { IfOk result (λ question. IsWellFormed question) }
 {
@@ -98,7 +99,7 @@ fn of_four_words<'a>(
     third: &[u8],
     fourth: &'a [u8],
 ) -> Result<Question<'a>, Refusal>
-    ensures ok { IfOk result (λ question. question_of (kind.now ∷ who.now ∷ third.now ∷ fourth.now ∷ []) ≡ Ok (asked question)) }
+    ensures ok { IfOk result (λ question. question_of (kind.now ∷ who.now ∷ third.now ∷ fourth.now ∷ []) ≡ Ok (seen_question question)) }
     ensures refused { IfErr result (λ refusal. question_of (kind.now ∷ who.now ∷ third.now ∷ fourth.now ∷ []) ≡ Err refusal) }
     ensures known { IfOk result (λ question. IsWellFormed question) }
 {
@@ -119,7 +120,7 @@ fn of_five_words<'a>(
     owner: &[u8],
     path: &'a [u8],
 ) -> Result<Question<'a>, Refusal>
-    ensures ok { IfOk result (λ question. question_of (kind.now ∷ who.now ∷ access.now ∷ owner.now ∷ path.now ∷ []) ≡ Ok (asked question)) }
+    ensures ok { IfOk result (λ question. question_of (kind.now ∷ who.now ∷ access.now ∷ owner.now ∷ path.now ∷ []) ≡ Ok (seen_question question)) }
     ensures refused { IfErr result (λ refusal. question_of (kind.now ∷ who.now ∷ access.now ∷ owner.now ∷ path.now ∷ []) ≡ Err refusal) }
     ensures known { IfOk result (λ question. IsWellFormed question) }
 {
@@ -131,7 +132,7 @@ fn of_five_words<'a>(
 
 // The question for a capability, of the words after `cap`.
 fn capability_question<'a>(who: &'a [u8], name: &[u8]) -> Result<Question<'a>, Refusal>
-    ensures ok { IfOk result (λ question. capability_question who.now (capability_number name.now) ≡ Ok (asked question)) }
+    ensures ok { IfOk result (λ question. capability_question who.now (capability_number name.now) ≡ Ok (seen_question question)) }
     ensures refused { IfErr result (λ refusal. capability_question who.now (capability_number name.now) ≡ Err refusal) }
     ensures known { IfOk result (λ question. IsWellFormed question) }
 {
@@ -153,7 +154,7 @@ fn type_number(name: &[u8]) -> Option<u8>
 
 // The question for sockets, of the words after `net`.
 fn socket_question<'a>(who: &'a [u8], domain: &[u8], sort: &[u8]) -> Result<Question<'a>, Refusal>
-    ensures ok { IfOk result (λ question. socket_question who.now (domain_number domain.now) (type_number sort.now) ≡ Ok (asked question)) }
+    ensures ok { IfOk result (λ question. socket_question who.now (domain_number domain.now) (type_number sort.now) ≡ Ok (seen_question question)) }
     ensures refused { IfErr result (λ refusal. socket_question who.now (domain_number domain.now) (type_number sort.now) ≡ Err refusal) }
     ensures known { IfOk result (λ question. IsWellFormed question) }
 {
@@ -174,7 +175,7 @@ fn file_question<'a>(
     owner: &[u8],
     path: &'a [u8],
 ) -> Result<Question<'a>, Refusal>
-    ensures ok { IfOk result (λ question. file_question who.now (needs_of access.now) (owned_of owner.now) path.now ≡ Ok (asked question)) }
+    ensures ok { IfOk result (λ question. file_question who.now (needs_of access.now) (owned_of owner.now) path.now ≡ Ok (seen_question question)) }
     ensures refused { IfErr result (λ refusal. file_question who.now (needs_of access.now) (owned_of owner.now) path.now ≡ Err refusal) }
     ensures known { IfOk result (λ question. IsWellFormed question) }
 {
@@ -197,7 +198,7 @@ fn file_question<'a>(
 
 // The question about a program that is started, of the words after `exec`.
 fn exec_question<'a>(who: &'a [u8], owner: &[u8], path: &'a [u8]) -> Result<Question<'a>, Refusal>
-    ensures ok { IfOk result (λ question. exec_question who.now (owned_of owner.now) path.now ≡ Ok (asked question)) }
+    ensures ok { IfOk result (λ question. exec_question who.now (owned_of owner.now) path.now ≡ Ok (seen_question question)) }
     ensures refused { IfErr result (λ refusal. exec_question who.now (owned_of owner.now) path.now ≡ Err refusal) }
     ensures known { IfOk result (λ question. IsWellFormed question) }
 {

@@ -17,7 +17,8 @@ abbrev mutual
   -- the words of a line from a place where a word may begin; none where a quote isn't closed, or is followed directly
   pub words_of : List ℕ → Option (List (List ℕ))
   words_of [] = Some []
-  words_of (b ∷ bs) = if is_command_blank b then words_of bs else (if is_quote b then words_in_quotes bs else option_map (onto_first b) (words_in_word bs))
+  words_of (b ∷ bs) =
+      if is_command_blank b then words_of bs else (if is_quote b then words_in_quotes bs else option_map (onto_first b) (words_in_word bs))
 
   -- from within a word: the first is what is left of it
   pub words_in_word : List ℕ → Option (List (List ℕ))

@@ -1,6 +1,7 @@
 //! The words of a command line.
 
-ghost use Rattle.std.specs.Prelude.{◌≡◌, ◌<◌, ◌≤◌, ◌∷◌, [], map, length, not, drop, Option, Some, None, MatchOption, IfOk, OnErr, IfSome, false, true};
+ghost use Rattle.std.specs.Prelude.{◌≡◌, ◌<◌, ◌≤◌, ◌∷◌, [], map, length, not, drop, Option, Some, None};
+ghost use Rattle.std.specs.Prelude.{MatchOption, IfOk, OnErr, IfSome, false, true};
 ghost use Rattle.std.specs.List.{prefix_len};
 ghost use Rattle.std.specs.Option.{option_map};
 ghost use Rattle.aa_bytes.specs.Texts.{begins_with};

@@ -77,7 +77,8 @@ kind_word (Some number) = name_or_none (kind_name number)
 
 -- a rule on sockets, before which no `owner` stands
 abbrev pub network_text : NetRule → List ℕ
-network_text rule = codes "network" ++ qualifiers rule.audit rule.deny false ++ codes " " ++ domain_word rule.domain ++ codes " " ++ kind_word rule.kind
+network_text rule =
+    codes "network" ++ qualifiers rule.audit rule.deny false ++ codes " " ++ domain_word rule.domain ++ codes " " ++ kind_word rule.kind
 
 -- a rule that decides nothing is shown as it is written
 abbrev pub other_text : OtherRule → List ℕ

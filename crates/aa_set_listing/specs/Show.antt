@@ -37,5 +37,6 @@ own_lines loaded place (Some child) = head_line loaded (Some place) child.audit 
 -- the lines of a profile, and behind its rules those of its children and hats; or the lines of its child or hat at a place
 abbrev pub show_lines : Loaded → Option ℕ → List ℕ
 show_lines loaded None =
-    head_line loaded None loaded.profile.audit ++ body_lines loaded.profile.attachments loaded.profile.rules ++ lines_of_children (child_line loaded) loaded.profile.children
+    head_line loaded None loaded.profile.audit
+    ++ body_lines loaded.profile.attachments loaded.profile.rules ++ lines_of_children (child_line loaded) loaded.profile.children
 show_lines loaded (Some place) = own_lines loaded place (slice_get loaded.profile.children place)

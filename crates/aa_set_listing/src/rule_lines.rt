@@ -2,7 +2,9 @@
 
 ghost use Rattle.std.specs.Prelude.{◌≡◌, ◌≤◌, ◌++◌, OnOk, codes, length, map};
 ghost use Rattle.std.specs.Option.{option_map};
-ghost use Rattle.aa_set_listing.specs.RuleLines.{access_text, capabilities_text, capability_text, domain_word, exec_text, file_text, has_all, kind_word, names_from, network_text, other_text, qualifiers, rule_line, rule_text, target_text, text_if};
+ghost use Rattle.aa_set_listing.specs.RuleLines.{access_text, capabilities_text, capability_text, domain_word, exec_text, file_text};
+ghost use Rattle.aa_set_listing.specs.RuleLines.{has_all, kind_word, names_from, network_text, other_text, qualifiers, rule_line};
+ghost use Rattle.aa_set_listing.specs.RuleLines.{rule_text, target_text, text_if};
 ghost use Rattle.aa_quoting.specs.Texts.{told_text};
 ghost use Rattle.aa_profile_tables.specs.Names.{name_or_none};
 

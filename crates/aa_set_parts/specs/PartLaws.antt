@@ -10,40 +10,37 @@ use Rattle.aa_set_parts.specs.declared.parts.Content.{Content}
 use Rattle.aa_set_parts.specs.declared.parts.Content.TheVariants.{InState, Whole}
 use Rattle.aa_set_parts.specs.declared.parts.Part.{Part}
 
--- the entry is in its old state again
-with-state-again : (state : State) (entry : Loaded) → with_state (state_left state entry) (with_state state entry) ≡ entry
-with-state-again state entry = by (fits entry.profile entry.state) (fits entry.profile state) refl refl
-  where
-    by : (own other : Bool) → fits entry.profile entry.state ≡ own → fits entry.profile state ≡ other → with_state (state_left state entry) (with_state state entry) ≡ entry
-    by true true h k = rw (h, k) rw (k, h) refl
-    by true false h k = rw (h, k) rw (h, k) refl
-    by false other h k = rw (h) rw (h) refl
+-- An entry is in its old state again, and gives up the other one again for it.
+abbrev IsAgain : State → Loaded → Type 0
+IsAgain state entry =
+    (with_state (state_left state entry) (with_state state entry) ≡ entry)
+    × (state_left (state_left state entry) (with_state state entry) ≡ state)
 
--- and the old state is given up again for the other one
-state-left-again : (state : State) (entry : Loaded) → state_left (state_left state entry) (with_state state entry) ≡ state
-state-left-again state entry = by (fits entry.profile entry.state) (fits entry.profile state) refl refl
+state-again : (state : State) (entry : Loaded) → IsAgain state entry
+state-again state entry = by (fits entry.profile entry.state) (fits entry.profile state) refl refl
   where
-    by : (own other : Bool) → fits entry.profile entry.state ≡ own → fits entry.profile state ≡ other → state_left (state_left state entry) (with_state state entry) ≡ state
-    by true true h k = rw (h, k) rw (k, h) refl
-    by true false h k = rw (h, k) rw (h, k) refl
-    by false other h k = rw (h) rw (h) refl
+    by : (own other : Bool) → fits entry.profile entry.state ≡ own → fits entry.profile state ≡ other → IsAgain state entry
+    by true true h k = (rw (h, k) rw (k, h) refl, rw (h, k) rw (k, h) refl)
+    by true false h k = (rw (h, k) rw (h, k) refl, rw (h, k) rw (h, k) refl)
+    by false other h k = (rw (h) rw (h) refl, rw (h) rw (h) refl)
 
 -- a second exchange gives a slot what it held
 put-again : (content : Content) (held : Option Loaded) → put_in (taken_out content held) (put_in content held) ≡ held
 put-again (Whole content) held = refl
 put-again (InState state) None = refl
-put-again (InState state) (Some entry) = ap (λ (entry : Loaded). Some entry) (with-state-again state entry)
+put-again (InState state) (Some entry) = ap (λ (entry : Loaded). Some entry) (state-again state entry).0
 
 -- and the part what it held
 taken-again : (content : Content) (held : Option Loaded) → taken_out (taken_out content held) (put_in content held) ≡ content
 taken-again (Whole content) held = refl
 taken-again (InState state) None = refl
-taken-again (InState state) (Some entry) = ap (λ (state : State). InState state) (state-left-again state entry)
+taken-again (InState state) (Some entry) = ap (λ (state : State). InState state) (state-again state entry).1
 
 pub same_part : {slot : ℕ} {a b : Content} → a ≡ b → ◌≡◌ {A = Part} (record { slot = slot; content = a }) (record { slot = slot; content = b })
 same_part {slot} p = λ i. record { slot = slot; content = p i }
 
-pub same_reaching : {parts others : List Part} {reach : ℕ} → parts ≡ others → ◌≡◌ {A = Reaching} (record { parts = parts; reach = reach }) (record { parts = others; reach = reach })
+pub same_reaching : {parts others : List Part} {reach : ℕ} → parts ≡ others
+    → ◌≡◌ {A = Reaching} (record { parts = parts; reach = reach }) (record { parts = others; reach = reach })
 same_reaching {parts} {others} {reach} p = λ i. record { parts = p i; reach = reach }
 
 -- empty slots at the end play no part in an exchange
@@ -73,7 +70,8 @@ exchanged-again part slots =
 left-again : (part : Part) (slots : List (Option Loaded)) → left (left part slots) (exchanged part slots) ≡ part
 left-again part slots =
     same_part (
-    ap (taken_out (taken_out part.content (content_at part.slot slots))) (content-with part.slot (put_in part.content (content_at part.slot slots)) slots)
+    ap (taken_out (taken_out part.content (content_at part.slot slots)))
+    (content-with part.slot (put_in part.content (content_at part.slot slots)) slots)
     ∙ taken-again part.content (content_at part.slot slots)
     )
 
@@ -81,7 +79,8 @@ after-push : (slots : List (Option Loaded)) (parts : List Part) (part : Part) �
 after-push slots [] part = exchanged-settled part slots ∙ sym (exchanged-trimmed part slots)
 after-push slots (first ∷ parts) part = after-push (exchanged first slots) parts part
 
-back-push : (slots : List (Option Loaded)) (parts : List Part) (part : Part) → back slots (parts ++ part ∷ []) ≡ left part (after slots parts) ∷ back slots parts
+back-push : (slots : List (Option Loaded)) (parts : List Part) (part : Part)
+    → back slots (parts ++ part ∷ []) ≡ left part (after slots parts) ∷ back slots parts
 back-push slots [] part = ap (λ (one : Part). one ∷ []) (sym (left-trimmed part slots))
 back-push slots (first ∷ parts) part = ap (λ rest. rest ++ left first slots ∷ []) (back-push (exchanged first slots) parts part)
 
@@ -108,4 +107,5 @@ parts-restore slots (part ∷ parts) =
 -- as many parts lead back
 pub length-back : (slots : List (Option Loaded)) (parts : List Part) → length (back slots parts) ≡ length parts
 length-back slots [] = refl
-length-back slots (part ∷ parts) = length_push (back (exchanged part slots) parts) (left part slots) ∙ let rest = length-back (exchanged part slots) parts in omega (arith)
+length-back slots (part ∷ parts) =
+    length_push (back (exchanged part slots) parts) (left part slots) ∙ let rest = length-back (exchanged part slots) parts in omega (arith)

@@ -31,32 +31,38 @@ content-with zero content (old ∷ slots) = first-onto content (trimmed slots)
 content-with (suc k) content [] = content-onto k None (with_content k content []) ∙ content-with k content []
 content-with (suc k) content (old ∷ slots) = content-onto k old (with_content k content slots) ∙ content-with k content slots
 
-with-onto : (k : ℕ) (content slot : Option Loaded) (slots : List (Option Loaded)) → with_content (suc k) content (onto slot slots) ≡ onto slot (with_content k content slots)
+with-onto : (k : ℕ) (content slot : Option Loaded) (slots : List (Option Loaded))
+    → with_content (suc k) content (onto slot slots) ≡ onto slot (with_content k content slots)
 with-onto k content (Some entry) slots = refl
 with-onto k content None [] = refl
 with-onto k content None (slot ∷ slots) = refl
 
-first-with-onto : (content slot : Option Loaded) (slots : List (Option Loaded)) → with_content 0 content (onto slot slots) ≡ onto content (trimmed slots)
+first-with-onto : (content slot : Option Loaded) (slots : List (Option Loaded))
+    → with_content 0 content (onto slot slots) ≡ onto content (trimmed slots)
 first-with-onto content (Some entry) slots = refl
 first-with-onto content None [] = refl
 first-with-onto content None (slot ∷ slots) = refl
 
 -- what a slot held is put back, whatever it held in between
-pub with-again : (k : ℕ) (content : Option Loaded) (slots : List (Option Loaded)) → with_content k (content_at k slots) (with_content k content slots) ≡ trimmed slots
+pub with-again : (k : ℕ) (content : Option Loaded) (slots : List (Option Loaded))
+    → with_content k (content_at k slots) (with_content k content slots) ≡ trimmed slots
 with-again zero content [] = first-with-onto None content []
 with-again zero content (old ∷ slots) = first-with-onto old content (trimmed slots) ∙ ap (onto old) (trimmed-again slots)
 with-again (suc k) content [] = with-onto k None None (with_content k content []) ∙ ap (onto None) (with-again k content [])
-with-again (suc k) content (old ∷ slots) = with-onto k (content_at k slots) old (with_content k content slots) ∙ ap (onto old) (with-again k content slots)
+with-again (suc k) content (old ∷ slots) =
+    with-onto k (content_at k slots) old (with_content k content slots) ∙ ap (onto old) (with-again k content slots)
 
 -- slots of which one holds something else stand for themselves
-pub with-settled : (k : ℕ) (content : Option Loaded) (slots : List (Option Loaded)) → trimmed (with_content k content slots) ≡ with_content k content slots
+pub with-settled : (k : ℕ) (content : Option Loaded) (slots : List (Option Loaded))
+    → trimmed (with_content k content slots) ≡ with_content k content slots
 with-settled zero content [] = trimmed-onto content []
 with-settled zero content (old ∷ slots) = trimmed-onto content (trimmed slots) ∙ ap (onto content) (trimmed-again slots)
 with-settled (suc k) content [] = trimmed-onto None (with_content k content []) ∙ ap (onto None) (with-settled k content [])
 with-settled (suc k) content (old ∷ slots) = trimmed-onto old (with_content k content slots) ∙ ap (onto old) (with-settled k content slots)
 
 -- empty slots at the end play no part in what is put into one
-pub with-trimmed : (k : ℕ) (content : Option Loaded) (slots : List (Option Loaded)) → with_content k content (trimmed slots) ≡ with_content k content slots
+pub with-trimmed : (k : ℕ) (content : Option Loaded) (slots : List (Option Loaded))
+    → with_content k content (trimmed slots) ≡ with_content k content slots
 with-trimmed k content [] = refl
 with-trimmed zero content (old ∷ slots) = first-with-onto content old (trimmed slots) ∙ ap (onto content) (trimmed-again slots)
 with-trimmed (suc k) content (old ∷ slots) = with-onto k content old (trimmed slots) ∙ ap (onto old) (with-trimmed k content slots)

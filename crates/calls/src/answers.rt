@@ -61,11 +61,13 @@ fn profile_rows(alloc: Global) -> [Row; 8] {
     ]
 }
 
-fn decision_rows(alloc: Global) -> [Row; 5] {
+fn decision_rows(alloc: Global) -> [Row; 6] {
     [
         ("Entry::try_copy", decisions::entry_is_copied(alloc)),
         ("attach", decisions::path_is_attached(alloc)),
         ("exec", decisions::program_is_started(alloc)),
+        // `exec` calls it, with who asks by the slot.
+        ("exec_by", decisions::program_is_started(alloc)),
         ("log_line", decisions::verdict_is_logged(alloc)),
         ("exec_line", decisions::start_is_logged(alloc)),
     ]

@@ -15,6 +15,10 @@ pub record IsPartOf (part : Part) (rules : List Rule) (attachments : List (List 
   pub places : part.places ≡ places_from 0 rules
   pub attached : IsAutomatonOf part.attachments attachments
 
+-- something holds of the rules and attachments that a part was made of
+abbrev pub HoldsOf : Part → (List Rule → List (List ℕ) → Type 0) → Type 0
+HoldsOf part Holds = (rules : List Rule) (attachments : List (List ℕ)) → IsPartOf part rules attachments → Holds rules attachments
+
 -- a part was made of each child, in their order
 abbrev pub ArePartsOf : List Part → List Child → Type 0
 ArePartsOf [] [] = Unit
@@ -25,3 +29,7 @@ ArePartsOf (part ∷ parts) (child ∷ children) = IsPartOf part child.rules chi
 -- neither the profile nor a child or hat stands at a place, so there are no rules and attachments
 abbrev pub HasNothingAt : Profile → Option ℕ → Type 0
 HasNothingAt profile child = (rules_at profile child ≡ []) × (attachments_at profile child ≡ [])
+
+-- a part was made of the rules and attachments of a profile, or of its child or hat at a place
+abbrev pub IsPartAt : Profile → Option ℕ → Part → Type 0
+IsPartAt profile child part = IsPartOf part (rules_at profile child) (attachments_at profile child)

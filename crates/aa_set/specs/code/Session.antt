@@ -15,7 +15,8 @@ use Rattle.aa_set.specs.declared.session.Summary.{Summary}
 
 -- A session is one after these lines, each with its flag; the text of the replies was told to a writer that had `before`
 -- and has `now`.
-pub record IsAfter (files : List File) (force_complain : Bool) (before now : Option (List ℕ)) (session : Session) (lines : List (List ℕ × Bool)) : Type 0 where
+pub record IsAfter (files : List File) (force_complain : Bool) (before now : Option (List ℕ)) (session : Session)
+    (lines : List (List ℕ × Bool)) : Type 0 where
   pub managed : session.manager ≡ after_lines files (new_manager force_complain) lines
   pub told : Tells before now [] session.waiting.items (flat_map (reply_text files) (replies_to files (new_manager force_complain) lines))
   pub summed : SumsUp session.summary (replies_to files (new_manager force_complain) lines)
@@ -96,7 +97,8 @@ abbrev pub BreaksOffLine : List File → (old new : Option (List ℕ)) → Sessi
 BreaksOffLine files old new before line =
     (force_complain : Bool) (start : Option (List ℕ)) (lines : List (List ℕ × Bool))
     → IsAfter files force_complain start old before lines
-    → (flag : Bool) × AppendsFront start new (flat_map (reply_text files) (replies_to files (new_manager force_complain) (lines ++ (line, flag) ∷ [])))
+    → (flag : Bool)
+    × AppendsFront start new (flat_map (reply_text files) (replies_to files (new_manager force_complain) (lines ++ (line, flag) ∷ [])))
 
 -- the same where the input's end was to be answered
 abbrev pub BreaksOffEnd : List File → (old new : Option (List ℕ)) → Session → List ℕ → Type 0

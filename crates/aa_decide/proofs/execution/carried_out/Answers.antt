@@ -1,6 +1,6 @@
 use Rattle.std.proofs.Common.{rules}
 use Rattle.aa_decide_verdict.specs.Slots.{filled}
-use Rattle.aa_decide.specs.code.SeenExec.{seen_asker}
+use Rattle.aa_decide.specs.SeenExec.{seen_asker}
 use Rattle.aa_decide.proofs.SeenLemmas.{seen_carried}
 use Rattle.aa_decide.proofs.execution.carried_out.Goals as goal
 

@@ -1,0 +1,37 @@
+-- What ties the full names that `list` tells to those that are asked and shown (docs/commands.md, "Full names").
+use Rattle.std.specs.Prelude.{◌≡◌, ℕ, true, List, Option, None, Some, slice_get}
+use Rattle.std.specs.List.{Contains}
+use Rattle.aa_decide.specs.Exec.{Asker}
+use Rattle.aa_decide.specs.Named.{have_distinct_names}
+use Rattle.aa_decide_verdict.specs.Entries.{Loaded}
+use Rattle.aa_profile_data.specs.Profile.{are_distinct_children}
+use Rattle.aa_profile_data.specs.declared.profile.Child.{Child}
+use Rattle.aa_profile_data.specs.declared.profile.Profile.{Profile}
+use Rattle.aa_profile_names.specs.FullNames.{full_name}
+use Rattle.aa_profile_names.specs.Names.{is_top_name}
+use Rattle.aa_set_listing.specs.ProfileNames.{full_name_at}
+use Rattle.aa_set_answers.specs.Askers.{asker, named_asker}
+
+-- a profile has a child or a hat at a place; at none it stands itself
+abbrev pub StandsAt : Profile → Option ℕ → Type 0
+StandsAt profile None = Unit {0}
+StandsAt profile (Some place) = (child : Child) × (slice_get profile.children place ≡ Some child)
+
+-- `list` has a line of a profile, or of its child or hat at a place
+abbrev pub IsListed : List Loaded → Asker → Type 0
+IsListed entries who = Contains entries who.entry × StandsAt who.entry.profile who.child
+
+-- a profile has a name as the grammar says, and no two of its children and hats have one name
+abbrev pub HasFileNames : Profile → Type 0
+HasFileNames profile = (is_top_name profile.name ≡ true) × (are_distinct_children profile.children ≡ true)
+
+-- In a policy set without two profiles of one name a full name that `list` tells leads back, as a name that asks and as one that is shown, to the
+-- profile, child or hat that it was told for. The names of each file's profiles are such (`how_profiles_are_named` of `aa_profile`).
+abbrev pub ListedNamesLeadBack : Type 0
+ListedNamesLeadBack =
+    (entries : List Loaded) (who : Asker)
+    → have_distinct_names entries ≡ true
+    → HasFileNames who.entry.profile
+    → IsListed entries who
+    → let name = full_name_at who.entry.profile who.child in
+    (asker entries name ≡ Some (Some who)) × (named_asker entries (full_name name) ≡ Some who)
