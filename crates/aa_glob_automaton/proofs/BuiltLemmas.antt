@@ -165,10 +165,6 @@ graph-of-built law g count graph patterns some same built =
       read = built.read;
     }
 
-pub none-built : (g : Growing) (count : ℕ) (patterns : List (List ℕ)) → count ≡ 0 → IsBuilt (g, count) patterns → patterns ≡ []
-none-built g count [] none built = refl
-none-built g count (p ∷ ps) none built = let some = built.count in absurd (omega (arith, none, some))
-
 -- what it tells
 
 pub matching-found : ReachingTheEndIsMatching → (g : Graph) (patterns : List (List ℕ)) (path found : List ℕ) → AreBytes path → IsFound g path found → IsGraphOf g patterns

@@ -105,10 +105,6 @@ module _ (law : ReachingTheEndIsMatching) (g : Graph) (patterns : List (List ℕ
             );
           }
 
--- nothing clashes where there are no patterns
-pub none-clashes : (classes : List ℕ) (k : ℕ) → ClashesAmong [] classes k → ⊥
-none-clashes classes k h = let within = slice_get_within [] k h.other h.other_there in omega (arith, within)
-
 -- Of two patterns of different classes the second clashes where they overlap.
 pub two-overlap : (one other : List ℕ) → Overlap one other → ClashesAmong (one ∷ other ∷ []) (0 ∷ 1 ∷ []) 1
 two-overlap one other overlap = record {

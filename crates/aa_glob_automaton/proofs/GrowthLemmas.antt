@@ -183,17 +183,6 @@ follows-entered patterns trail g before after e kind q is goes to = record {
       (stands_entered to.trails to.trails e trail before q (goes_on-same to.trails) to.stands to.there to.is);
 }
 
--- where a walk has come is a state
-pub walked-state : (patterns : List (List ℕ)) (trail : Trail) (g : Growing) (walk : Standing) → Follows patterns trail g walk → walk.state < length g.drawing.entries
-walked-state patterns trail g walk follows = omega (arith, follows.stands.there, follows.growing.drawn.states)
-
-pub walked-groups : (patterns : List (List ℕ)) (trail : Trail) (g : Growing) (walk : Standing) → Follows patterns trail g walk → All (IsThere (length g.drawing.entries)) walk.groups
-walked-groups patterns trail g walk follows =
-    subst (λ (n : ℕ). All (IsThere n) walk.groups) follows.growing.drawn.states follows.stands.groups_there
-
-pub walked-places : (patterns : List (List ℕ)) (trail : Trail) (g : Growing) (walk : Standing) → Follows patterns trail g walk → places g.tree ≡ length g.drawing.entries
-walked-places patterns trail g walk follows = follows.growing.finds.places ∙ follows.growing.drawn.states
-
 -- what two facts of an Ok make together
 pub IfOk-both : {X Y : Type 0} {P Q R : X → Type 0} → (r : Result X Y) → IfOk r P → IfOk r Q → ((x : X) → P x → Q x → R x) → IfOk r R
 IfOk-both (Ok x) p q f = f x p q

@@ -24,14 +24,6 @@ has_reversed (x ∷ xs) q h = elim (Contains-append_cases (reverse xs) (x ∷ []
   | inr first ↦ Contains-append_left (x ∷ []) xs q first
 ]
 
--- no way more
-pub ways-none : (g : Graph) (to : ℕ) → AddsWays g g [] to
-ways-none g to = record {
-  entries = refl;
-  ways = λ q r. (inl, λ h. elim h [ inl old ↦ old | inr new ↦ absurd (none_there q new.0) ]);
-  ends = refl;
-}
-
 -- some, and then others
 pub ways-append : (old mid new : Graph) (first second : List ℕ) (to : ℕ) → AddsWays old mid first to → AddsWays mid new second to → AddsWays old new (first ++ second) to
 ways-append old mid new first second to one two = record {

@@ -1,7 +1,7 @@
 -- Lists of the states that live: what is in them, how long they are, and what an insert does.
-use Rattle.std.proofs.Common.{append_assoc, append-nil, ◌≡◌, ◌≢◌, ℕ, zero, suc, ◌+◌, ◌<◌, ◌≤◌, ◌⊎◌, Bool, true, false, not, cond, ◌==◌, ◌||◌, ◌&&◌, List, [], ◌∷◌, ◌++◌, length, take, get_or, refl, sym, ◌∙◌, ap, subst, inl, inr, arith, eq-eqb, ne_eqb}
+use Rattle.std.proofs.Common.{append_assoc, append-nil, ◌≡◌, ◌≢◌, ℕ, zero, suc, ◌+◌, ◌<◌, ◌≤◌, ◌⊎◌, Bool, true, false, cond, ◌==◌, ◌||◌, List, [], ◌∷◌, ◌++◌, length, get_or, refl, sym, ◌∙◌, ap, subst, inl, inr, arith, eq-eqb, ne_eqb}
 use Rattle.std.proofs.lemmas.Bool.{both_ways, cases_Bool, eqb-true, eqb-false, or_parts, or_from}
-use Rattle.std.proofs.lemmas.List.Folds.{list_any-append, list_any_more, Any-from_list_any, list_any-from_Any}
+use Rattle.std.proofs.lemmas.List.Folds.{list_any-append, Any-from_list_any, list_any-from_Any}
 use Rattle.std.proofs.lemmas.List.Elements.{All-append, All-weaker, Contains-append_left, Contains-push, All-cons, All-head, All-tail, All-nil, All-push}
 use Rattle.std.specs.Prelude.{All, Contains}
 use Rattle.aa_bytes.specs.Bits.{has_bit}
@@ -106,33 +106,6 @@ IsFront-push r room rs members told front low none bits len = record {
   told = λ x. bits x ∙ ap (λ b. x == r || b) (front.told x) ∙ turned_around (x == r) (is_in x rs) ∙ sym (is_in-push x r rs);
   bits = omega (arith, front.bits);
 }
-
-cleared : (x : Bool) → (not x && x) ≡ false
-cleared x = grind arith
-
--- a front whose states are taken out
-pub IsFront-cleared : (room : ℕ) (rs members bits : List ℕ) → IsFront rs room members
-    → ((x : ℕ) → has_bit bits x ≡ (not (is_in x rs) && has_bit members x)) → length bits ≡ length members
-    → IsFront [] room bits
-IsFront-cleared room rs members bits front is len = record {
-  distinct = tt;
-  below = All-nil (λ r. r < room);
-  told = λ x. is x ∙ ap (λ b. not (is_in x rs) && b) (front.told x) ∙ cleared (is_in x rs);
-  bits = omega (arith, front.bits);
-}
-
-one_less : (x y b : Bool) → (not x && (not y && b)) ≡ (not (y || x) && b)
-one_less x y b = grind arith
-
--- one number more whose bit is cleared
-pub cleared_more : (i : ℕ) (rs old members new : List ℕ) → i < length rs → ((x : ℕ) → has_bit members x ≡ (not (is_in x (take i rs)) && has_bit old x))
-    → ((x : ℕ) → has_bit new x ≡ (not (x == get_or rs i 0) && has_bit members x))
-    → (x : ℕ) → has_bit new x ≡ (not (is_in x (take (i + 1) rs)) && has_bit old x)
-cleared_more i rs old members new within before step x =
-    step x
-    ∙ ap (λ b. not (x == get_or rs i 0) && b) (before x)
-    ∙ one_less (x == get_or rs i 0) (is_in x (take i rs)) (has_bit old x)
-    ∙ ap (λ b. not b && has_bit old x) (sym (list_any_more (λ other. x == other) rs i 0 within))
 
 -- what a state's insert adds, where a test lets it in
 pub Adds-tested : (r : ℕ) (test : Bool) (old new : Live) → new ≡ cond test (with_state r old) old → Adds old new (λ x. (x ≡ r) × (test ≡ true))

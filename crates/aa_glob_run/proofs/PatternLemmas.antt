@@ -35,9 +35,6 @@ gets_more old mid new told p before is q = (
   ])),
 )
 
-pub gets_none : (old : List ℕ) → Gets old old (Contains [])
-gets_none old q = ((λ h. inl h), (λ either. elim either [ inl h ↦ h | inr none ↦ absurd (omega (arith, none.1)) ]))
-
 -- what is told of the ends at a state
 pub gets_ends : (t : Tables) (state : ℕ) (old new : List ℕ) (ends : List End) → All (λ e. Contains t.ends.items e × (e.state ≡ state)) ends
     → ((end : End) → Contains t.ends.items end → end.state ≡ state → Contains ends end)
