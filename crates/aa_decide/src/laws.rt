@@ -22,23 +22,25 @@ use aa_decide_verdict::Ready;
 /// where this has an attachment that matches and ranks above all others. The order of the profiles changes neither that nor any answer. A
 /// deny rule that covers the start of the program wins over all other rules. The mask of each answer is `x`.
 pub fn where_programs_run()
-    ensures in_force { (entries : List Loaded) (asker : Option Asker) (owned : Bool) (path : List ℕ) (entry : Loaded) (child : Option ℕ)
+    ensures none_runs_under_a_disabled_profile { (entries : List Loaded) (asker : Option Asker) (owned : Bool) (path : List ℕ)
+        → (entry : Loaded) (child : Option ℕ)
         → (exec_answer entries asker owned path).to ≡ Under entry child
         → is_in_force entry.state ≡ true }
-    ensures attached { (path : List ℕ) (entries : List Loaded) (entry : Loaded)
+    ensures best_fit_is_attached { (path : List ℕ) (entries : List Loaded) (entry : Loaded)
         → HaveDistinctNames entries
         → (attached path entries ≡ Some entry) ↔ FitsBest path entries entry }
-    ensures attached_order { (path : List ℕ) (entries others : List Loaded)
+    ensures order_changes_no_attachment { (path : List ℕ) (entries others : List Loaded)
         → DifferInOrder entries others
         → attached path entries ≡ attached path others }
-    ensures order { (entries others : List Loaded) (asker : Option Asker) (owned : Bool) (path : List ℕ)
+    ensures order_changes_no_answer { (entries others : List Loaded) (asker : Option Asker) (owned : Bool) (path : List ℕ)
         → DifferInOrder entries others
         → exec_answer entries asker owned path ≡ exec_answer others asker owned path }
-    ensures deny { (entries : List Loaded) (asker : Asker) (owned : Bool) (path : List ℕ) (profile : Profile) (child : Option ℕ) (mode : Mode)
+    ensures deny_rule_wins { (entries : List Loaded) (asker : Asker) (owned : Bool) (path : List ℕ)
+        → (profile : Profile) (child : Option ℕ) (mode : Mode)
         → in_state asker.entry.profile asker.entry.state asker.child ≡ By profile child mode
         → SomeRuleDenies owned path profile child
         → (exec_answer entries (Some asker) owned path).verdict.answer ≡ Deny }
-    ensures mask { (entries : List Loaded) (asker : Option Asker) (owned : Bool) (path : List ℕ)
+    ensures mask_is_exec { (entries : List Loaded) (asker : Option Asker) (owned : Bool) (path : List ℕ)
         → (exec_answer entries asker owned path).verdict.mask.0 ≡ EXEC }
 {
     which_rank_stands_out();

@@ -15,19 +15,19 @@ ghost use Rattle.aa_decide_audit.specs.declared.verdict.Answer.TheVariants.{Allo
 /// a rule that is written twice. One allow rule more leaves what is allowed. One deny rule more allows nothing that
 /// wasn't.
 pub fn what_rules_decide()
-    ensures complain { (audit : Bool) (rules : List Rule) (request : Request)
+    ensures complain_mode_lets_through_and_logs { (audit : Bool) (rules : List Rule) (request : Request)
         → verdict Complain audit rules request ≡ in_complain (verdict Enforce audit rules request) }
-    ensures order { (mode : Mode) (audit : Bool) (rules others : List Rule) (request : Request)
+    ensures order_changes_no_verdict { (mode : Mode) (audit : Bool) (rules others : List Rule) (request : Request)
         → HaveSameRules rules others
         → verdict mode audit rules request ≡ verdict mode audit others request }
-    ensures line { (asker : List ℕ) (mode : Mode) (audit : Bool) (rules others : List Rule) (request : Request)
+    ensures order_changes_no_line { (asker : List ℕ) (mode : Mode) (audit : Bool) (rules others : List Rule) (request : Request)
         → HaveSameRules rules others
         → log_line asker request (verdict mode audit rules request) ≡ log_line asker request (verdict mode audit others request) }
-    ensures allow { (mode : Mode) (audit : Bool) (rule : Rule) (rules : List Rule) (request : Request)
+    ensures allow_rule_leaves_what_is_allowed { (mode : Mode) (audit : Bool) (rule : Rule) (rules : List Rule) (request : Request)
         → denies rule ≡ false
         → (verdict mode audit rules request).answer ≡ Allow
         → (verdict mode audit (rule ∷ rules) request).answer ≡ Allow }
-    ensures deny { (mode : Mode) (audit : Bool) (rule : Rule) (rules : List Rule) (request : Request)
+    ensures deny_rule_allows_nothing_new { (mode : Mode) (audit : Bool) (rule : Rule) (rules : List Rule) (request : Request)
         → denies rule ≡ true
         → (verdict mode audit (rule ∷ rules) request).answer ≡ Allow
         → (verdict mode audit rules request).answer ≡ Allow }

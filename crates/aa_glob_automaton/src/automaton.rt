@@ -103,7 +103,9 @@ impl Automaton {
     /// Where memory runs out.
     pub fn first_clash(&self, alloc: Global, classes: &[u32]) -> Result<Option<u32>, AllocError>
         requires { AreClassesOf self.now classes.now }
-        ensures { IfOk result (λ found. (patterns : List (List ℕ)) → IsAutomatonOf self.now patterns → IsLeast found (ClashesAmong patterns classes.now)) }
+        ensures { IfOk result (λ found. (patterns : List (List ℕ))
+            → IsAutomatonOf self.now patterns
+            → IsLeast found (ClashesAmong patterns classes.now)) }
     {
         what_reaches_a_state();
         match &self.states {
@@ -128,7 +130,9 @@ impl Automaton {
         path: &[u8],
         steps: &mut Steps,
     ) -> Result<Vec<usize>, AllocError>
-        ensures found { IfOk result (λ found. (patterns : List (List ℕ)) → IsAutomatonOf self.now patterns → AreMatching patterns path.now found.items) }
+        ensures found { IfOk result (λ found. (patterns : List (List ℕ))
+            → IsAutomatonOf self.now patterns
+            → AreMatching patterns path.now found.items) }
         ensures rise { IfOk result (λ found. IsStrictlyIncreasing found.items) }
         ensures steps { (patterns : List (List ℕ)) (states : ℕ) → IsAutomatonOf self.now patterns → HasStates patterns states
             → IsCounted 0 (most_visits path.now states) steps.old steps.new }

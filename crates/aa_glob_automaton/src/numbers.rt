@@ -41,8 +41,8 @@ impl Numbers {
         }
     }
 
-    /// The number of a set of bytes, which is one that came before or comes now: at least 261, and below 4,294,967,295. `AllocError` is answered where
-    /// memory ran out, or where no number is left.
+    /// The number of a set of bytes, which is one that came before or comes now: at least 261, and below 4,294,967,295. `AllocError` is answered
+    /// where memory ran out, or where no number is left.
     pub fn of_set(&mut self, alloc: Global, set: &ByteSet) -> Result<u32, AllocError>
         ensures number { IfOk result (λ number. number_of_set self.new set.now ≡ Some number) }
         ensures within { IfOk result (λ number. number < most_number) }

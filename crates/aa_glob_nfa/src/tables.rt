@@ -66,8 +66,8 @@ impl Tables {
         })
     }
 
-    /// Adds a state with this entry, and tells its number. `AllocError` is answered where memory ran out, or where there are 2^32 - 1 states already; what
-    /// there is then is sound.
+    /// Adds a state with this entry, and tells its number. `AllocError` is answered where memory ran out, or where there are 2^32 - 1 states
+    /// already; what there is then is sound.
     pub fn add(&mut self, entry: &Entry) -> Result<u32, AllocError>
         requires { AreSound self.old }
         ensures sound { AreSound self.new }

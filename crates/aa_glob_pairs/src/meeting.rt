@@ -145,8 +145,8 @@ fn meet_all(
     Ok(())
 }
 
-// Looks at a pair, if it wasn't yet: the first state is at hand, and there is room for the second. Nothing follows from one behind whose states no pattern
-// clashes with another.
+// Looks at a pair, if it wasn't yet: the first state is at hand, and there is room for the second. Nothing follows from one behind whose
+// states no pattern clashes with another.
 fn meet(
     tables: &Tables,
     classes: &[u32],

@@ -1,6 +1,11 @@
 //! What holds of trails, as laws over their definitions.
 
-ghost use Rattle.aa_glob_prefixes.specs.Laws.{ApartIsDistinct, BeginningsStandInGroups, DepthIsOfElements, DepthIsOfOpenGroups, FirstTextIsBegun, KnownTrailIsMet, MatchingIsBySplits, NewTrailIsAdded, NextTextIsBegun, SameTextsHaveSameStates, SomeAreReadAsOneIs, SourcesAreShorter, StatesAreFew, StatesHaveOneCount, TrailsAreReadBehindSources, TrailsGrowInFront, WholeTextIsThere, WholeTextsStand, WholeTrailsAreElements, WholeTrailsAreMatched, WholeTrailsGrowByElements, WholeTrailsStandInGroups};
+ghost use Rattle.aa_glob_prefixes.specs.Laws.{ApartIsDistinct, BeginningsStandInGroups, DepthIsOfElements, DepthIsOfOpenGroups};
+ghost use Rattle.aa_glob_prefixes.specs.Laws.{FirstTextIsBegun, KnownTrailIsMet, MatchingIsBySplits, NewTrailIsAdded, NextTextIsBegun};
+ghost use Rattle.aa_glob_prefixes.specs.Laws.{SameTextsHaveSameStates, SomeAreReadAsOneIs, SourcesAreShorter, StatesAreFew};
+ghost use Rattle.aa_glob_prefixes.specs.Laws.{StatesHaveOneCount, TrailsAreReadBehindSources, TrailsGrowInFront, WholeTextIsThere};
+ghost use Rattle.aa_glob_prefixes.specs.Laws.{WholeTextsStand, WholeTrailsAreElements, WholeTrailsAreMatched, WholeTrailsGrowByElements};
+ghost use Rattle.aa_glob_prefixes.specs.Laws.{WholeTrailsStandInGroups};
 
 /// The test that contracts name says that the text can be cut into one text for each item.
 pub fn matching_is_by_splits()

@@ -159,10 +159,12 @@ fn next_plain<'a>(byte: u8, rest: &'a [u8]) -> Result<Next<'a>, PatternError>
 
 // A class behind its `[`.
 fn next_class<'a>(text: &'a [u8]) -> Result<Next<'a>, PatternError>
-    ensures ok { IfOk result (λ next. (context : Context) → elements context (Plain opening_bracket ∷ symbols text.now) ≡ elements_from (Some next)) }
+    ensures ok { IfOk result (λ next. (context : Context)
+        → elements context (Plain opening_bracket ∷ symbols text.now) ≡ elements_from (Some next)) }
     ensures context { IfOk result (λ next. next.context ≡ context_behind next.element) }
     ensures within { IfOk result (λ next. length next.rest.now ≤ length text.now) }
-    ensures refused { IfErr result (λ error. (context : Context) → BeginWithFault error (elements context (Plain opening_bracket ∷ symbols text.now))) }
+    ensures refused { IfErr result (λ error. (context : Context)
+        → BeginWithFault error (elements context (Plain opening_bracket ∷ symbols text.now))) }
     ensures memory { IfErr result (λ error. error ≢ Memory) }
 {
     let (class, rest) = Class::read(text)?;

@@ -93,9 +93,9 @@ fn lesser(one: Option<usize>, other: Option<usize>) -> Option<usize>
     }
 }
 
-/// The place of the first of some rules that conflicts with one before it: both are allow rules on files with an exec word, both patterns are exact or
-/// neither is, they lead to different places, and some path matches both. None where no two conflict. One automaton is made of the exact patterns of
-/// such rules, and one of their other patterns; neither where fewer than two transitions stand behind them.
+/// The place of the first of some rules that conflicts with one before it: both are allow rules on files with an exec word, both patterns are
+/// exact or neither is, they lead to different places, and some path matches both. None where no two conflict. One automaton is made of the
+/// exact patterns of such rules, and one of their other patterns; neither where fewer than two transitions stand behind them.
 ///
 /// # Errors
 ///

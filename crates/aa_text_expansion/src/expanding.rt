@@ -73,7 +73,9 @@ fn expand_behind<V: Values>(
 ) -> Result<usize, AllocError>
     requires there { AreThere lists.old (V.numbers values.now) }
     requires first { first < length lists.old }
-    ensures { IfOk result (λ number. IsMade lists.old number (list_at lists.old first ++ choices_within (held lists.old (V.numbers values.now)) words.now) lists.new) }
+    ensures { IfOk result (λ number. IsMade lists.old number
+        (list_at lists.old first ++ choices_within (held lists.old (V.numbers values.now)) words.now)
+        lists.new) }
 {
     let mut so_far = first;
     for word in words {

@@ -65,7 +65,9 @@ fn push(nodes: &mut Vec<Node>, node: Node) -> Result<usize, AllocError>
     requires right { AreRight nodes.old.items }
     requires node { IsRight (listed nodes.old.items) node }
     ensures right { AreRight nodes.new.items }
-    ensures made { IfOk result (λ number. IsMade (lists_of nodes.old.items) number (of_node (listed nodes.old.items) node).texts (lists_of nodes.new.items)) }
+    ensures made { IfOk result (λ number. IsMade (lists_of nodes.old.items) number
+        (of_node (listed nodes.old.items) node).texts
+        (lists_of nodes.new.items)) }
     ensures unchanged { OnErr result (nodes.new.items ≡ nodes.old.items) }
 {
     let number = nodes.len();

@@ -4,7 +4,8 @@ ghost use Rattle.std.specs.Prelude.{◌≡◌, ◌<◌, ◌≤◌, ◌+◌, ◌+
 ghost use Rattle.aa_text_expansion.specs.Joining.{cut_off, most_kept, texts_of};
 ghost use Rattle.aa_text_expansion.specs.Lists.{list_at};
 ghost use Rattle.aa_text_expansion.specs.code.Made.{AreRight, Listed, listed, listed_at, lists_of, with_ends};
-ghost use Rattle.aa_text_expansion.specs.code.Written.{Adds, IsAllDone, IsBegunLast, IsStacked, IsStarted, IsStep, Waits, ends_of, rest_at, rests, the_end};
+ghost use Rattle.aa_text_expansion.specs.code.Written.{Adds, IsAllDone, IsBegunLast, IsStacked, IsStarted, IsStep, Waits, ends_of, rest_at};
+ghost use Rattle.aa_text_expansion.specs.code.Written.{rests, the_end};
 
 use crate::joining::{MOST_KEPT, put_behind};
 use crate::lists::{Made, Node, node_at};
@@ -60,7 +61,8 @@ impl Writing {
     // The text that was begun last, if there is one. Cells that no other text needs are gone but for those that it needs.
     fn next(&mut self) -> Option<Begun>
         requires { IsStacked self.old }
-        ensures { (lists : List Listed) → MatchOption result (IsAllDone lists self.old self.new) (λ begun. IsBegunLast lists self.old begun self.new) }
+        ensures { (lists : List Listed)
+            → MatchOption result (IsAllDone lists self.old self.new) (λ begun. IsBegunLast lists self.old begun self.new) }
     {
         let begun = self.waiting.pop()?;
         self.cells.truncate(begun.height);

@@ -1,6 +1,7 @@
 //! Entering files: the tokens of a file, with those of what it includes in the place of each Include.
 
-ghost use Rattle.std.specs.Prelude.{◌≡◌, ◌≢◌, ◌≤◌, ◌<◌, ◌==◌, ◌++◌, ◌∷◌, [], ℕ, List, length, not, map, option_map, Some, None, Ok, Err, IfOk, OnOk, IfErr, if◌then◌else◌};
+ghost use Rattle.std.specs.Prelude.{◌≡◌, ◌≢◌, ◌≤◌, ◌<◌, ◌==◌, ◌++◌, ◌∷◌, [], ℕ, List, length, not, map, option_map, Some, None, Ok, Err};
+ghost use Rattle.std.specs.Prelude.{IfOk, OnOk, IfErr, if◌then◌else◌};
 ghost use Rattle.std.specs.List.{prefix_len};
 ghost use Rattle.aa_text_tokens.specs.Cut.{Seen};
 ghost use Rattle.aa_text_tokens.specs.SeenTokens.{seen};
@@ -8,7 +9,8 @@ ghost use Rattle.aa_text_files.specs.Limit.{most_bytes};
 ghost use Rattle.aa_text_files.specs.TextError.{plain};
 ghost use Rattle.aa_text_files.specs.declared.text_error.TextRefusal.TheVariants.{IncludeDepth, Memory, NoFile};
 ghost use Rattle.aa_text_splicing.specs.Splicing.{Way, entered, refusal_of, walked};
-ghost use Rattle.aa_text_splicing.specs.code.SplicingProgress.{AreTokensOf, IsFaultOf, IsIncluded, IsPut, IsRead, IsRefused, with_each, with_file, with_token, with_walked};
+ghost use Rattle.aa_text_splicing.specs.code.SplicingProgress.{AreTokensOf, IsFaultOf, IsIncluded, IsPut, IsRead, IsRefused, with_each};
+ghost use Rattle.aa_text_splicing.specs.code.SplicingProgress.{with_file, with_token, with_walked};
 ghost use Rattle.aa_text_splicing.specs.SeenTokens.{seen_spliced};
 
 use crate::spliced_token::Spliced;

@@ -2,7 +2,8 @@
 
 ghost use Rattle.std.specs.Prelude.{◌≡◌, ℕ, true, false, ◌↔◌, List, ◌∷◌, [], None, find, length};
 ghost use Rattle.aa_text_variables.specs.CycleLaws.{HasAnyChain, IsCyclicByWord, IsOneOf, ReachesCycle};
-ghost use Rattle.aa_text_variables.specs.ExpansionLaws.{Agree, AreExpandedWords, AreWordsDefined, ExpandsUnlessRefused, FindsUndefinedAtOnce, names_nothing, value_product};
+ghost use Rattle.aa_text_variables.specs.ExpansionLaws.{Agree, AreExpandedWords, AreWordsDefined, ExpandsUnlessRefused};
+ghost use Rattle.aa_text_variables.specs.ExpansionLaws.{FindsUndefinedAtOnce, names_nothing, value_product};
 ghost use Rattle.aa_text_variables.specs.Expansions.{expansions, is_cyclic, leads_to_cycle};
 ghost use Rattle.aa_text_variables.specs.Variables.{Variable, are_variables};
 

@@ -1,6 +1,7 @@
 //! The variables that a profile's text defines, by name.
 
-ghost use Rattle.std.specs.Prelude.{◌≡◌, ◌≢◌, ◌<◌, ◌++◌, ◌∷◌, [], true, false, length, map, Ok, Err, None, IfOk, IfErr, OnOk, OnErr, option_map, slice_get};
+ghost use Rattle.std.specs.Prelude.{◌≡◌, ◌≢◌, ◌<◌, ◌++◌, ◌∷◌, [], true, false, length, map, Ok, Err, None, IfOk, IfErr, OnOk, OnErr};
+ghost use Rattle.std.specs.Prelude.{option_map, slice_get};
 ghost use Rattle.aa_text_variables.specs.Variables.{after_append, after_define, is_defined, named, names_undefined, same_texts};
 ghost use Rattle.aa_text_files.specs.declared.text_error.TextRefusal.TheVariants.{Memory};
 

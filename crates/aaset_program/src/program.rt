@@ -25,7 +25,8 @@ fn answer<S: Source, W: Sink, E: Sink>(
     requires whole_output { W.failed output.old ≡ false }
     requires reads { S.reads input.old ≤ 2 ^ 63 }
     ensures { IsRun ready.now
-        (read_from (S.left input.old) (S.left input.new) (S.reads input.old) (S.reads input.new) (S.ended input.old) (S.ended input.new) (S.failed input.new))
+        (read_from (S.left input.old) (S.left input.new) (S.reads input.old) (S.reads input.new)
+        (S.ended input.old) (S.ended input.new) (S.failed input.new))
         (written_to (W.written output.old) (W.written output.new) (W.failed output.new))
         (written_to (E.written errors.old) (E.written errors.new) (E.failed errors.new)) result }
 {
@@ -48,7 +49,8 @@ fn perform<S: Source, W: Sink, E: Sink>(
     requires whole_output { W.failed output.old ≡ false }
     requires reads { S.reads input.old ≤ 2 ^ 63 }
     ensures { IsPerformed prepared
-        (read_from (S.left input.old) (S.left input.new) (S.reads input.old) (S.reads input.new) (S.ended input.old) (S.ended input.new) (S.failed input.new))
+        (read_from (S.left input.old) (S.left input.new) (S.reads input.old) (S.reads input.new)
+        (S.ended input.old) (S.ended input.new) (S.failed input.new))
         (written_to (W.written output.old) (W.written output.new) (W.failed output.new))
         (written_to (E.written errors.old) (E.written errors.new) (E.failed errors.new)) result }
 {
@@ -64,9 +66,9 @@ fn perform<S: Source, W: Sink, E: Sink>(
 ///
 /// A text that is asked for, help or the version, is written to `output`. Of a run the files are taken from `disk`, and then the
 /// commands of `input` are answered on `output`, each before the next is read. The status is 0 where the text was shown or no command was
-/// refused, and 1 where some command was. A fault is told on `errors`, on a line of its own, without memory, and its status is 2 where the arguments or a NAME are
-/// no good, and 3 where a stream or memory failed; before the first command is read, nothing is written to `output` then. Where `errors` fails, the status
-/// alone tells the fault.
+/// refused, and 1 where some command was. A fault is told on `errors`, on a line of its own, without memory, and its status is 2 where the
+/// arguments or a NAME are no good, and 3 where a stream or memory failed; before the first command is read, nothing is written to `output`
+/// then. Where `errors` fails, the status alone tells the fault.
 pub fn start<D: FileSystem, S: Source, W: Sink, E: Sink>(
     alloc: Global,
     words: Result<Vec<String>, Fault>,
@@ -80,7 +82,8 @@ pub fn start<D: FileSystem, S: Source, W: Sink, E: Sink>(
     requires reads { S.reads input.old ≤ 2 ^ 63 }
     ensures { (prepared : Result Ready Stop) × ArePrepared (D.bytes_at disk.now) words prepared
         × IsPerformed prepared
-        (read_from (S.left input.old) (S.left input.new) (S.reads input.old) (S.reads input.new) (S.ended input.old) (S.ended input.new) (S.failed input.new))
+        (read_from (S.left input.old) (S.left input.new) (S.reads input.old) (S.reads input.new)
+        (S.ended input.old) (S.ended input.new) (S.failed input.new))
         (written_to (W.written output.old) (W.written output.new) (W.failed output.new))
         (written_to (E.written errors.old) (E.written errors.new) (E.failed errors.new)) result }
 {

@@ -36,7 +36,9 @@ impl Variables {
         order: IndexSet<usize>,
     ) -> Result<Option<IndexSet<usize>>, AllocError>
         requires { IsSettled self.now order.keys }
-        ensures { IfOk result (λ found. MatchOption found (leads_to_cycle self.now text.now ≡ true) (λ o. IsOrderOf self.now text.now order.keys o.keys)) }
+        ensures { IfOk result (λ found. MatchOption found
+            (leads_to_cycle self.now text.now ≡ true)
+            (λ o. IsOrderOf self.now text.now order.keys o.keys)) }
     {
         let mut starts = IndexSet::new(*self.entries.allocator());
         self.note(text, &mut starts)?;

@@ -1,7 +1,8 @@
 //! A walk into depth through variables, which puts each behind those that its words name, or finds one that leads to itself.
 
 ghost use Rattle.std.specs.Prelude.{◌≡◌, ◌++◌, None, Some, IfOk, OnOk, MatchOption, true, false, length, map, if◌then◌else◌};
-ghost use Rattle.aa_text_variables.specs.code.VariableWalks.{AllBelow, IsBeginning, IsSettled, IsWalked, SomeEndless, after_enter, after_task, names_at, progress};
+ghost use Rattle.aa_text_variables.specs.code.VariableWalks.{AllBelow, IsBeginning, IsSettled, IsWalked, SomeEndless, after_enter};
+ghost use Rattle.aa_text_variables.specs.code.VariableWalks.{after_task, names_at, progress};
 ghost use Rattle.aa_text_variables.specs.declared.variables.walk.Task.TheVariants.{Enter};
 
 use crate::variables::Variables;

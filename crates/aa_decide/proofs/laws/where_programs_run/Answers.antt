@@ -2,21 +2,21 @@ use Rattle.aa_decide.proofs.AttachmentLemmas.{attached-from, attached-order, att
 use Rattle.aa_decide.proofs.ExecLemmas.{answer-in_force, answer-masked, answer-order, denied-first}
 use Rattle.aa_decide.proofs.laws.where_programs_run.Goals as goal
 
-pub returns-clause-in_force : goal.returns-clause-in_force
-returns-clause-in_force c = answer-in_force c.which_rank_stands_out.ensures
+pub returns-clause-none_runs_under_a_disabled_profile : goal.returns-clause-none_runs_under_a_disabled_profile
+returns-clause-none_runs_under_a_disabled_profile c = answer-in_force c.which_rank_stands_out.ensures
 
-pub returns-clause-attached : goal.returns-clause-attached
-returns-clause-attached c path entries entry distinct =
+pub returns-clause-best_fit_is_attached : goal.returns-clause-best_fit_is_attached
+returns-clause-best_fit_is_attached c path entries entry distinct =
     (attached-told c.which_rank_stands_out.ensures path entries entry, attached-from c.which_rank_stands_out.ensures path entries entry distinct)
 
-pub returns-clause-attached_order : goal.returns-clause-attached_order
-returns-clause-attached_order c = attached-order c.which_rank_stands_out.ensures
+pub returns-clause-order_changes_no_attachment : goal.returns-clause-order_changes_no_attachment
+returns-clause-order_changes_no_attachment c = attached-order c.which_rank_stands_out.ensures
 
-pub returns-clause-order : goal.returns-clause-order
-returns-clause-order c = answer-order c.which_rank_stands_out.ensures
+pub returns-clause-order_changes_no_answer : goal.returns-clause-order_changes_no_answer
+returns-clause-order_changes_no_answer c = answer-order c.which_rank_stands_out.ensures
 
-pub returns-clause-deny : goal.returns-clause-deny
-returns-clause-deny c = denied-first
+pub returns-clause-deny_rule_wins : goal.returns-clause-deny_rule_wins
+returns-clause-deny_rule_wins c = denied-first
 
-pub returns-clause-mask : goal.returns-clause-mask
-returns-clause-mask c = answer-masked
+pub returns-clause-mask_is_exec : goal.returns-clause-mask_is_exec
+returns-clause-mask_is_exec c = answer-masked
