@@ -14,7 +14,7 @@ ghost use Rattle.aa_set_parts.specs.Parts.{after};
 
 use crate::loading::{in_state, loading, unloading};
 use crate::modes::{forced, modes_of};
-use crate::places::{find, found_to_add, found_to_remove, found_to_replace};
+use crate::places::{FileChange, find, found_for};
 use aa_bytes::Sequence;
 use aa_decide::State;
 use aa_profile_data::{Mode, Profile};
@@ -43,7 +43,7 @@ pub fn adding(
     ensures refused { IfErr result (λ refusal. refusal ≢ plain Memory → with_added force_complain (filled slots.now) profiles.items ≡ Err refusal) }
     ensures memory { IfErr result (λ refusal. refusal ≡ plain Memory → are_there profiles.items (filled slots.now) ≡ false) }
 {
-    let found = found_to_add(alloc, slots.as_slice(), &profiles)?;
+    let found = found_for(alloc, FileChange::Add, slots.as_slice(), &profiles)?;
     Ok(loading(alloc, slots, forced(force_complain), profiles, &found)?)
 }
 
@@ -70,7 +70,7 @@ pub fn replacing(
         refusal ≢ plain Memory → with_replaced force_complain (filled slots.now) profiles.items ≡ Err refusal) }
     ensures memory { IfErr result (λ refusal. refusal ≡ plain Memory → some_are_disabled profiles.items (filled slots.now) ≡ false) }
 {
-    let found = found_to_replace(alloc, slots.as_slice(), &profiles)?;
+    let found = found_for(alloc, FileChange::Replace, slots.as_slice(), &profiles)?;
     Ok(loading(alloc, slots, forced(force_complain), profiles, &found)?)
 }
 
@@ -88,7 +88,7 @@ pub fn removing(alloc: Global, slots: &Slots, profiles: &[Profile]) -> Result<Ex
     ensures refused { IfErr result (λ refusal. refusal ≢ plain Memory → with_removed (filled slots.now) profiles.now ≡ Err refusal) }
     ensures memory { IfErr result (λ refusal. refusal ≡ plain Memory → some_are_absent profiles.now (filled slots.now) ≡ false) }
 {
-    let found = found_to_remove(alloc, slots.as_slice(), profiles)?;
+    let found = found_for(alloc, FileChange::Remove, slots.as_slice(), profiles)?;
     Ok(unloading(alloc, slots, profiles, &found)?)
 }
 

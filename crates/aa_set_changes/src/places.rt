@@ -1,15 +1,16 @@
 //! Where the profiles that a change names are found.
 
-ghost use Rattle.std.specs.Prelude.{◌≡◌, ◌≢◌, ◌+◌, ◌≤◌, false, true, length, IfErr, IfOk, IfSome, OnOk, is_none};
+ghost use Rattle.std.specs.Prelude.{◌≡◌, ◌≢◌, ◌+◌, ◌≤◌, false, true, length, List, IfErr, IfOk, IfSome, OnOk, is_none};
 ghost use Rattle.std.specs.List.{list_any};
 ghost use Rattle.std.specs.Option.{is_some, option_map};
 ghost use Rattle.aa_decide.specs.Named.{entry_named, has_name};
 ghost use Rattle.aa_decide_verdict.specs.Entries.{fits};
 ghost use Rattle.aa_decide_verdict.specs.Slots.{filled};
+ghost use Rattle.aa_profile_data.specs.declared.profile.Profile.{Profile};
 ghost use Rattle.aa_set_changes.specs.Changes.{are_there, is_disabled, some_are_absent, some_are_disabled};
-ghost use Rattle.aa_set_changes.specs.code.Places.{behind, is_disabled_at, next_behind, place_for, places};
+ghost use Rattle.aa_set_changes.specs.code.Places.{behind, is_disabled_at, is_refused, next_behind, place_for, places, refused_as};
 ghost use Rattle.aa_set_commands.specs.Refusal.{plain};
-ghost use Rattle.aa_set_commands.specs.declared.refusal.RefusalKind.TheVariants.{Absent, Disabled, Exists, Memory};
+ghost use Rattle.aa_set_commands.specs.declared.refusal.RefusalKind.TheVariants.{Memory};
 ghost use Rattle.aa_set_names.specs.SlotNames.{slot_named, slots_named};
 
 use aa_decide::{Entry, entry_at};
@@ -114,96 +115,81 @@ fn some_are_disabled_at(slots: &[Option<Entry>], found: &[Option<usize>]) -> boo
     found.iter().any(|slot| is_disabled_at(slots, *slot))
 }
 
-/// The slots in which the names of profiles to be added are found: none of them.
-///
-/// # Errors
-///
-/// `Exists` where one is there, which is found without memory, and `Memory` where memory ran out.
-pub fn found_to_add(
-    alloc: Global,
-    slots: &[Option<Entry>],
-    profiles: &[Profile],
-) -> Result<Vec<Option<usize>>, Refusal>
-    ensures found { IfOk result (λ found. found.items ≡ slots_named profiles.now slots.now) }
-    ensures ok { OnOk result (are_there profiles.now (filled slots.now) ≡ false) }
-    ensures refused { IfErr result (λ refusal. refusal ≢ plain Memory → refusal ≡ plain Exists) }
-    ensures exists { IfErr result (λ refusal. refusal ≢ plain Memory → are_there profiles.now (filled slots.now) ≡ true) }
-    ensures memory { IfErr result (λ refusal. refusal ≡ plain Memory → are_there profiles.now (filled slots.now) ≡ false) }
+/// A change by the profiles of a file.
+#[derive(Clone, Copy, Debug)]
+pub enum FileChange {
+    /// They are added: none of their names is there.
+    Add,
+    /// They are put in the places of those of their names: none of these is disabled.
+    Replace,
+    /// Those of their names are taken out: all of them are there.
+    Remove,
+}
+
+// As what a change is refused.
+fn refused_as(change: FileChange) -> Refusal
+    ensures refusal { result ≡ refused_as change }
+    ensures known { result ≢ plain Memory }
 {
-    match slots_named(alloc, slots, profiles) {
-        Ok(found) => {
-            if some_are_found(&found) {
-                return Err(plain(RefusalKind::Exists));
-            }
-            Ok(found)
-        }
-        Err(_) => {
-            if are_there(slots, profiles) {
-                return Err(plain(RefusalKind::Exists));
-            }
-            Err(plain(RefusalKind::Memory))
-        }
+    match change {
+        FileChange::Add => plain(RefusalKind::Exists),
+        FileChange::Replace => plain(RefusalKind::Disabled),
+        FileChange::Remove => plain(RefusalKind::Absent),
     }
 }
 
-/// The slots in which the names of profiles to be replaced are found, of those that are there.
-///
-/// # Errors
-///
-/// `Disabled` where the profile of one of these names is disabled, which is found without memory, and `Memory` where memory ran out.
-pub fn found_to_replace(
-    alloc: Global,
-    slots: &[Option<Entry>],
-    profiles: &[Profile],
-) -> Result<Vec<Option<usize>>, Refusal>
-    ensures found { IfOk result (λ found. found.items ≡ slots_named profiles.now slots.now) }
-    ensures ok { OnOk result (some_are_disabled profiles.now (filled slots.now) ≡ false) }
-    ensures refused { IfErr result (λ refusal. refusal ≢ plain Memory → refusal ≡ plain Disabled) }
-    ensures disabled { IfErr result (λ refusal. refusal ≢ plain Memory → some_are_disabled profiles.now (filled slots.now) ≡ true) }
-    ensures memory { IfErr result (λ refusal. refusal ≡ plain Memory → some_are_disabled profiles.now (filled slots.now) ≡ false) }
+// Whether a change is refused, by the slots in which the names of its profiles were found.
+fn is_refused_at(change: FileChange, slots: &[Option<Entry>], found: &[Option<usize>]) -> bool
+    ensures { (profiles : List Profile)
+        → found.now ≡ slots_named profiles slots.now
+        → result ≡ is_refused change profiles (filled slots.now) }
 {
-    match slots_named(alloc, slots, profiles) {
-        Ok(found) => {
-            if some_are_disabled_at(slots, &found) {
-                return Err(plain(RefusalKind::Disabled));
-            }
-            Ok(found)
-        }
-        Err(_) => {
-            if some_are_disabled(slots, profiles) {
-                return Err(plain(RefusalKind::Disabled));
-            }
-            Err(plain(RefusalKind::Memory))
-        }
+    match change {
+        FileChange::Add => some_are_found(found),
+        FileChange::Replace => some_are_disabled_at(slots, found),
+        FileChange::Remove => some_are_missing(found),
     }
 }
 
-/// The slots in which the names of profiles to be removed are found: all of them.
+// The same without memory, by their names.
+fn is_refused(change: FileChange, slots: &[Option<Entry>], profiles: &[Profile]) -> bool
+    ensures { result ≡ is_refused change profiles.now (filled slots.now) }
+{
+    match change {
+        FileChange::Add => are_there(slots, profiles),
+        FileChange::Replace => some_are_disabled(slots, profiles),
+        FileChange::Remove => some_are_absent(slots, profiles),
+    }
+}
+
+/// The slots in which the names of the profiles of a change are found, of those that are there.
 ///
 /// # Errors
 ///
-/// `Absent` where one isn't there, which is found without memory, and `Memory` where memory ran out.
-pub fn found_to_remove(
+/// `Exists`, `Disabled` or `Absent` where the change is refused, which is found without memory, and `Memory` where memory
+/// ran out.
+pub fn found_for(
     alloc: Global,
+    change: FileChange,
     slots: &[Option<Entry>],
     profiles: &[Profile],
 ) -> Result<Vec<Option<usize>>, Refusal>
     ensures found { IfOk result (λ found. found.items ≡ slots_named profiles.now slots.now) }
-    ensures ok { OnOk result (some_are_absent profiles.now (filled slots.now) ≡ false) }
-    ensures refused { IfErr result (λ refusal. refusal ≢ plain Memory → refusal ≡ plain Absent) }
-    ensures absent { IfErr result (λ refusal. refusal ≢ plain Memory → some_are_absent profiles.now (filled slots.now) ≡ true) }
-    ensures memory { IfErr result (λ refusal. refusal ≡ plain Memory → some_are_absent profiles.now (filled slots.now) ≡ false) }
+    ensures ok { OnOk result (is_refused change profiles.now (filled slots.now) ≡ false) }
+    ensures refused { IfErr result (λ refusal. refusal ≢ plain Memory → refusal ≡ refused_as change) }
+    ensures told { IfErr result (λ refusal. refusal ≢ plain Memory → is_refused change profiles.now (filled slots.now) ≡ true) }
+    ensures memory { IfErr result (λ refusal. refusal ≡ plain Memory → is_refused change profiles.now (filled slots.now) ≡ false) }
 {
     match slots_named(alloc, slots, profiles) {
         Ok(found) => {
-            if some_are_missing(&found) {
-                return Err(plain(RefusalKind::Absent));
+            if is_refused_at(change, slots, &found) {
+                return Err(refused_as(change));
             }
             Ok(found)
         }
         Err(_) => {
-            if some_are_absent(slots, profiles) {
-                return Err(plain(RefusalKind::Absent));
+            if is_refused(change, slots, profiles) {
+                return Err(refused_as(change));
             }
             Err(plain(RefusalKind::Memory))
         }

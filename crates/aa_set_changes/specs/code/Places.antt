@@ -4,7 +4,12 @@ use Rattle.aa_decide_verdict.specs.Entries.{Loaded, is_in_force}
 use Rattle.aa_decide_verdict.specs.Slots.{entry_at}
 use Rattle.aa_profile_data.specs.declared.profile.Mode.{Mode}
 use Rattle.aa_profile_data.specs.declared.profile.Profile.{Profile}
-use Rattle.aa_set_changes.specs.Changes.{in_force}
+use Rattle.aa_set_changes.specs.Changes.{are_there, in_force, some_are_absent, some_are_disabled}
+use Rattle.aa_set_changes.specs.declared.places.FileChange.{FileChange}
+use Rattle.aa_set_changes.specs.declared.places.FileChange.TheVariants as file
+use Rattle.aa_set_commands.specs.Refusal.{plain}
+use Rattle.aa_set_commands.specs.declared.refusal.Refusal.{Refusal}
+use Rattle.aa_set_commands.specs.declared.refusal.RefusalKind.TheVariants.{Absent, Disabled, Exists}
 use Rattle.aa_set_parts.specs.declared.parts.Content.TheVariants.{Whole}
 use Rattle.aa_set_parts.specs.declared.parts.Part.{Part}
 
@@ -44,3 +49,15 @@ emptying (Some slot ∷ found) = record { slot = slot; content = Whole None } �
 abbrev pub is_disabled_at : List (Option Loaded) → Option ℕ → Bool
 is_disabled_at slots None = false
 is_disabled_at slots (Some slot) = elim (entry_at slots slot) [ None ↦ false | Some entry ↦ not (is_in_force entry.state) ]
+
+-- a change by the profiles of a file is refused
+abbrev pub is_refused : FileChange → List Profile → List Loaded → Bool
+is_refused file.Add profiles entries = are_there profiles entries
+is_refused file.Replace profiles entries = some_are_disabled profiles entries
+is_refused file.Remove profiles entries = some_are_absent profiles entries
+
+-- and as this
+abbrev pub refused_as : FileChange → Refusal
+refused_as file.Add = plain Exists
+refused_as file.Replace = plain Disabled
+refused_as file.Remove = plain Absent
