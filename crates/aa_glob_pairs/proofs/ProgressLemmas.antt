@@ -1,9 +1,9 @@
 -- Pair after pair is looked at: at last all that are met were.
-use Rattle.std.proofs.Common.{◌≡◌, ◌⊎◌, ◌↔◌, ℕ, ◌+◌, ◌<◌, ◌≤◌, List, [], ◌∷◌, ◌++◌, length, take, get_or, set, Option, None, Some, zero, suc, refl, sym, ap, subst, ◌∙◌, inl, inr, arith}
+use Rattle.std.proofs.Common.{◌≡◌, ◌⊎◌, ◌↔◌, ℕ, ◌+◌, ◌<◌, ◌≤◌, List, [], ◌∷◌, ◌++◌, length, take, set, Option, None, Some, zero, suc, refl, sym, ap, subst, ◌∙◌, inl, inr, arith}
 use Rattle.std.proofs.lemmas.Bool.{cases_lt}
 use Rattle.std.proofs.lemmas.List.{get_or-set_other, get_or-set_same, length-replicate, length-set, take-append-le, take_all, take_more}
 use Rattle.std.proofs.lemmas.List.Elements.{All-contains, All-nil, All-push, All-weaker, Contains-get_or}
-use Rattle.std.proofs.lemmas.Option.{get_or_from_slice_get, slice_get-get_or, slice_get_within}
+use Rattle.std.proofs.lemmas.Option.{get_or_from_slice_get, slice_get_within}
 use Rattle.std.specs.Prelude.{All, Bool, Contains, false, slice_get, slice_index_or, true}
 use Rattle.aa_glob_pairs.proofs.BelowLemmas.{clash-covered, clash-turned}
 use Rattle.aa_glob_waiting.proofs.GainLemmas.{nothing_there, pairs_as, pairs_nothing, passed_other, passed_there, same_or_not}
@@ -398,10 +398,3 @@ pub column_within : (g : Classed) (row at column : ℕ) (meeting : Meeting) → 
     → slice_get (row_at meeting.waiting row) at ≡ Some column → IsMeeting g row at meeting → column < states_of g
 column_within g row at column meeting laid is met =
     (met_within g laid (met.sound row column (waits_next meeting.waiting row at column is)).1).1
-
--- where no pair is at a place of a row, there are none behind it
-pub all_looked_at : (xs : List ℕ) (i : ℕ) (found : Option ℕ) → found ≡ slice_get xs i → ((x : ℕ) → found ≡ Some x → ⊥) → length xs ≤ i
-all_looked_at xs i found is none = elim (cases_lt i (length xs)) [
-  | inl within ↦ absurd (none (get_or xs i 0) (is ∙ slice_get-get_or xs i 0 within))
-  | inr past ↦ past
-]

@@ -5,7 +5,7 @@ ghost use Rattle.aa_glob_nfa.specs.OfTables.{graph_of};
 ghost use Rattle.aa_glob_pairs.specs.Clashes.{IsLeast};
 ghost use Rattle.aa_glob_pairs.specs.Graphs.{IsNodeOf};
 ghost use Rattle.aa_glob_pairs.specs.Pairs.{AreReady, MeetsAt, classed};
-ghost use Rattle.aa_glob_waiting.specs.Waiting.{row_at};
+ghost use Rattle.aa_glob_waiting.specs.Waiting.{IsFrontOf, row_at};
 ghost use Rattle.aa_glob_pairs.specs.code.Progress.{IsMeeting, no_marks};
 
 use crate::belows::Belows;
@@ -13,7 +13,7 @@ use crate::ends::lower_both;
 use crate::nodes::{Node, put_node};
 use crate::visit::visit;
 use aa_glob_nfa::Tables;
-use aa_glob_waiting::Waiting;
+use aa_glob_waiting::{Place, Waiting};
 use std::alloc::{AllocError, Global};
 
 /// How far the pairs were looked at.
@@ -98,7 +98,7 @@ fn meet_row(
     requires met { IsMeeting (classed tables.now classes.now belows.now) row 0 meeting.old }
     ensures { OnOk result (IsMeeting (classed tables.now classes.now belows.now) (row + 1) 0 meeting.new) }
 {
-    match meeting.waiting.second(row, 0) {
+    match meeting.waiting.next_place(row, Place::start()) {
         None => {
             meeting.waiting.pass(row);
             Ok(())
@@ -134,12 +134,20 @@ fn meet_all(
     requires met { IsMeeting (classed tables.now classes.now belows.now) row 0 meeting.old }
     ensures { OnOk result (IsMeeting (classed tables.now classes.now belows.now) (row + 1) 0 meeting.new) }
 {
-    let mut at = 0;
-    while let Some(column) = meeting.waiting.second(row, at) {
+    let mut place = Place::start();
+    while let Some(next) = meeting.waiting.next_place(row, place) {
         meet(
-            tables, classes, belows, row, at, column, first, second, meeting,
+            tables,
+            classes,
+            belows,
+            row,
+            place.index,
+            next.state,
+            first,
+            second,
+            meeting,
         )?;
-        at += 1;
+        place = next;
     }
     meeting.waiting.pass(row);
     Ok(())
@@ -163,7 +171,8 @@ fn meet(
     requires column { slice_get (row_at meeting.old.waiting row) at ≡ Some column }
     requires first { IsNodeOf (graph_of tables.now) classes.now row first.now }
     requires met { IsMeeting (classed tables.now classes.now belows.now) row at meeting.old }
-    ensures { OnOk result (IsMeeting (classed tables.now classes.now belows.now) row (at + 1) meeting.new) }
+    ensures met { OnOk result (IsMeeting (classed tables.now classes.now belows.now) row (at + 1) meeting.new) }
+    ensures front { OnOk result (IsFrontOf (row_at meeting.old.waiting row) (row_at meeting.new.waiting row)) }
 {
     if meeting.seen[column as usize] == row + 1 {
         return Ok(());

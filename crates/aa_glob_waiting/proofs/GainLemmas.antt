@@ -12,7 +12,7 @@ use Rattle.aa_glob_waiting.specs.Waiting.{Gains, IsFrontOf, Ordered, row_at, Set
 abbrev Rows : Type 0
 Rows = List (ℕ × List ℕ)
 
-front_same : (xs ys : List ℕ) → ys ≡ xs → IsFrontOf xs ys
+pub front_same : (xs ys : List ℕ) → ys ≡ xs → IsFrontOf xs ys
 front_same xs ys e = ([], e ∙ sym (append-nil xs))
 
 front_then : (xs ys zs : List ℕ) → IsFrontOf xs ys → IsFrontOf ys zs → IsFrontOf xs zs

@@ -1,2 +1,3 @@
+pub mod EncodingLemmas
 pub mod GainLemmas
 pub mod RowLemmas

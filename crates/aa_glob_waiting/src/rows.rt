@@ -1,24 +1,34 @@
 //! Rows of pairs of states, by their first state.
 
-ghost use Rattle.std.specs.Prelude.{◌≡◌, ◌⊎◌, ◌++◌, ◌∷◌, [], ◌<◌, ◌+◌, ◌^◌, slice_get, None, OnOk};
+ghost use Rattle.std.specs.Prelude.{◌≡◌, ◌++◌, ◌∷◌, [], OnOk};
+ghost use Rattle.aa_glob_waiting.specs.Places.{IsNext, StandsAt};
 ghost use Rattle.aa_glob_waiting.specs.Waiting.{row_at, SetsRow};
 
+use crate::encoding::{next_place, push_state};
+use crate::place::Place;
 use std::alloc::{AllocError, Global};
 use std::collections::BTreeMap;
 use std::marker::Model;
 
-/// The second states of pairs that have one first state, in the order in which they came; some may stand there more than once.
+/// The second states of pairs that have one first state, in the order in which they came; some may stand there more than once. Contracts see
+/// their list.
 #[derive(Drop)]
 pub struct Row {
-    states: Vec<u32>,
+    // Each as its difference from the one before it, in a byte where that is small.
+    bytes: Vec<u8>,
+    // The last one, or zero where there is none.
+    last: u32,
 }
 
 impl Model for Row {
-    ghost use Rattle.std.specs.Prelude.{ℕ, List};
+    ghost use Rattle.std.specs.Prelude.{◌≡◌, ℕ, List};
+    ghost use Rattle.aa_glob_waiting.specs.code.Encoding.{IsEncoded, decoded, last_of};
 
     ghost Value = { List ℕ };
 
-    ghost view = { λ r. r.states.items };
+    ghost view = { λ r. decoded 0 r.bytes.items };
+
+    ghost invariant = { λ r. IsEncoded r.bytes.items × (r.last ≡ last_of 0 (decoded 0 r.bytes.items)) };
 }
 
 impl Row {
@@ -27,7 +37,8 @@ impl Row {
         ensures { result ≡ [] }
     {
         Row {
-            states: Vec::new(alloc),
+            bytes: Vec::new(alloc),
+            last: 0,
         }
     }
 
@@ -35,16 +46,17 @@ impl Row {
     pub fn push(&mut self, state: u32) -> Result<(), AllocError>
         ensures { OnOk result (self.new ≡ self.old ++ state ∷ []) }
     {
-        self.states.push(state)?;
+        push_state(&mut self.bytes, self.last, state)?;
+        self.last = state;
         Ok(())
     }
 
-    /// The one at a place, if there is one.
-    pub fn get(&self, at: usize) -> Option<u32>
-        ensures state { result ≡ slice_get self.now at }
-        ensures within { result ≡ None ⊎ (at + 1 < 2 ^ 64) }
+    /// The place behind the next one, if there is one.
+    pub fn next_place(&self, place: Place) -> Option<Place>
+        requires { StandsAt place self.now }
+        ensures { IsNext result place self.now }
     {
-        self.states.get(at).copied()
+        next_place(&self.bytes, place)
     }
 }
 
@@ -95,13 +107,13 @@ impl Rows {
         Ok(())
     }
 
-    /// The second state of the pair at a place among those of a first state, if there is one.
-    pub fn get(&self, first: u32, at: usize) -> Option<u32>
-        ensures state { result ≡ slice_get (row_at self.now first) at }
-        ensures within { result ≡ None ⊎ (at + 1 < 2 ^ 64) }
+    /// The place behind the next pair of a first state, if there is one.
+    pub fn next_place(&self, first: u32, place: Place) -> Option<Place>
+        requires { StandsAt place (row_at self.now first) }
+        ensures { IsNext result place (row_at self.now first) }
     {
         match self.rows.get(&first) {
-            Some(row) => row.get(at),
+            Some(row) => row.next_place(place),
             None => None,
         }
     }

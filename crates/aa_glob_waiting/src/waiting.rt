@@ -1,8 +1,10 @@
 //! Pairs of states that wait to be looked at.
 
-ghost use Rattle.std.specs.Prelude.{◌≡◌, ◌⊎◌, ℕ, [], ◌<◌, ◌+◌, ◌^◌, slice_get, None, OnOk, Decides};
+ghost use Rattle.std.specs.Prelude.{◌≡◌, ℕ, [], ◌+◌, OnOk, Decides};
+ghost use Rattle.aa_glob_waiting.specs.Places.{IsNext, StandsAt};
 ghost use Rattle.aa_glob_waiting.specs.Waiting.{Gains, Ordered, row_at, SetsRow};
 
+use crate::place::Place;
 use crate::rows::{Row, Rows};
 use std::alloc::{AllocError, Global};
 use std::marker::Model;
@@ -67,17 +69,17 @@ impl Waiting {
         }
     }
 
-    /// The second state of the pair at a place among those of a first state, if there is one.
-    pub fn second(&self, first: u32, at: usize) -> Option<u32>
-        ensures state { result ≡ slice_get (row_at self.now first) at }
-        ensures within { result ≡ None ⊎ (at + 1 < 2 ^ 64) }
+    /// The place behind the next pair of a first state, if there is one. It has the second state of this pair.
+    pub fn next_place(&self, first: u32, place: Place) -> Option<Place>
+        requires { StandsAt place (row_at self.now first) }
+        ensures { IsNext result place (row_at self.now first) }
     {
         if first == self.state {
-            self.row.get(at)
+            self.row.next_place(place)
         } else if is_next(self.state, first) {
-            self.next.get(at)
+            self.next.next_place(place)
         } else {
-            self.rows.get(first, at)
+            self.rows.next_place(first, place)
         }
     }
 

@@ -6,6 +6,8 @@ use Rattle.aa_glob_pairs.specs.Below.{can_clash}
 use Rattle.aa_glob_pairs.specs.Clashes.{Clash, Lowers}
 use Rattle.aa_glob_pairs.specs.Pairs.{classed}
 use Rattle.aa_glob_pairs.specs.declared.ends.Ending.{Ending}
+use Rattle.aa_glob_waiting.proofs.GainLemmas.{front_same}
+use Rattle.aa_glob_waiting.specs.Waiting.{row_at}
 use Rattle.aa_glob_pairs.proofs.meeting.meet.Goals as goal
 
 pub index-requires : goal.index-requires
@@ -38,8 +40,8 @@ at-requires-2 c =
     let column = column_within g c.args.row c.args.at c.args.column old c.requires.ready.later c.requires.column c.requires.met in
     omega (arith, column, c.requires.ready.each_below.count)
 
-pub returns-then-index-row : goal.returns-then-index-row
-returns-then-index-row c =
+pub returns-then-index-row-clause-met : goal.returns-then-index-row-clause-met
+returns-then-index-row-clause-met c =
     let t = c.args.tables.now in
     let g = classed t c.args.classes.now c.args.belows.now in
     let old = c.args.meeting.now in
@@ -52,8 +54,8 @@ returns-then-index-row c =
     in
     meeting_passed g c.args.row c.args.at c.args.column old c.requires.column c.requires.met (seen ∙ c.if-index-row.true)
 
-pub returns-then-not-can_clash : goal.returns-then-not-can_clash
-returns-then-not-can_clash c =
+pub returns-then-not-can_clash-clause-met : goal.returns-then-not-can_clash-clause-met
+returns-then-not-can_clash-clause-met c =
     let t = c.args.tables.now in
     let g = classed t c.args.classes.now c.args.belows.now in
     let old = c.args.meeting.now in
@@ -73,8 +75,8 @@ put_node-requires-clause-is_state c =
     let column = column_within g c.args.row c.args.at c.args.column old c.requires.ready.later c.requires.column c.requires.met in
     omega (arith, column, size)
 
-pub returns : goal.returns
-returns c =
+pub returns-clause-met : goal.returns-clause-met
+returns-clause-met c =
     let t = c.args.tables.now in
     let g = classed t c.args.classes.now c.args.belows.now in
     let old = c.args.meeting.now in
@@ -90,3 +92,12 @@ returns c =
     (subst (λ (l : List Ending). Lowers old.found c.lower_both.new.found (λ k. Clash l o.ends.items k ⊎ Clash o.ends.items l k)) c.deref.ensures.value
     (subst (λ (l : List Ending). Lowers old.found c.lower_both.new.found (λ k. Clash c.deref.result.now l k ⊎ Clash l c.deref.result.now k)) c.deref-2.ensures.value
     c.lower_both.ensures)))
+
+pub returns-then-index-row-clause-front : goal.returns-then-index-row-clause-front
+returns-then-index-row-clause-front c = let row = row_at c.args.meeting.now.waiting c.args.row in front_same row row refl
+
+pub returns-then-not-can_clash-clause-front : goal.returns-then-not-can_clash-clause-front
+returns-then-not-can_clash-clause-front c = let row = row_at c.args.meeting.now.waiting c.args.row in front_same row row refl
+
+pub returns-clause-front : goal.returns-clause-front
+returns-clause-front c = c.in_ok-visit.ensures.fronts c.args.row

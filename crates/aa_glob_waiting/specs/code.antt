@@ -1,0 +1,2 @@
+-- How pairs that wait are kept.
+pub mod Encoding
