@@ -6,13 +6,12 @@ use Rattle.std.proofs.lemmas.Bool.{cases_lt}
 use Rattle.std.proofs.lemmas.List.{get_or_default, length-append}
 use Rattle.std.proofs.lemmas.Option.{get_or_from_slice_get, slice_get_within}
 use Rattle.aa_glob_syntax.specs.Patterns.{IsPatternAt}
-use Rattle.aa_glob_automaton.specs.Grown.{Finds, GoesOn, IsThere, StandsAt, kind_of}
+use Rattle.aa_glob_automaton.specs.Grown.{Finds, GoesOn, IsThere, StandsAt}
 use Rattle.aa_glob_automaton.specs.Numbers.{AreKept, most_number, number_of}
 use Rattle.aa_glob_automaton.specs.Walks.{Standing, entered, source_states}
 use Rattle.aa_glob_automaton.specs.Ways.{AddsWays}
 use Rattle.aa_glob_automaton.specs.code.Growths.{Follows, FollowsTo, GrowsBy, IsGrowing}
 use Rattle.aa_glob_automaton.specs.declared.growing.Growing.{Growing}
-use Rattle.aa_glob_automaton.specs.declared.walk.Kind.{Kind}
 use Rattle.aa_glob_automaton.proofs.FindLemmas.{finds_more, finds_numbered, found_is, goes_on-push, goes_on-same, last_trail, none_is}
 use Rattle.aa_glob_automaton.proofs.StandLemmas.{sources_named, sources_there, stands_entered, stands_kept}
 use Rattle.aa_glob_nfa_laws.specs.Drawn.{AddsState, HaveSources, trail_at}
@@ -26,23 +25,21 @@ use Rattle.aa_glob_prefixes.specs.Trails.{sources, Trail, trail_of}
 use Rattle.aa_glob_trie.specs.Ways.{next, places}
 
 -- the ways to a state that is new are drawn between states
-pub ways_fit : (old new : Graph) (entry : Entry) (kind : Kind) (e : Element) (walk : Standing) → kind ≡ kind_of e
+pub ways_fit : (old new : Graph) (entry : Entry) (e : Element) (walk : Standing)
     → walk.state < length old.entries → All (IsThere (length old.entries)) walk.groups → new ≡ with_entry entry old
-    → All (λ q. q < length new.entries) (source_states kind walk)
-ways_fit old new entry kind e walk is state groups more k d within =
+    → All (λ q. q < length new.entries) (source_states e walk)
+ways_fit old new entry e walk state groups more k d within =
     let long : length new.entries ≡ length old.entries + 1 = ap (λ (g : Graph). length g.entries) more ∙ length-append old.entries (entry ∷ []) in
-    let named : source_states kind walk ≡ source_states (kind_of e) walk = ap (λ (x : Kind). source_states x walk) is in
-    let there = subst (λ (from : List ℕ). All (λ q. q < length old.entries) from) (sym named) (sources_there (length old.entries) e walk state groups) k d within in
+    let there = sources_there (length old.entries) e walk state groups k d within in
     omega (arith, long, there)
 
 -- a state that is added with its ways
-pub adds_state : (old mid new : Graph) (entry : Entry) (from other : List ℕ) (to : ℕ) → mid ≡ with_entry entry old → to ≡ length old.entries → from ≡ other → AddsWays mid new from to
-    → AddsState old new entry other
-adds_state old mid new entry from other to more is same adds =
-    by (subst (λ (g : Graph). AddsWays g new other (length old.entries)) more
-    (subst (λ (q : ℕ). AddsWays mid new other q) is (subst (λ (states : List ℕ). AddsWays mid new states to) same adds)))
+pub adds_state : (old mid new : Graph) (entry : Entry) (from : List ℕ) (to : ℕ) → mid ≡ with_entry entry old → to ≡ length old.entries → AddsWays mid new from to
+    → AddsState old new entry from
+adds_state old mid new entry from to more is adds =
+    by (subst (λ (g : Graph). AddsWays g new from (length old.entries)) more (subst (λ (q : ℕ). AddsWays mid new from q) is adds))
   where
-    by : AddsWays (with_entry entry old) new other (length old.entries) → AddsState old new entry other
+    by : AddsWays (with_entry entry old) new from (length old.entries) → AddsState old new entry from
     by drawn = record {
       entries = drawn.entries;
       ways = λ q r. (
@@ -104,7 +101,7 @@ pub follows-grown : NewTrailIsAdded → AddedIsDrawn → (patterns : List (List 
 follows-grown added drawn patterns trail old new walk e n small number free grows follows = record {
   trails = more;
   growing = record {
-    drawn = drawn old.drawing new.drawing trails e trail grows.entry (source_states (kind_of e) walk) growing.drawn absent grows.suits have grows.adds;
+    drawn = drawn old.drawing new.drawing trails e trail grows.entry (source_states e walk) growing.drawn absent grows.suits have grows.adds;
     finds = finds;
     begun = added patterns trail trails e growing.begun absent;
     ends = λ state place. (ends-there state place, ends-back state place);
@@ -137,10 +134,10 @@ follows-grown added drawn patterns trail old new walk e n small number free grow
         none_is old.tree old.numbers trails growing.finds growing.drawn.apart e walk.state n follows.stands.there number free
         (subst (λ (t : Trail). Contains trails (e ∷ t)) (sym follows.stands.here) h)
 
-    named : map (trail_at trails) (source_states (kind_of e) walk) ≡ sources (e ∷ trail)
+    named : map (trail_at trails) (source_states e walk) ≡ sources (e ∷ trail)
     named = sources_named trails e trail walk follows.stands
 
-    have : HaveSources trails (source_states (kind_of e) walk) (e ∷ trail)
+    have : HaveSources trails (source_states e walk) (e ∷ trail)
     have = (
       sources_there (length trails) e walk follows.stands.there follows.stands.groups_there,
       λ source. (subst (λ (ts : List Trail). Contains ts source) named, subst (λ (ts : List Trail). Contains ts source) (sym named)),
@@ -173,13 +170,13 @@ follows-grown added drawn patterns trail old new walk e n small number free grow
             subst (λ (t : Trail). Contains trails t) same (whole-contained patterns trail trails place told.0 growing.begun told.1)
 
 -- the walk goes on to the state
-pub follows-entered : (patterns : List (List ℕ)) (trail : Trail) (g : Growing) (before after : Standing) (e : Element) (kind : Kind) (q : ℕ)
-    → kind ≡ kind_of e → after ≡ entered kind q before → FollowsTo patterns e trail g before q → Follows patterns (e ∷ trail) g after
-follows-entered patterns trail g before after e kind q is goes to = record {
+pub follows-entered : (patterns : List (List ℕ)) (trail : Trail) (g : Growing) (before after : Standing) (e : Element) (q : ℕ)
+    → after ≡ entered e q before → FollowsTo patterns e trail g before q → Follows patterns (e ∷ trail) g after
+follows-entered patterns trail g before after e q goes to = record {
   trails = to.trails;
   growing = to.growing;
   stands =
-      subst (λ (walk : Standing). StandsAt to.trails walk (e ∷ trail)) (sym (goes ∙ ap (λ (x : Kind). entered x q before) is))
+      subst (λ (walk : Standing). StandsAt to.trails walk (e ∷ trail)) (sym goes)
       (stands_entered to.trails to.trails e trail before q (goes_on-same to.trails) to.stands to.there to.is);
 }
 

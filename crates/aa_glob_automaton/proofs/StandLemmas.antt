@@ -2,52 +2,44 @@
 use Rattle.std.proofs.Common.{◌≡◌, ℕ, ◌<◌, List, [], ◌∷◌, map, length, refl, sym, ap, ◌∙◌}
 use Rattle.std.specs.List.{All}
 use Rattle.std.proofs.lemmas.List.Elements.{All-cons, All-head, All-nil, All-tail}
-use Rattle.aa_glob_automaton.specs.Grown.{GoesOn, IsThere, StandsAt, group_at, kind_of}
-use Rattle.aa_glob_automaton.specs.Walks.{OpenStates, Standing, close_sources, comma_sources, entered, groups_behind_state, outer_states, source_states, standing_at, with_end_state}
+use Rattle.aa_glob_automaton.specs.Grown.{GoesOn, IsThere, StandsAt, group_at}
+use Rattle.aa_glob_automaton.specs.Walks.{OpenStates, Standing, entered, source_states, standing_at}
 use Rattle.aa_glob_nfa_laws.specs.Drawn.{trail_at}
 use Rattle.aa_glob_syntax.specs.Elements.{Element, Single, Open, Comma, Close, Fault}
-use Rattle.aa_glob_prefixes.specs.Trails.{groups_behind, OpenGroup, outer, sources, sources_behind, sources_of_close, sources_of_comma, Trail, with_end}
+use Rattle.aa_glob_syntax.specs.OpenGroups.{groups_behind, sources_behind}
+use Rattle.aa_glob_prefixes.specs.Trails.{sources, Trail, TrailGroup}
 
 -- the sources of a trail are those of the states from which its last element is reached
 
-comma_named : (trails : List Trail) (state : ℕ) (gs : List OpenStates) → map (trail_at trails) (comma_sources state gs) ≡ sources_of_comma (trail_at trails state) (map (group_at trails) gs)
-comma_named trails state [] = refl
-comma_named trails state (g ∷ gs) = refl
+behind_named : (trails : List Trail) (e : Element) (state : ℕ) (gs : List OpenStates) → map (trail_at trails) (sources_behind e state gs) ≡ sources_behind e (trail_at trails state) (map (group_at trails) gs)
+behind_named trails (Single item) state gs = refl
+behind_named trails Open state gs = refl
+behind_named trails Comma state [] = refl
+behind_named trails Comma state (g ∷ gs) = refl
+behind_named trails Close state [] = refl
+behind_named trails Close state (g ∷ gs) = refl
+behind_named trails (Fault error) state gs = refl
 
-close_named : (trails : List Trail) (state : ℕ) (gs : List OpenStates) → map (trail_at trails) (close_sources state gs) ≡ sources_of_close (trail_at trails state) (map (group_at trails) gs)
-close_named trails state [] = refl
-close_named trails state (g ∷ gs) = refl
-
-behind_named : (trails : List Trail) (e : Element) (walk : Standing) → map (trail_at trails) (source_states (kind_of e) walk) ≡ sources_behind e (trail_at trails walk.state) (map (group_at trails) walk.groups)
-behind_named trails (Single item) walk = refl
-behind_named trails Open walk = refl
-behind_named trails Comma walk = comma_named trails walk.state walk.groups
-behind_named trails Close walk = close_named trails walk.state walk.groups
-behind_named trails (Fault error) walk = refl
-
-pub sources_named : (trails : List Trail) (e : Element) (trail : Trail) (walk : Standing) → StandsAt trails walk trail → map (trail_at trails) (source_states (kind_of e) walk) ≡ sources (e ∷ trail)
+pub sources_named : (trails : List Trail) (e : Element) (trail : Trail) (walk : Standing) → StandsAt trails walk trail → map (trail_at trails) (source_states e walk) ≡ sources (e ∷ trail)
 sources_named trails e trail walk stands =
-    behind_named trails e walk ∙ ap (λ t. sources_behind e t (map (group_at trails) walk.groups)) stands.here ∙ ap (sources_behind e trail) stands.groups
+    behind_named trails e walk.state walk.groups ∙ ap (λ t. sources_behind e t (map (group_at trails) walk.groups)) stands.here ∙ ap (sources_behind e trail) stands.groups
 
 -- and they are there
 
 one_there : (states state : ℕ) → state < states → All (λ q. q < states) (state ∷ [])
 one_there states state within = All-cons (λ q. q < states) state [] within (All-nil (λ q. q < states))
 
-comma_there : (states state : ℕ) (gs : List OpenStates) → state < states → All (IsThere states) gs → All (λ q. q < states) (comma_sources state gs)
-comma_there states state [] within there = one_there states state within
-comma_there states state (g ∷ gs) within there = one_there states g.beginning (All-head (IsThere states) g gs there).0
+behind_sources : (states : ℕ) (e : Element) (state : ℕ) (gs : List OpenStates) → state < states → All (IsThere states) gs → All (λ q. q < states) (sources_behind e state gs)
+behind_sources states (Single item) state gs within there = one_there states state within
+behind_sources states Open state gs within there = one_there states state within
+behind_sources states Comma state [] within there = one_there states state within
+behind_sources states Comma state (g ∷ gs) within there = one_there states g.beginning (All-head (IsThere states) g gs there).0
+behind_sources states Close state [] within there = one_there states state within
+behind_sources states Close state (g ∷ gs) within there = All-cons (λ q. q < states) state g.ends within (All-head (IsThere states) g gs there).1
+behind_sources states (Fault error) state gs within there = one_there states state within
 
-close_there : (states state : ℕ) (gs : List OpenStates) → state < states → All (IsThere states) gs → All (λ q. q < states) (close_sources state gs)
-close_there states state [] within there = one_there states state within
-close_there states state (g ∷ gs) within there = All-cons (λ q. q < states) state g.ends within (All-head (IsThere states) g gs there).1
-
-pub sources_there : (states : ℕ) (e : Element) (walk : Standing) → walk.state < states → All (IsThere states) walk.groups → All (λ q. q < states) (source_states (kind_of e) walk)
-sources_there states (Single item) walk within there = one_there states walk.state within
-sources_there states Open walk within there = one_there states walk.state within
-sources_there states Comma walk within there = comma_there states walk.state walk.groups within there
-sources_there states Close walk within there = close_there states walk.state walk.groups within there
-sources_there states (Fault error) walk within there = one_there states walk.state within
+pub sources_there : (states : ℕ) (e : Element) (walk : Standing) → walk.state < states → All (IsThere states) walk.groups → All (λ q. q < states) (source_states e walk)
+sources_there states e walk within there = behind_sources states e walk.state walk.groups within there
 
 -- where the trails go on, each state that was there keeps its trail
 
@@ -57,7 +49,7 @@ states_kept trails more on (q ∷ qs) there =
     ap (λ t. t ∷ map (trail_at more) qs) (on.same q (All-head (λ q. q < length trails) q qs there))
     ∙ ap (λ ts. trail_at trails q ∷ ts) (states_kept trails more on qs (All-tail (λ q. q < length trails) q qs there))
 
-abbrev group_with : Trail → List Trail → OpenGroup
+abbrev group_with : Trail → List Trail → TrailGroup
 group_with beginning ends = record { beginning = beginning; ends = ends }
 
 group_kept : (trails more : List Trail) → GoesOn trails more → (g : OpenStates) → IsThere (length trails) g → group_at more g ≡ group_at trails g
@@ -87,51 +79,39 @@ stands_kept trails more walk trail on stands = record {
 
 -- the groups behind an element
 
-end_there : (states state : ℕ) (gs : List OpenStates) → state < states → All (IsThere states) gs → All (IsThere states) (with_end_state state gs)
-end_there states state [] within there = there
-end_there states state (g ∷ gs) within there =
-    let first = All-head (IsThere states) g gs there in
-    All-cons (IsThere states) (record { beginning = g.beginning; ends = state ∷ g.ends }) gs
-    (first.0, All-cons (λ q. q < states) state g.ends within first.1) (All-tail (IsThere states) g gs there)
-
-outer_there : (states : ℕ) (gs : List OpenStates) → All (IsThere states) gs → All (IsThere states) (outer_states gs)
-outer_there states [] there = there
-outer_there states (g ∷ gs) there = All-tail (IsThere states) g gs there
-
-behind_there : (states : ℕ) (e : Element) (from to : ℕ) (gs : List OpenStates) → from < states → to < states → All (IsThere states) gs → All (IsThere states) (groups_behind_state (kind_of e) from to gs)
+behind_there : (states : ℕ) (e : Element) (from to : ℕ) (gs : List OpenStates) → from < states → to < states → All (IsThere states) gs → All (IsThere states) (groups_behind e from to gs)
 behind_there states (Single item) from to gs f t there = there
 behind_there states Open from to gs f t there = All-cons (IsThere states) (record { beginning = to; ends = [] }) gs (t, All-nil (λ q. q < states)) there
-behind_there states Comma from to gs f t there = end_there states from gs f there
-behind_there states Close from to gs f t there = outer_there states gs there
+behind_there states Comma from to [] f t there = there
+behind_there states Comma from to (g ∷ gs) f t there =
+    let first = All-head (IsThere states) g gs there in
+    All-cons (IsThere states) (record { beginning = g.beginning; ends = from ∷ g.ends }) gs
+    (first.0, All-cons (λ q. q < states) from g.ends f first.1) (All-tail (IsThere states) g gs there)
+behind_there states Close from to [] f t there = there
+behind_there states Close from to (g ∷ gs) f t there = All-tail (IsThere states) g gs there
 behind_there states (Fault error) from to gs f t there = there
 
-end_named : (trails : List Trail) (state : ℕ) (gs : List OpenStates) → map (group_at trails) (with_end_state state gs) ≡ with_end (trail_at trails state) (map (group_at trails) gs)
-end_named trails state [] = refl
-end_named trails state (g ∷ gs) = refl
-
-outer_named : (trails : List Trail) (gs : List OpenStates) → map (group_at trails) (outer_states gs) ≡ outer (map (group_at trails) gs)
-outer_named trails [] = refl
-outer_named trails (g ∷ gs) = refl
-
-groups_named : (trails : List Trail) (e : Element) (from to : ℕ) (gs : List OpenStates) → trail_at trails to ≡ e ∷ trail_at trails from
-    → map (group_at trails) (groups_behind_state (kind_of e) from to gs) ≡ groups_behind e (trail_at trails from) (map (group_at trails) gs)
-groups_named trails (Single item) from to gs is = refl
-groups_named trails Open from to gs is = ap (λ (t : Trail). record { beginning = t; ends = [] } ∷ map (group_at trails) gs) is
-groups_named trails Comma from to gs is = end_named trails from gs
-groups_named trails Close from to gs is = outer_named trails gs
-groups_named trails (Fault error) from to gs is = refl
+groups_named : (trails : List Trail) (e : Element) (trail : Trail) (from to : ℕ) (gs : List OpenStates) → trail_at trails from ≡ trail → trail_at trails to ≡ e ∷ trail
+    → map (group_at trails) (groups_behind e from to gs) ≡ groups_behind e trail (e ∷ trail) (map (group_at trails) gs)
+groups_named trails (Single item) trail from to gs here is = refl
+groups_named trails Open trail from to gs here is = ap (λ (t : Trail). group_with t [] ∷ map (group_at trails) gs) is
+groups_named trails Comma trail from to [] here is = refl
+groups_named trails Comma trail from to (g ∷ gs) here is =
+    ap (λ (t : Trail). group_with (trail_at trails g.beginning) (t ∷ map (trail_at trails) g.ends) ∷ map (group_at trails) gs) here
+groups_named trails Close trail from to [] here is = refl
+groups_named trails Close trail from to (g ∷ gs) here is = refl
+groups_named trails (Fault error) trail from to gs here is = refl
 
 -- the walk goes on
 pub stands_entered : (trails more : List Trail) (e : Element) (trail : Trail) (walk : Standing) (to : ℕ) → GoesOn trails more → StandsAt trails walk trail
-    → to < length more → trail_at more to ≡ e ∷ trail → StandsAt more (entered (kind_of e) to walk) (e ∷ trail)
+    → to < length more → trail_at more to ≡ e ∷ trail → StandsAt more (entered e to walk) (e ∷ trail)
 stands_entered trails more e trail walk to on stood within is =
     let stands = stands_kept trails more walk trail on stood in
-    let here : trail_at more to ≡ e ∷ trail_at more walk.state = is ∙ ap (λ t. e ∷ t) (sym stands.here) in
     record {
       there = within;
       here = is;
       groups_there = behind_there (length more) e walk.state to walk.groups stands.there within stands.groups_there;
-      groups = groups_named more e walk.state to walk.groups here ∙ ap (λ t. groups_behind e t (map (group_at more) walk.groups)) stands.here ∙ ap (groups_behind e trail) stands.groups;
+      groups = groups_named more e trail walk.state to walk.groups stands.here is ∙ ap (groups_behind e trail (e ∷ trail)) stands.groups;
     }
 
 -- a walk begins where nothing is open

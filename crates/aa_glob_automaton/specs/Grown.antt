@@ -3,23 +3,13 @@ use Rattle.std.specs.Prelude.{◌≡◌, ℕ, ◌<◌, List, ◌∷◌, length, 
 use Rattle.std.specs.List.{All}
 use Rattle.aa_glob_automaton.specs.Numbers.{most_number, number_of}
 use Rattle.aa_glob_automaton.specs.Walks.{OpenStates, Standing}
-use Rattle.aa_glob_automaton.specs.declared.walk.Kind.{Kind}
-use Rattle.aa_glob_automaton.specs.declared.walk.Kind.TheVariants.{Single as SingleKind, Open as OpenKind, Comma as CommaKind, Close as CloseKind}
 use Rattle.aa_glob_nfa_laws.specs.Drawn.{trail_at}
-use Rattle.aa_glob_syntax.specs.Elements.{Element, Single, Open, Comma, Close, Fault}
-use Rattle.aa_glob_prefixes.specs.Trails.{groups_of, OpenGroup, Trail}
+use Rattle.aa_glob_syntax.specs.Elements.{Element}
+use Rattle.aa_glob_prefixes.specs.Trails.{groups_of, Trail, TrailGroup}
 use Rattle.aa_glob_trie.specs.Ways.{Ways, next, places}
 
--- what an element does to the groups that are open
-abbrev pub kind_of : Element → Kind
-kind_of (Single item) = SingleKind
-kind_of Open = OpenKind
-kind_of Comma = CommaKind
-kind_of Close = CloseKind
-kind_of (Fault error) = SingleKind
-
 -- the group that is open where these states stand for these trails
-abbrev pub group_at : List Trail → OpenStates → OpenGroup
+abbrev pub group_at : List Trail → OpenStates → TrailGroup
 group_at trails g = record { beginning = trail_at trails g.beginning; ends = map (trail_at trails) g.ends }
 
 -- a group is open at states that are there

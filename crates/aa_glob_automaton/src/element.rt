@@ -2,7 +2,6 @@
 
 ghost use Rattle.std.specs.Prelude.{◌≡◌, ℕ, ◌<◌, ◌^◌, ◌==◌, ◌&&◌, ◌||◌, length, Some, IfOk, OnOk};
 ghost use Rattle.aa_bytes.specs.ByteSets.{has};
-ghost use Rattle.aa_glob_automaton.specs.Grown.{kind_of};
 ghost use Rattle.aa_glob_automaton.specs.Numbers.{AreKept, most_number, number_of};
 ghost use Rattle.aa_glob_nfa_laws.specs.Drawn.{Suits};
 ghost use Rattle.aa_glob_syntax.specs.Cursor.{meaning};
@@ -11,28 +10,11 @@ ghost use Rattle.aa_glob_nfa.specs.Graphs.{with_entry};
 ghost use Rattle.aa_glob_nfa.specs.declared.entry.Entry.{Entry};
 
 use crate::numbers::Numbers;
-use crate::walk::Kind;
 use aa_bytes::{ByteMap, ByteSet};
 use aa_glob_nfa::Entry;
 use aa_glob_run::Drawing;
 use aa_glob_syntax::Element;
 use std::alloc::{AllocError, Global};
-
-/// What an element does to the groups that are open.
-pub fn kind_of(element: Element<'_>) -> Kind
-    ensures { result ≡ kind_of (meaning element.entry) }
-{
-    match element {
-        Element::Byte(_)
-        | Element::Inside
-        | Element::Class(_)
-        | Element::Star
-        | Element::DoubleStar => Kind::Single,
-        Element::Open => Kind::Open,
-        Element::Comma => Kind::Comma,
-        Element::Close => Kind::Close,
-    }
-}
 
 // Puts a byte into a map, if the set has it.
 fn put_if_had(map: &mut ByteMap, set: &ByteSet, byte: u8)

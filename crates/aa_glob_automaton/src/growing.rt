@@ -8,7 +8,7 @@ ghost use Rattle.aa_glob_automaton.specs.code.Growths.{GoesOver, GrowsBy, IsWalk
 ghost use Rattle.aa_glob_syntax.specs.Cursor.{meaning};
 ghost use Rattle.aa_glob_trie.specs.Ways.{next, places};
 
-use crate::element::{add_state, kind_of, number_of};
+use crate::element::{add_state, number_of};
 use crate::numbers::Numbers;
 use crate::walk::Walk;
 use aa_glob_nfa_laws::how_graphs_are_drawn;
@@ -39,7 +39,7 @@ impl Growing {
         ensures { OnOk result (GoesOver self.old walk.old (meaning element.entry) self.new walk.new) }
     {
         let state = self.state_behind(alloc, walk, element)?;
-        walk.enter(alloc, kind_of(element), state)
+        walk.enter(alloc, element, state)
     }
 
     // The state to which an element leads.
@@ -99,7 +99,7 @@ impl Growing {
     {
         self.tree.add(walk.state(), number)?;
         let state = add_state(&mut self.drawing, alloc, element)?;
-        walk.draw_to(kind_of(element), &mut self.drawing, state)?;
+        walk.draw_to(element, &mut self.drawing, state)?;
         Ok(state)
     }
 }

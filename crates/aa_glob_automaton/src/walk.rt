@@ -2,26 +2,16 @@
 
 ghost use Rattle.std.specs.Prelude.{◌≡◌, ◌<◌, [], length, OnOk};
 ghost use Rattle.std.specs.List.{All};
-ghost use Rattle.aa_glob_automaton.specs.Walks.{close_sources, comma_sources, entered, source_states, standing_at, with_end_state};
+ghost use Rattle.aa_glob_automaton.specs.Walks.{entered, source_states, standing_at};
 ghost use Rattle.aa_glob_automaton.specs.Ways.{AddsWays};
+ghost use Rattle.aa_glob_syntax.specs.Cursor.{meaning};
+ghost use Rattle.aa_glob_syntax.specs.Elements.{Close, Comma};
 
 use crate::ways::{draw_way, draw_ways};
 use aa_glob_run::Drawing;
+use aa_glob_syntax::Element;
 use std::alloc::{AllocError, Global};
 use std::marker::Model;
-
-/// What an element of a pattern does to the groups that are open.
-#[derive(Clone, Copy, Debug, PartialEq, Eq)]
-pub enum Kind {
-    /// Nothing: it is an item.
-    Single,
-    /// It begins one.
-    Open,
-    /// It ends an alternative of the innermost one.
-    Comma,
-    /// It ends the innermost one.
-    Close,
-}
 
 // A group that is open.
 #[derive(Drop)]
@@ -66,24 +56,29 @@ impl Walk {
         self.state
     }
 
-    /// Goes on to a state, over an element of this kind.
+    /// Goes on to a state, over an element.
     ///
     /// # Errors
     ///
     /// Where memory runs out.
-    pub fn enter(&mut self, alloc: Global, kind: Kind, state: u32) -> Result<(), AllocError>
-        ensures { OnOk result (self.new ≡ entered kind state self.old) }
+    pub fn enter(
+        &mut self,
+        alloc: Global,
+        element: Element<'_>,
+        state: u32,
+    ) -> Result<(), AllocError>
+        ensures { OnOk result (self.new ≡ entered (meaning element.entry) state self.old) }
     {
-        match kind {
-            Kind::Single => {}
-            Kind::Open => self.groups.push(Group {
+        match element {
+            Element::Open => self.groups.push(Group {
                 beginning: state,
                 ends: Vec::new(alloc),
             })?,
-            Kind::Comma => self.end_alternative()?,
-            Kind::Close => {
+            Element::Comma => self.end_alternative()?,
+            Element::Close => {
                 self.groups.pop();
             }
+            _ => {}
         }
         self.state = state;
         Ok(())
@@ -91,7 +86,7 @@ impl Walk {
 
     // Ends an alternative of the innermost group before the state where the walk is.
     fn end_alternative(&mut self) -> Result<(), AllocError>
-        ensures { OnOk result (self.new ≡ standing_at self.old.state (with_end_state self.old.state self.old.groups)) }
+        ensures { OnOk result (self.new ≡ entered Comma self.old.state self.old) }
     {
         if let Some(mut group) = self.groups.pop() {
             group.ends.push(self.state)?;
@@ -100,28 +95,33 @@ impl Walk {
         Ok(())
     }
 
-    /// Draws the ways to a state from those from which an element of this kind is reached.
+    /// Draws the ways to a state from those from which an element is reached.
     ///
     /// # Errors
     ///
     /// Where memory runs out. Some of them may be drawn then.
-    pub fn draw_to(&self, kind: Kind, drawing: &mut Drawing, state: u32) -> Result<(), AllocError>
-        requires from { All (λ q. q < length drawing.old.entries) (source_states kind self.now) }
+    pub fn draw_to(
+        &self,
+        element: Element<'_>,
+        drawing: &mut Drawing,
+        state: u32,
+    ) -> Result<(), AllocError>
+        requires from { All (λ q. q < length drawing.old.entries) (source_states (meaning element) self.now) }
         requires to { state < length drawing.old.entries }
-        ensures { OnOk result (AddsWays drawing.old drawing.new (source_states kind self.now) state) }
+        ensures { OnOk result (AddsWays drawing.old drawing.new (source_states (meaning element.entry) self.now) state) }
     {
-        match kind {
-            Kind::Single | Kind::Open => draw_way(drawing, self.state, state),
-            Kind::Comma => self.draw_from_beginning(drawing, state),
-            Kind::Close => self.draw_from_ends(drawing, state),
+        match element {
+            Element::Comma => self.draw_from_beginning(drawing, state),
+            Element::Close => self.draw_from_ends(drawing, state),
+            _ => draw_way(drawing, self.state, state),
         }
     }
 
     // Draws the way from the beginning of the innermost group's alternatives.
     fn draw_from_beginning(&self, drawing: &mut Drawing, state: u32) -> Result<(), AllocError>
-        requires from { All (λ q. q < length drawing.old.entries) (comma_sources self.now.state self.now.groups) }
+        requires from { All (λ q. q < length drawing.old.entries) (source_states Comma self.now) }
         requires to { state < length drawing.old.entries }
-        ensures { OnOk result (AddsWays drawing.old drawing.new (comma_sources self.now.state self.now.groups) state) }
+        ensures { OnOk result (AddsWays drawing.old drawing.new (source_states Comma self.now) state) }
     {
         match self.groups.last() {
             None => draw_way(drawing, self.state, state),
@@ -131,9 +131,9 @@ impl Walk {
 
     // Draws the ways from the ends of the innermost group's alternatives, of which the last ends where the walk is.
     fn draw_from_ends(&self, drawing: &mut Drawing, state: u32) -> Result<(), AllocError>
-        requires from { All (λ q. q < length drawing.old.entries) (close_sources self.now.state self.now.groups) }
+        requires from { All (λ q. q < length drawing.old.entries) (source_states Close self.now) }
         requires to { state < length drawing.old.entries }
-        ensures { OnOk result (AddsWays drawing.old drawing.new (close_sources self.now.state self.now.groups) state) }
+        ensures { OnOk result (AddsWays drawing.old drawing.new (source_states Close self.now) state) }
     {
         draw_way(drawing, self.state, state)?;
         match self.groups.last() {

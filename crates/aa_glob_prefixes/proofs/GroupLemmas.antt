@@ -8,6 +8,7 @@ use Rattle.std.specs.List.{All}
 use Rattle.aa_bytes.specs.Bytes.{comma}
 use Rattle.aa_glob_syntax.specs.Elements.{Element, Single, Open, Comma, Close, Fault, elements}
 use Rattle.aa_glob_syntax.specs.Items.{Byte, Pattern}
+use Rattle.aa_glob_syntax.specs.OpenGroups.{groups_behind, sources_behind}
 use Rattle.aa_glob_syntax.specs.Reading.{group, pieces, reading}
 use Rattle.aa_glob_syntax.specs.Symbols.{symbols}
 use Rattle.aa_glob_syntax.specs.declared.context.Context.TheVariants.{Elsewhere}
@@ -15,7 +16,7 @@ use Rattle.aa_glob_prefixes.proofs.WalkLemmas.{fine-comma, fine-group, fine-onto
 use Rattle.aa_glob_prefixes.specs.Beginnings.{IsSuffixOf}
 use Rattle.aa_glob_prefixes.specs.Laws.{IsShorterBeginning, StandsInGroups}
 use Rattle.aa_glob_prefixes.specs.Reads.{reads, some_reads}
-use Rattle.aa_glob_prefixes.specs.Trails.{depth_behind, element_within, grouped, groups_of, OpenGroup, outer, sources, sources_behind, Trail, trail_behind, trail_of, with_end}
+use Rattle.aa_glob_prefixes.specs.Trails.{depth_behind, element_within, grouped, groups_of, sources, Trail, trail_behind, trail_of, TrailGroup}
 
 -- a trail has this one as a beginning, or is it
 abbrev HasSuffix : Trail → Trail → Type 0
@@ -28,35 +29,34 @@ each_one_more : (e : Element) (trail : Trail) (ss : List Trail) → All (HasSuff
 each_one_more e trail ss each = λ k d within. one_more e trail _ (each k d within)
 
 -- what open groups hold are beginnings of the trail
-abbrev AreWithin : Trail → List OpenGroup → Type 0
+abbrev AreWithin : Trail → List TrailGroup → Type 0
 AreWithin trail [] = Unit
 AreWithin trail (g ∷ gs) = HasSuffix trail g.beginning × All (HasSuffix trail) g.ends × AreWithin trail gs
 
-within_more : (e : Element) (trail : Trail) (gs : List OpenGroup) → AreWithin trail gs → AreWithin (e ∷ trail) gs
+within_more : (e : Element) (trail : Trail) (gs : List TrailGroup) → AreWithin trail gs → AreWithin (e ∷ trail) gs
 within_more e trail [] h = tt
 within_more e trail (g ∷ gs) h = (one_more e trail g.beginning h.0, each_one_more e trail g.ends h.1, within_more e trail gs h.2)
 
-within_end : (trail : Trail) (gs : List OpenGroup) → AreWithin trail gs → AreWithin trail (with_end trail gs)
-within_end trail [] h = tt
-within_end trail (g ∷ gs) h = (h.0, All-cons (HasSuffix trail) trail g.ends ([], refl) h.1, h.2)
-
-within_outer : (trail : Trail) (gs : List OpenGroup) → AreWithin trail gs → AreWithin trail (outer gs)
-within_outer trail [] h = tt
-within_outer trail (g ∷ gs) h = h.2
+within-behind : (e : Element) (trail : Trail) (gs : List TrailGroup) → AreWithin trail gs → AreWithin (e ∷ trail) (groups_behind e trail (e ∷ trail) gs)
+within-behind (Single item) trail gs h = within_more (Single item) trail gs h
+within-behind Open trail gs h = (([], refl), All-nil (HasSuffix (Open ∷ trail)), within_more Open trail gs h)
+within-behind Comma trail [] h = tt
+within-behind Comma trail (g ∷ gs) h =
+    let more = within_more Comma trail (g ∷ gs) h in
+    (more.0, All-cons (HasSuffix (Comma ∷ trail)) trail g.ends (Comma ∷ [], refl) more.1, more.2)
+within-behind Close trail [] h = tt
+within-behind Close trail (g ∷ gs) h = within_more Close trail gs h.2
+within-behind (Fault error) trail gs h = within_more (Fault error) trail gs h
 
 within-groups : (trail : Trail) → AreWithin trail (groups_of trail)
 within-groups [] = tt
-within-groups (Single item ∷ trail) = within_more (Single item) trail (groups_of trail) (within-groups trail)
-within-groups (Open ∷ trail) = (([], refl), All-nil (HasSuffix (Open ∷ trail)), within_more Open trail (groups_of trail) (within-groups trail))
-within-groups (Comma ∷ trail) = within_more Comma trail (with_end trail (groups_of trail)) (within_end trail (groups_of trail) (within-groups trail))
-within-groups (Close ∷ trail) = within_more Close trail (outer (groups_of trail)) (within_outer trail (groups_of trail) (within-groups trail))
-within-groups (Fault error ∷ trail) = within_more (Fault error) trail (groups_of trail) (within-groups trail)
+within-groups (e ∷ trail) = within-behind e trail (groups_of trail) (within-groups trail)
 
 -- one trail alone
 alone : (trail s : Trail) → HasSuffix trail s → All (HasSuffix trail) (s ∷ [])
 alone trail s h = All-cons (HasSuffix trail) s [] h (All-nil (HasSuffix trail))
 
-within-sources : (e : Element) (trail : Trail) (gs : List OpenGroup) → AreWithin trail gs → All (HasSuffix trail) (sources_behind e trail gs)
+within-sources : (e : Element) (trail : Trail) (gs : List TrailGroup) → AreWithin trail gs → All (HasSuffix trail) (sources_behind e trail gs)
 within-sources (Single item) trail gs h = alone trail trail ([], refl)
 within-sources Open trail gs h = alone trail trail ([], refl)
 within-sources Comma trail [] h = alone trail trail ([], refl)
@@ -102,23 +102,27 @@ pub trail_of-behind : (text : List ℕ) → trail_of text ≡ trail_behind [] 0 
 trail_of-behind text = sym (trail_behind-onto 0 (elements Elsewhere (symbols text)) [])
 
 -- as many groups are open as were opened and not closed
-pub length-with_end : (trail : Trail) (gs : List OpenGroup) → length (with_end trail gs) ≡ length gs
-length-with_end trail [] = refl
-length-with_end trail (g ∷ gs) = refl
+length-open : (e : Element) (trail : Trail) (gs : List TrailGroup) → length (groups_behind e trail (e ∷ trail) gs) ≡ depth_behind (length gs) e
+length-open (Single item) trail gs = refl
+length-open Open trail gs = omega arith
+length-open Comma trail [] = refl
+length-open Comma trail (g ∷ gs) = refl
+length-open Close trail [] = refl
+length-open Close trail (g ∷ gs) = omega arith
+length-open (Fault error) trail gs = refl
 
-pub length-outer : (gs : List OpenGroup) → length (outer gs) ≡ length gs - 1
-length-outer [] = refl
-length-outer (g ∷ gs) = omega arith
+pub length-behind : (e : Element) (trail : Trail) → length (groups_of (e ∷ trail)) ≡ depth_behind (length (groups_of trail)) e
+length-behind e trail = length-open e trail (groups_of trail)
 
 pub length-groups : (e : Element) (trail : Trail) → length (groups_of (element_within (length (groups_of trail)) e ∷ trail)) ≡ depth_behind (length (groups_of trail)) e
 length-groups (Single item) trail = refl
-length-groups Open trail = omega arith
+length-groups Open trail = length-behind Open trail
 length-groups Comma trail = by_test (length (groups_of trail) == 0)
   where
     by_test : (c : Bool) → length (groups_of ((if c then Single (Byte comma) else Comma) ∷ trail)) ≡ length (groups_of trail)
     by_test true = refl
-    by_test false = length-with_end trail (groups_of trail)
-length-groups Close trail = length-outer (groups_of trail)
+    by_test false = length-behind Comma trail
+length-groups Close trail = length-behind Close trail
 length-groups (Fault error) trail = refl
 
 -- a depth that is not zero
@@ -142,12 +146,12 @@ stands-behind (Comma ∷ es) depth trail opened fine stands = elim (cases_Bool (
       let cuts = rw within at fine in
       let deep = not_outside depth within in
       let some : 0 < length (groups_of trail) = omega arith in
-      rw within (stands-behind es depth (Comma ∷ trail) (length-with_end trail (groups_of trail) ∙ opened) (fine-comma (pieces depth es) depth cuts) (λ h. some, stands))
+      rw within (stands-behind es depth (Comma ∷ trail) (length-behind Comma trail ∙ opened) (fine-comma (pieces depth es) depth cuts) (λ h. some, stands))
 ]
 stands-behind (Close ∷ es) depth trail opened fine stands =
     let deep = not_outside depth fine.0 in
     let some : 0 < length (groups_of trail) = omega arith in
-    stands-behind es (depth - 1) (Close ∷ trail) (length-outer (groups_of trail) ∙ ap (λ n. n - 1) opened) fine.1 (λ h. some, stands)
+    stands-behind es (depth - 1) (Close ∷ trail) (length-behind Close trail ∙ ap (λ n. n - 1) opened) fine.1 (λ h. some, stands)
 stands-behind (Fault error ∷ es) depth trail opened fine stands = absurd fine
 
 -- In a text that reads as a pattern each comma and each closing brace stands in a group, but for commas that stand for themselves.

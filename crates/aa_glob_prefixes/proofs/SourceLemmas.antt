@@ -2,31 +2,26 @@
 use Rattle.std.proofs.Common.{◌≡◌, List, [], ◌∷◌, ℕ, map, refl, sym, ap, ◌∙◌}
 use Rattle.std.proofs.Math.Bool.{or-false}
 use Rattle.aa_glob_syntax.specs.Elements.{Element, Single, Open, Comma, Close, Fault}
-use Rattle.aa_glob_prefixes.specs.Reads.{element_behind, known, known_beginning, known_ends, known_groups, KnownGroup, leading, outer_known, reads, some_reads, Texts, with_known_end}
-use Rattle.aa_glob_prefixes.specs.Trails.{groups_behind, groups_of, OpenGroup, outer, sources, sources_behind, sources_of_close, sources_of_comma, Trail, with_end}
+use Rattle.aa_glob_syntax.specs.OpenGroups.{groups_behind, sources_behind}
+use Rattle.aa_glob_prefixes.specs.Reads.{element_behind, known, known_groups, KnownGroup, leading, reads, some_reads, Texts}
+use Rattle.aa_glob_prefixes.specs.Trails.{groups_of, sources, Trail, TrailGroup}
 
 -- tests that agree on each text are one
 pub same_texts : (first second : Texts) → ((past : List ℕ) → first past ≡ second past) → first ≡ second
 same_texts first second h = λ i past. h past i
 
 -- what reads a group's beginning and its ends
-abbrev read_group : OpenGroup → KnownGroup
+abbrev read_group : TrailGroup → KnownGroup
 read_group g = record { beginning = reads g.beginning; ends = some_reads g.ends }
 
 -- the groups that are known are those that are open
-known_end-map : (trail : Trail) (gs : List OpenGroup) → with_known_end (reads trail) (map read_group gs) ≡ map read_group (with_end trail gs)
-known_end-map trail [] = refl
-known_end-map trail (g ∷ gs) = refl
-
-outer_known-map : (gs : List OpenGroup) → outer_known (map read_group gs) ≡ map read_group (outer gs)
-outer_known-map [] = refl
-outer_known-map (g ∷ gs) = refl
-
-groups_step : (e : Element) (trail : Trail) (gs : List OpenGroup) → known_groups e (reads trail) (map read_group gs) ≡ map read_group (groups_behind e trail gs)
+groups_step : (e : Element) (trail : Trail) (gs : List TrailGroup) → known_groups e (reads trail) (map read_group gs) ≡ map read_group (groups_behind e trail (e ∷ trail) gs)
 groups_step (Single item) trail gs = refl
 groups_step Open trail gs = refl
-groups_step Comma trail gs = known_end-map trail gs
-groups_step Close trail gs = outer_known-map gs
+groups_step Comma trail [] = refl
+groups_step Comma trail (g ∷ gs) = refl
+groups_step Close trail [] = refl
+groups_step Close trail (g ∷ gs) = refl
 groups_step (Fault error) trail gs = refl
 
 known_groups-of : (trail : Trail) → (known trail).groups ≡ map read_group (groups_of trail)
@@ -37,19 +32,13 @@ known_groups-of (e ∷ trail) = ap (known_groups e (reads trail)) (known_groups-
 one_reads : (trail : Trail) → reads trail ≡ some_reads (trail ∷ [])
 one_reads trail = same_texts (reads trail) (some_reads (trail ∷ [])) (λ past. sym (or-false (reads trail past)))
 
-comma_leads : (trail : Trail) (gs : List OpenGroup) → known_beginning (reads trail) (map read_group gs) ≡ some_reads (sources_of_comma trail gs)
-comma_leads trail [] = one_reads trail
-comma_leads trail (g ∷ gs) = one_reads g.beginning
-
-close_leads : (trail : Trail) (gs : List OpenGroup) → known_ends (reads trail) (map read_group gs) ≡ some_reads (sources_of_close trail gs)
-close_leads trail [] = one_reads trail
-close_leads trail (g ∷ gs) = refl
-
-leading_step : (e : Element) (trail : Trail) (gs : List OpenGroup) → leading e (reads trail) (map read_group gs) ≡ some_reads (sources_behind e trail gs)
+leading_step : (e : Element) (trail : Trail) (gs : List TrailGroup) → leading e (reads trail) (map read_group gs) ≡ some_reads (sources_behind e trail gs)
 leading_step (Single item) trail gs = one_reads trail
 leading_step Open trail gs = one_reads trail
-leading_step Comma trail gs = comma_leads trail gs
-leading_step Close trail gs = close_leads trail gs
+leading_step Comma trail [] = one_reads trail
+leading_step Comma trail (g ∷ gs) = one_reads g.beginning
+leading_step Close trail [] = one_reads trail
+leading_step Close trail (g ∷ gs) = refl
 leading_step (Fault error) trail gs = one_reads trail
 
 -- A trail is read by what reads its last element behind what reads one of its sources.

@@ -1,5 +1,5 @@
 -- In a text that reads as a pattern each element stands as it may.
-use Rattle.std.proofs.Common.{◌≡◌, ◌≢◌, ◌∙◌, ◌≤◌, ◌<◌, ℕ, ◌+◌, ◌-◌, ◌==◌, List, [], ◌∷◌, length, Ok, refl, sym, inl, inr, arith}
+use Rattle.std.proofs.Common.{◌≡◌, ◌≢◌, ◌∙◌, ◌≤◌, ◌<◌, ℕ, ◌+◌, ◌-◌, ◌==◌, List, [], ◌∷◌, Ok, sym, inl, inr, arith}
 use Rattle.std.proofs.lemmas.Bool.{cases_Bool, eq-eqb, false≢true}
 use Rattle.aa_bytes.specs.Bytes.{comma}
 use Rattle.aa_glob_syntax.specs.Elements.{Element, Single, Open, Comma, Close, Fault, elements}
@@ -7,10 +7,10 @@ use Rattle.aa_glob_syntax.specs.Items.{Byte}
 use Rattle.aa_glob_syntax.specs.Reading.{deepest, group, items_of, pieces, reading}
 use Rattle.aa_glob_syntax.specs.Symbols.{symbols}
 use Rattle.aa_glob_syntax.specs.declared.context.Context.TheVariants.{Elsewhere}
-use Rattle.aa_glob_prefixes.proofs.GroupLemmas.{length-outer, length-with_end, not_outside}
+use Rattle.aa_glob_prefixes.proofs.GroupLemmas.{not_outside}
 use Rattle.aa_glob_prefixes.proofs.WalkLemmas.{fine-comma, fine-group, fine-onto, fine-whole, HasNoFault, reading-whole, too_deep}
 use Rattle.aa_glob_prefixes.specs.Elements.{EachMayStand, elements_of}
-use Rattle.aa_glob_prefixes.specs.Trails.{depth_behind, grouped, groups_of, Trail}
+use Rattle.aa_glob_prefixes.specs.Trails.{grouped}
 
 stand-in : (es : List Element) (depth : ℕ) → depth ≤ deepest → HasNoFault depth (pieces depth es) → EachMayStand depth (grouped depth es)
 stand-in [] depth few fine = tt
@@ -45,11 +45,3 @@ may_stand-of text is_read =
     let es = elements Elsewhere (symbols text) in
     let few : 0 ≤ 16 = omega arith in
     stand-in es 0 few (fine-whole (pieces 0 es) (items_of text) (reading-whole text (items_of text) is_read))
-
--- As many groups are open behind an element as it leaves open.
-pub length-behind : (e : Element) (trail : Trail) → length (groups_of (e ∷ trail)) ≡ depth_behind (length (groups_of trail)) e
-length-behind (Single item) trail = refl
-length-behind Open trail = omega arith
-length-behind Comma trail = length-with_end trail (groups_of trail)
-length-behind Close trail = length-outer (groups_of trail)
-length-behind (Fault error) trail = refl

@@ -3,6 +3,7 @@ use Rattle.std.specs.Prelude.{ℕ, Bool, true, false, ◌==◌, ◌||◌, ◌&&�
 use Rattle.aa_bytes.specs.ByteSets.{has, is_inside}
 use Rattle.aa_glob_syntax.specs.Elements.{Element, Single, Open, Comma, Close, Fault}
 use Rattle.aa_glob_syntax.specs.Items.{Item, Byte, Set, Star, DoubleStar, Group, Pattern, End, Next, Patterns, NoMore, More}
+use Rattle.aa_glob_syntax.specs.OpenGroups.{leading_to, open_behind, OpenGroup, with_end}
 use Rattle.aa_glob_prefixes.specs.Trails.{Trail}
 
 -- a test of texts, each with its last byte first
@@ -60,51 +61,22 @@ element_behind Close before = before
 element_behind (Fault error) before = no_text
 
 -- what is known of an open group: which texts read the beginning of its alternatives, and which the ends of those so far
-pub record KnownGroup : Type 0 where
-  pub beginning : Texts
-  pub ends : Texts
+abbrev pub KnownGroup : Type 0
+KnownGroup = OpenGroup Texts Texts
 
 -- what is known behind a trail: which texts read it, and the groups that are open, the innermost first
 pub record Known : Type 0 where
   pub here : Texts
   pub groups : List KnownGroup
 
--- an alternative of the innermost group ends here
-abbrev pub with_known_end : Texts → List KnownGroup → List KnownGroup
-with_known_end here [] = []
-with_known_end here (g ∷ gs) = record { beginning = g.beginning; ends = either here g.ends } ∷ gs
-
--- all groups but the innermost
-abbrev pub outer_known : List KnownGroup → List KnownGroup
-outer_known [] = []
-outer_known (g ∷ gs) = gs
-
--- the groups behind an element
+-- the groups behind an element: what reads the trail before a brace reads it behind the brace too
 abbrev pub known_groups : Element → Texts → List KnownGroup → List KnownGroup
-known_groups (Single item) here gs = gs
-known_groups Open here gs = record { beginning = here; ends = no_text } ∷ gs
-known_groups Comma here gs = with_known_end here gs
-known_groups Close here gs = outer_known gs
-known_groups (Fault error) here gs = gs
-
--- where the alternatives of the innermost group begin
-abbrev pub known_beginning : Texts → List KnownGroup → Texts
-known_beginning here [] = here
-known_beginning here (g ∷ gs) = g.beginning
-
--- where the alternatives of the innermost group end, of which the last ends here
-abbrev pub known_ends : Texts → List KnownGroup → Texts
-known_ends here [] = here
-known_ends here (g ∷ gs) = either here g.ends
+known_groups e here gs = open_behind (record { beginning = here; ends = no_text }) (with_end (either here)) e gs
 
 -- The texts that lead to an element: to a comma those that lead to its group's alternatives, to a closing brace those that read one of
 -- these to its end, to any other element those that read what stands before it.
 abbrev pub leading : Element → Texts → List KnownGroup → Texts
-leading (Single item) here gs = here
-leading Open here gs = here
-leading Comma here gs = known_beginning here gs
-leading Close here gs = known_ends here gs
-leading (Fault error) here gs = here
+leading e here gs = leading_to (λ texts. texts) either e here gs
 
 -- what is known when one more element is read
 abbrev pub known_behind : Element → Known → Known

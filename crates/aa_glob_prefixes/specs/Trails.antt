@@ -3,6 +3,7 @@ use Rattle.std.specs.Prelude.{ℕ, ◌+◌, ◌-◌, ◌==◌, if◌then◌else�
 use Rattle.aa_bytes.specs.Bytes.{comma}
 use Rattle.aa_glob_syntax.specs.Elements.{Element, Single, Open, Comma, Close, Fault, elements}
 use Rattle.aa_glob_syntax.specs.Items.{Byte}
+use Rattle.aa_glob_syntax.specs.OpenGroups.{groups_behind, OpenGroup, sources_behind}
 use Rattle.aa_glob_syntax.specs.Symbols.{symbols}
 use Rattle.aa_glob_syntax.specs.declared.context.Context.TheVariants.{Elsewhere}
 
@@ -40,51 +41,14 @@ abbrev pub trail_behind : Trail → ℕ → List Element → Trail
 trail_behind trail depth [] = trail
 trail_behind trail depth (e ∷ es) = trail_behind (element_within depth e ∷ trail) (depth_behind depth e) es
 
--- A group that is open behind a trail: the trail behind its brace, and those before its commas, the last one first.
-pub record OpenGroup : Type 0 where
-  pub beginning : Trail
-  pub ends : List Trail
-
--- a trail stands before a comma of the innermost group
-abbrev pub with_end : Trail → List OpenGroup → List OpenGroup
-with_end trail [] = []
-with_end trail (g ∷ gs) = record { beginning = g.beginning; ends = trail ∷ g.ends } ∷ gs
-
--- all groups but the innermost
-abbrev pub outer : List OpenGroup → List OpenGroup
-outer [] = []
-outer (g ∷ gs) = gs
-
--- the groups that are open behind an element that stands behind a trail and within these groups
-abbrev pub groups_behind : Element → Trail → List OpenGroup → List OpenGroup
-groups_behind (Single item) trail gs = gs
-groups_behind Open trail gs = record { beginning = Open ∷ trail; ends = [] } ∷ gs
-groups_behind Comma trail gs = with_end trail gs
-groups_behind Close trail gs = outer gs
-groups_behind (Fault error) trail gs = gs
+-- a group that is open behind a trail: the trail behind its brace, and those before its commas, the last one first
+abbrev pub TrailGroup : Type 0
+TrailGroup = OpenGroup Trail (List Trail)
 
 -- the groups that are open behind a trail, the innermost first
-abbrev pub groups_of : Trail → List OpenGroup
+abbrev pub groups_of : Trail → List TrailGroup
 groups_of [] = []
-groups_of (e ∷ trail) = groups_behind e trail (groups_of trail)
-
--- where a group's next alternative begins; outside groups, which is never met, the trail itself
-abbrev pub sources_of_comma : Trail → List OpenGroup → List Trail
-sources_of_comma trail [] = trail ∷ []
-sources_of_comma trail (g ∷ gs) = g.beginning ∷ []
-
--- where a group's alternatives end; outside groups, which is never met, the trail itself
-abbrev pub sources_of_close : Trail → List OpenGroup → List Trail
-sources_of_close trail [] = trail ∷ []
-sources_of_close trail (g ∷ gs) = trail ∷ g.ends
-
--- the beginnings that lead to an element that stands behind a trail and within these groups
-abbrev pub sources_behind : Element → Trail → List OpenGroup → List Trail
-sources_behind (Single item) trail gs = trail ∷ []
-sources_behind Open trail gs = trail ∷ []
-sources_behind Comma trail gs = sources_of_comma trail gs
-sources_behind Close trail gs = sources_of_close trail gs
-sources_behind (Fault error) trail gs = trail ∷ []
+groups_of (e ∷ trail) = groups_behind e trail (e ∷ trail) (groups_of trail)
 
 -- The beginnings that lead to a trail: of a comma that of its group's alternatives, of a closing brace the ends of these, of any other
 -- element the trail before it.

@@ -6,8 +6,9 @@ use Rattle.std.specs.List.{list_all, prefix_len}
 use Rattle.aa_bytes.specs.Bytes.{comma}
 use Rattle.aa_glob_syntax.specs.Elements.{Element, Single, Open, Comma, Close, Fault, elements}
 use Rattle.aa_glob_syntax.specs.Exactness.{is_exact, literal_prefix}
-use Rattle.aa_glob_syntax.specs.Faults.{fault_at_close, fault_at_end, first_fault, is_byte, outside, spelled}
+use Rattle.aa_glob_syntax.specs.Faults.{fault_at_close, fault_at_end, first_fault, is_byte, spelled}
 use Rattle.aa_glob_syntax.specs.Items.{Item, Byte, Set, Star, DoubleStar, Group, Patterns, NoMore, More}
+use Rattle.aa_glob_syntax.specs.OpenGroups.{outer}
 use Rattle.aa_glob_syntax.specs.Reading.{HasNoFirstFault, Pieces, Cut, Ending, Ended, Closed, Refused, behind_comma, deepest, first_of, group, items_of, items_read, onto, pieces, reading, refused, whole}
 use Rattle.aa_glob_syntax.specs.Symbols.{symbols}
 use Rattle.aa_glob_syntax.specs.declared.context.Context.TheVariants.{Elsewhere}
@@ -29,14 +30,14 @@ has_others (More pattern patterns) = true
 -- the fault of a brace that closes the innermost group behind its alternatives, or else that of what follows it
 abbrev closing : List Bool → Patterns → Option PatternError → Option PatternError
 closing [] others behind = Some StrayClose
-closing (parted ∷ outer) others behind = if parted || has_others others then behind else Some FewAlternatives
+closing (parted ∷ gs) others behind = if parted || has_others others then behind else Some FewAlternatives
 
 -- the fault of pieces that stand in these groups
 abbrev mutual
   fault_of : List Bool → Patterns → Ending → Option PatternError
   fault_of groups others Ended = fault_at_end groups
   fault_of groups others (Refused error) = Some error
-  fault_of groups others (Closed after) = closing groups others (fault_of_pieces (outside groups) after)
+  fault_of groups others (Closed after) = closing groups others (fault_of_pieces (outer groups) after)
 
   fault_of_pieces : List Bool → Pieces → Option PatternError
   fault_of_pieces groups (Cut first others ending) = fault_of groups others ending
@@ -50,21 +51,21 @@ fault_of-group groups (Cut first others (Refused error)) = refl
 fault_of-group groups (Cut first NoMore (Closed after)) = refl
 fault_of-group groups (Cut first (More second others) (Closed after)) = fault_of-onto groups (Group first second others) after
 
-fault_of-comma : (parted : Bool) (outer : List Bool) (p : Pieces) → fault_of_pieces (parted ∷ outer) (behind_comma p) ≡ fault_of_pieces (true ∷ outer) p
-fault_of-comma parted outer (Cut first others Ended) = refl
-fault_of-comma parted outer (Cut first others (Refused error)) = refl
-fault_of-comma true outer (Cut first others (Closed after)) = refl
-fault_of-comma false outer (Cut first others (Closed after)) = refl
+fault_of-comma : (parted : Bool) (gs : List Bool) (p : Pieces) → fault_of_pieces (parted ∷ gs) (behind_comma p) ≡ fault_of_pieces (true ∷ gs) p
+fault_of-comma parted gs (Cut first others Ended) = refl
+fault_of-comma parted gs (Cut first others (Refused error)) = refl
+fault_of-comma true gs (Cut first others (Closed after)) = refl
+fault_of-comma false gs (Cut first others (Closed after)) = refl
 
 fault_of-open : (groups : List Bool) (full : Bool) (fault : Option PatternError) (p : Pieces) → fault ≡ fault_of_pieces groups (group p)
     → (if full then Some TooDeep else fault) ≡ fault_of_pieces groups (if full then refused TooDeep else group p)
 fault_of-open groups true fault p same = refl
 fault_of-open groups false fault p same = same
 
-fault_of-close : (parted : Bool) (outer : List Bool) (fault : Option PatternError) (p : Pieces) → fault ≡ fault_of_pieces outer p
-    → fault_at_close (parted ∷ outer) fault ≡ fault_of (parted ∷ outer) NoMore (Closed p)
-fault_of-close true outer fault p same = same
-fault_of-close false outer fault p same = refl
+fault_of-close : (parted : Bool) (gs : List Bool) (fault : Option PatternError) (p : Pieces) → fault ≡ fault_of_pieces gs p
+    → fault_at_close (parted ∷ gs) fault ≡ fault_of (parted ∷ gs) NoMore (Closed p)
+fault_of-close true gs fault p same = same
+fault_of-close false gs fault p same = refl
 
 -- the first fault is that of the pieces
 first_fault-pieces : (es : List Element) (groups : List Bool) → first_fault es groups ≡ fault_of_pieces groups (pieces (length groups) es)
@@ -75,14 +76,14 @@ first_fault-pieces (Open ∷ es) groups =
     fault_of-open groups (length groups == deepest) (first_fault es (false ∷ groups)) (pieces (length groups + 1) es)
     (first_fault-pieces es (false ∷ groups) ∙ ap (λ n. fault_of_pieces (false ∷ groups) (pieces n es)) deeper ∙ sym (fault_of-group groups (pieces (length groups + 1) es)))
 first_fault-pieces (Comma ∷ es) [] = first_fault-pieces es [] ∙ sym (fault_of-onto [] (Byte comma) (pieces 0 es))
-first_fault-pieces (Comma ∷ es) (parted ∷ outer) =
-    let within : (suc (length outer) == 0) ≡ false = grind (arith, nat_tests) in
-    first_fault-pieces es (true ∷ outer) ∙ sym (fault_of-comma parted outer (pieces (suc (length outer)) es))
-    ∙ sym (ap (λ c. fault_of_pieces (parted ∷ outer) (if c then onto (Byte comma) (pieces (suc (length outer)) es) else behind_comma (pieces (suc (length outer)) es))) within)
+first_fault-pieces (Comma ∷ es) (parted ∷ gs) =
+    let within : (suc (length gs) == 0) ≡ false = grind (arith, nat_tests) in
+    first_fault-pieces es (true ∷ gs) ∙ sym (fault_of-comma parted gs (pieces (suc (length gs)) es))
+    ∙ sym (ap (λ c. fault_of_pieces (parted ∷ gs) (if c then onto (Byte comma) (pieces (suc (length gs)) es) else behind_comma (pieces (suc (length gs)) es))) within)
 first_fault-pieces (Close ∷ es) [] = refl
-first_fault-pieces (Close ∷ es) (parted ∷ outer) =
-    let outside : suc (length outer) - 1 ≡ length outer = omega arith in
-    fault_of-close parted outer (first_fault es outer) (pieces (suc (length outer) - 1) es) (first_fault-pieces es outer ∙ ap (λ n. fault_of_pieces outer (pieces n es)) (sym outside))
+first_fault-pieces (Close ∷ es) (parted ∷ gs) =
+    let outside : suc (length gs) - 1 ≡ length gs = omega arith in
+    fault_of-close parted gs (first_fault es gs) (pieces (suc (length gs) - 1) es) (first_fault-pieces es gs ∙ ap (λ n. fault_of_pieces gs (pieces n es)) (sym outside))
 first_fault-pieces (Fault error ∷ es) groups = refl
 
 whole-fine : (p : Pieces) → fault_of_pieces [] p ≡ None → whole p ≡ Ok (first_of p)

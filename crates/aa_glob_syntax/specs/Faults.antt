@@ -3,31 +3,26 @@
 use Rattle.std.specs.Prelude.{ℕ, Bool, true, false, ◌==◌, if◌then◌else◌, List, [], ◌∷◌, length, Option, None, Some}
 use Rattle.aa_glob_syntax.specs.Elements.{Element, Single, Open, Comma, Close, Fault, elements}
 use Rattle.aa_glob_syntax.specs.Items.{Byte}
+use Rattle.aa_glob_syntax.specs.OpenGroups.{outer, with_innermost}
 use Rattle.aa_glob_syntax.specs.Reading.{deepest}
 use Rattle.aa_glob_syntax.specs.Symbols.{symbols}
 use Rattle.aa_glob_syntax.specs.declared.context.Context.TheVariants.{Elsewhere}
 use Rattle.aa_glob_syntax.specs.declared.pattern_error.PatternError.{PatternError}
 use Rattle.aa_glob_syntax.specs.declared.pattern_error.PatternError.TheVariants.{FewAlternatives, StrayClose, TooDeep, UnclosedGroup}
 
--- The open groups are a list, the innermost first: whether a comma of the group has come. A comma is one of the innermost.
+-- Of each open group it is told whether a comma of it has come. A comma is one of the innermost.
 abbrev pub with_comma : List Bool → List Bool
-with_comma [] = []
-with_comma (parted ∷ outer) = true ∷ outer
-
--- the groups that are open behind a brace that closes the innermost
-abbrev pub outside : List Bool → List Bool
-outside [] = []
-outside (parted ∷ outer) = outer
+with_comma groups = with_innermost (λ parted. true) groups
 
 -- the fault of a text that ends in these groups
 abbrev pub fault_at_end : List Bool → Option PatternError
 fault_at_end [] = None
-fault_at_end (parted ∷ outer) = Some UnclosedGroup
+fault_at_end (parted ∷ groups) = Some UnclosedGroup
 
 -- the fault of a brace that closes the innermost group, or else that of what follows it
 abbrev pub fault_at_close : List Bool → Option PatternError → Option PatternError
 fault_at_close [] behind = Some StrayClose
-fault_at_close (parted ∷ outer) behind = if parted then behind else Some FewAlternatives
+fault_at_close (parted ∷ groups) behind = if parted then behind else Some FewAlternatives
 
 -- the first fault of elements that stand in these groups, if there is one
 abbrev pub first_fault : List Element → List Bool → Option PatternError
@@ -35,7 +30,7 @@ first_fault [] groups = fault_at_end groups
 first_fault (Single item ∷ es) groups = first_fault es groups
 first_fault (Open ∷ es) groups = if length groups == deepest then Some TooDeep else first_fault es (false ∷ groups)
 first_fault (Comma ∷ es) groups = first_fault es (with_comma groups)
-first_fault (Close ∷ es) groups = fault_at_close groups (first_fault es (outside groups))
+first_fault (Close ∷ es) groups = fault_at_close groups (first_fault es (outer groups))
 first_fault (Fault error ∷ es) groups = Some error
 
 -- an element that outside groups is a byte that stands for itself

@@ -5,6 +5,7 @@ pub mod Exactness
 pub mod Faults
 pub mod Items
 pub mod Matching
+pub mod OpenGroups
 pub mod PatternError
 pub mod Overlap
 pub mod Patterns

@@ -1,7 +1,7 @@
 -- How the states, the tree and the numbers of an automaton stand for the beginnings of patterns while it grows.
 use Rattle.std.specs.Prelude.{◌≡◌, ℕ, ◌+◌, ◌<◌, List, ◌∷◌, length}
 use Rattle.aa_glob_automaton.specs.Automata.{EndWhole}
-use Rattle.aa_glob_automaton.specs.Grown.{Finds, StandsAt, kind_of}
+use Rattle.aa_glob_automaton.specs.Grown.{Finds, StandsAt}
 use Rattle.aa_glob_automaton.specs.Walks.{Standing, source_states}
 use Rattle.aa_glob_automaton.specs.declared.growing.Growing.{Growing}
 use Rattle.aa_glob_nfa_laws.specs.Drawn.{AddsState, IsDrawn, Suits, trail_at}
@@ -50,7 +50,7 @@ GoesOver old before e new after =
 pub record GrowsBy (old : Growing) (walk : Standing) (e : Element) (number : ℕ) (new : Growing) : Type 0 where
   pub entry : Entry
   pub suits : Suits e entry
-  pub adds : AddsState old.drawing new.drawing entry (source_states (kind_of e) walk)
+  pub adds : AddsState old.drawing new.drawing entry (source_states e walk)
   pub ends : new.drawing.ends ≡ old.drawing.ends
   pub more : HasOneMore old.tree walk.state number new.tree
   pub place : places old.tree ≡ length old.drawing.entries

@@ -1,4 +1,5 @@
-use Rattle.aa_glob_prefixes.proofs.StandLemmas.{length-behind, may_stand-of}
+use Rattle.aa_glob_prefixes.proofs.GroupLemmas.{length-behind}
+use Rattle.aa_glob_prefixes.proofs.StandLemmas.{may_stand-of}
 use Rattle.aa_glob_prefixes.proofs.laws.which_elements_stand.Goals as goal
 
 pub returns-clause-text : goal.returns-clause-text

@@ -1,5 +1,4 @@
 use Rattle.aa_glob_automaton.proofs.GrowthLemmas.{adds_state, ways_fit}
-use Rattle.aa_glob_automaton.specs.Grown.{kind_of}
 use Rattle.aa_glob_automaton.specs.Walks.{source_states}
 use Rattle.aa_glob_syntax.specs.Cursor.{meaning}
 use Rattle.std.proofs.Common.{ap, ◌∙◌, refl, subst, ℕ}
@@ -8,7 +7,7 @@ use Rattle.aa_glob_automaton.proofs.growing.Growing.draw_state.Goals as goal
 
 pub draw_to-requires-clause-from : goal.draw_to-requires-clause-from
 draw_to-requires-clause-from c =
-    ways_fit c.args.self.now.drawing c.add_state.new.drawing c.in_ok-state.ensures.added.0 c.kind_of.result (meaning c.args.element) c.args.walk.now c.kind_of.ensures
+    ways_fit c.args.self.now.drawing c.add_state.new.drawing c.in_ok-state.ensures.added.0 (meaning c.args.element) c.args.walk.now
     c.requires.there c.requires.groups c.in_ok-state.ensures.added.2
 
 pub returns-clause-grows : goal.returns-clause-grows
@@ -19,8 +18,8 @@ returns-clause-grows c =
       entry = c.in_ok-state.ensures.added.0;
       suits = c.in_ok-state.ensures.added.1;
       adds =
-          adds_state c.args.self.now.drawing c.add_state.new.drawing c.draw_to.new.drawing c.in_ok-state.ensures.added.0 (source_states c.kind_of.result walk) (source_states (kind_of e) walk) c.in_ok-state.state
-          c.in_ok-state.ensures.added.2 c.in_ok-state.ensures.number (ap (λ kind. source_states kind walk) c.kind_of.ensures) c.in_ok-draw_to.ensures;
+          adds_state c.args.self.now.drawing c.add_state.new.drawing c.draw_to.new.drawing c.in_ok-state.ensures.added.0 (source_states e walk) c.in_ok-state.state
+          c.in_ok-state.ensures.added.2 c.in_ok-state.ensures.number c.in_ok-draw_to.ensures;
       ends = c.in_ok-draw_to.ensures.ends ∙ ap (λ g. g.ends) c.in_ok-state.ensures.added.2;
       more = subst (λ (state : ℕ). HasOneMore c.args.self.now.tree state c.args.number c.add.new.self) c.state.ensures c.in_ok-add.ensures.ways;
       place = c.requires.places;

@@ -7,6 +7,6 @@ pub returns : goal.returns
 returns c =
     IfOk-weaker c.enter.result _ _ (
     λ done goes patterns trail follows.
-    follows-entered patterns trail c.state_behind.new.self c.args.walk.now c.enter.new.self (meaning c.args.element) c.kind_of.result c.in_ok-state.state
-    c.kind_of.ensures goes (c.in_ok-state.ensures patterns trail follows)
+    follows-entered patterns trail c.state_behind.new.self c.args.walk.now c.enter.new.self (meaning c.args.element) c.in_ok-state.state
+    goes (c.in_ok-state.ensures patterns trail follows)
     ) c.enter.ensures
