@@ -15,11 +15,11 @@ use aa_profile_data::how_conflicts_are_tested;
 /// No two profiles of a file have one name. Each profile has a name as the grammar says, and so have its children and hats. No two children or
 /// hats of a profile have one name.
 pub fn how_profiles_are_named()
-    ensures distinct { (files : List File) (name : List ℕ)
+    ensures no_two_profiles_have_one_name { (files : List File) (name : List ℕ)
         → IfOk (file_profiles files name) (λ profiles. are_distinct profiles ≡ true) }
-    ensures named { (files : List File) (name : List ℕ)
+    ensures each_name_is_as_the_grammar_says { (files : List File) (name : List ℕ)
         → IfOk (file_profiles files name) (λ profiles. list_all is_named_well profiles ≡ true) }
-    ensures children { (files : List File) (name : List ℕ)
+    ensures no_two_children_have_one_name { (files : List File) (name : List ℕ)
         → IfOk (file_profiles files name) (λ profiles. list_all has_distinct_children profiles ≡ true) }
 {}
 

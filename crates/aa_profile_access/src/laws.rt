@@ -6,6 +6,6 @@ ghost use Rattle.aa_profile_access.specs.Laws.{ReadAsItsPartsSay, WrittenInOneWa
 /// reads all letters that are among them, the first exec word, and whether another one differs from it; of a text that is written of no such
 /// parts it reads nothing. No text is written of such parts in two ways.
 pub fn what_accesses_say()
-    ensures read { ReadAsItsPartsSay }
-    ensures one_way { WrittenInOneWay }
+    ensures read_as_its_parts_say { ReadAsItsPartsSay }
+    ensures written_in_one_way { WrittenInOneWay }
 {}

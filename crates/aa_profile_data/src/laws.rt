@@ -17,14 +17,14 @@ use aa_glob_overlap::how_overlaps_are_tested;
 /// file rules are known that match a path, what stands at these among the places of the file rules are the places of the rules that match,
 /// and they rise as those do.
 pub fn which_rules_match()
-    ensures picked { (rules : List Rule) (path places : List ℕ)
+    ensures places_pick_the_matching_rules { (rules : List Rule) (path places : List ℕ)
         → AreMatchingRules rules path places
         → IsStrictlyIncreasing places
         → picked rules places ≡ filter (is_matching path) rules }
-    ensures found { (rules : List Rule) (path found : List ℕ)
+    ensures patterns_found_are_of_matching_rules { (rules : List Rule) (path found : List ℕ)
         → AreMatching (file_patterns rules) path found
         → AreMatchingRules rules path (picked (places_from 0 rules) found) }
-    ensures rise { (rules : List Rule) (found : List ℕ)
+    ensures picked_places_rise { (rules : List Rule) (found : List ℕ)
         → IsStrictlyIncreasing found
         → IsStrictlyIncreasing (picked (places_from 0 rules) found) }
 {}
@@ -32,8 +32,8 @@ pub fn which_rules_match()
 /// Two rules whose patterns were read conflict, as the test `conflict` says, exactly where they lead to different places, both by exact patterns or
 /// both by others, and some path matches both. Rules agree exactly where none of them conflicts with an earlier one.
 pub fn how_conflicts_are_tested()
-    ensures tested { (one other : Rule) → HasReadPattern one → HasReadPattern other → (conflict one other ≡ true ↔ Conflict one other) }
-    ensures agree { (rules : List Rule) → All HasReadPattern rules → (agree rules ≡ true ↔ NoneConflict rules) }
+    ensures conflict_is_exact { (one other : Rule) → HasReadPattern one → HasReadPattern other → (conflict one other ≡ true ↔ Conflict one other) }
+    ensures agree_is_exact { (rules : List Rule) → All HasReadPattern rules → (agree rules ≡ true ↔ NoneConflict rules) }
 {
     how_overlaps_are_tested();
 }

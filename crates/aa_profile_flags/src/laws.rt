@@ -14,19 +14,19 @@ ghost use Rattle.aa_profile_flags.specs.FlagText.{IsReadAs, flags_of, has_words,
 /// without blanks, and changes nothing. Any blanks and commas stand between two words of a list. Lists with the same words say the same, in
 /// whatever order and however often these stand.
 pub fn what_flags_say()
-    ensures text { (tokens : List Placed) (brace : Placed) (rest : List Placed)
+    ensures flags_are_read_as_their_text { (tokens : List Placed) (brace : Placed) (rest : List Placed)
         → list_all is_flag_token tokens ≡ true
         → brace.token.kind ≡ OpenBrace
         → IsReadAs (said (spaced tokens)) brace rest (flags (tokens ++ brace ∷ rest)) }
-    ensures keyword { (blanks more list : List ℕ)
+    ensures keyword_changes_nothing { (blanks more list : List ℕ)
         → list_all is_blank blanks ≡ true
         → list_all is_blank more ≡ true
         → said (with_keyword blanks more (opening_parenthesis ∷ list)) ≡ said (opening_parenthesis ∷ list) }
-    ensures separators { (list separators more : List ℕ)
+    ensures any_separators_stand_between_words { (list separators more : List ℕ)
         → list_all separates separators ≡ true
         → is_empty separators ≡ false
         → words_of (list ++ (separators ++ more)) ≡ words_of list ++ words_of more }
-    ensures order { (words others : List (List ℕ))
+    ensures same_words_say_the_same { (words others : List (List ℕ))
         → has_words words others ≡ true
         → has_words others words ≡ true
         → flags_of words ≡ flags_of others }

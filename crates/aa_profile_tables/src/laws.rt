@@ -11,14 +11,14 @@ use crate::kinds::KINDS;
 
 /// Each table holds the names that its definition lists, in the order of their numbers, and no others.
 pub fn which_names_tables_hold()
-    ensures capabilities { map (λ name. name.now) CAPABILITIES ≡ capability_names }
-    ensures domains { map (λ name. name.now) DOMAINS ≡ domain_names }
-    ensures kinds { map (λ name. name.now) KINDS ≡ kind_names }
+    ensures table_holds_capabilities { map (λ name. name.now) CAPABILITIES ≡ capability_names }
+    ensures table_holds_domains { map (λ name. name.now) DOMAINS ≡ domain_names }
+    ensures table_holds_kinds { map (λ name. name.now) KINDS ≡ kind_names }
 {}
 
 /// The number of each name stands in its table: capabilities have numbers below 41, domains below 44, and kinds below 9.
 pub fn which_numbers_names_have()
-    ensures capabilities { (name : List ℕ) → IfSome (capability_number name) (λ number. number < 41) }
-    ensures domains { (name : List ℕ) → IfSome (domain_number name) (λ number. number < 44) }
-    ensures kinds { (name : List ℕ) → IfSome (kind_number name) (λ number. number < 9) }
+    ensures capabilities_are_below_41 { (name : List ℕ) → IfSome (capability_number name) (λ number. number < 41) }
+    ensures domains_are_below_44 { (name : List ℕ) → IfSome (domain_number name) (λ number. number < 44) }
+    ensures kinds_are_below_9 { (name : List ℕ) → IfSome (kind_number name) (λ number. number < 9) }
 {}

@@ -20,12 +20,12 @@ use aa_set_changes::what_changes_keep;
 /// a question, to `list` and to `show` depends on the policy set alone, so each request then gets the answer that it had. No policy set that a run
 /// comes to has two profiles of one name.
 pub fn the_way_back()
-    ensures refused { RefusedLineLeavesAll }
-    ensures stays { OtherLineLeavesAll }
-    ensures restored { UndoGivesBack }
-    ensures steps { StepsAdd × StepsReturn }
-    ensures asked { SetDecidesAnswer }
-    ensures distinct { SetsHaveDistinctNames }
+    ensures refused_line_leaves_all { RefusedLineLeavesAll }
+    ensures other_line_leaves_all { OtherLineLeavesAll }
+    ensures undo_gives_back { UndoGivesBack }
+    ensures steps_add_and_return { StepsAdd × StepsReturn }
+    ensures set_decides_answer { SetDecidesAnswer }
+    ensures sets_have_distinct_names { SetsHaveDistinctNames }
 {
     how_machines_go_back_and_on::<Sequence<Entry>>();
     what_machines_keep::<Sequence<Entry>>();
@@ -41,11 +41,11 @@ pub fn the_way_back()
 /// another policy set, `back` gives back the very policy set that was marked, with its history. Two names of one policy
 /// set lead to one place, and going to a mark twice is going there once.
 pub fn where_marks_lead()
-    ensures sets { MarkLeavesSets }
-    ensures never_fails { BackNeverFails }
-    ensures restored { MarkGivesBack }
-    ensures same { SameMarksLeadToOne }
-    ensures once { BackTwiceIsOnce }
+    ensures mark_leaves_sets { MarkLeavesSets }
+    ensures back_never_fails { BackNeverFails }
+    ensures mark_gives_back { MarkGivesBack }
+    ensures same_marks_lead_to_one { SameMarksLeadToOne }
+    ensures back_twice_is_once { BackTwiceIsOnce }
 {
     what_marks_mark::<Sequence<Entry>>();
     what_going_to_marks_keeps::<Sequence<Entry>>();

@@ -11,11 +11,11 @@ ghost use Rattle.aa_text_tokens.specs.CutLaws.{Covers, LineHasValuesPlaced, Text
 /// is cut line by line: up to a line feed as if it ended there, and what follows as if it began there. In a line each token behind an Assign
 /// is a value, and no other is.
 pub fn how_a_text_is_cut()
-    ensures covered { (source : List ℕ) (tokens : List Seen)
+    ensures tokens_cover_a_text { (source : List ℕ) (tokens : List Seen)
         → cut 0 0 false source ≡ Ok tokens
         → Covers 0 source tokens }
-    ensures line { (values : Bool) (text rest : List ℕ)
+    ensures token_depends_on_its_line_alone { (values : Bool) (text rest : List ℕ)
         → piece_at values (text ++ line_feed ∷ rest) ≡ piece_at values text }
-    ensures lines { TextIsCutByLines }
-    ensures values { LineHasValuesPlaced }
+    ensures text_is_cut_line_by_line { TextIsCutByLines }
+    ensures values_stand_behind_an_assign { LineHasValuesPlaced }
 {}

@@ -18,7 +18,7 @@ loop-next-init c =
     let room = c.requires.room in
     let some : 0 < length active = omega arith in (
       length-set active 0 c.args.first,
-      subst (λ d. IsLeft text 0 d Elsewhere text) (sym c.beginning-places.ensures.depth) (omega arith, refl, c.which_elements_stand.ensures.text text c.requires.reads, omega arith),
+      subst (λ d. IsLeft text 0 d Elsewhere text) (sym c.beginning-places.ensures.depth) (omega arith, refl, c.which_elements_stand.ensures.whole_texts_stand text c.requires.reads, omega arith),
       tells-first active c.args.first some,
       λ past first active_groups. (
         c.beginning-places.ensures.known past c.args.byte (active_groups 0 (omega arith)) first,

@@ -4,11 +4,11 @@ use Rattle.aa_profile.proofs.NameLemmas.{ProfilesFit, profiles-fit}
 use Rattle.aa_profile.proofs.ReadingLemmas.{file-fits}
 use Rattle.aa_profile.proofs.laws.how_profiles_are_named.Goals as goal
 
-pub returns-clause-distinct : goal.returns-clause-distinct
-returns-clause-distinct c files name = IfOk-weaker (file_profiles files name) _ _ (λ profiles fit. fit.distinct) (file-fits ProfilesFit (λ variables tokens written is fine. profiles-fit variables tokens written is) files name)
+pub returns-clause-no_two_profiles_have_one_name : goal.returns-clause-no_two_profiles_have_one_name
+returns-clause-no_two_profiles_have_one_name c files name = IfOk-weaker (file_profiles files name) _ _ (λ profiles fit. fit.distinct) (file-fits ProfilesFit (λ variables tokens written is fine. profiles-fit variables tokens written is) files name)
 
-pub returns-clause-named : goal.returns-clause-named
-returns-clause-named c files name = IfOk-weaker (file_profiles files name) _ _ (λ profiles fit. fit.named) (file-fits ProfilesFit (λ variables tokens written is fine. profiles-fit variables tokens written is) files name)
+pub returns-clause-each_name_is_as_the_grammar_says : goal.returns-clause-each_name_is_as_the_grammar_says
+returns-clause-each_name_is_as_the_grammar_says c files name = IfOk-weaker (file_profiles files name) _ _ (λ profiles fit. fit.named) (file-fits ProfilesFit (λ variables tokens written is fine. profiles-fit variables tokens written is) files name)
 
-pub returns-clause-children : goal.returns-clause-children
-returns-clause-children c files name = IfOk-weaker (file_profiles files name) _ _ (λ profiles fit. fit.children) (file-fits ProfilesFit (λ variables tokens written is fine. profiles-fit variables tokens written is) files name)
+pub returns-clause-no_two_children_have_one_name : goal.returns-clause-no_two_children_have_one_name
+returns-clause-no_two_children_have_one_name c files name = IfOk-weaker (file_profiles files name) _ _ (λ profiles fit. fit.children) (file-fits ProfilesFit (λ variables tokens written is fine. profiles-fit variables tokens written is) files name)

@@ -2,4 +2,4 @@ use Rattle.aa_set_changes.proofs.NameLemmas.{changes-keep}
 use Rattle.aa_set_changes.proofs.laws.what_changes_keep.Goals as goal
 
 pub returns : goal.returns
-returns c = changes-keep c.how_profiles_are_named.ensures.distinct
+returns c = changes-keep c.how_profiles_are_named.ensures.no_two_profiles_have_one_name

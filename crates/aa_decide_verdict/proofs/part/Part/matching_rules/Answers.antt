@@ -15,7 +15,7 @@ returns-clause-found c =
     let same : places.items ≡ picked (places_from 0 rules) c.in_ok-found.found.items =
     found ∙ ap (λ all. picked all c.as_slice-2.result.now) (c.as_slice.ensures ∙ is.places) ∙ ap (picked (places_from 0 rules)) c.as_slice-2.ensures.value
     in
-    rw same (c.which_rules_match.ensures.found rules c.args.path.now c.in_ok-found.found.items (c.in_ok-found.ensures.found (file_patterns rules) is.files)))
+    rw same (c.which_rules_match.ensures.patterns_found_are_of_matching_rules rules c.args.path.now c.in_ok-found.found.items (c.in_ok-found.ensures.found (file_patterns rules) is.files)))
     c.picked.ensures
 
 pub returns-clause-rise : goal.returns-clause-rise
@@ -25,7 +25,7 @@ returns-clause-rise c =
     let same : places.items ≡ picked (places_from 0 rules) c.in_ok-found.found.items =
     found ∙ ap (λ all. picked all c.as_slice-2.result.now) (c.as_slice.ensures ∙ is.places) ∙ ap (picked (places_from 0 rules)) c.as_slice-2.ensures.value
     in
-    rw same (c.which_rules_match.ensures.rise rules c.in_ok-found.found.items c.in_ok-found.ensures.rise))
+    rw same (c.which_rules_match.ensures.picked_places_rise rules c.in_ok-found.found.items c.in_ok-found.ensures.rise))
     c.picked.ensures
 
 pub returns-clause-steps : goal.returns-clause-steps

@@ -10,7 +10,7 @@ returns-in_ok-places-in-File-clause-verdict c =
     let flag = audits c.args.self.now c.args.child in
     let rules = rules_at c.args.self.now c.args.child in
     let places = c.in_ok-places-in-File.places.items in
-    let same = found-verdict c.args.mode flag rules c.in-File.needs.0 c.in-File.owned c.in-File.path.now places (c.which_rules_match.ensures.picked rules c.in-File.path.now places c.in_ok-places-in-File.ensures.found c.in_ok-places-in-File.ensures.rise) in
+    let same = found-verdict c.args.mode flag rules c.in-File.needs.0 c.in-File.owned c.in-File.path.now places (c.which_rules_match.ensures.places_pick_the_matching_rules rules c.in-File.path.now places c.in_ok-places-in-File.ensures.found c.in_ok-places-in-File.ensures.rise) in
     rw (c.found_verdict.ensures, c.as_slice.ensures.value, c.audits-audit.ensures, c.rules_at-rules.ensures, c.in-File.is) same
 
 pub returns-in_ok-places-in-File-clause-steps : goal.returns-in_ok-places-in-File-clause-steps

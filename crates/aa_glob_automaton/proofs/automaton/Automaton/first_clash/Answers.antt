@@ -32,5 +32,5 @@ returns-in-Some c =
     (λ found. (patterns : List (List ℕ)) → IsAutomatonOf c.args.self.now patterns → IsLeast found (ClashesAmong patterns classes))
     (λ found least patterns automaton.
     least_as found (ClashesAt g classes) (ClashesAmong patterns classes)
-    (clashes-are c.what_reaches_a_state.ensures.matching g patterns classes (graph_of c.args.self.now g patterns (sym c.self.view_is ∙ c.in-Some.is) automaton)) least)
+    (clashes-are c.what_reaches_a_state.ensures.reaching_the_end_is_matching g patterns classes (graph_of c.args.self.now g patterns (sym c.self.view_is ∙ c.in-Some.is) automaton)) least)
     c.first_clash.ensures

@@ -16,7 +16,7 @@ more : (c : goal.In_ok-end) (patterns : List (List ℕ)) → IsBuilt (c.self.ins
 more c patterns built =
     let whole = c.in_ok-state.ensures patterns built.between in
     subst (λ (text : List ℕ). IsBuilt (record c.follow.new.self { drawing = c.end.new.self }, c.self.inside.patterns + 1) (patterns ++ text ∷ [])) c.text.ensures.text
-    (built-more c.how_graphs_are_drawn.ensures.same c.how_beginnings_are_gathered.ensures.whole c.how_beginnings_are_gathered.ensures.next patterns c.text.result.now c.self.inside.growing
+    (built-more c.how_graphs_are_drawn.ensures.same_is_drawn c.how_beginnings_are_gathered.ensures.whole_text_is_there c.how_beginnings_are_gathered.ensures.next_text_is_begun patterns c.text.result.now c.self.inside.growing
     c.follow.new.self c.end.new.self c.self.inside.patterns c.in_ok-state.state
     (subst (λ (text : List ℕ). reading text ≡ Ok (items_of text)) (sym c.text.ensures.text) c.text.ensures.reads) whole c.in_ok-end.ensures.added built)
 

@@ -5,7 +5,7 @@ use Rattle.aa_glob_automaton.proofs.growing.Growing.follow.Goals as goal
 pub loop-next-init : goal.loop-next-init
 loop-next-init c =
     let text = c.args.text.now in
-    following-start c.which_elements_stand.ensures.trail c.args.self.now text c.new-walk.result c.new-walk.ensures (c.which_elements_stand.ensures.text text c.requires.reads)
+    following-start c.which_elements_stand.ensures.whole_trails_are_elements c.args.self.now text c.new-walk.result c.new-walk.ensures (c.which_elements_stand.ensures.whole_texts_stand text c.requires.reads)
 
 pub go_on-requires : goal.go_on-requires
 go_on-requires c = let grown = c.requires.grown in (grown.0, c.loop-next.invariant.trail, c.loop-next.invariant.each grown.0 grown.1)

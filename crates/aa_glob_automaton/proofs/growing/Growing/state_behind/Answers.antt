@@ -13,7 +13,7 @@ pub returns-in-Some : goal.returns-in-Some
 returns-in-Some c patterns trail follows =
     let g = record c.args.self.now { numbers = c.number_of.new.numbers } in
     let walk = c.args.walk.now in
-    follows-met c.how_beginnings_are_gathered.ensures.known patterns trail g walk (meaning c.args.element) c.in_ok-number.number c.in-Some.state
+    follows-met c.how_beginnings_are_gathered.ensures.known_trail_is_met patterns trail g walk (meaning c.args.element) c.in_ok-number.number c.in-Some.state
     c.in_ok-number.ensures.within c.in_ok-number.ensures.number
     (sym (c.next.ensures ∙ ap (λ place. next c.args.self.now.tree place c.in_ok-number.number) c.state.ensures) ∙ c.in-Some.is)
     (follows-numbered patterns trail c.args.self.now c.number_of.new.numbers walk c.in_ok-number.ensures.kept follows)
