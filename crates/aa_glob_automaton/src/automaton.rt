@@ -15,7 +15,7 @@ use crate::builder::AutomatonBuilder;
 use aa_glob_nfa_laws::what_reaches_a_state;
 use aa_glob_pattern::Pattern;
 use aa_glob_prefixes::how_many_states_there_are;
-use aa_glob_run::{States, Steps};
+use aa_glob_run::{Nfa, Steps};
 use std::alloc::{AllocError, Global};
 use std::marker::Model;
 
@@ -24,7 +24,7 @@ use std::marker::Model;
 #[derive(Debug, Drop)]
 pub struct Automaton {
     // None where there are no patterns.
-    states: Option<States>,
+    nfa: Option<Nfa>,
 }
 
 impl Model for Automaton {
@@ -33,7 +33,7 @@ impl Model for Automaton {
 
     ghost Value = { Option Graph };
 
-    ghost view = { λ a. a.states };
+    ghost view = { λ a. a.nfa };
 }
 
 impl Automaton {
@@ -41,16 +41,14 @@ impl Automaton {
     pub(crate) fn none() -> Automaton
         ensures { result ≡ None }
     {
-        Automaton { states: None }
+        Automaton { nfa: None }
     }
 
-    // That of these states.
-    pub(crate) fn of(states: States) -> Automaton
-        ensures { result ≡ Some states }
+    // That of this one, which has a pattern.
+    pub(crate) fn of(nfa: Nfa) -> Automaton
+        ensures { result ≡ Some nfa }
     {
-        Automaton {
-            states: Some(states),
-        }
+        Automaton { nfa: Some(nfa) }
     }
 
     /// The automaton of some patterns, each of which has its place among them.
@@ -76,9 +74,9 @@ impl Automaton {
     pub fn try_copy(&self, alloc: Global) -> Result<Automaton, AllocError>
         ensures { IfOk result (λ copy. copy ≡ self.now) }
     {
-        match &self.states {
+        match &self.nfa {
             None => Ok(Automaton::none()),
-            Some(states) => Ok(Automaton::of(states.try_copy(alloc)?)),
+            Some(nfa) => Ok(Automaton::of(nfa.try_copy(alloc)?)),
         }
     }
 
@@ -89,9 +87,9 @@ impl Automaton {
         ensures few { (patterns : List (List ℕ)) → IsAutomatonOf self.now patterns → result ≤ most_states patterns }
     {
         how_many_states_there_are();
-        match &self.states {
+        match &self.nfa {
             None => 0,
-            Some(states) => states.states(),
+            Some(nfa) => nfa.states(),
         }
     }
 
@@ -108,9 +106,9 @@ impl Automaton {
             → IsLeast found (ClashesAmong patterns classes.now)) }
     {
         what_reaches_a_state();
-        match &self.states {
+        match &self.nfa {
             None => Ok(None),
-            Some(states) => states.first_clash(alloc, classes),
+            Some(nfa) => nfa.first_clash(alloc, classes),
         }
     }
 
@@ -143,9 +141,9 @@ impl Automaton {
     {
         how_many_states_there_are();
         what_reaches_a_state();
-        match &self.states {
+        match &self.nfa {
             None => Ok(Vec::new(alloc)),
-            Some(states) => states.ends_reached(alloc, path, steps),
+            Some(nfa) => nfa.ends_reached(alloc, path, steps),
         }
     }
 }

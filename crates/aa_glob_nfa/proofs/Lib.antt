@@ -3,6 +3,6 @@ pub mod GrownLemmas
 pub mod LeavingLemmas
 pub mod ListLemmas
 pub mod MapLemmas
-pub mod RowLemmas
+pub mod PackedLemmas
 pub mod SoundLemmas
 pub mod TableLemmas

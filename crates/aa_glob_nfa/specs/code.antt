@@ -1,3 +1,3 @@
 -- How the tables of a graph are kept: states in two bytes, and where the ways of each block of them begin.
 pub mod Blocks
-pub mod Rows
+pub mod PackedStates

@@ -2,14 +2,14 @@
 #![tactic(auto)]
 
 mod entry;
-mod row;
-mod rows;
+mod packed_state;
 mod state;
+mod states;
 mod tables;
 mod ways;
 
 pub use entry::Entry;
-pub use rows::Rows;
 pub use state::{ClassRow, End, Gate, Way};
+pub use states::States;
 pub use tables::Tables;
 pub use ways::Leaving;

@@ -11,8 +11,8 @@ ghost use Rattle.aa_glob_nfa.specs.declared.state.Way.{Way};
 ghost use Rattle.aa_glob_nfa.specs.Tables.{AreLeaving, entry_behind, order_of, set_of, sets_in};
 
 use crate::entry::Entry;
-use crate::rows::Rows;
 use crate::state::{ClassRow, End, Gate, Way};
+use crate::states::States;
 use crate::ways::{Leaving, begin_block, find_firsts, leaving_among, ways_of_block};
 use aa_bytes::is_inside;
 use std::alloc::{AllocError, Global};
@@ -20,7 +20,7 @@ use std::alloc::{AllocError, Global};
 /// The tables of a graph.
 #[derive(Debug, Drop)]
 pub struct Tables {
-    pub states: Rows,
+    pub states: States,
     pub ways: Vec<Way>,
     // For each block of states where its ways begin, once they are in order.
     pub firsts: Vec<u32>,
@@ -36,7 +36,7 @@ impl Tables {
         ensures sound { IfOk result AreSound }
         ensures alone { IfOk result (λ tables. graph_of tables ≡ start_alone) }
     {
-        let mut states = Rows::new(alloc);
+        let mut states = States::new(alloc);
         states.push(Gate::Free)?;
         let mut firsts = Vec::new(alloc);
         begin_block(&mut firsts, 0)?;

@@ -3,7 +3,7 @@
 ghost use Rattle.std.specs.Prelude.{◌≡◌, ◌<◌, length, IfOk, OnOk, OnErr};
 ghost use Rattle.aa_glob_nfa.specs.Graphs.{AddsEnd, AddsWay, IsState, SameGraph, SameRuns, start_alone, with_entry};
 
-use crate::states::States;
+use crate::nfa::Nfa;
 use aa_glob_nfa::{Entry, Tables};
 use std::alloc::{AllocError, Global};
 use std::marker::Model;
@@ -81,10 +81,10 @@ impl Drawing {
     }
 
     /// The finished automaton, of the same states, ways and ends. It takes no memory.
-    pub fn finish(self) -> States
+    pub fn finish(self) -> Nfa
         ensures same { SameGraph self result }
         ensures runs { SameRuns self result }
     {
-        States::of(self.tables)
+        Nfa::of(self.tables)
     }
 }

@@ -5,12 +5,12 @@ mod drawing;
 mod front;
 mod laws;
 mod leading;
+mod nfa;
 mod patterns;
 mod run;
-mod states;
 mod steps;
 
 pub use drawing::Drawing;
 pub use laws::visits_have_one_count;
-pub use states::States;
+pub use nfa::Nfa;
 pub use steps::Steps;

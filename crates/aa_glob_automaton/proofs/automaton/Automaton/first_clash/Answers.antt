@@ -16,17 +16,17 @@ graph_of seen g patterns is automaton = subst (λ (s : Option Graph). IsAutomato
 pub first_clash-requires-clause-later : goal.first_clash-requires-clause-later
 first_clash-requires-clause-later c =
     let patterns = (c.requires).0 in
-    graph-laid c.in-Some.states patterns (graph_of c.args.self.now c.in-Some.states patterns (sym c.self.view_is ∙ c.in-Some.is) (c.requires).1)
+    graph-laid c.in-Some.nfa patterns (graph_of c.args.self.now c.in-Some.nfa patterns (sym c.self.view_is ∙ c.in-Some.is) (c.requires).1)
 
 pub first_clash-requires-clause-classes : goal.first_clash-requires-clause-classes
 first_clash-requires-clause-classes c q p ends =
     let patterns = (c.requires).0 in
-    let graph = graph_of c.args.self.now c.in-Some.states patterns (sym c.self.view_is ∙ c.in-Some.is) (c.requires).1 in
-    omega (arith, end-within c.in-Some.states patterns graph q p ends, (c.requires).2)
+    let graph = graph_of c.args.self.now c.in-Some.nfa patterns (sym c.self.view_is ∙ c.in-Some.is) (c.requires).1 in
+    omega (arith, end-within c.in-Some.nfa patterns graph q p ends, (c.requires).2)
 
 pub returns-in-Some : goal.returns-in-Some
 returns-in-Some c =
-    let g = c.in-Some.states in
+    let g = c.in-Some.nfa in
     let classes = c.args.classes.now in
     IfOk-weaker c.first_clash.result (λ found. IsLeast found (ClashesAt g classes))
     (λ found. (patterns : List (List ℕ)) → IsAutomatonOf c.args.self.now patterns → IsLeast found (ClashesAmong patterns classes))

@@ -20,11 +20,11 @@ use std::marker::Model;
 
 /// A finished automaton, of the states, ways and ends that were drawn. Contracts see its graph.
 #[derive(Debug, Drop)]
-pub struct States {
+pub struct Nfa {
     tables: Tables,
 }
 
-impl Model for States {
+impl Model for Nfa {
     ghost use Rattle.aa_glob_nfa.specs.Graphs.{Graph};
     ghost use Rattle.aa_glob_nfa.specs.OfTables.{AreSound, AreSorted, graph_of};
 
@@ -35,16 +35,16 @@ impl Model for States {
     ghost invariant = { λ s. AreSound s.tables × AreSorted s.tables };
 }
 
-impl States {
+impl Nfa {
     // The automaton of these tables, which are put in order.
-    pub(crate) fn of(tables: Tables) -> States
+    pub(crate) fn of(tables: Tables) -> Nfa
         requires { AreSound tables }
         ensures { SameGraph (graph_of tables) result }
     {
         let mut tables = tables;
         tables.sort();
         tables.shrink();
-        States { tables }
+        Nfa { tables }
     }
 
     /// How many states there are. It takes no memory.
@@ -59,10 +59,10 @@ impl States {
     /// # Errors
     ///
     /// Where memory runs out.
-    pub fn try_copy(&self, alloc: Global) -> Result<States, AllocError>
+    pub fn try_copy(&self, alloc: Global) -> Result<Nfa, AllocError>
         ensures { IfOk result (λ copy. copy ≡ self.now) }
     {
-        Ok(States {
+        Ok(Nfa {
             tables: self.tables.try_copy(alloc)?,
         })
     }

@@ -1,7 +1,7 @@
 //! States in two bytes each.
 
 ghost use Rattle.std.specs.Prelude.{◌≡◌};
-ghost use Rattle.aa_glob_nfa.specs.code.Rows.{gate_numbered, state_of};
+ghost use Rattle.aa_glob_nfa.specs.code.PackedStates.{gate_numbered, state_of};
 ghost use Rattle.aa_glob_nfa.specs.Tables.{bare, ending, leading_away, leading_on};
 
 use crate::state::Gate;
@@ -9,7 +9,7 @@ use aa_bytes::{byte_has_bit, byte_with_bit};
 
 // A state: the byte that leads into it, or its gate's number; and its flags, a bit for each.
 #[derive(Clone, Copy, Debug)]
-pub struct Row {
+pub struct PackedState {
     byte: u8,
     flags: u8,
 }
@@ -23,18 +23,18 @@ const LEADS_AWAY: u8 = 2;
 
 const ENDS: u8 = 3;
 
-impl Row {
+impl PackedState {
     // A state with this gate, without ways or ends.
-    pub fn bare(gate: Gate) -> Row
+    pub fn bare(gate: Gate) -> PackedState
         ensures { state_of result ≡ bare gate }
     {
         match gate {
-            Gate::Byte(byte) => Row { byte, flags: 1 },
-            Gate::Free => Row { byte: 0, flags: 0 },
-            Gate::Inside => Row { byte: 1, flags: 0 },
-            Gate::Class => Row { byte: 2, flags: 0 },
-            Gate::Star => Row { byte: 3, flags: 0 },
-            Gate::DoubleStar => Row { byte: 4, flags: 0 },
+            Gate::Byte(byte) => PackedState { byte, flags: 1 },
+            Gate::Free => PackedState { byte: 0, flags: 0 },
+            Gate::Inside => PackedState { byte: 1, flags: 0 },
+            Gate::Class => PackedState { byte: 2, flags: 0 },
+            Gate::Star => PackedState { byte: 3, flags: 0 },
+            Gate::DoubleStar => PackedState { byte: 4, flags: 0 },
         }
     }
 
@@ -71,30 +71,30 @@ impl Row {
     }
 
     // The same with the flag that a way leads on.
-    pub fn leading_on(self) -> Row
+    pub fn leading_on(self) -> PackedState
         ensures { state_of result ≡ leading_on (state_of self) }
     {
-        Row {
+        PackedState {
             flags: byte_with_bit(self.flags, LEADS_ON),
             ..self
         }
     }
 
     // The same with the flag that it's an end.
-    pub fn ending(self) -> Row
+    pub fn ending(self) -> PackedState
         ensures { state_of result ≡ ending (state_of self) }
     {
-        Row {
+        PackedState {
             flags: byte_with_bit(self.flags, ENDS),
             ..self
         }
     }
 
     // The same with the flag that there are ways in the table.
-    pub fn leading_away(self) -> Row
+    pub fn leading_away(self) -> PackedState
         ensures { state_of result ≡ leading_away (state_of self) }
     {
-        Row {
+        PackedState {
             flags: byte_with_bit(self.flags, LEADS_AWAY),
             ..self
         }

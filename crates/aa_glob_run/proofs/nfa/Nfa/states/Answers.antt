@@ -1,6 +1,6 @@
 use Rattle.std.proofs.Common.{ap, arith, length}
 use Rattle.aa_glob_nfa.proofs.TableLemmas.{length-entries_in}
-use Rattle.aa_glob_run.proofs.states.States.states.Goals as goal
+use Rattle.aa_glob_run.proofs.nfa.Nfa.states.Goals as goal
 
 pub returns : goal.returns
 returns c =

@@ -3,43 +3,43 @@
 ghost use Rattle.std.specs.Prelude.{◌≡◌, ◌++◌, ◌∷◌, ◌<◌, [], length, set, IfOk, OnErr, OnOk};
 ghost use Rattle.aa_glob_nfa.specs.Tables.{bare, ending, leading_away, leading_on, state_at};
 
-use crate::row::Row;
+use crate::packed_state::PackedState;
 use crate::state::Gate;
 use std::alloc::{AllocError, Global};
 use std::marker::Model;
 
 /// States, of which each says where there is more of it in the other tables.
 #[derive(Debug, Drop)]
-pub struct Rows {
-    rows: Vec<Row>,
+pub struct States {
+    packed: Vec<PackedState>,
 }
 
-impl Model for Rows {
+impl Model for States {
     ghost use Rattle.std.specs.Prelude.{List, map};
-    ghost use Rattle.aa_glob_nfa.specs.code.Rows.{state_of};
+    ghost use Rattle.aa_glob_nfa.specs.code.PackedStates.{state_of};
     ghost use Rattle.aa_glob_nfa.specs.Tables.{State};
 
     ghost Value = { List State };
 
-    ghost view = { λ r. map state_of r.rows.items };
+    ghost view = { λ s. map state_of s.packed.items };
 }
 
-impl Rows {
+impl States {
     /// No states.
-    pub fn new(alloc: Global) -> Rows
+    pub fn new(alloc: Global) -> States
         ensures { result ≡ [] }
     {
-        Rows {
-            rows: Vec::new(alloc),
+        States {
+            packed: Vec::new(alloc),
         }
     }
 
     /// Equal states, or `AllocError` where memory ran out.
-    pub fn try_copy(&self, alloc: Global) -> Result<Rows, AllocError>
+    pub fn try_copy(&self, alloc: Global) -> Result<States, AllocError>
         ensures { IfOk result (λ copy. copy ≡ self.now) }
     {
-        Ok(Rows {
-            rows: Vec::from_slice(alloc, self.rows.as_slice())?,
+        Ok(States {
+            packed: Vec::from_slice(alloc, self.packed.as_slice())?,
         })
     }
 
@@ -47,7 +47,7 @@ impl Rows {
     pub fn len(&self) -> usize
         ensures { result ≡ length self.now }
     {
-        self.rows.len()
+        self.packed.len()
     }
 
     /// Adds a state with this gate, without ways or ends. Where memory runs out, there is none more.
@@ -55,7 +55,7 @@ impl Rows {
         ensures added { OnOk result (self.new ≡ self.old ++ bare gate ∷ []) }
         ensures err { OnErr result (self.new ≡ self.old) }
     {
-        self.rows.push(Row::bare(gate))?;
+        self.packed.push(PackedState::bare(gate))?;
         Ok(())
     }
 
@@ -63,7 +63,7 @@ impl Rows {
     pub fn shrink(&mut self)
         ensures { self.new ≡ self.old }
     {
-        self.rows.shrink_to_fit();
+        self.packed.shrink_to_fit();
     }
 
     /// The gate of a state.
@@ -71,7 +71,7 @@ impl Rows {
         requires { number < length self.now }
         ensures { result ≡ (state_at self.now number).gate }
     {
-        self.rows[number as usize].gate()
+        self.packed[number as usize].gate()
     }
 
     /// Whether a way leads on from a state.
@@ -79,7 +79,7 @@ impl Rows {
         requires { number < length self.now }
         ensures { result ≡ (state_at self.now number).leads_on }
     {
-        self.rows[number as usize].leads_on()
+        self.packed[number as usize].leads_on()
     }
 
     /// Whether a state has ways in the table.
@@ -87,7 +87,7 @@ impl Rows {
         requires { number < length self.now }
         ensures { result ≡ (state_at self.now number).leads_away }
     {
-        self.rows[number as usize].leads_away()
+        self.packed[number as usize].leads_away()
     }
 
     /// Whether a state is an end.
@@ -95,7 +95,7 @@ impl Rows {
         requires { number < length self.now }
         ensures { result ≡ (state_at self.now number).ends }
     {
-        self.rows[number as usize].ends()
+        self.packed[number as usize].ends()
     }
 
     /// Notes that a way leads on from a state.
@@ -103,8 +103,8 @@ impl Rows {
         requires { number < length self.old }
         ensures { self.new ≡ set self.old number (leading_on (state_at self.old number)) }
     {
-        let row = self.rows[number as usize].leading_on();
-        self.rows[number as usize] = row;
+        let state = self.packed[number as usize].leading_on();
+        self.packed[number as usize] = state;
     }
 
     /// Notes that a state has ways in the table.
@@ -112,8 +112,8 @@ impl Rows {
         requires { number < length self.old }
         ensures { self.new ≡ set self.old number (leading_away (state_at self.old number)) }
     {
-        let row = self.rows[number as usize].leading_away();
-        self.rows[number as usize] = row;
+        let state = self.packed[number as usize].leading_away();
+        self.packed[number as usize] = state;
     }
 
     /// Notes that a state is an end.
@@ -121,7 +121,7 @@ impl Rows {
         requires { number < length self.old }
         ensures { self.new ≡ set self.old number (ending (state_at self.old number)) }
     {
-        let row = self.rows[number as usize].ending();
-        self.rows[number as usize] = row;
+        let state = self.packed[number as usize].ending();
+        self.packed[number as usize] = state;
     }
 }

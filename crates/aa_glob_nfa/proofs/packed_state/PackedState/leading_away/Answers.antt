@@ -1,5 +1,5 @@
 use Rattle.std.proofs.Common.{refl}
-use Rattle.aa_glob_nfa.proofs.row.Row.leading_away.Goals as goal
+use Rattle.aa_glob_nfa.proofs.packed_state.PackedState.leading_away.Goals as goal
 
 pub returns : goal.returns
 returns c =

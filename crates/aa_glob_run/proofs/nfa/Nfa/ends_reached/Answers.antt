@@ -5,7 +5,7 @@ use Rattle.aa_glob_run.specs.Visits.{CountsAllVisits, CountsFirstVisits}
 use Rattle.aa_glob_nfa.specs.OfTables.{graph_of}
 use Rattle.aa_glob_run.proofs.PatternLemmas.{IfOk-then, OnOk-from, found_all}
 use Rattle.aa_glob_nfa.proofs.TableLemmas.{length-entries_in}
-use Rattle.aa_glob_run.proofs.states.States.ends_reached.Goals as goal
+use Rattle.aa_glob_run.proofs.nfa.Nfa.ends_reached.Goals as goal
 
 pub returns-clause-found : goal.returns-clause-found
 returns-clause-found c =
