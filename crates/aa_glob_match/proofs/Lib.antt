@@ -1,4 +1,3 @@
-pub mod GroupLemmas
 pub mod PlaceLemmas
 pub mod PassLemmas
 pub mod PlainLemmas

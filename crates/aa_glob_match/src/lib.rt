@@ -1,7 +1,6 @@
 //! Whether a path matches the text of a pattern, which is read again for each byte of the path, without memory.
 #![tactic(auto)]
 
-mod groups;
 mod matching;
 mod pass;
 mod place;

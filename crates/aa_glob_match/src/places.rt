@@ -1,6 +1,6 @@
 //! Places of a pattern's text, each with what a past reads up to there and what the past before did.
 
-ghost use Rattle.std.specs.Prelude.{◌≡◌};
+ghost use Rattle.std.specs.Prelude.{◌≡◌, length};
 
 use crate::place::Place;
 use aa_bytes::is_inside;
@@ -12,12 +12,12 @@ pub struct Places {
     /// What is known of the past without the byte.
     before: Place,
     /// What is known of the past with it.
-    now: Place,
-    ghost same: { before.groups.depth ≡ now.groups.depth },
+    after: Place,
+    ghost same: { length before.beginnings ≡ length after.beginnings },
 }
 
 impl Places {
-    ghost use Rattle.std.specs.Prelude.{◌≡◌, ℕ, Bool, []};
+    ghost use Rattle.std.specs.Prelude.{◌≡◌, ℕ, Bool, [], length};
     ghost use Rattle.aa_glob_syntax.specs.Cursor.{meaning};
     ghost use Rattle.aa_glob_prefixes.specs.Elements.{MayStand};
     ghost use Rattle.aa_glob_match.specs.Active.{is_among, is_none, Past};
@@ -26,47 +26,47 @@ impl Places {
     ghost use Rattle.aa_glob_prefixes.specs.Trails.{depth_behind};
 
     /// The beginning of the text, by whether it is active for each past.
-    pub fn beginning(before: bool, now: bool) -> Places
-        ensures known { (past : Past) (byte : ℕ) → before ≡ is_among (known []).here past → now ≡ is_none past → AreAt past byte (known []) result }
-        ensures depth { result.now.groups.depth ≡ 0 }
+    pub fn beginning(before: bool, after: bool) -> Places
+        ensures known { (past : Past) (byte : ℕ) → before ≡ is_among (known []).here past → after ≡ is_none past → AreAt past byte (known []) result }
+        ensures depth { length result.after.beginnings ≡ 0 }
     {
         Places {
             before: Place::beginning(before),
-            now: Place::beginning(now),
+            after: Place::beginning(after),
         }
     }
 
     /// Whether the past with the byte reads the beginning up to here.
-    pub fn here(self) -> bool
-        ensures { result ≡ self.now.here }
+    pub fn here(&self) -> bool
+        ensures { result ≡ self.now.after.here }
     {
-        self.now.here()
+        self.after.here()
     }
 
     /// How many groups are open here.
-    pub fn depth(self) -> u32
-        ensures { result ≡ self.now.groups.depth }
+    pub fn depth(&self) -> u32
+        ensures { result ≡ length self.now.after.beginnings }
     {
-        self.now.depth()
+        self.after.depth()
     }
 
     /// The places behind an element; it is given whether it was active for the past without the byte.
-    pub fn behind(self, byte: u8, element: Element, own: bool) -> Places
-        requires { MayStand self.now.groups.depth (meaning element) }
-        ensures known { (past : Past) (k : Known) → AreAt past byte k self → own ≡ is_among (known_behind (meaning element.entry) k).here past
+    pub fn behind(&self, byte: u8, element: Element, own: bool) -> Places
+        requires { MayStand (length self.now.after.beginnings) (meaning element) }
+        ensures known { (past : Past) (k : Known) → AreAt past byte k self.now → own ≡ is_among (known_behind (meaning element.entry) k).here past
             → AreAt past byte (known_behind (meaning element.entry) k) result }
-        ensures depth { result.now.groups.depth ≡ depth_behind self.now.groups.depth (meaning element.entry) }
+        ensures depth { length result.after.beginnings ≡ depth_behind (length self.now.after.beginnings) (meaning element.entry) }
     {
         let is_active = Places::active_behind(
             element,
             byte,
             self.before.leading(element),
-            self.now.leading(element),
+            self.after.leading(element),
             own,
         );
         Places {
             before: self.before.behind(element, own),
-            now: self.now.behind(element, is_active),
+            after: self.after.behind(element, is_active),
         }
     }
 

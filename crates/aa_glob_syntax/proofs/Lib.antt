@@ -1,5 +1,5 @@
+pub mod BitLemmas
 pub mod ClassLemmas
 pub mod ElementLemmas
 pub mod FaultLemmas
-pub mod GroupLemmas
 pub mod SymbolLemmas

@@ -1,3 +1,5 @@
+pub mod BitLaws
+pub mod Bits
 pub mod Classes
 pub mod Cursor
 pub mod Elements

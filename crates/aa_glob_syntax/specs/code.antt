@@ -1,4 +1,3 @@
--- What the code's own forms mean: what comes next in a class, and how long a class is, and the groups that are open. No public contract names these.
+-- What the code's own forms mean: what comes next in a class, and how long a class is. No public contract names these.
 pub mod ClassText
-pub mod OpenGroups
 pub mod Parts

@@ -1,6 +1,7 @@
 //! The language of AppArmor's path patterns: what a pattern's text spells, element by element.
 #![tactic(auto)]
 
+mod bits;
 mod check;
 mod class;
 mod context;
@@ -12,6 +13,7 @@ mod pattern_error;
 mod star;
 mod symbol;
 
+pub use bits::BitStack;
 pub use check::{Facts, LONGEST_PATTERN, check_pattern, check_text};
 pub use class::Class;
 pub use context::Context;

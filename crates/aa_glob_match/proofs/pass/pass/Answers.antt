@@ -37,7 +37,7 @@ loop-next-preserved c =
     let found : drop at (elements_of text) ≡ e ∷ elements_left (depth_behind c.depth.result e) c.in-Some.next.context c.in-Some.next.rest.now =
     was.1.1 ∙ ap (λ n. elements_left n c.loop-next.context c.loop-next.rest.now) (sym depth) ∙ c.in-Some.ensures.found in
     let more = known_at-more (elements_of text) at (known []) e (elements_left (depth_behind c.depth.result e) c.in-Some.next.context c.in-Some.next.rest.now) found in
-    let deep : c.behind-places.result.now.groups.depth ≡ depth_behind c.depth.result e = c.behind-places.ensures.depth ∙ ap (λ n. depth_behind n e) (sym depth) in
+    let deep : length c.behind-places.result.after.beginnings ≡ depth_behind c.depth.result e = c.behind-places.ensures.depth ∙ ap (λ n. depth_behind n e) (sym depth) in
     let shorter = c.in-Some.ensures.shorter in
     let left = was.1.3 in
     let room = c.requires.room in
@@ -57,18 +57,18 @@ loop-next-preserved c =
 pub returns-clause-active : goal.returns-clause-active
 returns-clause-active c =
     let was = c.loop-next.invariant in
-    let all = all-read c.args.text.now c.loop-next.at c.loop-next.places.now.groups.depth c.depth.result c.loop-next.context c.loop-next.rest.now was.1 c.depth.ensures c.in_default.ensures.found in
+    let all = all-read c.args.text.now c.loop-next.at (length c.loop-next.places.after.beginnings) c.depth.result c.loop-next.context c.loop-next.rest.now was.1 c.depth.ensures c.in_default.ensures.found in
     λ past first active_groups at short. (was.3 past first active_groups).1.0 at (omega arith) short
 
 pub returns-clause-whole : goal.returns-clause-whole
 returns-clause-whole c =
     let was = c.loop-next.invariant in
-    let all = all-read c.args.text.now c.loop-next.at c.loop-next.places.now.groups.depth c.depth.result c.loop-next.context c.loop-next.rest.now was.1 c.depth.ensures c.in_default.ensures.found in
+    let all = all-read c.args.text.now c.loop-next.at (length c.loop-next.places.after.beginnings) c.depth.result c.loop-next.context c.loop-next.rest.now was.1 c.depth.ensures c.in_default.ensures.found in
     let whole = ap (known_at (known []) (elements_of c.args.text.now)) all ∙ active-all c.args.text.now in
     λ past first active_groups. c.here.ensures ∙ (was.3 past first active_groups).0.1.0 ∙ ap (λ k. k.here (next_past c.args.byte past)) whole
 
 pub returns-clause-some : goal.returns-clause-some
 returns-clause-some c =
     let was = c.loop-next.invariant in
-    let all = all-read c.args.text.now c.loop-next.at c.loop-next.places.now.groups.depth c.depth.result c.loop-next.context c.loop-next.rest.now was.1 c.depth.ensures c.in_default.ensures.found in
+    let all = all-read c.args.text.now c.loop-next.at (length c.loop-next.places.after.beginnings) c.depth.result c.loop-next.context c.loop-next.rest.now was.1 c.depth.ensures c.in_default.ensures.found in
     λ unset at short. was.2 unset at (omega arith)

@@ -7,7 +7,7 @@ use Rattle.aa_glob_match.proofs.pass.pass.Given as goal
 abbrev pub invariant-loop-next : goal.invariant-loop-next
 invariant-loop-next l =
     (length l.active ≡ length l.fn.active)
-    × IsLeft l.text l.at l.places.now.groups.depth l.context l.rest
+    × IsLeft l.text l.at (length l.places.after.beginnings) l.context l.rest
     × TellsSome l.at l.active l.some
     × IsPassed l.text l.first l.byte l.at l.places l.fn.active l.active
 
