@@ -80,8 +80,8 @@ rank-within path entries place entry at = subst (λ n. place < n) (sym (length-m
 
 module _ (law : RankLaw) where
   -- the entry that is attached fits best
-  pub attached-told : (path : List ℕ) (entries : List Loaded) (entry : Loaded) → attached path entries ≡ Some entry → FitsBest path entries entry
-  attached-told path entries entry told = by (standing_out (map (entry_rank path) entries)) refl told
+  pub attached-holds : (path : List ℕ) (entries : List Loaded) (entry : Loaded) → attached path entries ≡ Some entry → FitsBest path entries entry
+  attached-holds path entries entry holds = by (standing_out (map (entry_rank path) entries)) refl holds
     where
       by : (found : Option ℕ) → standing_out (map (entry_rank path) entries) ≡ found → option_and_then (slice_get entries) found ≡ Some entry → FitsBest path entries entry
       by None is at = absurd (cc)
@@ -135,5 +135,5 @@ module _ (law : RankLaw) where
     where
       by : (one : Option Loaded) → attached path entries ≡ one → (other : Option Loaded) → attached path others ≡ other → one ≡ other
       by None e None f = refl
-      by (Some one) e other f = sym (attached-from path others one apart (fits-same path entries others one same (attached-told path entries one e))) ∙ f
-      by None e (Some other) f = sym e ∙ attached-from path entries other distinct (fits-same path others entries other (same.1, same.0) (attached-told path others other f))
+      by (Some one) e other f = sym (attached-from path others one apart (fits-same path entries others one same (attached-holds path entries one e))) ∙ f
+      by None e (Some other) f = sym e ∙ attached-from path entries other distinct (fits-same path others entries other (same.1, same.0) (attached-holds path others other f))

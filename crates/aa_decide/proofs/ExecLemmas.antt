@@ -29,7 +29,7 @@ use Rattle.aa_decide_verdict.specs.Ready.{audits, rules_at}
 use Rattle.aa_decide_verdict.specs.declared.entry.State.{State}
 use Rattle.aa_decide_verdict.specs.declared.entry.State.TheVariants.{Disabled, Modes}
 use Rattle.aa_decide_audit.specs.declared.verdict.Answer.TheVariants.{Deny}
-use Rattle.aa_decide.proofs.AttachmentLemmas.{RankLaw, at-there, attached-order, attached-told, one-named}
+use Rattle.aa_decide.proofs.AttachmentLemmas.{RankLaw, at-there, attached-holds, attached-order, one-named}
 
 -- the answer by where a transition leads, and by the profile that is attached
 abbrev carried : Mode → Bool → Bool → Option Started → ExecAnswer
@@ -42,13 +42,13 @@ unconfined (Some entry) = started false (Under entry None) false
 
 -- what a search finds is among the items and passes the test
 found-there : {A : Type 0} (test : A → Bool) (items : List A) (item : A) → find test items ≡ Some item → (test item ≡ true) × Contains items item
-found-there test [] item told = absurd (cc)
-found-there test (first ∷ items) item told = by (test first) refl (found-there test items item) told
+found-there test [] item holds = absurd (cc)
+found-there test (first ∷ items) item holds = by (test first) refl (found-there test items item) holds
   where
     by : (here : Bool) → test first ≡ here → (find test items ≡ Some item → (test item ≡ true) × Contains items item) → cond here (Some first) (find test items) ≡ Some item
         → (test item ≡ true) × Contains (first ∷ items) item
-    by true e rest told = let is : first ≡ item = cc in (ap test (sym is) ∙ e, (0, omega arith, is))
-    by false e rest told = let found = rest told in let place = found.1 in (found.0, (suc place.0, (let within = place.1 in omega arith), place.2))
+    by true e rest holds = let is : first ≡ item = cc in (ap test (sym is) ∙ e, (0, omega arith, is))
+    by false e rest holds = let found = rest holds in let place = found.1 in (found.0, (suc place.0, (let within = place.1 in omega arith), place.2))
 
 -- and where some item passes it, one is found
 passes-found : {A : Type 0} (test : A → Bool) (items : List A) (place : ℕ) (item : A) → slice_get items place ≡ Some item → test item ≡ true → find test items ≡ None → ⊥
@@ -120,7 +120,7 @@ to_child-in_force path target asker h = by asker.child (place_of_child path targ
 module _ (law : RankLaw) where
   -- a profile that is attached is in force
   attached-in_force : (path : List ℕ) (entries : List Loaded) (entry : Loaded) → attached path entries ≡ Some entry → is_in_force entry.state ≡ true
-  attached-in_force path entries entry told = by (is_in_force entry.state) refl (attached-told law path entries entry told).1
+  attached-in_force path entries entry holds = by (is_in_force entry.state) refl (attached-holds law path entries entry holds).1
     where
       by : (force : Bool) → is_in_force entry.state ≡ force → 0 < (if force then best_rank path entry.profile.attachments else 0) → force ≡ true
       by true e above = refl
@@ -188,7 +188,7 @@ module _ (law : RankLaw) where
   -- a program never runs under a disabled profile
   pub answer-in_force : (entries : List Loaded) (asker : Option Asker) (owned : Bool) (path : List ℕ) (entry : Loaded) (child : Option ℕ)
       → (exec_answer entries asker owned path).to ≡ Under entry child → is_in_force entry.state ≡ true
-  answer-in_force entries asker owned path entry child told = subst IsInForce told (to-in_force entries asker owned path)
+  answer-in_force entries asker owned path entry child holds = subst IsInForce holds (to-in_force entries asker owned path)
 
   -- in whatever order the profiles stand, the program runs under the same
   to_profile-order : (path : List ℕ) (target : Option (List ℕ)) (entries others : List Loaded) → DifferInOrder entries others → to_profile path target entries ≡ to_profile path target others

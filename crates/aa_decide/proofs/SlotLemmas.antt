@@ -73,10 +73,10 @@ pub attached-filled : (path : List ℕ) (slots : List (Option Loaded)) → Holds
 attached-filled path slots =
     by (greatest (map (slot_rank path) slots)) (greatest (map (entry_rank path) (filled slots))) (greatest-filled path 0 slots)
   where
-    told : ℕ → List ℕ → Option ℕ
-    told best ranks = if best == 0 then None else place_of_only best ranks
+    standing : ℕ → List ℕ → Option ℕ
+    standing best ranks = if best == 0 then None else place_of_only best ranks
 
     by : (best other : ℕ) → best ≡ other
-        → Holds slots (told best (map (slot_rank path) slots)) (option_and_then (slice_get (filled slots)) (told other (map (entry_rank path) (filled slots))))
+        → Holds slots (standing best (map (slot_rank path) slots)) (option_and_then (slice_get (filled slots)) (standing other (map (entry_rank path) (filled slots))))
     by zero other same = rw (sym same) refl
     by (suc best) other same = rw (sym same, eqb-suc-zero best) (only-filled path best slots)

@@ -66,14 +66,14 @@ StandsOnce rank ranks place =
     (place < length ranks) × (slice_index ranks place ≡ rank) × ((other : ℕ) → other < length ranks → slice_index ranks other ≡ rank → other ≡ place)
 
 -- a place is told of a rank that stands there alone
-only-told : (rank : ℕ) (ranks : List ℕ) (place : ℕ) → place_of_only rank ranks ≡ Some place → StandsOnce rank ranks place
-only-told rank [] place told = absurd (cc)
-only-told rank (first ∷ ranks) place told = by (first == rank) refl (has_rank rank ranks) refl (place_of_only rank ranks) (only-told rank ranks) told
+only-holds : (rank : ℕ) (ranks : List ℕ) (place : ℕ) → place_of_only rank ranks ≡ Some place → StandsOnce rank ranks place
+only-holds rank [] place holds = absurd (cc)
+only-holds rank (first ∷ ranks) place holds = by (first == rank) refl (has_rank rank ranks) refl (place_of_only rank ranks) (only-holds rank ranks) holds
   where
     by : (here : Bool) → (first == rank) ≡ here → (more : Bool) → has_rank rank ranks ≡ more → (found : Option ℕ) → ((place : ℕ) → found ≡ Some place → StandsOnce rank ranks place)
         → (if here then (if more then None else Some 0) else option_map (λ place. 1 + place) found) ≡ Some place → StandsOnce rank (first ∷ ranks) place
-    by true h true m found rest told = absurd (cc)
-    by true h false m found rest told = here place (cc)
+    by true h true m found rest holds = absurd (cc)
+    by true h false m found rest holds = here place (cc)
       where
         here : (place : ℕ) → place ≡ 0 → StandsOnce rank (first ∷ ranks) place
         here (suc place) is = absurd (omega arith)
@@ -82,8 +82,8 @@ only-told rank (first ∷ ranks) place told = by (first == rank) refl (has_rank 
             alone : (other : ℕ) → other < length (first ∷ ranks) → slice_index (first ∷ ranks) other ≡ rank → other ≡ zero
             alone zero within same = refl
             alone (suc other) within same = let there = has-at rank ranks other (omega arith) same in absurd (cc)
-    by false h more m None rest told = absurd (cc)
-    by false h more m (Some found) rest told = there place (cc)
+    by false h more m None rest holds = absurd (cc)
+    by false h more m (Some found) rest holds = there place (cc)
       where
         there : (place : ℕ) → 1 + found ≡ place → StandsOnce rank (first ∷ ranks) place
         there zero is = absurd (omega arith)
@@ -116,13 +116,13 @@ only-from rank (first ∷ ranks) (suc place) within is others =
     rw (not_here, rest) (ap Some (one_more place))
 
 -- what stands out has a rank above 0, and all others lower ones
-pub stands_out-told : (ranks : List ℕ) (place : ℕ) → standing_out ranks ≡ Some place → StandsOut ranks place
-stands_out-told ranks place told = by (greatest ranks == 0) refl told
+pub stands_out-holds : (ranks : List ℕ) (place : ℕ) → standing_out ranks ≡ Some place → StandsOut ranks place
+stands_out-holds ranks place holds = by (greatest ranks == 0) refl holds
   where
     by : (none : Bool) → (greatest ranks == 0) ≡ none → (if none then None else place_of_only (greatest ranks) ranks) ≡ Some place → StandsOut ranks place
-    by true n told = absurd (cc)
-    by false n told =
-        let once = only-told (greatest ranks) ranks place told in
+    by true n holds = absurd (cc)
+    by false n holds =
+        let once = only-holds (greatest ranks) ranks place holds in
         let is = once.1 in
         let above : 0 < greatest ranks = elim (cases_lt 0 (greatest ranks)) [ inl some ↦ some | inr none ↦ absurd (eqb-false (greatest ranks) 0 n (omega arith)) ] in (
           once.0,

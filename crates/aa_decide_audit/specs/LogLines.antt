@@ -1,5 +1,5 @@
 -- The lines that log answers, as the kernel's log shows them (docs/commands.md, "Audit lines"). A line has keys with values: numbers, names
--- between quotes, and texts that are told between quotes or in hexadecimal.
+-- between quotes, and texts that are written between quotes or in hexadecimal.
 use Rattle.std.specs.Prelude.{ℕ, List, [], ◌∷◌, ◌++◌, None, Some, codes}
 use Rattle.std.specs.Fmt.{decimal}
 use Rattle.aa_profile_access.specs.Access.{EXEC, letters_of}
@@ -9,7 +9,7 @@ use Rattle.aa_profile_tables.specs.Capabilities.{capability_name}
 use Rattle.aa_profile_tables.specs.Domains.{domain_name}
 use Rattle.aa_profile_tables.specs.Kinds.{kind_name}
 use Rattle.aa_profile_tables.specs.Names.{name_or_none}
-use Rattle.aa_quoting.specs.Texts.{quoted, told_text}
+use Rattle.aa_quoting.specs.Texts.{quoted, written_text}
 use Rattle.aa_decide_audit.specs.declared.verdict.Tag.{Tag}
 use Rattle.aa_decide_audit.specs.declared.verdict.Tag.TheVariants.{Allowed, Audit, Denied}
 use Rattle.aa_decide_audit.specs.declared.verdict.Verdict.{Verdict}
@@ -33,7 +33,7 @@ mask_key _ = codes " denied_mask="
 -- a file that was asked for: its path, the letters that were needed, and those that are told
 abbrev pub file_subject : Tag → ℕ → ℕ → List ℕ → List ℕ
 file_subject tag mask needs path =
-    codes " name=" ++ told_text path ++ codes " requested_mask=" ++ quoted (letters_of needs) ++ mask_key tag ++ quoted (letters_of mask)
+    codes " name=" ++ written_text path ++ codes " requested_mask=" ++ quoted (letters_of needs) ++ mask_key tag ++ quoted (letters_of mask)
 
 abbrev pub capability_subject : ℕ → List ℕ
 capability_subject number = codes " capability=" ++ decimal number ++ codes " capname=" ++ quoted (name_or_none (capability_name number))
@@ -51,7 +51,7 @@ subject tag mask (ForSockets domain kind) = socket_subject domain kind
 -- how the line of a tag begins: with the operation, and who asked, by full name
 abbrev pub beginning : Tag → List ℕ → List ℕ → List ℕ
 beginning tag operation asker =
-    codes "apparmor=" ++ quoted (tag_word tag) ++ codes " operation=" ++ quoted operation ++ codes " profile=" ++ told_text asker
+    codes "apparmor=" ++ quoted (tag_word tag) ++ codes " operation=" ++ quoted operation ++ codes " profile=" ++ written_text asker
 
 -- the line of a tag: who asked, by full name, for what, and the needs that are told
 abbrev pub tagged_line : List ℕ → Request → Tag → ℕ → List ℕ

@@ -6,7 +6,7 @@ ghost use Rattle.aa_decide_audit.specs.LogLines.{beginning, capability_subject, 
 ghost use Rattle.aa_decide_audit.specs.LogLines.{mask_key, operation, socket_subject, subject, tag_word};
 ghost use Rattle.aa_profile_access.specs.SeenRequests.{request_of};
 ghost use Rattle.aa_profile_tables.specs.Names.{name_or_none};
-ghost use Rattle.aa_quoting.specs.Texts.{quoted, told_text};
+ghost use Rattle.aa_quoting.specs.Texts.{quoted, written_text};
 ghost use Rattle.std.specs.Fmt.{decimal};
 ghost use Rattle.std.specs.Option.{option_map};
 
@@ -14,7 +14,7 @@ use crate::exec_verdict::ExecVerdict;
 use crate::verdict::{Tag, Verdict};
 use aa_profile_access::{Perms, Request};
 use aa_profile_tables::{capability_name, domain_name, kind_name};
-use aa_quoting::{push_quoted, push_text, told_size};
+use aa_quoting::{push_quoted, push_text, written_size};
 use itoa::Buffer;
 use std::alloc::{AllocError, Global};
 
@@ -73,9 +73,9 @@ fn push_table_name(line: &mut Vec<u8>, key: &str, name: Option<&str>) -> Result<
     }
 }
 
-// Puts a key and a text as it is told behind a line.
-fn push_told(line: &mut Vec<u8>, key: &str, text: &[u8]) -> Result<(), AllocError>
-    ensures { OnOk result (line.new.items ≡ line.old.items ++ key.now ++ told_text text.now) }
+// Puts a key and a text as it is written behind a line.
+fn push_written(line: &mut Vec<u8>, key: &str, text: &[u8]) -> Result<(), AllocError>
+    ensures { OnOk result (line.new.items ≡ line.old.items ++ key.now ++ written_text text.now) }
 {
     line.extend_from_slice(key.as_bytes())?;
     push_text(line, text)
@@ -102,7 +102,7 @@ fn push_file(
 ) -> Result<(), AllocError>
     ensures { OnOk result (line.new.items ≡ line.old.items ++ file_subject tag mask.0 needs.0 path.now) }
 {
-    push_told(line, " name=", path)?;
+    push_written(line, " name=", path)?;
     push_mask(line, " requested_mask=", needs)?;
     push_mask(line, mask_key(tag), mask)
 }
@@ -160,16 +160,16 @@ fn push_beginning(
 {
     push_name(line, "apparmor=", tag.word())?;
     push_name(line, " operation=", operation)?;
-    push_told(line, " profile=", name)
+    push_written(line, " profile=", name)
 }
 
 // How many bytes a line takes at most, by the name of who asked and what was asked for.
 fn most_bytes(name: &[u8], request: &Request<'_>) -> usize {
     let path = match request {
-        Request::File { path, .. } => told_size(path),
+        Request::File { path, .. } => written_size(path),
         _ => 0,
     };
-    told_size(name)
+    written_size(name)
         .saturating_add(path)
         .saturating_add(MOST_KEYS)
 }
@@ -217,7 +217,7 @@ pub fn exec_line(
     let Some(tag) = verdict.verdict.tag else {
         return Ok(Vec::new(alloc));
     };
-    let size = told_size(name).saturating_add(told_size(path));
+    let size = written_size(name).saturating_add(written_size(path));
     let mut line = Vec::with_capacity(alloc, size.saturating_add(MOST_KEYS))?;
     push_beginning(&mut line, tag, "exec", name)?;
     push_file(&mut line, path, Perms::EXEC, tag, verdict.verdict.mask)?;

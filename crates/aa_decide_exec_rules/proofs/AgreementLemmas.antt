@@ -221,7 +221,7 @@ module _ (law : OverlapsAreTested) where
   one_way : (flag owned : Bool) (path : List ℕ) (some_exact : Bool) → All (λ b. b < 2 ^ 8) path
       → (rules : List Rule) → agree rules ≡ true → All HasReadPattern rules
       → IsAlike some_exact (exec_rules flag owned path rules) → LeadOneWay some_exact (exec_rules flag owned path rules)
-  one_way flag owned path some_exact bytes [] agrees read alike = λ first transition exact audited told c d. absurd (omega (arith, c.1))
+  one_way flag owned path some_exact bytes [] agrees read alike = λ first transition exact audited holds c d. absurd (omega (arith, c.1))
   one_way flag owned path some_exact bytes (rule ∷ rules) agrees read alike =
       let parts = agree-parts rule rules agrees in
       subst (LeadOneWay some_exact) (exec-before flag owned path rule rules)
@@ -235,30 +235,30 @@ module _ (law : OverlapsAreTested) where
       by : (said : Option ExecRule) → said_of flag owned path rule ≡ said → list_any (λ later. conflict later rule) rules ≡ false
           → (IsAlike some_exact said-rest → LeadOneWay some_exact said-rest)
           → IsAlike some_exact (said-before said said-rest) → LeadOneWay some_exact (said-before said said-rest)
-      by None e none rest alike first transition exact audited told c d = rest alike first transition exact audited told c d
-      by (Some (Denying loud)) e none rest alike first transition exact audited told c d = or (contains-split (Denying loud) said-rest (Leading transition exact audited) c)
+      by None e none rest alike first transition exact audited holds c d = rest alike first transition exact audited holds c d
+      by (Some (Denying loud)) e none rest alike first transition exact audited holds c d = or (contains-split (Denying loud) said-rest (Leading transition exact audited) c)
         where
           or : (Denying loud ≡ Leading transition exact audited) ⊎ Contains said-rest (Leading transition exact audited) → transition ≡ first
           or (inl is) = absurd (cc)
-          or (inr c) = rest (λ t x a c. alike t x a (contains-behind (Denying loud) said-rest (Leading t x a) c)) first transition exact audited told c d
-      by (Some (Leading here own loud)) e none rest alike first transition exact audited told c d =
-          or (own || not some_exact) refl told (contains-split (Leading here own loud) said-rest (Leading transition exact audited) c)
+          or (inr c) = rest (λ t x a c. alike t x a (contains-behind (Denying loud) said-rest (Leading t x a) c)) first transition exact audited holds c d
+      by (Some (Leading here own loud)) e none rest alike first transition exact audited holds c d =
+          or (own || not some_exact) refl holds (contains-split (Leading here own loud) said-rest (Leading transition exact audited) c)
         where
           or : (leads : Bool) → (own || not some_exact) ≡ leads
               → (if leads then Some here else first_lead some_exact said-rest) ≡ Some first
               → (Leading here own loud ≡ Leading transition exact audited) ⊎ Contains said-rest (Leading transition exact audited)
               → transition ≡ first
-          or true v told (inl is) = cc
-          or true v told (inr c) =
+          or true v holds (inl is) = cc
+          or true v holds (inr c) =
               let behind = alike transition exact audited (contains-behind (Leading here own loud) said-rest (Leading transition exact audited) c) d in
               let ahead = alike here own loud (0, omega arith, refl) v in
               later-alike flag owned path rule here own bytes (All-head HasReadPattern rule rules read)
               (rule-leads flag owned path rule here own loud e) rules (All-tail HasReadPattern rule rules read) none transition audited
               (subst (λ exact. Contains said-rest (Leading transition exact audited)) (behind ∙ sym ahead) c)
-              ∙ some-same here first told
-          or false v told (inl is) = absurd (cc)
-          or false v told (inr c) =
-              rest (λ t x a c. alike t x a (contains-behind (Leading here own loud) said-rest (Leading t x a) c)) first transition exact audited told c d
+              ∙ some-same here first holds
+          or false v holds (inl is) = absurd (cc)
+          or false v holds (inr c) =
+              rest (λ t x a c. alike t x a (contains-behind (Leading here own loud) said-rest (Leading t x a) c)) first transition exact audited holds c d
 
   -- of rules that agree, those that dominate lead one way
   pub lead-one_way : AgreeingRulesLeadOneWay

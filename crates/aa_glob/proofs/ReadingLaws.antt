@@ -13,7 +13,7 @@ use Rattle.aa_glob_syntax.proofs.ClassLemmas.{behind_first, behind_first-alone, 
 use Rattle.aa_glob_syntax.proofs.FaultLemmas.{reading-whole}
 use Rattle.aa_glob_syntax.proofs.SymbolLemmas.{symbols-plain}
 use Rattle.aa_glob_syntax.specs.Reading.{Pieces, Cut, Ended, Closed, Refused, onto, behind_comma, group, deepest, pieces, whole, longest, begins_with_slash, HasNoFirstFault, reading}
-use Rattle.aa_glob.specs.Laws.{needs_backslash, quoted, bytes_pattern, ends_with_backslash, is_told_before_end, IsRefusedBeforeEnd, IsRefusedHoweverItEnds}
+use Rattle.aa_glob.specs.Laws.{needs_backslash, quoted, bytes_pattern, ends_with_backslash, is_met_before_end, IsRefusedBeforeEnd, IsRefusedHoweverItEnds}
 use Rattle.aa_bytes.specs.declared.byte_set.ByteRange.{ByteRange}
 use Rattle.aa_bytes.specs.declared.byte_set.ByteSet.TheVariants.{Inside}
 use Rattle.aa_glob_syntax.specs.declared.symbol.Symbol.{Symbol}
@@ -273,24 +273,24 @@ whole-agree error early (BothAlone agree) refuses = refuses
 whole-agree error early (BothMore agree) refuses = refuses
 
 -- a fault that is told before the end is none of those that are told first
-told-behind : (text : List ℕ) (error : PatternError) (test : Bool) (first : PatternError) (rest : Result Pattern PatternError) → is_told_before_end text first ≡ false → is_told_before_end text error ≡ true → (if test then Err first else rest) ≡ Err error → rest ≡ Err error
-told-behind text error true first rest untold told refuses =
+met-behind : (text : List ℕ) (error : PatternError) (test : Bool) (first : PatternError) (rest : Result Pattern PatternError) → is_met_before_end text first ≡ false → is_met_before_end text error ≡ true → (if test then Err first else rest) ≡ Err error → rest ≡ Err error
+met-behind text error true first rest unmet met refuses =
     let same : first ≡ error = cc in
-    absurd (false≢true (sym untold ∙ ap (is_told_before_end text) same ∙ told))
-told-behind text error false first rest untold told refuses = refuses
+    absurd (false≢true (sym unmet ∙ ap (is_met_before_end text) same ∙ met))
+met-behind text error false first rest unmet met refuses = refuses
 
 -- A text that is refused by a fault that is told before its end is refused behind the faults that are told first.
 reading-refused : (text : List ℕ) (error : PatternError) → IsRefusedBeforeEnd text error → whole (pieces 0 (elements Elsewhere (symbols text))) ≡ Err error
 reading-refused text error refused =
-    let behind_length = told-behind text error (not (nat_le (length text) longest)) TooLong _ refl refused.1 refused.0 in
-    let behind_zero = told-behind text error (list_any (λ b. b == 0) text) ZeroByte _ refl refused.1 behind_length in
-    told-behind text error (not (begins_with_slash text)) NotAbsolute _ refl refused.1 behind_zero
+    let behind_length = met-behind text error (not (nat_le (length text) longest)) TooLong _ refl refused.1 refused.0 in
+    let behind_zero = met-behind text error (list_any (λ b. b == 0) text) ZeroByte _ refl refused.1 behind_length in
+    met-behind text error (not (begins_with_slash text)) NotAbsolute _ refl refused.1 behind_zero
 
 -- A fault that is told before the end of a text is told alike, whatever follows.
 pub reading-first_fault : (front : List ℕ) (error : PatternError) → IsRefusedBeforeEnd front error → IsRefusedHoweverItEnds front error
 reading-first_fault front error refused more fine =
-    let told = refused.1 in
-    let late = λ (e : PatternError). not (is_told_before_end front e) in
+    let met = refused.1 in
+    let late = λ (e : PatternError). not (is_met_before_end front e) in
     let goes = symbols-goes {late = late} front more (λ ends. rw ends refl) in
     let agree = pieces-agree {late = late} refl 0 (elements-alike refl Elsewhere goes) in
-    reading-whole (front ++ more) fine ∙ whole-agree error (rw told refl) agree (reading-refused front error refused)
+    reading-whole (front ++ more) fine ∙ whole-agree error (rw met refl) agree (reading-refused front error refused)

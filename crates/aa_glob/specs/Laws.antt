@@ -1,4 +1,4 @@
--- What the laws speak of: texts that spell themselves, the one text that an exact pattern matches, and faults that are told
+-- What the laws speak of: texts that spell themselves, the one text that an exact pattern matches, and faults that are met
 -- before a text's end.
 use Rattle.std.specs.Prelude.{◌≡◌, ℕ, Bool, true, false, ◌==◌, ◌||◌, not, if◌then◌else◌, List, [], ◌∷◌, ◌++◌, Err}
 use Rattle.aa_bytes.specs.Bytes.{backslash, closing_brace, opening_brace, opening_bracket, question_mark, star}
@@ -33,20 +33,20 @@ ends_with_backslash [] = false
 ends_with_backslash (b ∷ []) = b == backslash
 ends_with_backslash (b ∷ c ∷ bs) = ends_with_backslash (c ∷ bs)
 
--- A fault that is met before a text's end, and so is told whatever follows. A class or group that isn't closed is told at the end,
+-- A fault that is met before a text's end, and so is reported whatever follows. A class or group that isn't closed is met at the end,
 -- and so is a backslash that stands there; a text's length, a zero byte and its first byte are looked at before any of these.
-abbrev pub is_told_before_end : List ℕ → PatternError → Bool
-is_told_before_end text EmptyClass = true
-is_told_before_end text BadRange = true
-is_told_before_end text StrayClose = true
-is_told_before_end text FewAlternatives = true
-is_told_before_end text TooDeep = true
-is_told_before_end text BadEscape = not (ends_with_backslash text)
-is_told_before_end text _ = false
+abbrev pub is_met_before_end : List ℕ → PatternError → Bool
+is_met_before_end text EmptyClass = true
+is_met_before_end text BadRange = true
+is_met_before_end text StrayClose = true
+is_met_before_end text FewAlternatives = true
+is_met_before_end text TooDeep = true
+is_met_before_end text BadEscape = not (ends_with_backslash text)
+is_met_before_end text _ = false
 
 -- a text is refused by a fault that is met before its end
 abbrev pub IsRefusedBeforeEnd : List ℕ → PatternError → Type 0
-IsRefusedBeforeEnd text error = (reading text ≡ Err error) × (is_told_before_end text error ≡ true)
+IsRefusedBeforeEnd text error = (reading text ≡ Err error) × (is_met_before_end text error ≡ true)
 
 -- whatever follows a text, it is refused by this fault, unless it then has one of those that are told first
 abbrev pub IsRefusedHoweverItEnds : List ℕ → PatternError → Type 0

@@ -1,4 +1,4 @@
-//! What holds of reading and matching: which texts spell themselves, which faults are told whatever follows them, and which
+//! What holds of reading and matching: which texts spell themselves, which faults are reported whatever follows them, and which
 //! texts match.
 
 ghost use Rattle.std.specs.Prelude.{◌≡◌, ◌↔◌, ℕ, true, false, List, Ok, IsTrue};
@@ -23,8 +23,8 @@ pub fn quoted_text_reads_as_itself()
     ensures { (text : List ℕ) → HasNoFirstFault (quoted text) → reading (quoted text) ≡ Ok (bytes_pattern text) }
 {}
 
-/// A fault that is met before a text's end is told alike whatever follows, so texts that agree up to it are refused alike.
-pub fn first_fault_is_told()
+/// A fault that is met before a text's end is reported alike whatever follows, so texts that agree up to it are refused alike.
+pub fn first_fault_is_reported()
     ensures { (text : List ℕ) (error : PatternError) → IsRefusedBeforeEnd text error → IsRefusedHoweverItEnds text error }
 {}
 

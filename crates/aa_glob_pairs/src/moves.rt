@@ -168,11 +168,11 @@ fn taken(tables: &Tables, state: u32) -> ByteMap
     map
 }
 
-// Puts a byte into a map, where it is told to.
-fn put_if(told: bool, byte: u8, map: &mut ByteMap)
-    ensures { (other : ℕ) → in_map map.new other ≡ (other == byte && told || in_map map.old other) }
+// Puts a byte into a map, where it is to be put.
+fn put_if(is_put: bool, byte: u8, map: &mut ByteMap)
+    ensures { (other : ℕ) → in_map map.new other ≡ (other == byte && is_put || in_map map.old other) }
 {
-    if told {
+    if is_put {
         map.insert(byte);
     }
 }

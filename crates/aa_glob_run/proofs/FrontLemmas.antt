@@ -97,13 +97,13 @@ turned_around : (x y : Bool) → (x || y) ≡ (y || (x || false))
 turned_around x y = grind arith
 
 -- one state more in the front
-pub IsFront-push : (r room : ℕ) (rs members told : List ℕ) → IsFront rs room members → r < room → is_in r rs ≡ false
-    → ((x : ℕ) → has_bit told x ≡ (x == r || has_bit members x)) → length told ≡ length members
-    → IsFront (rs ++ r ∷ []) room told
-IsFront-push r room rs members told front low none bits len = record {
+pub IsFront-push : (r room : ℕ) (rs members marked : List ℕ) → IsFront rs room members → r < room → is_in r rs ≡ false
+    → ((x : ℕ) → has_bit marked x ≡ (x == r || has_bit members x)) → length marked ≡ length members
+    → IsFront (rs ++ r ∷ []) room marked
+IsFront-push r room rs members marked front low none bits len = record {
   distinct = distinct-push r rs front.distinct none;
   below = All-push (λ r. r < room) rs r front.below low;
-  told = λ x. bits x ∙ ap (λ b. x == r || b) (front.told x) ∙ turned_around (x == r) (is_in x rs) ∙ sym (is_in-push x r rs);
+  marked = λ x. bits x ∙ ap (λ b. x == r || b) (front.marked x) ∙ turned_around (x == r) (is_in x rs) ∙ sym (is_in-push x r rs);
   bits = omega (arith, front.bits);
 }
 

@@ -16,26 +16,26 @@ use Rattle.aa_glob_nfa.specs.declared.state.End.{End}
 use Rattle.aa_glob_nfa.specs.declared.tables.Tables.{Tables}
 use Rattle.aa_glob_nfa.proofs.ListLemmas.{some_same, Contains-map, Contains-map_cases}
 
--- one pattern more is told
-pub gets_more : (old mid new : List ℕ) (told : List ℕ) (p : ℕ) → Gets old mid (Contains told) → new ≡ mid ++ p ∷ [] → Gets old new (Contains (told ++ p ∷ []))
-gets_more old mid new told p before is q = (
+-- one pattern more is found
+pub gets_more : (old mid new : List ℕ) (got : List ℕ) (p : ℕ) → Gets old mid (Contains got) → new ≡ mid ++ p ∷ [] → Gets old new (Contains (got ++ p ∷ []))
+gets_more old mid new got p before is q = (
   (λ h. elim (Contains-push_cases mid p q (subst (λ l. Contains l q) is h)) [
     | inl early ↦ elim ((before q).0 early) [
       | inl first ↦ inl first
-      | inr later ↦ inr (Contains-append_left told (p ∷ []) q later)
+      | inr later ↦ inr (Contains-append_left got (p ∷ []) q later)
     ]
-    | inr same ↦ inr (subst (λ x. Contains (told ++ p ∷ []) x) same (Contains-push told p))
+    | inr same ↦ inr (subst (λ x. Contains (got ++ p ∷ []) x) same (Contains-push got p))
   ]),
   (λ either. subst (λ l. Contains l q) (sym is) (elim either [
     | inl first ↦ Contains-append_left mid (p ∷ []) q ((before q).1 (inl first))
-    | inr later ↦ elim (Contains-push_cases told p q later) [
+    | inr later ↦ elim (Contains-push_cases got p q later) [
       | inl early ↦ Contains-append_left mid (p ∷ []) q ((before q).1 (inr early))
       | inr same ↦ subst (λ x. Contains (mid ++ p ∷ []) x) same (Contains-push mid p)
     ]
   ])),
 )
 
--- what is told of the ends at a state
+-- what is found of the ends at a state
 pub gets_ends : (t : Tables) (state : ℕ) (old new : List ℕ) (ends : List End) → All (λ e. Contains t.ends.items e × (e.state ≡ state)) ends
     → ((end : End) → Contains t.ends.items end → end.state ≡ state → Contains ends end)
     → Gets old new (Contains (map (λ e. e.pattern) ends)) → Gets old new (EndsAt (graph_of t) state)
@@ -145,11 +145,11 @@ OnOk-from (Err e) P p = tt
 -- the patterns of the ends at all states that are reached
 pub found_all : (g : Graph) (text live patterns : List ℕ) → IsWhole g (reverse text) live → ((p : ℕ) → Contains patterns p ↔ IsEndIn g (length live) live p)
     → IsFound g text patterns
-found_all g text live patterns whole told p = (
+found_all g text live patterns whole got p = (
   (λ h.
-      let known = (told p).0 h in
+      let known = (got p).0 h in
       (known.1, known.4, All-contains (Reaches g (reverse text)) live known.1 whole.reached (Contains-slice_get live known.0 known.1 known.2 known.3))),
   (λ found.
       let there = whole.each found.0 found.2 in
-      (told p).1 (there.0, found.0, there.1, slice_get-get_or live there.0 found.0 there.1 ∙ ap Some there.2, found.1)),
+      (got p).1 (there.0, found.0, there.1, slice_get-get_or live there.0 found.0 there.1 ∙ ap Some there.2, found.1)),
 )

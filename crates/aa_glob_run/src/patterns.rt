@@ -15,37 +15,37 @@ pub fn patterns_of(alloc: Global, tables: &Tables, front: &Front) -> Result<Vec<
     requires sound { AreSound tables.now }
     requires sorted { AreSorted tables.now }
     requires room { front.now.room ≡ length tables.now.states }
-    ensures told { IfOk result (λ patterns. AreEndsOf (graph_of tables.now) front.now.states patterns.items) }
+    ensures found { IfOk result (λ patterns. AreEndsOf (graph_of tables.now) front.now.states patterns.items) }
     ensures rise { IfOk result (λ patterns. AllPairs (λ p q. p < q) patterns.items) }
 {
-    let mut told = told_by(alloc, tables, front)?;
-    told.sort_unstable();
-    rising(alloc, &told)
+    let mut found = found_by(alloc, tables, front)?;
+    found.sort_unstable();
+    rising(alloc, &found)
 }
 
 // The patterns of which states are ends, for each state by itself.
-fn told_by(alloc: Global, tables: &Tables, front: &Front) -> Result<Vec<u32>, AllocError>
+fn found_by(alloc: Global, tables: &Tables, front: &Front) -> Result<Vec<u32>, AllocError>
     requires sound { AreSound tables.now }
     requires sorted { AreSorted tables.now }
     requires room { front.now.room ≡ length tables.now.states }
-    ensures { IfOk result (λ told. AreEndsOf (graph_of tables.now) front.now.states told.items) }
+    ensures { IfOk result (λ found. AreEndsOf (graph_of tables.now) front.now.states found.items) }
 {
-    let mut told = Vec::new(alloc);
+    let mut found = Vec::new(alloc);
     for at in 0..front.len() {
-        tell(tables, front.state(at), &mut told)?;
+        push_found(tables, front.state(at), &mut found)?;
     }
-    Ok(told)
+    Ok(found)
 }
 
 // Puts the patterns of which a state is an end behind others.
-fn tell(tables: &Tables, state: u32, told: &mut Vec<u32>) -> Result<(), AllocError>
+fn push_found(tables: &Tables, state: u32, found: &mut Vec<u32>) -> Result<(), AllocError>
     requires sound { AreSound tables.now }
     requires sorted { AreSorted tables.now }
     requires is_state { state < length tables.now.states }
-    ensures { OnOk result (Gets told.old.items told.new.items (EndsAt (graph_of tables.now) state)) }
+    ensures { OnOk result (Gets found.old.items found.new.items (EndsAt (graph_of tables.now) state)) }
 {
     for end in tables.ends_of(state) {
-        told.push(end.pattern)?;
+        found.push(end.pattern)?;
     }
     Ok(())
 }

@@ -11,11 +11,11 @@ Ways = List ℕ × List (ℕ × ℕ)
 abbrev pub nowhere : ℕ
 nowhere = 4294967295
 
--- what is told of a place behind which others alone are found: numbers from this one on aren't told of a place
+-- what is noted of a place behind which others alone are found: numbers from this one on aren't noted of a place
 abbrev pub others_alone : ℕ
 others_alone = 65534
 
--- what is told of a place behind which none is found
+-- what is noted of a place behind which none is found
 abbrev pub nothing : ℕ
 nothing = 65535
 
@@ -27,7 +27,7 @@ places ways = length ways.0
 abbrev pub key : ℕ → ℕ → ℕ
 key place number = place * 2 ^ 32 + number
 
--- what is told is this number, and not one of those two
+-- what is noted is this number, and not one of those two
 abbrev pub is_number : ℕ → Option ℕ → Bool
 is_number number None = false
 is_number number (Some own) = own == number && nat_lt number others_alone

@@ -2,7 +2,7 @@
 
 ghost use Rattle.std.specs.Prelude.{◌≡◌, ◌<◌, ◌+◌, length, None, IfOk, OnOk};
 ghost use Rattle.aa_glob_trie.specs.Ways.{HasNoWay, HasOneMore, key, next, nowhere, places};
-ghost use Rattle.aa_glob_trie.specs.code.Told.{TellsOthers};
+ghost use Rattle.aa_glob_trie.specs.code.Noted.{NotesOthers};
 
 use indexmap::IndexMap;
 use std::alloc::{AllocError, Global};
@@ -14,10 +14,10 @@ pub const NO_NUMBER: u32 = u32::MAX;
 // Two numbers as one.
 const NUMBERS: u64 = 1 << 32;
 
-// What is told of a place behind which none is found.
+// What is noted of a place behind which none is found.
 const NOTHING: u16 = 65_535;
 
-// What is told of a place behind which others alone are found.
+// What is noted of a place behind which others alone are found.
 const OTHERS_ALONE: u16 = 65_534;
 
 /// Places from 0 on, of which each but the first stands behind an earlier one and is found there by a number.
@@ -35,13 +35,13 @@ pub struct Tree {
 impl Model for Tree {
     ghost use Rattle.std.specs.Prelude.{◌≤◌, length};
     ghost use Rattle.aa_glob_trie.specs.Ways.{Ways, nowhere};
-    ghost use Rattle.aa_glob_trie.specs.code.Told.{AreTold};
+    ghost use Rattle.aa_glob_trie.specs.code.Noted.{AreNoted};
 
     ghost Value = { Ways };
 
     ghost view = { λ t. (t.on.items, t.others.entries) };
 
-    ghost invariant = { λ t. (length t.on.items ≤ nowhere) × AreTold t.on.items t.others.entries };
+    ghost invariant = { λ t. (length t.on.items ≤ nowhere) × AreNoted t.on.items t.others.entries };
 }
 
 impl Tree {
@@ -72,8 +72,8 @@ impl Tree {
     {
         match self.on.get(place as usize) {
             None => None,
-            Some(told) if *told == NOTHING => None,
-            Some(told) if *told as u32 == number && *told < OTHERS_ALONE => Some(place + 1),
+            Some(noted) if *noted == NOTHING => None,
+            Some(noted) if *noted as u32 == number && *noted < OTHERS_ALONE => Some(place + 1),
             Some(_) => match self.others.get(&key(place, number)) {
                 Some(next) => Some(*next),
                 None => None,
@@ -104,17 +104,17 @@ impl Tree {
         {
             self.on[place as usize] = number as u16;
         } else {
-            tell_others(&mut self.on, place as usize);
+            note_others(&mut self.on, place as usize);
             self.others.insert(key(place, number), added)?;
         }
         Ok(added)
     }
 }
 
-// Tells of a place of which nothing is told yet that others are found behind it.
-fn tell_others(on: &mut Vec<u16>, place: usize)
+// Notes of a place of which nothing is noted yet that others are found behind it.
+fn note_others(on: &mut Vec<u16>, place: usize)
     requires { place < length on.old.items }
-    ensures { TellsOthers on.old.items place on.new.items }
+    ensures { NotesOthers on.old.items place on.new.items }
 {
     if on[place] == NOTHING {
         on[place] = OTHERS_ALONE;

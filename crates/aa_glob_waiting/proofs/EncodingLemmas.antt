@@ -27,12 +27,12 @@ near_is before x near = by (nat_le before x) refl (nat_lt (x - before) 255) refl
     by false rising b small both = absurd cc
 
 -- what four bytes of a state tell
-four_tell : (s : ℕ) → state_of (s % 256) (s / 256 % 256) (s / 65536 % 256) (s / 16777216) ≡ s
-four_tell s = omega arith
+four_bytes : (s : ℕ) → state_of (s % 256) (s / 256 % 256) (s / 65536 % 256) (s / 16777216) ≡ s
+four_bytes s = omega arith
 
 -- bytes of states tell these states
-told : (before x : ℕ) (xs : List ℕ) → decoded x (encoded x xs) ≡ xs → decoded before (encoded before (x ∷ xs)) ≡ x ∷ xs
-told before x xs rest = by (is_near before x) refl
+decoded_more : (before x : ℕ) (xs : List ℕ) → decoded x (encoded x xs) ≡ xs → decoded before (encoded before (x ∷ xs)) ≡ x ∷ xs
+decoded_more before x xs rest = by (is_near before x) refl
   where
     small : (b : Bool) → (x - before == 255) ≡ b → (before ≤ x) × (x - before < 255)
         → (if b then decoded_far (encoded x xs) else ((before + (x - before)) ∷ decoded (before + (x - before)) (encoded x xs))) ≡ x ∷ xs
@@ -43,11 +43,11 @@ told before x xs rest = by (is_near before x) refl
 
     by : (b : Bool) → is_near before x ≡ b → decoded before ((if b then (x - before) ∷ [] else (255 ∷ bytes_of x)) ++ encoded x xs) ≡ x ∷ xs
     by true near = small (x - before == 255) refl (near_is before x near)
-    by false far = ap (λ s. s ∷ decoded s (encoded x xs)) (four_tell x) ∙ ap (λ l. x ∷ l) rest
+    by false far = ap (λ s. s ∷ decoded s (encoded x xs)) (four_bytes x) ∙ ap (λ l. x ∷ l) rest
 
 decoded-encoded : (before : ℕ) (xs : List ℕ) → decoded before (encoded before xs) ≡ xs
 decoded-encoded before [] = refl
-decoded-encoded before (x ∷ xs) = told before x xs (decoded-encoded x xs)
+decoded-encoded before (x ∷ xs) = decoded_more before x xs (decoded-encoded x xs)
 
 -- bytes of one more state
 pushed : (old : List ℕ) (last x : ℕ) → IsEncoded old → last ≡ last_of 0 (decoded 0 old) → old ++ bytes_behind last x ≡ encoded 0 (decoded 0 old ++ x ∷ [])
@@ -191,11 +191,11 @@ near_next place bytes byte coded stands is small =
     let xs = decoded 0 bytes in
     let within = (is_within place bytes byte coded stands is).0 in
     let x = get_or xs place.index 0 in
-    let tells = is_small place.state x byte (first_byte place bytes byte coded stands within is) small in (
-      omega (arith, tells.0, All-contains (λ s. s < 2 ^ 32) xs x coded.within (Contains-get_or xs place.index 0 within)),
-      subst (λ s. slice_get xs place.index ≡ Some s) tells.0 (slice_get-get_or xs place.index 0 within),
-      subst (λ s. StandsAt (record { index = place.index + 1; offset = place.offset + 1; state = s }) xs) tells.0
-          (subst (λ n. StandsAt (record { index = place.index + 1; offset = place.offset + n; state = x }) xs) tells.1 (stands_next place xs stands within)),
+    let known = is_small place.state x byte (first_byte place bytes byte coded stands within is) small in (
+      omega (arith, known.0, All-contains (λ s. s < 2 ^ 32) xs x coded.within (Contains-get_or xs place.index 0 within)),
+      subst (λ s. slice_get xs place.index ≡ Some s) known.0 (slice_get-get_or xs place.index 0 within),
+      subst (λ s. StandsAt (record { index = place.index + 1; offset = place.offset + 1; state = s }) xs) known.0
+          (subst (λ n. StandsAt (record { index = place.index + 1; offset = place.offset + n; state = x }) xs) known.1 (stands_next place xs stands within)),
     )
 
 -- the next state by its own bytes
@@ -213,11 +213,11 @@ far_next place bytes byte coded stands is great =
     λ o n is low. ap (λ i. get_or bytes i 0) is ∙ byte_there place bytes n coded stands within (omega (arith, five, low)) ∙ ap (λ l. get_or l n 0) far
     in (
       omega (arith, room place xs stands within, five, ap length coded.same),
-      λ state tells.
+      λ state known.
           let same : x ≡ state =
           omega (
             arith,
-            tells,
+            known,
             at (place.offset + 1) 1 (omega arith) (omega arith),
             at (place.offset + 1 + 1) 2 (omega arith) (omega arith),
             at (place.offset + 1 + 2) 3 (omega arith) (omega arith),

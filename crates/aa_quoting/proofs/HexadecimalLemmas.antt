@@ -6,7 +6,7 @@ use Rattle.std.proofs.lemmas.List.{get_or-map}
 use Rattle.hex.specs.Hex.{encode_lower, encode_with, lower_digits, upper_digits}
 use Rattle.std.specs.List.{list_all}
 use Rattle.aa_bytes.specs.Bytes.{quote}
-use Rattle.aa_quoting.specs.Texts.{digits_of, hexadecimal, is_shown, told_text}
+use Rattle.aa_quoting.specs.Texts.{digits_of, hexadecimal, is_shown, written_text}
 
 -- a digit in lower case is one in upper case
 upper-digit : (n : ℕ) → n < 16 → to_ascii_uppercase (slice_index lower_digits n) ≡ slice_index upper_digits n
@@ -32,9 +32,9 @@ length-hexadecimal (b ∷ bytes) =
     let both = length-append (digits_of b) (hexadecimal bytes) in
     omega arith
 
--- how long a text is as it is told
-pub length-shown : (text : List ℕ) → list_all is_shown text ≡ true → length (told_text text) ≡ length text + 2
+-- how long a text is as it is written
+pub length-shown : (text : List ℕ) → list_all is_shown text ≡ true → length (written_text text) ≡ length text + 2
 length-shown text shown = let all = length-append text (quote ∷ []) in rw shown (omega arith)
 
-pub length-unshown : (text : List ℕ) → list_all is_shown text ≡ false → length (told_text text) ≡ length text * 2
+pub length-unshown : (text : List ℕ) → list_all is_shown text ≡ false → length (written_text text) ≡ length text * 2
 length-unshown text unshown = rw unshown (length-hexadecimal text)

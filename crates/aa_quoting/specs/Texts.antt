@@ -1,4 +1,4 @@
--- How names and paths are told, in replies and in the lines that log answers (docs/commands.md, "Replies").
+-- How names and paths are written, in replies and in the lines that log answers (docs/commands.md, "Replies").
 use Rattle.std.specs.Prelude.{ℕ, Bool, not, ◌&&◌, ◌==◌, nat_le, if◌then◌else◌, List, [], ◌∷◌, ◌++◌, flat_map}
 use Rattle.std.specs.List.{list_all}
 use Rattle.hex.specs.Hex.{encode_upper}
@@ -20,6 +20,6 @@ hexadecimal bytes = flat_map digits_of bytes
 abbrev pub quoted : List ℕ → List ℕ
 quoted text = quote ∷ text ++ quote ∷ []
 
--- how a text is told: between quotes, or in hexadecimal where one of its bytes isn't shown
-abbrev pub told_text : List ℕ → List ℕ
-told_text text = if list_all is_shown text then quoted text else hexadecimal text
+-- how a text is written: between quotes, or in hexadecimal where one of its bytes isn't shown
+abbrev pub written_text : List ℕ → List ℕ
+written_text text = if list_all is_shown text then quoted text else hexadecimal text

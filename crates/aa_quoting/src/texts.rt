@@ -1,8 +1,8 @@
-//! How names and paths are told: between quotes, or in hexadecimal.
+//! How names and paths are written: between quotes, or in hexadecimal.
 
 ghost use Rattle.std.specs.Prelude.{◌≡◌, ◌-◌, ◌^◌, ◌++◌, OnOk, length, min};
 ghost use Rattle.std.specs.List.{list_all};
-ghost use Rattle.aa_quoting.specs.Texts.{digits_of, hexadecimal, is_shown, quoted, told_text};
+ghost use Rattle.aa_quoting.specs.Texts.{digits_of, hexadecimal, is_shown, quoted, written_text};
 
 use hex::encode_to_slice;
 use std::alloc::AllocError;
@@ -34,9 +34,9 @@ pub fn two_digits(byte: u8) -> [u8; 2]
     digits
 }
 
-/// How many bytes a text takes as it is told, where that is a number of the type, and else the greatest. It takes no memory.
-pub fn told_size(text: &[u8]) -> usize
-    ensures { result ≡ min (length (told_text text.now)) (2 ^ 64 - 1) }
+/// How many bytes a text takes as it is written, where that is a number of the type, and else the greatest. It takes no memory.
+pub fn written_size(text: &[u8]) -> usize
+    ensures { result ≡ min (length (written_text text.now)) (2 ^ 64 - 1) }
 {
     if are_shown(text) {
         text.len().saturating_add(2)
@@ -71,13 +71,13 @@ fn push_hexadecimal(line: &mut Vec<u8>, bytes: &[u8]) -> Result<(), AllocError>
     Ok(())
 }
 
-/// Puts a text behind a line as it is told: between quotes, or in hexadecimal where one of its bytes isn't shown.
+/// Puts a text behind a line as it is written: between quotes, or in hexadecimal where one of its bytes isn't shown.
 ///
 /// # Errors
 ///
 /// Where memory runs out.
 pub fn push_text(line: &mut Vec<u8>, text: &[u8]) -> Result<(), AllocError>
-    ensures { OnOk result (line.new.items ≡ line.old.items ++ told_text text.now) }
+    ensures { OnOk result (line.new.items ≡ line.old.items ++ written_text text.now) }
 {
     if are_shown(text) {
         push_quoted(line, text)

@@ -62,12 +62,12 @@ module _ (files : Files) (force_complain : Bool) where
       ap (flat_map (reply_text files)) (replies_to-append files start done more)
       ∙ flat_map-append (reply_text files) (replies_to files start done) (replies_to files (after_lines files start done) more)
 
-  -- what was told so far is written, and then a front of what waited and of a text
+  -- what was put behind so far is written, and then a front of what waited and of a text
   pub front-after : {before old : Option (List ℕ)} {s : Session} {done : Lines} (new : Option (List ℕ)) (text : List ℕ) → IsAfter files force_complain before old s done
       → AppendsFront old new (s.waiting.items ++ text) → AppendsFront before new (texts done ++ text)
   front-after {before} {old} {s} {done} new text after front =
-      Front-same before new (after.told.done ++ (s.waiting.items ++ text)) (texts done ++ text) (Front-behind before old new after.told.done (s.waiting.items ++ text) after.told.writes front)
-      (sym (append_assoc after.told.done s.waiting.items text) ∙ ap (λ (l : List ℕ). l ++ text) after.told.keeps)
+      Front-same before new (after.written.done ++ (s.waiting.items ++ text)) (texts done ++ text) (Front-behind before old new after.written.done (s.waiting.items ++ text) after.written.writes front)
+      (sym (append_assoc after.written.done s.waiting.items text) ∙ ap (λ (l : List ℕ). l ++ text) after.written.keeps)
 
   pub front-waiting : {before old : Option (List ℕ)} {s : Session} {done : Lines} (new : Option (List ℕ)) → IsAfter files force_complain before old s done
       → AppendsFront old new s.waiting.items → AppendsFront before new (texts done)
@@ -79,7 +79,7 @@ module _ (files : Files) (force_complain : Bool) where
   texts-line done line flag =
       texts-append done ((line, flag) ∷ []) ∙ ap (λ (l : List ℕ). texts done ++ l) (append-nil (reply_text files (line_outcome files (after_lines files start done) line flag).reply))
 
-  -- the reply to a line was to be told, behind what waited
+  -- the reply to a line was to be written, behind what waited
   pub front-line : {before old : Option (List ℕ)} {s : Session} {done : Lines} (new : Option (List ℕ)) (line : List ℕ) (flag : Bool) (reply : Reply) (next : Managed)
       → IsAfter files force_complain before old s done → ◌≡◌ {A = Outcome} (record { reply = reply; managed = next }) (line_outcome files s.manager line flag)
       → AppendsFront old new (s.waiting.items ++ reply_text files reply) → AppendsFront before new (texts (done ++ (line, flag) ∷ []))
@@ -96,7 +96,7 @@ module _ (files : Files) (force_complain : Bool) where
       Front-same before new (texts (done ++ (front, flag) ∷ [])) (texts (done ++ (line, flag) ∷ [])) written
       (texts-line done front flag ∙ ap (λ (a : Outcome). texts done ++ reply_text files a.reply) (same (after_lines files start done)) ∙ sym (texts-line done line flag))
 
-  -- lines that were cut, all of which were to be told
+  -- lines that were cut, all of which were to be written
   pub front-cut : {before now : Option (List ℕ)} {input : List ℕ} {done : Lines} {buffer : List ℕ} → IsCut input done buffer → AppendsFront before now (texts done)
       → IsFrontOfWhole files force_complain before now input
   front-cut {before} {now} {input} {done} {buffer} cut written =
@@ -146,12 +146,12 @@ module _ (files : Files) (force_complain : Bool) where
   answered-so-far {before} {now} {s} {held} {input} follows empty =
       let done : Lines = follows.lines in
       let flags : List Bool = map (λ line. line.1) done in
-      let told = follows.after.told in
+      let behind = follows.after.written in
       record {
         flags = flags;
         written = subst (Appends before now)
-            (sym (append-nil told.done) ∙ ap (λ waits. told.done ++ waits) (sym empty) ∙ told.keeps ∙ ap texts (sym (ap (λ ls. flagged ls flags) (whole-cut follows.cut) ∙ flagged-unzipped done)))
-            told.writes;
+            (sym (append-nil behind.done) ∙ ap (λ waits. behind.done ++ waits) (sym empty) ∙ behind.keeps ∙ ap texts (sym (ap (λ ls. flagged ls flags) (whole-cut follows.cut) ∙ flagged-unzipped done)))
+            behind.writes;
       }
 
 -- lines with flags are these lines

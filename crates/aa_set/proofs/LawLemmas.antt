@@ -18,11 +18,11 @@ use Rattle.aa_set_listing.specs.List.{list_lines}
 use Rattle.aa_set.specs.Laws.{AreDistinct, GivesBack, NoneFlagged, NoneGoes, PiecesChangeNoReply, StepsAdd, StepsReturn, changes, command_in, goes, is_change}
 use Rattle.aa_set.specs.Manager.{Managed, after_change, back_at, is_mark_name, marking, new_manager, next, redone, undone}
 use Rattle.aa_set.specs.Reply.{is_refusal}
-use Rattle.aa_set.specs.Run.{Outcome, after_lines, changed, command_outcome, flagged, line_outcome, obeyed, refused, replies_to, takes_memory, told}
+use Rattle.aa_set.specs.Run.{Outcome, after_lines, answered, changed, command_outcome, flagged, line_outcome, obeyed, refused, replies_to, takes_memory}
 use Rattle.aa_decide_verdict.specs.Entries.{Loaded}
 use Rattle.aa_set.proofs.StepLemmas.{line_marks}
 use Rattle.aa_set.specs.declared.reply.Reply.{Reply}
-use Rattle.aa_set.specs.declared.reply.Reply.TheVariants.{Refused, Silent, Told}
+use Rattle.aa_set.specs.declared.reply.Reply.TheVariants.{Answered, Refused, Silent}
 
 abbrev Files : Type 0
 Files = List (List ℕ × List ℕ)
@@ -52,9 +52,9 @@ unfolding Grows
 change_grows m size (Ok entries) = (entries ∷ [], refl, refl)
 change_grows m size (Err refusal) = refusal_stays true m refusal
 
-told_grows : (m : Managed) (r : Result (List ℕ) Refusal) → Grows false m (told m r)
-told_grows m (Ok lines) = stays false m (Told lines) refl
-told_grows m (Err refusal) = refusal_stays false m refusal
+answered_grows : (m : Managed) (r : Result (List ℕ) Refusal) → Grows false m (answered m r)
+answered_grows m (Ok lines) = stays false m (Answered lines) refl
+answered_grows m (Err refusal) = refusal_stays false m refusal
 
 mark_grows : (m : Managed) (name : List ℕ) (t : Bool) → Grows false m (changed m (cond t (Ok (record m { machine = with_mark name m.machine })) (Err (plain BadRequest))))
 unfolding Grows
@@ -76,9 +76,9 @@ command_grows files m flag (Ok (Some (Back name))) h = absurd (true≢false h)
 command_grows files m flag (Ok (Some (Mark name))) h = flag_grows files m flag false (Mark name) (mark_grows m name (is_mark_name name))
 command_grows files m flag (Ok (Some (Make change))) h =
     flag_grows files m flag true (Make change) (change_grows m (parts_of files change) (change_of_set files m.force_complain m.machine.now change))
-command_grows files m flag (Ok (Some (Ask question))) h = flag_grows files m flag false (Ask question) (told_grows m (reply_lines m.machine.now question))
-command_grows files m flag (Ok (Some Listed)) h = flag_grows files m flag false Listed (told_grows m (Ok (list_lines m.machine.now)))
-command_grows files m flag (Ok (Some (Show name))) h = flag_grows files m flag false (Show name) (told_grows m (shown m.machine.now name))
+command_grows files m flag (Ok (Some (Ask question))) h = flag_grows files m flag false (Ask question) (answered_grows m (reply_lines m.machine.now question))
+command_grows files m flag (Ok (Some Listed)) h = flag_grows files m flag false Listed (answered_grows m (Ok (list_lines m.machine.now)))
+command_grows files m flag (Ok (Some (Show name))) h = flag_grows files m flag false (Show name) (answered_grows m (shown m.machine.now name))
 
 line_grows : (files : Files) (m : Managed) (line : List ℕ) (flag : Bool) → goes (command_in line) ≡ false → Grows (is_change (command_in line)) m (line_outcome files m line flag)
 line_grows files m line flag h =
@@ -174,9 +174,9 @@ returned_distinct keep m name there h = by (marked name m.machine) (subst AreDis
     by None d = d
     by (Some number) d = d
 
-told_distinct : (m : Managed) (r : Result (List ℕ) Refusal) → AreDistinct (all_sets m.machine) → AreDistinct (all_sets (told m r).managed.machine)
-told_distinct m (Ok lines) h = h
-told_distinct m (Err refusal) h = h
+answered_distinct : (m : Managed) (r : Result (List ℕ) Refusal) → AreDistinct (all_sets m.machine) → AreDistinct (all_sets (answered m r).managed.machine)
+answered_distinct m (Ok lines) h = h
+answered_distinct m (Err refusal) h = h
 
 either_distinct : (t : Bool) (a b : Outcome) → AreDistinct (all_sets a.managed.machine) → AreDistinct (all_sets b.managed.machine) → AreDistinct (all_sets (cond t a b).managed.machine)
 either_distinct true a b p q = p
@@ -200,9 +200,9 @@ obeyed_distinct keep files m (Back name) there h = returned_distinct keep.to_mar
 obeyed_distinct keep files m (Make change) there h =
     let now = distinct-behind m.machine.earlier (m.machine.now ∷ m.machine.later) h in
     changed_distinct m (parts_of files change) (change_of_set files m.force_complain m.machine.now change) h (keep.changes files m.force_complain m.machine.now change now.0)
-obeyed_distinct keep files m (Ask question) there h = told_distinct m (reply_lines m.machine.now question) h
-obeyed_distinct keep files m Listed there h = told_distinct m (Ok (list_lines m.machine.now)) h
-obeyed_distinct keep files m (Show name) there h = told_distinct m (shown m.machine.now name) h
+obeyed_distinct keep files m (Ask question) there h = answered_distinct m (reply_lines m.machine.now question) h
+obeyed_distinct keep files m Listed there h = answered_distinct m (Ok (list_lines m.machine.now)) h
+obeyed_distinct keep files m (Show name) there h = answered_distinct m (shown m.machine.now name) h
 
 command_distinct : Keeping → (files : Files) (m : Managed) (flag : Bool) (command : Result (Option Command) Refusal) → MarksItsSets m.machine → AreDistinct (all_sets m.machine)
     → AreDistinct (all_sets (command_outcome files m flag command).managed.machine)

@@ -8,14 +8,14 @@ use Rattle.aa_set_commands.specs.Command.{Command, Make, Mark, PolicyChange}
 use Rattle.aa_set.specs.Manager.{Managed, is_mark_name, made, marking}
 use Rattle.aa_decide_verdict.specs.Entries.{Loaded}
 use Rattle.aa_set_commands.specs.Refusal.{plain}
-use Rattle.aa_set.specs.Run.{changed, obeyed, obeyed_flagged, takes_memory, told}
+use Rattle.aa_set.specs.Run.{answered, changed, obeyed, obeyed_flagged, takes_memory}
 use Rattle.aa_text_files.specs.Files.{File, name_at}
 use Rattle.aa_text_files.specs.declared.text_error.Place.{Place}
 use Rattle.aa_set_commands.specs.declared.refusal.Refusal.{Refusal}
 use Rattle.aa_set_commands.specs.declared.refusal.RefusalKind.{RefusalKind}
 use Rattle.aa_set_commands.specs.declared.refusal.RefusalKind.TheVariants.{Memory}
 use Rattle.aa_set.specs.declared.reply.Reply.{Reply}
-use Rattle.aa_set.specs.declared.reply.Reply.TheVariants.{Done, Refused, Told}
+use Rattle.aa_set.specs.declared.reply.Reply.TheVariants.{Answered, Done, Refused}
 
 -- a refusal is that of want of memory, or another
 memory_or_not : (refusal : Refusal) → (refusal ≡ plain Memory) ⊎ (refusal ≢ plain Memory)
@@ -80,17 +80,17 @@ pub obeyed-mark : (files : List File) (managed after : Managed) (name : List ℕ
     → (flag : Bool) × (record { reply = reply; managed = after } ≡ obeyed_flagged files managed flag (Mark name))
 obeyed-mark files managed after name outcome reply = obeyed-changed files managed after (Mark name) (marking name managed) outcome reply refl
 
--- what is asked was told, refused, or found no memory
-pub obeyed-told : {V : Type 0} (items : V → List ℕ) (files : List File) (managed : Managed) (command : Command) (answer : Result (List ℕ) Refusal) (outcome : Result V Refusal) (reply : Reply)
-    → obeyed files managed command ≡ told managed answer
+-- what is asked was answered, refused, or found no memory
+pub obeyed-answered : {V : Type 0} (items : V → List ℕ) (files : List File) (managed : Managed) (command : Command) (answer : Result (List ℕ) Refusal) (outcome : Result V Refusal) (reply : Reply)
+    → obeyed files managed command ≡ answered managed answer
     → IfOk outcome (λ lines. answer ≡ Ok (items lines))
     → IfErr outcome (λ refusal. refusal ≢ plain Memory → answer ≡ Err refusal)
     → IfErr outcome (λ refusal. refusal ≡ plain Memory → takes_memory managed command ≡ true)
-    → MatchResult outcome (λ lines. reply ≡ Told (items lines)) (λ refusal. reply ≡ Refused refusal)
+    → MatchResult outcome (λ lines. reply ≡ Answered (items lines)) (λ refusal. reply ≡ Refused refusal)
     → (flag : Bool) × (record { reply = reply; managed = managed } ≡ obeyed_flagged files managed flag command)
-obeyed-told items files managed command answer (Ok lines) reply is done is_refused takes said =
+obeyed-answered items files managed command answer (Ok lines) reply is done is_refused takes said =
     (false, rw (said, is, done) refl)
-obeyed-told items files managed command answer (Err refusal) reply is done is_refused takes said = elim (memory_or_not refusal) [
+obeyed-answered items files managed command answer (Err refusal) reply is done is_refused takes said = elim (memory_or_not refusal) [
   | inl memory ↦ (true, rw (said, memory, takes memory) refl)
   | inr other ↦ (false, rw (said, is, is_refused other) refl)
 ]

@@ -12,12 +12,12 @@ use Rattle.aa_set_lines.specs.Lines.{is_line_feed, lines, without_empty_last}
 use Rattle.aa_set.specs.Reply.{reply_text, is_refusal, is_acceptance}
 use Rattle.aa_set.specs.Run.{Outcome, line_outcome, replies_to, after_lines, flagged, replies, IsAnswered}
 use Rattle.aa_set.specs.code.Session.{IsAfter, IsCut, Follows}
-use Rattle.aa_set_lines.specs.Streams.{Tells}
+use Rattle.aa_set_lines.specs.Streams.{WritesBehind}
 use Rattle.aa_set.specs.declared.reply.Reply.{Reply}
 use Rattle.aa_set_lines.specs.Limits.{longest_line}
 use Rattle.aa_set.specs.declared.session.Session.{Session}
 use Rattle.aa_set.specs.declared.session.Summary.{Summary}
-use Rattle.aa_set.proofs.StreamLemmas.{Tells-same, Tells-trans, Tells-flushed}
+use Rattle.aa_set.proofs.StreamLemmas.{WritesBehind-same, WritesBehind-trans, WritesBehind-flushed}
 use Rattle.aa_set.proofs.LineLemmas.{take-of_front, nothing_held}
 use Rattle.aa_set.proofs.LinesLemmas.{joined, split-append, split-front, split-whole, joined-last, without_empty_last-empty, without_empty_last-filled}
 
@@ -103,18 +103,18 @@ module _ (files : Files) (force_complain : Bool) where
   pub IsAfter-more : {before now next : Option (List ℕ)} {s t : Session} {done : Lines} (line : List ℕ) (flag : Bool) (reply : Reply)
       → IsAfter files force_complain before now s done
       → ◌≡◌ {A = Outcome} (record { reply = reply; managed = t.manager }) (line_outcome files s.manager line flag)
-      → Tells now next s.waiting.items t.waiting.items (reply_text files reply)
+      → WritesBehind now next s.waiting.items t.waiting.items (reply_text files reply)
       → t.summary.accepted ≡ s.summary.accepted + count_by is_acceptance (reply ∷ [])
       → t.summary.refused ≡ s.summary.refused + count_by is_refusal (reply ∷ [])
       → IsAfter files force_complain before next t (done ++ (line, flag) ∷ [])
-  IsAfter-more {before} {now} {next} {s} {t} {done} line flag reply after answers tells accepted refused =
+  IsAfter-more {before} {now} {next} {s} {t} {done} line flag reply after answers behind accepted refused =
       let old : Managed = after_lines files start done in
       let out : ◌≡◌ {A = Outcome} (record { reply = reply; managed = t.manager }) (line_outcome files old line flag) = answers ∙ ap (λ m. line_outcome files m line flag) after.managed in
       let all : replies_to files start (done ++ (line, flag) ∷ []) ≡ replies_to files start done ++ reply ∷ []
       = replies_to-append files start done ((line, flag) ∷ []) ∙ ap (λ (a : Outcome). replies_to files start done ++ a.reply ∷ []) (sym out) in
       record {
         managed = ap (λ (a : Outcome). a.managed) out ∙ sym (after_lines-append files start done ((line, flag) ∷ []));
-        told = Tells-same (Tells-trans after.told tells) (
+        written = WritesBehind-same (WritesBehind-trans after.written behind) (
             ap (λ text. flat_map (reply_text files) (replies_to files start done) ++ text) (sym (append-nil (reply_text files reply)))
             ∙ sym (flat_map-append (reply_text files) (replies_to files start done) (reply ∷ []))
             ∙ ap (flat_map (reply_text files)) (sym all));
@@ -143,7 +143,7 @@ module _ (files : Files) (force_complain : Bool) where
       = after_lines-append files start done ((front, flag) ∷ []) ∙ ap (λ (a : Outcome). a.managed) (same old) ∙ sym (after_lines-append files start done ((line, flag) ∷ [])) in
       record {
         managed = after.managed ∙ manager;
-        told = Tells-same after.told (ap (flat_map (reply_text files)) replies);
+        written = WritesBehind-same after.written (ap (flat_map (reply_text files)) replies);
         summed = record { accepted = after.summed.accepted ∙ ap (count_by is_acceptance) replies; refused = after.summed.refused ∙ ap (count_by is_refusal) replies };
       }
 
@@ -156,7 +156,7 @@ module _ (files : Files) (force_complain : Bool) where
       let replies_are : replies_to files start done ≡ replies files force_complain input flags = ap (replies_to files start) (sym all) in
       record {
         flags = flags;
-        written = subst (Appends before next) (ap (flat_map (reply_text files)) replies_are) (Tells-flushed next after.told flushed);
+        written = subst (Appends before next) (ap (flat_map (reply_text files)) replies_are) (WritesBehind-flushed next after.written flushed);
         summed = record { accepted = after.summed.accepted ∙ ap (count_by is_acceptance) replies_are; refused = after.summed.refused ∙ ap (count_by is_refusal) replies_are };
       }
 
@@ -181,9 +181,9 @@ module _ (files : Files) (force_complain : Bool) where
     lines = follows.lines;
     after = record {
       managed = manager ∙ follows.after.managed;
-      told = subst (λ waits. Tells before next [] waits (flat_map (reply_text files) (replies_to files start follows.lines))) (sym empty) (record {
+      written = subst (λ waits. WritesBehind before next [] waits (flat_map (reply_text files) (replies_to files start follows.lines))) (sym empty) (record {
         done = flat_map (reply_text files) (replies_to files start follows.lines);
-        writes = Tells-flushed next follows.after.told flushed;
+        writes = WritesBehind-flushed next follows.after.written flushed;
         keeps = append-nil (flat_map (reply_text files) (replies_to files start follows.lines));
       });
       summed = record { accepted = ap (λ (s : Summary). s.accepted) summary ∙ follows.after.summed.accepted; refused = ap (λ (s : Summary). s.refused) summary ∙ follows.after.summed.refused };

@@ -11,7 +11,7 @@ use Rattle.aa_set_listing.specs.List.{list_lines}
 use Rattle.aa_set.specs.Laws.{OtherLineLeavesAll, RefusedLineLeavesAll, SetDecidesAnswer, command_in, goes, is_change, is_question, marks}
 use Rattle.aa_set.specs.Manager.{Managed, back_at, made, marking, redone, undone}
 use Rattle.aa_set.specs.Reply.{is_refusal}
-use Rattle.aa_set.specs.Run.{Outcome, changed, command_outcome, obeyed, refused, takes_memory, told}
+use Rattle.aa_set.specs.Run.{Outcome, answered, changed, command_outcome, obeyed, refused, takes_memory}
 
 -- an outcome leaves a manager, if its reply is a refusal
 abbrev LeavesIfRefused : Managed → Outcome → Type 0
@@ -25,9 +25,9 @@ changed-leaves : (m : Managed) (r : Result Managed Refusal) → LeavesIfRefused 
 changed-leaves m (Ok after) h = absurd (cc)
 changed-leaves m (Err refusal) h = refl
 
-pub told-leaves : (m : Managed) (r : Result (List ℕ) Refusal) → (told m r).managed ≡ m
-told-leaves m (Ok lines) = refl
-told-leaves m (Err refusal) = refl
+pub answered-leaves : (m : Managed) (r : Result (List ℕ) Refusal) → (answered m r).managed ≡ m
+answered-leaves m (Ok lines) = refl
+answered-leaves m (Err refusal) = refl
 
 obeyed-leaves : (files : List File) (m : Managed) (command : Command) → LeavesIfRefused m (obeyed files m command)
 obeyed-leaves files m (Make change) = changed-leaves m (made files m change)
@@ -35,9 +35,9 @@ obeyed-leaves files m (Undo n) = changed-leaves m (undone n m)
 obeyed-leaves files m (Redo n) = changed-leaves m (redone n m)
 obeyed-leaves files m (Mark name) = changed-leaves m (marking name m)
 obeyed-leaves files m (Back name) = changed-leaves m (back_at name m)
-obeyed-leaves files m (Ask question) = λ h. told-leaves m (reply_lines m.machine.now question)
+obeyed-leaves files m (Ask question) = λ h. answered-leaves m (reply_lines m.machine.now question)
 obeyed-leaves files m Listed = λ h. refl
-obeyed-leaves files m (Show name) = λ h. told-leaves m (shown m.machine.now name)
+obeyed-leaves files m (Show name) = λ h. answered-leaves m (shown m.machine.now name)
 
 command-leaves : (files : List File) (m : Managed) (flag : Bool) (command : Result (Option Command) Refusal) → LeavesIfRefused m (command_outcome files m flag command)
 command-leaves files m flag (Err refusal) h = refl
@@ -67,9 +67,9 @@ command-stays files m flag (Ok (Some (Undo n))) h g k = absurd (cc)
 command-stays files m flag (Ok (Some (Redo n))) h g k = absurd (cc)
 command-stays files m flag (Ok (Some (Mark name))) h g k = absurd (cc)
 command-stays files m flag (Ok (Some (Back name))) h g k = absurd (cc)
-command-stays files m flag (Ok (Some (Ask question))) h g k = flag-stays files m flag (Ask question) (told-leaves m (reply_lines m.machine.now question))
+command-stays files m flag (Ok (Some (Ask question))) h g k = flag-stays files m flag (Ask question) (answered-leaves m (reply_lines m.machine.now question))
 command-stays files m flag (Ok (Some Listed)) h g k = flag-stays files m flag Listed refl
-command-stays files m flag (Ok (Some (Show name))) h g k = flag-stays files m flag (Show name) (told-leaves m (shown m.machine.now name))
+command-stays files m flag (Ok (Some (Show name))) h g k = flag-stays files m flag (Show name) (answered-leaves m (shown m.machine.now name))
 
 -- so does a line whose command neither changes nor goes back or on, nor marks
 pub other-leaves : OtherLineLeavesAll
@@ -82,9 +82,9 @@ either-same false false a b c d e p q = q
 either-same true false a b c d e p q = absurd (cc)
 either-same false true a b c d e p q = absurd (cc)
 
-told-same : (one other : Managed) (r s : Result (List ℕ) Refusal) → r ≡ s → (told one r).reply ≡ (told other s).reply
-told-same one other (Ok lines) s e = ap (λ r. (told other r).reply) e
-told-same one other (Err refusal) s e = ap (λ r. (told other r).reply) e
+answered-same : (one other : Managed) (r s : Result (List ℕ) Refusal) → r ≡ s → (answered one r).reply ≡ (answered other s).reply
+answered-same one other (Ok lines) s e = ap (λ r. (answered other r).reply) e
+answered-same one other (Err refusal) s e = ap (λ r. (answered other r).reply) e
 
 flag-same : (files : List File) (one other : Managed) (flag : Bool) (command : Command) → takes_memory one command ≡ takes_memory other command
     → (obeyed files one command).reply ≡ (obeyed files other command).reply
@@ -106,12 +106,12 @@ command-asks files one other flag (Ok (Some (Mark name))) h e = absurd (cc)
 command-asks files one other flag (Ok (Some (Back name))) h e = absurd (cc)
 command-asks files one other flag (Ok (Some (Ask question))) h e =
     flag-same files one other flag (Ask question) (ap (λ set. not (asks_absent set question)) e)
-    (told-same one other (reply_lines one.machine.now question) (reply_lines other.machine.now question) (ap (λ set. reply_lines set question) e))
+    (answered-same one other (reply_lines one.machine.now question) (reply_lines other.machine.now question) (ap (λ set. reply_lines set question) e))
 command-asks files one other flag (Ok (Some Listed)) h e =
-    flag-same files one other flag Listed refl (told-same one other (Ok (list_lines one.machine.now)) (Ok (list_lines other.machine.now)) (ap (λ set. Ok (list_lines set)) e))
+    flag-same files one other flag Listed refl (answered-same one other (Ok (list_lines one.machine.now)) (Ok (list_lines other.machine.now)) (ap (λ set. Ok (list_lines set)) e))
 command-asks files one other flag (Ok (Some (Show name))) h e =
     flag-same files one other flag (Show name) (ap (λ set. not (shows_absent set name)) e)
-    (told-same one other (shown one.machine.now name) (shown other.machine.now name) (ap (λ set. shown set name) e))
+    (answered-same one other (shown one.machine.now name) (shown other.machine.now name) (ap (λ set. shown set name) e))
 
 -- the reply to a question, to `list` and to `show` depends on the policy set alone
 pub set-decides : SetDecidesAnswer

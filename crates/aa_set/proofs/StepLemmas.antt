@@ -13,7 +13,7 @@ use Rattle.aa_set_lines.specs.Limits.{longest_line}
 use Rattle.aa_set.specs.Laws.{LeaveMark, MarkStands, command_in}
 use Rattle.aa_set.specs.Manager.{Managed, after_change, back_at, is_mark_name, marking, new_manager, redone, undone}
 use Rattle.aa_set.specs.Run.{Outcome, after_lines, changed, command_outcome, line_outcome, obeyed, refused, takes_memory}
-use Rattle.aa_set.proofs.StayLaws.{told-leaves}
+use Rattle.aa_set.proofs.StayLaws.{answered-leaves}
 
 abbrev Files : Type 0
 Files = List (List ℕ × List ℕ)
@@ -73,9 +73,9 @@ obeyed_steps files m (Undo n) = back_steps m n
 obeyed_steps files m (Redo n) = on_steps m n
 obeyed_steps files m (Mark name) = mark_steps m name
 obeyed_steps files m (Back name) = return_steps m name
-obeyed_steps files m (Ask question) = no_steps m (Ok (Some (Ask question))) (obeyed files m (Ask question)) (told-leaves m (reply_lines m.machine.now question))
+obeyed_steps files m (Ask question) = no_steps m (Ok (Some (Ask question))) (obeyed files m (Ask question)) (answered-leaves m (reply_lines m.machine.now question))
 obeyed_steps files m Listed = no_steps m (Ok (Some Listed)) (obeyed files m Listed) refl
-obeyed_steps files m (Show name) = no_steps m (Ok (Some (Show name))) (obeyed files m (Show name)) (told-leaves m (shown m.machine.now name))
+obeyed_steps files m (Show name) = no_steps m (Ok (Some (Show name))) (obeyed files m (Show name)) (answered-leaves m (shown m.machine.now name))
 
 command_steps : (files : Files) (m : Managed) (flag : Bool) (command : Result (Option Command) Refusal) → StepsTo m command (command_outcome files m flag command)
 command_steps files m flag (Err refusal) = no_steps m (Err refusal) (refused m refusal) refl

@@ -1,30 +1,30 @@
--- What was told to a stream, and what a stream gave: facts that follow one another make one fact.
+-- What was written to a stream, and what a stream gave: facts that follow one another make one fact.
 use Rattle.std.proofs.Common.{◌≡◌, ℕ, zero, suc, Bool, true, false, ◌||◌, refl, List, [], ◌++◌, Option, None, Some, IfSome, sym, ap, ◌∙◌, append_assoc, append-nil, subst}
 use Rattle.std.proofs.KnownBytes.{Appends-nil, Appends-trans}
 use Rattle.std.specs.Io.KnownBytes.{Appends, Consumes, IsAtEnd}
 use Rattle.std.specs.Prelude.{OnErr, Result, Ok, Err, ◌∷◌, fold}
 use Rattle.std.proofs.Math.Dec.{eqb-suc-zero}
-use Rattle.aa_set_lines.specs.Streams.{AppendsFront, Tells, comes_to_end}
+use Rattle.aa_set_lines.specs.Streams.{AppendsFront, WritesBehind, comes_to_end}
 
--- no bytes were told
-pub Tells-nil : (a : Option (List ℕ)) (waits : List ℕ) → Tells a a waits waits []
-Tells-nil a waits = record { done = []; writes = Appends-nil a; keeps = sym (append-nil waits) }
+-- no bytes were written
+pub WritesBehind-nil : (a : Option (List ℕ)) (waits : List ℕ) → WritesBehind a a waits waits []
+WritesBehind-nil a waits = record { done = []; writes = Appends-nil a; keeps = sym (append-nil waits) }
 
--- one telling after another
-pub Tells-trans : {a b c : Option (List ℕ)} {w v u bs cs : List ℕ} → Tells a b w v bs → Tells b c v u cs → Tells a c w u (bs ++ cs)
-Tells-trans {a} {b} {c} {w} {v} {u} {bs} {cs} p q = record {
+-- one writing after another
+pub WritesBehind-trans : {a b c : Option (List ℕ)} {w v u bs cs : List ℕ} → WritesBehind a b w v bs → WritesBehind b c v u cs → WritesBehind a c w u (bs ++ cs)
+WritesBehind-trans {a} {b} {c} {w} {v} {u} {bs} {cs} p q = record {
   done = p.done ++ q.done;
   writes = Appends-trans a b c p.done q.done p.writes q.writes;
   keeps = append_assoc p.done q.done u ∙ ap (λ (l : List ℕ). p.done ++ l) q.keeps ∙ sym (append_assoc p.done v cs) ∙ ap (λ (l : List ℕ). l ++ cs) p.keeps ∙ append_assoc w bs cs;
 }
 
--- after a telling all that waits is written
-pub Tells-flushed : {a b : Option (List ℕ)} {w v bs : List ℕ} (c : Option (List ℕ)) → Tells a b w v bs → Appends b c v → Appends a c (w ++ bs)
-Tells-flushed {a} {b} {w} {v} {bs} c p q = subst (Appends a c) p.keeps (Appends-trans a b c p.done v p.writes q)
+-- after a writing all that waits is written
+pub WritesBehind-flushed : {a b : Option (List ℕ)} {w v bs : List ℕ} (c : Option (List ℕ)) → WritesBehind a b w v bs → Appends b c v → Appends a c (w ++ bs)
+WritesBehind-flushed {a} {b} {w} {v} {bs} c p q = subst (Appends a c) p.keeps (Appends-trans a b c p.done v p.writes q)
 
--- equal bytes are told alike
-pub Tells-same : {a b : Option (List ℕ)} {w v bs cs : List ℕ} → Tells a b w v bs → bs ≡ cs → Tells a b w v cs
-Tells-same {a} {b} {w} {v} p e = subst (Tells a b w v) e p
+-- equal bytes are written alike
+pub WritesBehind-same : {a b : Option (List ℕ)} {w v bs cs : List ℕ} → WritesBehind a b w v bs → bs ≡ cs → WritesBehind a b w v cs
+WritesBehind-same {a} {b} {w} {v} p e = subst (WritesBehind a b w v) e p
 
 -- what holds of all that a reader gave, up to its end, holds of what it had left
 pub Consumes-whole : (a b c : Option (List ℕ)) (holds : List ℕ → Type 0) (given : List ℕ) → Consumes a b given → Consumes b c [] → IsAtEnd c → holds given → IfSome a holds
@@ -50,14 +50,14 @@ Front-on a c w bs [] front = front
 Front-on a c w bs (piece ∷ more) front =
     Front-on a c w (bs ++ piece) more (Front-same a c ((w ++ bs) ++ piece) (w ++ (bs ++ piece)) (Front-more a c (w ++ bs) piece front) (append_assoc w bs piece))
 
--- Bytes were told, and then a front of what waited and of a further piece was written: so a front of all, of these and of more pieces that weren't told.
-pub Front-told : {a b : Option (List ℕ)} {w v pre : List ℕ} (c : Option (List ℕ)) (piece : List ℕ) (more : List (List ℕ)) (whole : List ℕ) → Tells a b w v pre
+-- Bytes were written behind what waited, and then a front of what waited and of a further piece was written: so a front of all, of these and of more pieces that weren't written.
+pub Front-written : {a b : Option (List ℕ)} {w v pre : List ℕ} (c : Option (List ℕ)) (piece : List ℕ) (more : List (List ℕ)) (whole : List ℕ) → WritesBehind a b w v pre
     → AppendsFront b c (v ++ piece) → fold (λ l m. l ++ m) (pre ++ piece) more ≡ whole → AppendsFront a c (w ++ whole)
-Front-told {a} {b} {w} {v} {pre} c piece more whole tells front same =
+Front-written {a} {b} {w} {v} {pre} c piece more whole behind front same =
     Front-same a c (w ++ fold (λ l m. l ++ m) (pre ++ piece) more) (w ++ whole)
     (Front-on a c w (pre ++ piece) more (
-    Front-same a c (tells.done ++ (v ++ piece)) (w ++ (pre ++ piece)) (Front-behind a b c tells.done (v ++ piece) tells.writes front)
-    (sym (append_assoc tells.done v piece) ∙ ap (λ (l : List ℕ). l ++ piece) tells.keeps ∙ append_assoc w pre piece)
+    Front-same a c (behind.done ++ (v ++ piece)) (w ++ (pre ++ piece)) (Front-behind a b c behind.done (v ++ piece) behind.writes front)
+    (sym (append_assoc behind.done v piece) ∙ ap (λ (l : List ℕ). l ++ piece) behind.keeps ∙ append_assoc w pre piece)
     ))
     (ap (λ (l : List ℕ). w ++ l) same)
 

@@ -2,18 +2,18 @@
 use Rattle.std.specs.Prelude.{ℕ, Bool, true, false, Option, None, Some, List, [], ◌++◌, codes}
 use Rattle.std.specs.Fmt.{decimal}
 use Rattle.aa_set_answers.specs.Answers.{line_with}
-use Rattle.aa_quoting.specs.Texts.{told_text}
+use Rattle.aa_quoting.specs.Texts.{written_text}
 use Rattle.aa_text_files.specs.Files.{File, name_at}
 use Rattle.aa_text_files.specs.declared.text_error.Place.{Place}
 use Rattle.aa_set_commands.specs.Refusal.{number_of, name_of}
 use Rattle.aa_set_commands.specs.declared.refusal.Refusal.{Refusal}
 use Rattle.aa_set.specs.declared.reply.Reply.{Reply}
-use Rattle.aa_set.specs.declared.reply.Reply.TheVariants.{Silent, Done, Refused, Told}
+use Rattle.aa_set.specs.declared.reply.Reply.TheVariants.{Silent, Done, Refused, Answered}
 
--- how a place is told, behind a blank: the file's name and the offset in bytes
+-- how a place is written, behind a blank: the file's name and the offset in bytes
 abbrev pub place_text : List File → Option Place → List ℕ
 place_text files None = []
-place_text files (Some place) = codes " " ++ told_text (name_at files place.file) ++ codes " " ++ decimal place.at
+place_text files (Some place) = codes " " ++ written_text (name_at files place.file) ++ codes " " ++ decimal place.at
 
 -- the one line that tells a refusal
 abbrev pub refusal_text : List File → Refusal → List ℕ
@@ -25,7 +25,7 @@ abbrev pub reply_text : List File → Reply → List ℕ
 reply_text files Silent = []
 reply_text files Done = line_with (codes "ok")
 reply_text files (Refused refusal) = refusal_text files refusal
-reply_text files (Told lines) = lines
+reply_text files (Answered lines) = lines
 
 abbrev pub is_refusal : Reply → Bool
 is_refusal (Refused refusal) = true
@@ -34,5 +34,5 @@ is_refusal _ = false
 -- a reply that is no refusal, and not the silence after a blank line
 abbrev pub is_acceptance : Reply → Bool
 is_acceptance Done = true
-is_acceptance (Told lines) = true
+is_acceptance (Answered lines) = true
 is_acceptance _ = false

@@ -16,7 +16,7 @@ use Rattle.aa_set.specs.Reply.{reply_text, is_refusal, is_acceptance}
 use Rattle.aa_set_lines.specs.Words.{words_of}
 use Rattle.aa_set.specs.declared.session.Summary.{Summary}
 use Rattle.aa_set.specs.declared.reply.Reply.{Reply}
-use Rattle.aa_set.specs.declared.reply.Reply.TheVariants.{Silent, Done, Refused, Told}
+use Rattle.aa_set.specs.declared.reply.Reply.TheVariants.{Silent, Done, Refused, Answered}
 use Rattle.aa_set_commands.specs.Refusal.{plain}
 use Rattle.aa_set_commands.specs.declared.refusal.Refusal.{Refusal}
 use Rattle.aa_set_commands.specs.declared.refusal.RefusalKind.TheVariants.{LineTooLong, Memory}
@@ -34,9 +34,9 @@ abbrev pub changed : Managed → Result Managed Refusal → Outcome
 changed managed (Ok after) = record { reply = Done; managed = after }
 changed managed (Err refusal) = refused managed refusal
 
-abbrev pub told : Managed → Result (List ℕ) Refusal → Outcome
-told managed (Ok lines) = record { reply = Told lines; managed = managed }
-told managed (Err refusal) = refused managed refusal
+abbrev pub answered : Managed → Result (List ℕ) Refusal → Outcome
+answered managed (Ok lines) = record { reply = Answered lines; managed = managed }
+answered managed (Err refusal) = refused managed refusal
 
 -- what a command is answered where memory suffices
 abbrev pub obeyed : List File → Managed → Command → Outcome
@@ -45,9 +45,9 @@ obeyed files managed (Undo n) = changed managed (undone n managed)
 obeyed files managed (Redo n) = changed managed (redone n managed)
 obeyed files managed (Mark name) = changed managed (marking name managed)
 obeyed files managed (Back name) = changed managed (back_at name managed)
-obeyed files managed (Ask question) = told managed (reply_lines managed.machine.now question)
-obeyed files managed Listed = told managed (Ok (list_lines managed.machine.now))
-obeyed files managed (Show name) = told managed (shown managed.machine.now name)
+obeyed files managed (Ask question) = answered managed (reply_lines managed.machine.now question)
+obeyed files managed Listed = answered managed (Ok (list_lines managed.machine.now))
+obeyed files managed (Show name) = answered managed (shown managed.machine.now name)
 
 -- A command may find no memory, but `undo`, `redo` and `back`, a switch that is refused, a name that no mark can have, a question of a profile, a
 -- child or a hat that isn't there, and `show` of one.

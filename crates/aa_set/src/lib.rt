@@ -5,7 +5,7 @@ mod laws;
 mod manager;
 mod reply;
 mod session;
-mod telling;
+mod writing;
 
 pub use aa_profile::{GrammarRefusal, ProfileRefusal};
 pub use aa_profile_access::Perms;

@@ -304,7 +304,7 @@ impl Manager {
     ///
     /// `Memory` where memory ran out.
     pub fn list(&self) -> Result<Vec<u8>, Refusal>
-        ensures told { IfOk result (λ lines. lines.items ≡ list_lines self.now.machine.now) }
+        ensures answered { IfOk result (λ lines. lines.items ≡ list_lines self.now.machine.now) }
         ensures memory { IfErr result (λ refusal. refusal ≡ plain Memory) }
     {
         Ok(list_lines(self.alloc, self.policy_set().slots())?)
@@ -316,7 +316,7 @@ impl Manager {
     ///
     /// `Absent` where no profile, child or hat of the full name is loaded, which is found without memory, and `Memory` where memory ran out.
     pub fn show(&self, name: &[u8]) -> Result<Vec<u8>, Refusal>
-        ensures told { IfOk result (λ lines. shown self.now.machine.now name.now ≡ Ok lines.items) }
+        ensures answered { IfOk result (λ lines. shown self.now.machine.now name.now ≡ Ok lines.items) }
         ensures refused { IfErr result (λ refusal. refusal ≢ plain Memory → shown self.now.machine.now name.now ≡ Err refusal) }
         ensures memory { IfErr result (λ refusal. refusal ≡ plain Memory → shows_absent self.now.machine.now name.now ≡ false) }
     {
@@ -332,7 +332,7 @@ impl Manager {
     /// `Absent` where no profile, child or hat of the full name is loaded, and `Memory` where memory ran out.
     pub fn ask(&self, question: &Question<'_>) -> Result<Vec<u8>, Refusal>
         requires { IsWellFormed question.now }
-        ensures told { IfOk result (λ lines. reply_lines self.now.machine.now (seen_question question.entry.now) ≡ Ok lines.items) }
+        ensures answered { IfOk result (λ lines. reply_lines self.now.machine.now (seen_question question.entry.now) ≡ Ok lines.items) }
         ensures refused { IfErr result (λ refusal.
             refusal ≢ plain Memory → reply_lines self.now.machine.now (seen_question question.entry.now) ≡ Err refusal) }
         // That it is absent is found without memory.

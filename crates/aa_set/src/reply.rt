@@ -3,7 +3,7 @@
 ghost use Rattle.std.specs.Prelude.{◌≡◌, Bool, MatchResult};
 ghost use Rattle.aa_set_commands.specs.Command.{AsksWell, Make, seen_change, seen_command};
 ghost use Rattle.aa_set.specs.Run.{line_outcome, obeyed_flagged};
-ghost use Rattle.aa_set.specs.declared.reply.Reply.TheVariants.{Done, Refused, Told};
+ghost use Rattle.aa_set.specs.declared.reply.Reply.TheVariants.{Answered, Done, Refused};
 
 use crate::manager::Manager;
 use aa_bytes::Sequence;
@@ -21,7 +21,7 @@ pub enum Reply {
     /// The line was refused.
     Refused(Refusal),
     /// A question was answered, by these lines.
-    Told(Sequence<u8>),
+    Answered(Sequence<u8>),
 }
 
 /// The reply to a line. The manager goes on as the line says, or stays as it was where it is refused or asks.
@@ -51,9 +51,9 @@ fn obey(files: &Files, manager: &mut Manager, command: Command<'_>) -> Reply
         Command::Redo(count) => done(manager.redo(count)),
         Command::Mark(name) => done(manager.mark(name)),
         Command::Back(name) => done(manager.back(name)),
-        Command::Ask(question) => told(manager.ask(&question)),
-        Command::List => told(manager.list()),
-        Command::Show(name) => told(manager.show(name)),
+        Command::Ask(question) => answered(manager.ask(&question)),
+        Command::List => answered(manager.list()),
+        Command::Show(name) => answered(manager.show(name)),
     }
 }
 
@@ -82,11 +82,11 @@ fn done(outcome: Result<(), Refusal>) -> Reply
     }
 }
 
-fn told(outcome: Result<Vec<u8>, Refusal>) -> Reply
-    ensures { MatchResult outcome (λ lines. result ≡ Told lines.items) (λ refusal. result ≡ Refused refusal) }
+fn answered(outcome: Result<Vec<u8>, Refusal>) -> Reply
+    ensures { MatchResult outcome (λ lines. result ≡ Answered lines.items) (λ refusal. result ≡ Refused refusal) }
 {
     match outcome {
-        Ok(lines) => Reply::Told(Sequence::from_vec(lines)),
+        Ok(lines) => Reply::Answered(Sequence::from_vec(lines)),
         Err(refusal) => Reply::Refused(refusal),
     }
 }

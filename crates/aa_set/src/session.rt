@@ -16,7 +16,7 @@ ghost use Rattle.aa_set.specs.code.Session.{EndsLine, Feeds, IsFresh, Serves, St
 
 use crate::manager::Manager;
 use crate::reply::{Reply, reply_to};
-use crate::telling::tell_reply;
+use crate::writing::write_reply;
 use aa_set_lines::{Failed, LineBuffer, Sink, Source, first_line, flush};
 use aa_text_files::Files;
 use std::alloc::{AllocError, Global};
@@ -286,7 +286,7 @@ fn answer<W: Sink>(
 {
     let reply = reply_to(files, &mut session.manager, line);
     count(&mut session.summary, &reply);
-    tell_reply(writer, &mut session.waiting, files, &reply)
+    write_reply(writer, &mut session.waiting, files, &reply)
 }
 
 // Counts a reply.
@@ -299,7 +299,7 @@ fn count(summary: &mut Summary, reply: &Reply)
     match reply {
         Reply::Silent => {}
         Reply::Done => summary.accepted += 1,
-        Reply::Told(_) => summary.accepted += 1,
+        Reply::Answered(_) => summary.accepted += 1,
         Reply::Refused(_) => summary.refused += 1,
     }
 }
@@ -324,9 +324,9 @@ fn end_line<W: Sink>(
         return answer(files, session, writer, last);
     }
     held.keep(last);
-    let told = answer(files, session, writer, held.as_slice());
+    let outcome = answer(files, session, writer, held.as_slice());
     held.clear();
-    told
+    outcome
 }
 
 // Answers each line that ends in a piece of the input, and holds what stands behind the last one.

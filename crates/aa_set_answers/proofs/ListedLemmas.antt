@@ -185,7 +185,7 @@ leads entries entry None distinct names there stands =
 leads entries entry (Some place) distinct names there (child, at) =
     let profile = entry.profile in
     let name = profile.name ++ (codes "//" ++ child.name) in
-    let told : full_name_at profile (Some place) ≡ name = ap (λ (found : Option Child). profile.name ++ behind_profile found) at in
+    let joined : full_name_at profile (Some place) ≡ name = ap (λ (found : Option Child). profile.name ++ behind_profile found) at in
     let cut : full_name name ≡ record { profile = profile.name; child = Some child.name } = cut-child profile.name child.name (within profile.name names.0) in
     let found = found-at entries there.0 entry distinct (there-at entries entry there) in
     let placed = child-placed profile.children place child names.1 at in
@@ -195,7 +195,7 @@ leads entries entry (Some place) distinct names there (child, at) =
     ∙ ap (option_and_then (entry_asker (Some child.name))) found
     ∙ ap (option_map (λ (place : ℕ). record { entry = entry; child = Some place })) placed
     in
-    subst (λ (name : List ℕ). LeadsTo entries name who) (sym told) (both entries name who (child_confined name profile.name child.name cut) named)
+    subst (λ (name : List ℕ). LeadsTo entries name who) (sym joined) (both entries name who (child_confined name profile.name child.name cut) named)
 
 -- a full name that `list` tells leads back to what it was told for
 pub listed-leads : ListedNamesLeadBack

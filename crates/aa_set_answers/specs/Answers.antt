@@ -15,7 +15,7 @@ use Rattle.aa_decide_verdict.specs.Ready.{decided}
 use Rattle.aa_decide_audit.specs.declared.verdict.Answer.{Answer}
 use Rattle.aa_decide_audit.specs.declared.verdict.Verdict.{Verdict}
 use Rattle.aa_profile_data.specs.declared.profile.Profile.{Profile}
-use Rattle.aa_quoting.specs.Texts.{told_text}
+use Rattle.aa_quoting.specs.Texts.{written_text}
 use Rattle.aa_profile_names.specs.FullNames.{full_name}
 use Rattle.aa_set_listing.specs.ProfileNames.{full_name_at}
 use Rattle.aa_set_listing.specs.Show.{show_lines}
@@ -45,7 +45,7 @@ scrub_text scrub = if scrub then codes " scrub" else []
 
 -- how it is told that a program runs under a profile, or a child or hat of it
 abbrev pub under_text : Profile → Option ℕ → Bool → List ℕ
-under_text profile child scrub = codes "allow to " ++ told_text (full_name_at profile child) ++ scrub_text scrub
+under_text profile child scrub = codes "allow to " ++ written_text (full_name_at profile child) ++ scrub_text scrub
 
 -- how it is told that it runs under no profile
 abbrev pub unconfined_text : Bool → List ℕ

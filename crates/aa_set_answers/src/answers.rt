@@ -64,7 +64,7 @@ pub fn access_lines(
     who: &[u8],
     request: &Request<'_>,
 ) -> Result<Vec<u8>, Refusal>
-    ensures told { IfOk result (λ lines. reply_lines (filled slots.now) (OfAccess who.now (request_of request.entry.now)) ≡ Ok lines.items) }
+    ensures answered { IfOk result (λ lines. reply_lines (filled slots.now) (OfAccess who.now (request_of request.entry.now)) ≡ Ok lines.items) }
     ensures refused { IfErr result (λ refusal.
         refusal ≢ plain Memory → reply_lines (filled slots.now) (OfAccess who.now (request_of request.entry.now)) ≡ Err refusal) }
     ensures memory { IfErr result (λ refusal.
@@ -157,7 +157,7 @@ pub fn exec_lines(
     owned: bool,
     path: &[u8],
 ) -> Result<Vec<u8>, Refusal>
-    ensures told { IfOk result (λ lines. reply_lines (filled slots.now) (OfExec who.now owned path.now) ≡ Ok lines.items) }
+    ensures answered { IfOk result (λ lines. reply_lines (filled slots.now) (OfExec who.now owned path.now) ≡ Ok lines.items) }
     ensures refused { IfErr result (λ refusal.
         refusal ≢ plain Memory → reply_lines (filled slots.now) (OfExec who.now owned path.now) ≡ Err refusal) }
     ensures memory { IfErr result (λ refusal. refusal ≡ plain Memory → asks_absent (filled slots.now) (OfExec who.now owned path.now) ≡ false) }
@@ -175,7 +175,7 @@ pub fn exec_lines(
 ///
 /// `Absent` where no profile, child or hat of the full name is loaded, which is found without memory, and `Memory` where memory ran out.
 pub fn shown_lines(alloc: Global, slots: &[Option<Entry>], name: &[u8]) -> Result<Vec<u8>, Refusal>
-    ensures told { IfOk result (λ lines. shown (filled slots.now) name.now ≡ Ok lines.items) }
+    ensures answered { IfOk result (λ lines. shown (filled slots.now) name.now ≡ Ok lines.items) }
     ensures refused { IfErr result (λ refusal. refusal ≢ plain Memory → shown (filled slots.now) name.now ≡ Err refusal) }
     ensures memory { IfErr result (λ refusal. refusal ≡ plain Memory → shows_absent (filled slots.now) name.now ≡ false) }
 {

@@ -259,16 +259,16 @@ switched name state slots k entry h is fit =
     ∙ filled-put changed slots
 
 -- what was found, as the profiles' names are there
-pub told-there : (found : List (Option ℕ)) (profiles : List Profile) (slots : List (Option Loaded)) → found ≡ slots_named profiles slots → list_any is_some found ≡ are_there profiles (filled slots)
-told-there found profiles slots h = ap (list_any is_some) (h ∙ all_found-is profiles slots) ∙ some-there profiles slots
+pub named-there : (found : List (Option ℕ)) (profiles : List Profile) (slots : List (Option Loaded)) → found ≡ slots_named profiles slots → list_any is_some found ≡ are_there profiles (filled slots)
+named-there found profiles slots h = ap (list_any is_some) (h ∙ all_found-is profiles slots) ∙ some-there profiles slots
 
-pub told-absent : (found : List (Option ℕ)) (profiles : List Profile) (slots : List (Option Loaded)) → found ≡ slots_named profiles slots
+pub named-absent : (found : List (Option ℕ)) (profiles : List Profile) (slots : List (Option Loaded)) → found ≡ slots_named profiles slots
     → list_any is_none found ≡ some_are_absent profiles (filled slots)
-told-absent found profiles slots h = ap (list_any is_none) (h ∙ all_found-is profiles slots) ∙ some-absent profiles slots
+named-absent found profiles slots h = ap (list_any is_none) (h ∙ all_found-is profiles slots) ∙ some-absent profiles slots
 
-pub told-disabled : (found : List (Option ℕ)) (profiles : List Profile) (slots : List (Option Loaded)) → found ≡ slots_named profiles slots
+pub named-disabled : (found : List (Option ℕ)) (profiles : List Profile) (slots : List (Option Loaded)) → found ≡ slots_named profiles slots
     → list_any (is_disabled_at slots) found ≡ some_are_disabled profiles (filled slots)
-told-disabled found profiles slots h = ap (list_any (is_disabled_at slots)) (h ∙ all_found-is profiles slots) ∙ some-disabled profiles slots
+named-disabled found profiles slots h = ap (list_any (is_disabled_at slots)) (h ∙ all_found-is profiles slots) ∙ some-disabled profiles slots
 
 pub next-one : (next : ℕ) (k : Option ℕ) → next_behind next k ≤ next + 1
 next-one next None = omega arith

@@ -148,12 +148,12 @@ entry-missing name slots h = by (found name slots) (sym (found-is name slots) �
 pub disabled-found : (name : List ℕ) (slots : List (Option Loaded)) → is_disabled_at slots (found name slots) ≡ is_disabled name (filled slots)
 disabled-found name slots = by (found name slots) (finds name slots)
   where
-    told : Option Loaded → Bool
-    told there = elim there [ None ↦ false | Some entry ↦ not (is_in_force entry.state) ]
+    is_disabled_there : Option Loaded → Bool
+    is_disabled_there there = elim there [ None ↦ false | Some entry ↦ not (is_in_force entry.state) ]
 
     by : (k : Option ℕ) → Finds name slots k (entry_named name (filled slots)) → is_disabled_at slots k ≡ is_disabled name (filled slots)
-    by None h = sym (ap told h)
-    by (Some k) h = ap told (entry-content slots k ∙ h.at ∙ sym h.is)
+    by None h = sym (ap is_disabled_there h)
+    by (Some k) h = ap is_disabled_there (entry-content slots k ∙ h.at ∙ sym h.is)
 
 content-end : (slots : List (Option Loaded)) → content_at (length slots) slots ≡ None
 content-end [] = refl

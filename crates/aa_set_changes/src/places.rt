@@ -177,7 +177,7 @@ pub fn found_for(
     ensures found { IfOk result (λ found. found.items ≡ slots_named profiles.now slots.now) }
     ensures ok { OnOk result (is_refused change profiles.now (filled slots.now) ≡ false) }
     ensures refused { IfErr result (λ refusal. refusal ≢ plain Memory → refusal ≡ refused_as change) }
-    ensures told { IfErr result (λ refusal. refusal ≢ plain Memory → is_refused change profiles.now (filled slots.now) ≡ true) }
+    ensures grounds { IfErr result (λ refusal. refusal ≢ plain Memory → is_refused change profiles.now (filled slots.now) ≡ true) }
     ensures memory { IfErr result (λ refusal. refusal ≡ plain Memory → is_refused change profiles.now (filled slots.now) ≡ false) }
 {
     match slots_named(alloc, slots, profiles) {

@@ -3,7 +3,7 @@ use Rattle.std.proofs.Common.{◌≡◌, ℕ, List, [], ◌++◌, Option, sym, a
 use Rattle.std.proofs.lemmas.List.{take_rest}
 use Rattle.std.proofs.KnownBytes.{Appends-trans}
 use Rattle.std.specs.Io.KnownBytes.{Appends}
-use Rattle.aa_set_lines.specs.Streams.{AppendsFront, Tells}
+use Rattle.aa_set_lines.specs.Streams.{AppendsFront, WritesBehind}
 
 -- what is left behind a front of `rest`, as a slice of it from `n` on
 pub rest_behind : (bytes done rest : List ℕ) (n : ℕ) → bytes ≡ done ++ rest → bytes ≡ (done ++ take n rest) ++ take (length rest - n) (drop n rest)
@@ -21,8 +21,8 @@ AppendsFront-after a b c bs cs p q =
     (bs ++ q.0, q.1, ap (λ (l : List ℕ). bs ++ l) q.2 ∙ sym (append_assoc bs q.0 q.1), Appends-trans a b c bs q.0 p q.3)
 
 -- what waited is written, then the bytes are, and nothing waits
-pub Tells-written : (a b c : Option (List ℕ)) (waited waits bs : List ℕ) → Appends a b waited → Appends b c bs → waits ≡ [] → Tells a c waited waits bs
-Tells-written a b c waited waits bs p q none = record {
+pub WritesBehind-written : (a b c : Option (List ℕ)) (waited waits bs : List ℕ) → Appends a b waited → Appends b c bs → waits ≡ [] → WritesBehind a c waited waits bs
+WritesBehind-written a b c waited waits bs p q none = record {
   done = waited ++ bs;
   writes = Appends-trans a b c waited bs p q;
   keeps = ap (λ (l : List ℕ). (waited ++ bs) ++ l) none ∙ append-nil (waited ++ bs);

@@ -6,9 +6,9 @@ use Rattle.std.specs.Io.KnownBytes.{Appends}
 abbrev pub AppendsFront : Option (List ℕ) → Option (List ℕ) → List ℕ → Type 0
 AppendsFront old new bs = (front rest : List ℕ) × (bs ≡ front ++ rest) × Appends old new front
 
--- The bytes were told: put behind those that had waited. Some front of both together is written by now, and the rest of
+-- The bytes were written, or put behind those that had waited. Some front of both together is written by now, and the rest of
 -- both waits, so that no byte is lost, written twice or out of its turn.
-pub record Tells (old new : Option (List ℕ)) (waited waits bytes : List ℕ) : Type 0 where
+pub record WritesBehind (old new : Option (List ℕ)) (waited waits bytes : List ℕ) : Type 0 where
   pub done : List ℕ
   pub writes : Appends old new done
   pub keeps : done ++ waits ≡ waited ++ bytes

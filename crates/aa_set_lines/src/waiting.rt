@@ -1,7 +1,7 @@
-//! Replies that wait to be written, in a buffer that is made once, so that telling one takes no memory.
+//! Replies that wait to be written, in a buffer that is made once, so that writing one takes no memory.
 ghost use Rattle.std.specs.Prelude.{◌≡◌, ◌+◌, ◌≤◌, true, [], ◌++◌, length, vec_len, vec_capacity, OnOk, OnErr};
 ghost use Rattle.std.specs.Io.KnownBytes.{Appends};
-ghost use Rattle.aa_set_lines.specs.Streams.{AppendsFront, Tells};
+ghost use Rattle.aa_set_lines.specs.Streams.{AppendsFront, WritesBehind};
 
 use crate::stream::{Failed, Sink};
 
@@ -46,8 +46,12 @@ pub fn flush<W: Sink>(writer: &mut W, waiting: &mut Vec<u8>) -> Result<(), Faile
 ///
 /// `Failed` where the sink has a fault. Some front of what waited and the bytes behind it is then written, and nothing
 /// waits, so that no byte is written twice.
-pub fn tell<W: Sink>(writer: &mut W, waiting: &mut Vec<u8>, bytes: &[u8]) -> Result<(), Failed>
-    ensures ok { OnOk result (Tells (W.written writer.old) (W.written writer.new)
+pub fn write_behind<W: Sink>(
+    writer: &mut W,
+    waiting: &mut Vec<u8>,
+    bytes: &[u8],
+) -> Result<(), Failed>
+    ensures ok { OnOk result (WritesBehind (W.written writer.old) (W.written writer.new)
         waiting.old.items waiting.new.items bytes.now) }
     ensures flag { OnOk result (W.failed writer.new ≡ W.failed writer.old) }
     ensures err { OnErr result (AppendsFront (W.written writer.old) (W.written writer.new)

@@ -15,7 +15,7 @@ use Rattle.aa_profile_data.specs.declared.profile.Transition.{Transition}
 use Rattle.aa_profile_tables.specs.Capabilities.{names}
 use Rattle.aa_profile_tables.specs.Domains.{domain_name}
 use Rattle.aa_profile_tables.specs.Kinds.{kind_name}
-use Rattle.aa_quoting.specs.Texts.{told_text}
+use Rattle.aa_quoting.specs.Texts.{written_text}
 use Rattle.aa_profile_tables.specs.Names.{name_or_none}
 
 -- a text, where something holds
@@ -29,7 +29,7 @@ qualifiers audit deny owner = text_if audit (codes " audit") ++ text_if deny (co
 -- the target that a rule names, if it names one
 abbrev pub target_text : Option (List ℕ) → List ℕ
 target_text None = []
-target_text (Some target) = codes " -> " ++ told_text target
+target_text (Some target) = codes " -> " ++ written_text target
 
 -- the exec word of a rule, if it has one, and its target
 abbrev pub exec_text : Option Transition → List ℕ
@@ -42,7 +42,7 @@ access_text rule = letters_of rule.access.0 ++ exec_text rule.exec ++ target_tex
 
 -- a rule on files: its pattern, and its access
 abbrev pub file_text : FileRule → List ℕ
-file_text rule = codes "file" ++ qualifiers rule.audit rule.deny rule.owner ++ codes " " ++ told_text rule.pattern ++ codes " " ++ access_text rule
+file_text rule = codes "file" ++ qualifiers rule.audit rule.deny rule.owner ++ codes " " ++ written_text rule.pattern ++ codes " " ++ access_text rule
 
 -- the set of all capabilities
 abbrev pub all_capabilities : ℕ

@@ -3,19 +3,19 @@ use Rattle.std.specs.Prelude.{ℕ, Bool, if◌then◌else◌, List, [], ◌∷�
 use Rattle.aa_bytes.specs.Bytes.{line_feed}
 use Rattle.aa_profile_data.specs.declared.profile.Child.{Child}
 use Rattle.aa_profile_data.specs.declared.profile.Rule.{Rule}
-use Rattle.aa_quoting.specs.Texts.{told_text}
+use Rattle.aa_quoting.specs.Texts.{written_text}
 use Rattle.aa_decide_verdict.specs.Entries.{Loaded}
 use Rattle.aa_set_listing.specs.Children.{lines_of_children}
 use Rattle.aa_set_listing.specs.RuleLines.{rule_line, text_if}
-use Rattle.aa_set_listing.specs.States.{told_state}
+use Rattle.aa_set_listing.specs.States.{written_state}
 
 -- the first line, for a hat too: the full name and the state, and whether the flag `audit` is set
 abbrev pub head_line : Loaded → Option ℕ → Bool → List ℕ
-head_line loaded child audit = codes "profile " ++ told_state loaded child ++ text_if audit (codes " audit") ++ line_feed ∷ []
+head_line loaded child audit = codes "profile " ++ written_state loaded child ++ text_if audit (codes " audit") ++ line_feed ∷ []
 
 -- the line of an attachment
 abbrev pub attachment_line : List ℕ → List ℕ
-attachment_line pattern = codes "  attach " ++ told_text pattern ++ line_feed ∷ []
+attachment_line pattern = codes "  attach " ++ written_text pattern ++ line_feed ∷ []
 
 -- the lines of the attachments, and of the rules
 abbrev pub body_lines : List (List ℕ) → List Rule → List ℕ
@@ -27,7 +27,7 @@ child_word hat = if hat then codes "  hat " else codes "  child "
 
 -- the line of the child or hat at a place of a profile
 abbrev pub child_line : Loaded → ℕ → Child → List ℕ
-child_line loaded place child = child_word child.hat ++ told_state loaded (Some place) ++ line_feed ∷ []
+child_line loaded place child = child_word child.hat ++ written_state loaded (Some place) ++ line_feed ∷ []
 
 -- the lines of a child or a hat itself; where none stands at the place, none
 abbrev pub own_lines : Loaded → ℕ → Option Child → List ℕ

@@ -1,8 +1,8 @@
--- The states of loaded profiles, as they are told (docs/commands.md, "What is loaded").
+-- The states of loaded profiles, as they are written (docs/commands.md, "What is loaded").
 use Rattle.std.specs.Prelude.{ℕ, List, ◌++◌, Option, codes}
 use Rattle.aa_profile_data.specs.declared.profile.Mode.{Mode}
 use Rattle.aa_profile_data.specs.declared.profile.Mode.TheVariants.{Complain, Enforce}
-use Rattle.aa_quoting.specs.Texts.{told_text}
+use Rattle.aa_quoting.specs.Texts.{written_text}
 use Rattle.aa_decide_verdict.specs.Confinement.{mode_at}
 use Rattle.aa_decide_verdict.specs.Entries.{Loaded}
 use Rattle.aa_decide_verdict.specs.declared.entry.State.{State}
@@ -20,5 +20,5 @@ state_word Disabled child = codes "disabled"
 state_word (Modes modes) child = mode_word (mode_at modes child)
 
 -- a profile, or its child or hat at a place, by its full name and its state
-abbrev pub told_state : Loaded → Option ℕ → List ℕ
-told_state loaded child = told_text (full_name_at loaded.profile child) ++ codes " " ++ state_word loaded.state child
+abbrev pub written_state : Loaded → Option ℕ → List ℕ
+written_state loaded child = written_text (full_name_at loaded.profile child) ++ codes " " ++ state_word loaded.state child

@@ -6,7 +6,7 @@ ghost use Rattle.aa_decide_verdict.specs.Slots.{filled};
 ghost use Rattle.aa_bytes.specs.Bytes.{line_feed};
 ghost use Rattle.aa_set_listing.specs.Children.{lines_of_children};
 ghost use Rattle.aa_set_listing.specs.List.{count, entry_lines, list_lines, listed_child};
-ghost use Rattle.aa_set_listing.specs.States.{told_state};
+ghost use Rattle.aa_set_listing.specs.States.{written_state};
 
 use crate::states::push_state;
 use aa_decide_verdict::Entry;
@@ -45,7 +45,7 @@ fn push_line(
     entry: &Entry,
     child: Option<usize>,
 ) -> Result<(), AllocError>
-    ensures { OnOk result (text.new.items ≡ text.old.items ++ told_state entry.now child ++ line_feed ∷ []) }
+    ensures { OnOk result (text.new.items ≡ text.old.items ++ written_state entry.now child ++ line_feed ∷ []) }
 {
     push_state(text, alloc, entry, child)?;
     text.push(b'\n')?;

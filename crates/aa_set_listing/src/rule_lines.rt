@@ -5,7 +5,7 @@ ghost use Rattle.std.specs.Option.{option_map};
 ghost use Rattle.aa_set_listing.specs.RuleLines.{access_text, capabilities_text, capability_text, domain_word, exec_text, file_text};
 ghost use Rattle.aa_set_listing.specs.RuleLines.{has_all, kind_word, names_from, network_text, other_text, qualifiers, rule_line};
 ghost use Rattle.aa_set_listing.specs.RuleLines.{rule_text, target_text, text_if};
-ghost use Rattle.aa_quoting.specs.Texts.{told_text};
+ghost use Rattle.aa_quoting.specs.Texts.{written_text};
 ghost use Rattle.aa_profile_tables.specs.Names.{name_or_none};
 
 use aa_glob_pattern::Pattern;
@@ -79,7 +79,7 @@ fn push_access(text: &mut Vec<u8>, rule: &FileRule) -> Result<(), AllocError>
 
 // Puts a pattern between blanks behind a text.
 fn push_pattern(text: &mut Vec<u8>, pattern: &Pattern) -> Result<(), AllocError>
-    ensures { OnOk result (text.new.items ≡ text.old.items ++ codes " " ++ told_text pattern.now ++ codes " ") }
+    ensures { OnOk result (text.new.items ≡ text.old.items ++ codes " " ++ written_text pattern.now ++ codes " ") }
 {
     text.push(b' ')?;
     push_text(text, pattern.text())?;

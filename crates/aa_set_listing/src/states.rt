@@ -1,7 +1,7 @@
-//! The states of loaded profiles, as they are told.
+//! The states of loaded profiles, as they are written.
 
 ghost use Rattle.std.specs.Prelude.{◌≡◌, ◌++◌, OnOk};
-ghost use Rattle.aa_set_listing.specs.States.{mode_word, state_word, told_state};
+ghost use Rattle.aa_set_listing.specs.States.{mode_word, state_word, written_state};
 
 use crate::names::full_name;
 use aa_decide_verdict::{Confinement, Entry};
@@ -36,7 +36,7 @@ pub fn push_state(
     entry: &Entry,
     child: Option<usize>,
 ) -> Result<(), AllocError>
-    ensures { OnOk result (text.new.items ≡ text.old.items ++ told_state entry.now child) }
+    ensures { OnOk result (text.new.items ≡ text.old.items ++ written_state entry.now child) }
 {
     let name = full_name(alloc, entry.profile(), child)?;
     push_text(text, name.as_slice())?;

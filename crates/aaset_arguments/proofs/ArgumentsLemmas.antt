@@ -16,7 +16,7 @@ use Rattle.clap.specs.declared.parser.matches.ValueSource.TheVariants.{DefaultVa
 use Rattle.std.specs.Option.{option_map_or}
 use Rattle.clap.specs.declared.error.kind.ErrorKind.TheVariants as kind
 use Rattle.aaset_arguments.specs.CommandLine.{command_line, complain_rule}
-use Rattle.aaset_arguments.specs.Arguments.{Asked, Folder, ForHelp, ForRun, ForVersion, Nothing, Open, Run, Settled, Told, asked, asked_at_end, asked_behind, asked_with, bare_run, below, default_base, is_option, told_by_word, with_names}
+use Rattle.aaset_arguments.specs.Arguments.{Asked, AskedSoFar, Folder, ForHelp, ForRun, ForVersion, Nothing, Open, Run, Settled, asked, asked_at_end, asked_behind, asked_by_word, asked_with, bare_run, below, default_base, is_option, with_names}
 use Rattle.aaset_arguments.proofs.RowLemmas.{Shows, ShowsBase, base_id, complain_id, complain_rows, first_row, found_picked, has_picked, name_id, name_rows, other_with, picked, picked_with, shows_bare, shows_below, shows_named}
 use Rattle.aaset_arguments.proofs.WalkLemmas.{Idle, OfFolder, Pending, dashes_pass, dashes_walked, pending_next, rows_at, rows_named, rows_next, rows_settled, settle_passes, size, size_next, state_at, state_open, taken_trailing, the_shape}
 use Rattle.aaset_arguments.proofs.OptionLemmas.{AreBad, Stops, bad_folder}
@@ -211,18 +211,18 @@ unfolding walk_fault
 doomed_ends [] rows = inr (refl, (state_open true rows, refl, bad_folder))
 doomed_ends (word ∷ words) rows = stopped_ends Nothing (state_open true rows) word words (subst AreBad (sym (open_trailing rows word)) bad_folder)
 
--- where the walk stands, once words have told this
-abbrev At : Told → Walk → ℕ → Type 0
+-- where the walk stands, once words have asked for this
+abbrev At : AskedSoFar → Walk → ℕ → Type 0
 At (Open run) w m = (rows : List Row) × (p : Pending) × (w ≡ state_at false rows p) × Shows run (rows_at rows p) × (size p ≤ m)
 At (Folder run) w m = (rows : List Row) × (w ≡ state_open false rows) × Shows run rows
 At (Settled a) w m = ⊥
 
 -- from where the walk stands, all words that follow
 abbrev EndsFrom : List Text → Type 0
-EndsFrom words = (t : Told) (w : Walk) (m : ℕ) → At t w m → m + length words ≤ usize_max → Ends (asked_behind t words) w words
+EndsFrom words = (t : AskedSoFar) (w : Walk) (m : ℕ) → At t w m → m + length words ≤ usize_max → Ends (asked_behind t words) w words
 
 -- a word that is met as it tells
-word_ends : (t : Told) (w : Walk) (word : Text) (words : List Text) (m : ℕ) → m + length words ≤ usize_max → WordTo t w word m → EndsFrom words
+word_ends : (t : AskedSoFar) (w : Walk) (word : Text) (words : List Text) (m : ℕ) → m + length words ≤ usize_max → WordTo t w word m → EndsFrom words
     → Ends (asked_behind t words) w (word ∷ words)
 word_ends (Open run) w word words m fits to more =
     step_ends (asked_behind (Open run) words) w (state_at false to.1.0 to.1.1) word words to.1.2 to.0
@@ -243,7 +243,7 @@ open_ends word words rows p run m fits shows small more = by (bytes_eq word (cod
         (subst (λ t. walked the_shape.rules [] (state_at false rows p) t ≡ state_at true rows p) (sym same) (dashes_walked rows p))
         (subst (λ t. turn_fault the_shape [] (state_at false rows p) t ≡ []) (sym same) (dashes_pass rows p))
         (trailing_ends words rows p run m (omega (arith, fits)) small shows))
-    by false d = rw d (word_ends (told_by_word word run) (state_at false rows p) word words (m + 1) fits
+    by false d = rw d (word_ends (asked_by_word word run) (state_at false rows p) word words (m + 1) fits
         (met rows p run m word (omega (arith, fits)) shows small d) more)
 
 folder_ends : (word : Text) (words : List Text) (rows : List Row) (run : Run) (m : ℕ) → m + length words ≤ usize_max → Shows run rows

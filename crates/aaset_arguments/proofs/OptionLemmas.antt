@@ -13,7 +13,7 @@ use Rattle.clap.specs.Walk.{Held, Outcome, arg_by_long, bundle_met, done, waits}
 use Rattle.clap.specs.Kinds.{Kinds, or_else}
 use Rattle.clap.specs.declared.error.kind.ErrorKind.{ErrorKind}
 use Rattle.clap.specs.declared.error.kind.ErrorKind.TheVariants as kind
-use Rattle.aaset_arguments.specs.Arguments.{Asked, Folder, ForHelp, ForRun, ForVersion, Nothing, Open, Run, Settled, Told, base_letter, complain_letter, forced, help_letter, told_by_folder, told_by_letters, version_letter}
+use Rattle.aaset_arguments.specs.Arguments.{Asked, AskedSoFar, Folder, ForHelp, ForRun, ForVersion, Nothing, Open, Run, Settled, asked_by_folder, asked_by_letters, base_letter, complain_letter, forced, help_letter, version_letter}
 use Rattle.aaset_arguments.proofs.RowLemmas.{Shows, base_id, based, complain_id, flagged, shows_below, shows_forced}
 use Rattle.aaset_arguments.proofs.WalkLemmas.{Idle, OfFolder, OfNames, Pending, held_at, held_open, repeat_passes, rows_at, settle_passes, size, the_shape}
 
@@ -140,7 +140,7 @@ long_folder text = by (name_and_value text).1 (bytes_eq (codes "help") (name_and
 -- ---- letters
 
 -- what letters come to
-abbrev pub LettersTo : Told → Kinds → Held × Outcome → Type 0
+abbrev pub LettersTo : AskedSoFar → Kinds → Held × Outcome → Type 0
 LettersTo (Open run) kinds met = (kinds ≡ []) × ((rows : List Row) × (met ≡ (held_at rows Idle, done)) × Shows run rows)
 LettersTo (Folder run) kinds met = (kinds ≡ []) × ((rows : List Row) × (met ≡ (held_open rows, waits base_id)) × Shows run rows)
 LettersTo (Settled asked) kinds met = Stops asked kinds
@@ -148,12 +148,12 @@ LettersTo (Settled asked) kinds met = Stops asked kinds
 -- letters behind another one, from any rows
 abbrev pub AfterLetters : List ℕ → Type 0
 AfterLetters rest = (run : Run) (rows : List Row) → Shows run rows
-    → LettersTo (told_by_letters rest run) (flags_fault the_shape.rules true (length rest) rest 0 (held_at rows Idle))
+    → LettersTo (asked_by_letters rest run) (flags_fault the_shape.rules true (length rest) rest 0 (held_at rows Idle))
     (bundle_met the_shape.rules (length rest) rest 0 done (held_at rows Idle))
 
 -- letters behind a word, from any rows
 abbrev pub FirstLetter : ℕ → List ℕ → Run → List Row → Pending → Type 0
-FirstLetter b rest run rows p = LettersTo (told_by_letters (b ∷ rest) run)
+FirstLetter b rest run rows p = LettersTo (asked_by_letters (b ∷ rest) run)
     (flags_fault the_shape.rules true (suc (length rest)) (b ∷ rest) 0 (held_at rows p))
     (bundle_met the_shape.rules (suc (length rest)) (b ∷ rest) 0 done (held_at rows p))
 
@@ -177,7 +177,7 @@ complain_first b rest run rows (OfFolder folder) x shows fits more =
 -- the folder is what is attached to the letter, or the next word
 base_first : (b : ℕ) (rest : List ℕ) (run : Run) (rows : List Row) (p : Pending) → slice_get (chars (b ∷ rest)) 0 ≡ Some 98
     → Shows run (rows_at rows p) → size p ≤ usize_max
-    → LettersTo (told_by_folder rest run) (flags_fault the_shape.rules true (suc (length rest)) (b ∷ rest) 0 (held_at rows p))
+    → LettersTo (asked_by_folder rest run) (flags_fault the_shape.rules true (suc (length rest)) (b ∷ rest) 0 (held_at rows p))
     (bundle_met the_shape.rules (suc (length rest)) (b ∷ rest) 0 done (held_at rows p))
 unfolding bundle_met flags_fault encode_utf8
 base_first b [] run rows Idle x shows fits = (rw x refl, (rows, rw x refl, shows))
@@ -190,7 +190,7 @@ base_first b [] run rows (OfFolder folder) x shows fits =
 base_first b (c ∷ cs) run rows p x shows fits = by p (c == 61) refl shows fits
   where
     by : (p : Pending) (equals : Bool) → (c == 61) ≡ equals → Shows run (rows_at rows p) → size p ≤ usize_max
-        → LettersTo (told_by_folder (c ∷ cs) run) (flags_fault the_shape.rules true (suc (length (c ∷ cs))) (b ∷ c ∷ cs) 0 (held_at rows p))
+        → LettersTo (asked_by_folder (c ∷ cs) run) (flags_fault the_shape.rules true (suc (length (c ∷ cs))) (b ∷ c ∷ cs) 0 (held_at rows p))
         (bundle_met the_shape.rules (suc (length (c ∷ cs))) (b ∷ c ∷ cs) 0 done (held_at rows p))
     by Idle true e shows fits =
         let again = repeat_passes base_id rows in
@@ -252,13 +252,13 @@ other_fault b rest x h before e s no_complain no_base = by (eqb_tells x help_let
         rw (e, complain, base, no_help, no_version, i.0, v.0) refl
 
 -- what letters other than `C` and `b` come to
-abbrev told_by_other : ℕ → Told
-told_by_other x = if x == help_letter then Settled ForHelp else if x == version_letter then Settled ForVersion else Settled Nothing
+abbrev asked_by_other : ℕ → AskedSoFar
+asked_by_other x = if x == help_letter then Settled ForHelp else if x == version_letter then Settled ForVersion else Settled Nothing
 
-other_stops : (x : ℕ) (met : Held × Outcome) → LettersTo (told_by_other x) (other_fault_of [] x) met
+other_stops : (x : ℕ) (met : Held × Outcome) → LettersTo (asked_by_other x) (other_fault_of [] x) met
 other_stops x met = by (x == help_letter) refl (x == version_letter) refl
   where
-    by : (help : Bool) → (x == help_letter) ≡ help → (version : Bool) → (x == version_letter) ≡ version → LettersTo (told_by_other x) (other_fault_of [] x) met
+    by : (help : Bool) → (x == help_letter) ≡ help → (version : Bool) → (x == version_letter) ≡ version → LettersTo (asked_by_other x) (other_fault_of [] x) met
     by true h version v = rw h refl
     by false h true v = rw (h, v) refl
     by false h false v = rw (h, v) bad_unknown
@@ -274,14 +274,14 @@ first_letter b rest x run rows p e shows fits more = by (eqb_tells x complain_le
     by : Compared x complain_letter → Compared x base_letter → FirstLetter b rest run rows p
     by (inl c) other = complain_first b rest run rows p (subst (λ x. slice_get (chars (b ∷ rest)) 0 ≡ Some x) c.1 e) shows fits more
     by (inr c) (inl d) =
-        let told : told_by_letters (b ∷ rest) run ≡ told_by_folder rest run = rw (e, c.0, d.0) refl in
-        subst (λ t. LettersTo t (flags_fault the_shape.rules true (suc (length rest)) (b ∷ rest) 0 (held_at rows p)) met) (sym told)
+        let by_letters : asked_by_letters (b ∷ rest) run ≡ asked_by_folder rest run = rw (e, c.0, d.0) refl in
+        subst (λ t. LettersTo t (flags_fault the_shape.rules true (suc (length rest)) (b ∷ rest) 0 (held_at rows p)) met) (sym by_letters)
         (base_first b rest run rows p (subst (λ x. slice_get (chars (b ∷ rest)) 0 ≡ Some x) d.1 e) shows fits)
     by (inr c) (inr d) =
-        let told : told_by_letters (b ∷ rest) run ≡ told_by_other x = rw (e, c.0, d.0) refl in
+        let by_letters : asked_by_letters (b ∷ rest) run ≡ asked_by_other x = rw (e, c.0, d.0) refl in
         let fault = other_fault b rest x (held_at rows p) [] e (settle_passes rows p fits) c.1 d.1 in
-        subst (λ t. LettersTo t (flags_fault the_shape.rules true (suc (length rest)) (b ∷ rest) 0 (held_at rows p)) met) (sym told)
-        (subst (λ (ks : Kinds). LettersTo (told_by_other x) ks met) (sym fault) (other_stops x met))
+        subst (λ t. LettersTo t (flags_fault the_shape.rules true (suc (length rest)) (b ∷ rest) 0 (held_at rows p)) met) (sym by_letters)
+        (subst (λ (ks : Kinds). LettersTo (asked_by_other x) ks met) (sym fault) (other_stops x met))
 
 -- letters behind another one
 letters : (flags : List ℕ) → AfterLetters flags

@@ -81,10 +81,10 @@ other_without id other (r ∷ rs) d = by (bytes_eq r.id id) refl (bytes_eq r.id 
     by false e true o more = rw (e, o) (ap (λ l. r ∷ l) more)
     by false e false o more = rw (e, o) more
 
-stays_told : (source : Option ValueSource) → stronger source CommandLine ≡ CommandLine
-stays_told None = refl
-stays_told (Some CommandLine) = refl
-stays_told (Some DefaultValue) = refl
+stays_given : (source : Option ValueSource) → stronger source CommandLine ≡ CommandLine
+stays_given None = refl
+stays_given (Some CommandLine) = refl
+stays_given (Some DefaultValue) = refl
 
 -- values that come one behind the other come at once
 pub values_twice : (id : Text) (how : Reading) (vs ws : List Text) (rows : List Row)
@@ -95,7 +95,7 @@ values_twice id how vs ws (r ∷ rs) = by (bytes_eq r.id id) refl (values_twice 
     by : (b : Bool) → bytes_eq r.id id ≡ b
         → with_values id how CommandLine (vs ++ ws) rs ≡ with_values id how CommandLine ws (with_values id how CommandLine vs rs)
         → with_values id how CommandLine (vs ++ ws) (r ∷ rs) ≡ with_values id how CommandLine ws (with_values id how CommandLine vs (r ∷ rs))
-    by true e more = rw (e, e, stays_told r.source, append_assoc r.values vs ws) refl
+    by true e more = rw (e, e, stays_given r.source, append_assoc r.values vs ws) refl
     by false e more = rw (e, e) (ap (λ l. r ∷ l) more)
 
 -- ---- the three arguments

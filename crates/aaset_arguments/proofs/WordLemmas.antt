@@ -10,7 +10,7 @@ use Rattle.clap.specs.Walk.{Held, Outcome, Walk, arg_by_long, bundle_met, done, 
 use Rattle.clap.specs.Kinds.{Kinds}
 use Rattle.clap.specs.declared.error.kind.ErrorKind.{ErrorKind}
 use Rattle.clap.specs.declared.error.kind.ErrorKind.TheVariants as kind
-use Rattle.aaset_arguments.specs.Arguments.{Asked, Folder, ForHelp, ForRun, ForVersion, Nothing, Open, Run, Settled, Told, is_option, told_by_letters, told_by_option, told_by_word, with_names}
+use Rattle.aaset_arguments.specs.Arguments.{Asked, AskedSoFar, Folder, ForHelp, ForRun, ForVersion, Nothing, Open, Run, Settled, asked_by_letters, asked_by_option, asked_by_word, is_option, with_names}
 use Rattle.aaset_arguments.proofs.RowLemmas.{Shows, base_id, shows_named}
 use Rattle.aaset_arguments.proofs.WalkLemmas.{Idle, IsTaken, OfFolder, OfNames, Pending, held_at, held_open, no_letters, no_letters_fault, pending_next, rows_at, rows_named, rows_next, settle_open, settle_passes, size, size_next, state_at, state_open, taken_plain, taken_short, the_shape}
 use Rattle.aaset_arguments.proofs.OptionLemmas.{AreBad, LettersTo, Stops, asked_by_long, first_alone, all_letters, letters_folder, long_fault_of, long_folder, long_kinds, long_stops}
@@ -80,7 +80,7 @@ letters_pass rows p word flags h refused a d l s b f = absurd a
 -- ---- each word behind names and options
 
 -- the walk makes of a word what the word tells
-abbrev pub WordTo : Told → Walk → Text → ℕ → Type 0
+abbrev pub WordTo : AskedSoFar → Walk → Text → ℕ → Type 0
 WordTo (Open run) w word m = (turn_fault the_shape [] w word ≡ [])
     × ((rows : List Row) × (p : Pending) × (walked the_shape.rules [] w word ≡ state_at false rows p) × Shows run (rows_at rows p) × (size p ≤ m))
 WordTo (Folder run) w word m = (turn_fault the_shape [] w word ≡ [])
@@ -109,7 +109,7 @@ long_word rows p word text m fits d l =
     let turn = long_turn rows p word (name_and_value text).0 (name_and_value text).1 one.0 d l (fault ∙ one.1) in
     subst (Stops (asked_by_long text)) (one.1 ∙ sym turn) stops
 
-letters_word : (t : Told) (rows : List Row) (p : Pending) (word flags : Text) (m : ℕ) → bytes_eq word (codes "--") ≡ false → long_of word ≡ None → short_of word ≡ Some flags
+letters_word : (t : AskedSoFar) (rows : List Row) (p : Pending) (word flags : Text) (m : ℕ) → bytes_eq word (codes "--") ≡ false → long_of word ≡ None → short_of word ≡ Some flags
     → (x : ℕ) → slice_get (chars flags) 0 ≡ Some x
     → LettersTo t (flags_fault the_shape.rules true (length flags) flags 0 (held_at rows p)) (bundle_met the_shape.rules (length flags) flags 0 done (held_at rows p))
     → WordTo t (state_at false rows p) word m
@@ -128,24 +128,24 @@ letters_word (Settled a) rows p word flags m d l s x e to =
     subst (Stops a) (one.1 ∙ sym (short_turn rows p word flags one.0 d l s one.1)) to
 
 -- an option of two hyphens tells what it asks for
-told_long : (d : ℕ) (ds : List ℕ) (run : Run) → told_by_option (45 ∷ d ∷ ds) run ≡ Settled (asked_by_long (d ∷ ds))
+asked_long : (d : ℕ) (ds : List ℕ) (run : Run) → asked_by_option (45 ∷ d ∷ ds) run ≡ Settled (asked_by_long (d ∷ ds))
 unfolding chars
-told_long d ds run = by (bytes_eq (d ∷ ds) (codes "help")) refl (bytes_eq (d ∷ ds) (codes "version")) refl
+asked_long d ds run = by (bytes_eq (d ∷ ds) (codes "help")) refl (bytes_eq (d ∷ ds) (codes "version")) refl
   where
     by : (help : Bool) → bytes_eq (d ∷ ds) (codes "help") ≡ help → (version : Bool) → bytes_eq (d ∷ ds) (codes "version") ≡ version
-        → told_by_option (45 ∷ d ∷ ds) run ≡ Settled (asked_by_long (d ∷ ds))
+        → asked_by_option (45 ∷ d ∷ ds) run ≡ Settled (asked_by_long (d ∷ ds))
     by true h version v = rw h refl
     by false h true v = rw (h, v) refl
     by false h false v = rw (h, v) refl
 
 -- the walk makes of any word what the word tells
 abbrev IsMet : List Row → Pending → Run → ℕ → Text → Type 0
-IsMet rows p run m word = WordTo (told_by_word word run) (state_at false rows p) word (m + 1)
+IsMet rows p run m word = WordTo (asked_by_word word run) (state_at false rows p) word (m + 1)
 
 met_long : (rows : List Row) (p : Pending) (run : Run) (m d : ℕ) (ds : List ℕ) → size p ≤ usize_max → IsMet rows p run m (45 ∷ 45 ∷ d ∷ ds)
 unfolding chars
 met_long rows p run m d ds fits =
-    subst (λ (t : Told). WordTo t (state_at false rows p) (45 ∷ 45 ∷ d ∷ ds) (m + 1)) (sym (told_long d ds run))
+    subst (λ (t : AskedSoFar). WordTo t (state_at false rows p) (45 ∷ 45 ∷ d ∷ ds) (m + 1)) (sym (asked_long d ds run))
     (long_word rows p (45 ∷ 45 ∷ d ∷ ds) (d ∷ ds) (m + 1) fits refl refl)
 
 met_short : (rows : List Row) (p : Pending) (run : Run) (m c : ℕ) (cs : List ℕ) → m ≤ usize_max → Shows run (rows_at rows p) → size p ≤ m → eqb c 45 ≡ false
@@ -161,9 +161,9 @@ met_short rows p run m c cs most shows fits other =
     by None e dashes long short =
         rw e (name_taken rows p (45 ∷ c ∷ cs) run m shows fits (taken_short rows p (45 ∷ c ∷ cs) (c ∷ cs) dashes long short e))
     by (Some x) e dashes long short =
-        let told : told_by_word (45 ∷ c ∷ cs) run ≡ told_by_letters (c ∷ cs) run = rw (e, other) refl in
-        subst (λ (t : Told). WordTo t (state_at false rows p) (45 ∷ c ∷ cs) (m + 1)) (sym told)
-        (letters_word (told_by_letters (c ∷ cs) run) rows p (45 ∷ c ∷ cs) (c ∷ cs) (m + 1) dashes long short x e
+        let by_letters : asked_by_word (45 ∷ c ∷ cs) run ≡ asked_by_letters (c ∷ cs) run = rw (e, other) refl in
+        subst (λ (t : AskedSoFar). WordTo t (state_at false rows p) (45 ∷ c ∷ cs) (m + 1)) (sym by_letters)
+        (letters_word (asked_by_letters (c ∷ cs) run) rows p (45 ∷ c ∷ cs) (c ∷ cs) (m + 1) dashes long short x e
         (all_letters c cs x run rows p e shows (omega (arith, fits, most))))
 
 pub met : (rows : List Row) (p : Pending) (run : Run) (m : ℕ) (word : Text) → m ≤ usize_max → Shows run (rows_at rows p) → size p ≤ m

@@ -53,7 +53,7 @@ is_name word = not (is_option word)
 abbrev pub default_base : List ℕ
 default_base = codes "/etc/apparmor.d"
 
--- the run that no word has told anything of
+-- the run of which no word has asked anything
 abbrev pub bare_run : Run
 bare_run = record { force_complain = false; base = default_base; names = [] }
 
@@ -70,10 +70,10 @@ abbrev pub with_names : List (List ℕ) → Run → Run
 with_names names run = record run { names = run.names ++ names }
 
 -- what words come to: a run so far, one whose folder has to be the next word, or what is asked for whatever follows
-pub data Told : Type 0 where
-  Open : Run → Told
-  Folder : Run → Told
-  Settled : Asked → Told
+pub data AskedSoFar : Type 0 where
+  Open : Run → AskedSoFar
+  Folder : Run → AskedSoFar
+  Settled : Asked → AskedSoFar
 
 -- the folder that stands behind `-b` in its word, without one `=` at its beginning
 abbrev pub attached : List ℕ → List ℕ
@@ -81,36 +81,36 @@ attached [] = []
 attached (b ∷ rest) = if b == equals_sign then rest else b ∷ rest
 
 -- what stands behind `-b` in its word is the folder, and where nothing does, the next word is
-abbrev pub told_by_folder : List ℕ → Run → Told
-told_by_folder [] run = Folder run
-told_by_folder (b ∷ rest) run = Open (below (attached (b ∷ rest)) run)
+abbrev pub asked_by_folder : List ℕ → Run → AskedSoFar
+asked_by_folder [] run = Folder run
+asked_by_folder (b ∷ rest) run = Open (below (attached (b ∷ rest)) run)
 
 -- A letter of an option: `C` is followed by more letters, `b` by its folder. `h` asks for help and `V` for the version, and any other letter
 -- for nothing.
-abbrev pub told_by_letter : ℕ → List ℕ → Run → (Run → Told) → Told
-told_by_letter letter rest run more =
+abbrev pub asked_by_letter : ℕ → List ℕ → Run → (Run → AskedSoFar) → AskedSoFar
+asked_by_letter letter rest run more =
     if letter == complain_letter then more (forced run)
-    else if letter == base_letter then told_by_folder rest run
+    else if letter == base_letter then asked_by_folder rest run
     else if letter == help_letter then Settled ForHelp
     else if letter == version_letter then Settled ForVersion
     else Settled Nothing
 
 -- the letters of an option, one behind the other
-abbrev pub told_by_letters : List ℕ → Run → Told
-told_by_letters [] run = Open run
-told_by_letters (b ∷ rest) run =
-    option_map_or (λ letter. told_by_letter letter rest run (told_by_letters rest)) (slice_get (chars (b ∷ rest)) 0) (Open run)
+abbrev pub asked_by_letters : List ℕ → Run → AskedSoFar
+asked_by_letters [] run = Open run
+asked_by_letters (b ∷ rest) run =
+    option_map_or (λ letter. asked_by_letter letter rest run (asked_by_letters rest)) (slice_get (chars (b ∷ rest)) 0) (Open run)
 
 -- an option, by what stands behind its first hyphen: `--help`, `--version`, or letters
-abbrev pub told_by_option : List ℕ → Run → Told
-told_by_option rest run =
+abbrev pub asked_by_option : List ℕ → Run → AskedSoFar
+asked_by_option rest run =
     if bytes_eq rest (codes "-help") then Settled ForHelp
     else if bytes_eq rest (codes "-version") then Settled ForVersion
-    else told_by_letters rest run
+    else asked_by_letters rest run
 
 -- a word that isn't `--`: what is no option is one more name
-abbrev pub told_by_word : List ℕ → Run → Told
-told_by_word word run = if is_option word then told_by_option (drop 1 word) run else Open (with_names (word ∷ []) run)
+abbrev pub asked_by_word : List ℕ → Run → AskedSoFar
+asked_by_word word run = if is_option word then asked_by_option (drop 1 word) run else Open (with_names (word ∷ []) run)
 
 -- a run has to have a name
 abbrev pub asked_with : List (List ℕ) → Run → Asked
@@ -122,14 +122,14 @@ abbrev pub asked_at_end : Run → Asked
 asked_at_end run = asked_with run.names run
 
 -- What words ask for behind those that came to this. Behind `--` each word is a name. No option and no `--` is a folder.
-abbrev pub asked_behind : Told → List (List ℕ) → Asked
+abbrev pub asked_behind : AskedSoFar → List (List ℕ) → Asked
 asked_behind (Settled asked) words = asked
 asked_behind (Folder run) [] = Nothing
 asked_behind (Folder run) (word ∷ words) = if is_option word then Nothing else asked_behind (Open (below word run)) words
 asked_behind (Open run) [] = asked_at_end run
 asked_behind (Open run) (word ∷ words) =
     if bytes_eq word (codes "--") then asked_at_end (with_names words run)
-    else asked_behind (told_by_word word run) words
+    else asked_behind (asked_by_word word run) words
 
 -- what the words of all arguments ask for
 abbrev pub asked : List (List ℕ) → Asked

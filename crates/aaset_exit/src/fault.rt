@@ -22,7 +22,7 @@ pub enum Fault {
 }
 
 impl From<RunFault> for Fault {
-    ghost from_gives = { λ fault told. told ≡ fault_of_run fault };
+    ghost from_gives = { λ fault given. given ≡ fault_of_run fault };
 
     fn from(fault: RunFault) -> Fault {
         match fault {

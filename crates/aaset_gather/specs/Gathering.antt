@@ -25,7 +25,7 @@ IsReadBelow bytes_at base file = IsFalse (is_folder_name file.0) → IfSome (byt
 
 -- The fault of a name behind these: the name is told, where it may be. Memory is never told of one that is refused, which is found without it.
 abbrev pub IsFaultBehind : List (List ℕ) → List ℕ → GatherFault → Type 0
-IsFaultBehind before name (Untaken told) = (string_bytes told ≡ name) × IsTrue (may_be_untaken before name)
+IsFaultBehind before name (Untaken text) = (string_bytes text ≡ name) × IsTrue (may_be_untaken before name)
 IsFaultBehind before name Memory = IsFalse (is_refused_behind before name)
 
 -- The fault is that of the first name at which there is one: those before it are good and different from each other.
@@ -35,4 +35,4 @@ pub record IsFirstFault (names : List (List ℕ)) (fault : GatherFault) : Type 0
   pub behind : List (List ℕ)
   pub stands : names ≡ before ++ name ∷ behind
   pub good : AreGoodNames before
-  pub told : IsFaultBehind before name fault
+  pub reported : IsFaultBehind before name fault

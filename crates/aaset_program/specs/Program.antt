@@ -18,20 +18,20 @@ use Rattle.aaset_program.specs.declared.ready.Ready.{Ready}
 abbrev pub line_of : List ℕ → List ℕ
 line_of text = text ++ codes "\n"
 
--- a fault is told on standard error, on a line of its own, and the status is that of the fault
-pub record IsTold (fault : Fault) (errors : Writes) (status : ℕ) : Type 0 where
+-- a fault is reported on standard error, on a line of its own, and the status is that of the fault
+pub record IsReported (fault : Fault) (errors : Writes) (status : ℕ) : Type 0 where
   pub line : IsWritten (line_of (text_of fault)) errors
   pub by_status : status ≡ status_of fault
 
--- a text stands on standard output, and nothing else was told
+-- a text stands on standard output, and nothing else was reported
 pub record IsWhole (text : List ℕ) (output errors : Writes) (status : ℕ) : Type 0 where
   pub text_written : Appends output.before output.after text
   pub silent : IsUnwritten errors
   pub fine : status ≡ 0
 
--- a text is shown, or standard output failed, and that is told
+-- a text is shown, or standard output failed, and that is reported
 abbrev pub IsShown : List ℕ → Writes → Writes → ℕ → Type 0
-IsShown text output errors status = IsWhole text output errors status ⊎ ((output.failed ≡ true) × IsTold Write errors status)
+IsShown text output errors status = IsWhole text output errors status ⊎ ((output.failed ≡ true) × IsReported Write errors status)
 
 -- All commands of standard input were answered, by the machine that keeps whole policy sets, over the files and in the mode that are ready. The
 -- status tells whether some command was refused.
@@ -62,19 +62,19 @@ StandsAfter run.Read ready input output = HoldsOfRead input.before input.after (
 StandsAfter run.Write ready input output = HoldsOfRead input.before input.after (IsFrontAnswered ready.files ready.force_complain output.before output.after)
 StandsAfter run.Memory ready input output = IsUnwritten output
 
--- a fault ended the run, and is told
+-- a fault ended the run, and is reported
 pub record IsBroken (ready : Ready) (input : Reads) (output errors : Writes) (status : ℕ) : Type 0 where
   pub fault : RunFault
   pub cause : IsCause fault input output
   pub stands : StandsAfter fault ready input output
-  pub told : IsTold (fault_of_run fault) errors status
+  pub reported : IsReported (fault_of_run fault) errors status
 
 -- a run over what is ready
 abbrev pub IsRun : Ready → Reads → Writes → Writes → ℕ → Type 0
 IsRun ready input output errors status = AreAnswered ready input output errors status ⊎ IsBroken ready input output errors status
 
--- What is done of what was prepared: commands are answered, a text is shown, or a fault is told, and then nothing was read or answered.
+-- What is done of what was prepared: commands are answered, a text is shown, or a fault is reported, and then nothing was read or answered.
 abbrev pub IsPerformed : Result Ready Stop → Reads → Writes → Writes → ℕ → Type 0
 IsPerformed (Ok ready) input output errors status = IsRun ready input output errors status
 IsPerformed (Err (Shown text)) input output errors status = IsUnread input × IsShown (string_bytes text) output errors status
-IsPerformed (Err (Failed fault)) input output errors status = IsUnread input × IsUnwritten output × IsTold fault errors status
+IsPerformed (Err (Failed fault)) input output errors status = IsUnread input × IsUnwritten output × IsReported fault errors status

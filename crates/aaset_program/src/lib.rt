@@ -3,7 +3,7 @@
 
 mod program;
 mod ready;
-mod telling;
+mod reporting;
 
 pub use program::start;
 pub use ready::Ready;

@@ -7,7 +7,7 @@ ghost use Rattle.aaset_program.specs.Program.{IsPerformed, IsRun};
 ghost use Rattle.aaset_program.specs.Streams.{read_from, written_to};
 
 use crate::ready::{Ready, prepare};
-use crate::telling::{show, tell};
+use crate::reporting::{report, show};
 use aa_set::{Sink, Source};
 use aaset_exit::{Fault, Stop};
 use aaset_gather::FileSystem;
@@ -33,11 +33,11 @@ fn answer<S: Source, W: Sink, E: Sink>(
     let outcome = aa_set::run(alloc, &ready.files, ready.force_complain, input, output);
     match &outcome {
         Ok(_) => aaset_exit::status(&outcome),
-        Err(fault) => tell(alloc, errors, &Fault::from(*fault)),
+        Err(fault) => report(alloc, errors, &Fault::from(*fault)),
     }
 }
 
-// Does what was prepared: answers commands, shows a text, or tells a fault.
+// Does what was prepared: answers commands, shows a text, or reports a fault.
 fn perform<S: Source, W: Sink, E: Sink>(
     alloc: Global,
     prepared: Result<Ready, Stop>,
@@ -57,18 +57,18 @@ fn perform<S: Source, W: Sink, E: Sink>(
     match prepared {
         Ok(ready) => answer(alloc, &ready, input, output, errors),
         Err(Stop::Shown(text)) => show(alloc, text.as_str(), output, errors),
-        Err(Stop::Failed(fault)) => tell(alloc, errors, &fault),
+        Err(Stop::Failed(fault)) => report(alloc, errors, &fault),
     }
 }
 
 /// Does what the words of the program's start ask for, and gives the exit status. The first word is the program's own name; where the words
-/// can't be had, `words` is the fault to be told.
+/// can't be had, `words` is the fault to be reported.
 ///
 /// A text that is asked for, help or the version, is written to `output`. Of a run the files are taken from `disk`, and then the
 /// commands of `input` are answered on `output`, each before the next is read. The status is 0 where the text was shown or no command was
-/// refused, and 1 where some command was. A fault is told on `errors`, on a line of its own, without memory, and its status is 2 where the
+/// refused, and 1 where some command was. A fault is reported on `errors`, on a line of its own, without memory, and its status is 2 where the
 /// arguments or a NAME are no good, and 3 where a stream or memory failed; before the first command is read, nothing is written to `output`
-/// then. Where `errors` fails, the status alone tells the fault.
+/// then. Where `errors` fails, the status alone reports the fault.
 pub fn start<D: FileSystem, S: Source, W: Sink, E: Sink>(
     alloc: Global,
     words: Result<Vec<String>, Fault>,

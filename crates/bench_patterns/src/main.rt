@@ -71,8 +71,8 @@ fn ask_patterns(patterns: &[Pattern], paths: &str) -> usize {
     matches
 }
 
-// Tells how much work all paths are.
-fn tell_work<R: Print>(rt: &R, alloc: Global, patterns: &[Pattern], paths: &str) -> Result<()> {
+// Reports how much work all paths are.
+fn report_work<R: Print>(rt: &R, alloc: Global, patterns: &[Pattern], paths: &str) -> Result<()> {
     let automaton = Automaton::build(alloc, patterns)?;
     let mut steps = Steps::new();
     let matches = ask_automaton(alloc, &automaton, paths, &mut steps)?;
@@ -84,8 +84,8 @@ fn tell_work<R: Print>(rt: &R, alloc: Global, patterns: &[Pattern], paths: &str)
     Ok(())
 }
 
-// Tells how long an automaton takes to be made, and all paths.
-fn tell_automaton<R: Print + Clock>(
+// Reports how long an automaton takes to be made, and all paths.
+fn report_automaton<R: Print + Clock>(
     rt: &R,
     alloc: Global,
     patterns: &[Pattern],
@@ -104,8 +104,8 @@ fn tell_automaton<R: Print + Clock>(
     Ok(())
 }
 
-// Tells how long all paths take each pattern by itself.
-fn tell_patterns<R: Print + Clock>(rt: &R, patterns: &[Pattern], paths: &str) -> Result<()> {
+// Reports how long all paths take each pattern by itself.
+fn report_patterns<R: Print + Clock>(rt: &R, patterns: &[Pattern], paths: &str) -> Result<()> {
     let start = Instant::now(rt)?;
     let matches = ask_patterns(patterns, paths);
     let asked = start.elapsed(rt)?.as_nanos();
@@ -122,11 +122,11 @@ fn main(rt: HostRuntime) -> Result<()> {
         fs::read_to_string(&rt, patterns.as_str())?.as_str(),
     )?;
     let paths = fs::read_to_string(&rt, paths.as_str())?;
-    tell_work(&rt, rt.alloc(), &patterns, paths.as_str())?;
+    report_work(&rt, rt.alloc(), &patterns, paths.as_str())?;
     let Some(rounds) = words.next() else {
         return Ok(());
     };
     let rounds = rounds.as_str().parse::<u32>()?;
-    tell_automaton(&rt, rt.alloc(), &patterns, paths.as_str(), rounds)?;
-    tell_patterns(&rt, &patterns, paths.as_str())
+    report_automaton(&rt, rt.alloc(), &patterns, paths.as_str(), rounds)?;
+    report_patterns(&rt, &patterns, paths.as_str())
 }

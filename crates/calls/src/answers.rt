@@ -47,7 +47,7 @@ fn text_rows(alloc: Global) -> [Row; 10] {
 
 fn profile_rows(alloc: Global) -> [Row; 8] {
     [
-        ("Perms::push_letters", profiles::letters_are_told(alloc)),
+        ("Perms::push_letters", profiles::letters_are_written(alloc)),
         ("read_file", profiles::is_read(alloc)),
         ("Profile::try_copy", profiles::is_copied(alloc)),
         ("Ready::build", profiles::ready_is_built(alloc)),

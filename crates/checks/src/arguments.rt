@@ -37,8 +37,8 @@ fn is_for(plan: &Plan, force_complain: bool, base: &str, names: &[&str]) -> bool
             .all(|(name, want)| { name.as_str() == *want })
 }
 
-fn is_wanted(told: &Result<Plan, ArgFault>, want: Want) -> bool {
-    match (told, want) {
+fn is_wanted(answered: &Result<Plan, ArgFault>, want: Want) -> bool {
+    match (answered, want) {
         (Ok(plan), Want::Names(names)) => is_for(plan, false, "/etc/apparmor.d", names),
         (Ok(plan), Want::Run(force_complain, base, names)) => {
             is_for(plan, force_complain, base, names)

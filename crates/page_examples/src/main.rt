@@ -30,9 +30,9 @@ fn managed(alloc: Global) -> Result<Manager> {
     Ok(manager)
 }
 
-// Tells what the examples of names, patterns and files give.
-fn tell_files<R: Print>(rt: &R, alloc: Global) -> Result<()> {
-    let names = String::from_utf8(bytes::told_names(alloc)?)?;
+// Reports what the examples of names, patterns and files give.
+fn report_files<R: Print>(rt: &R, alloc: Global) -> Result<()> {
+    let names = String::from_utf8(bytes::written_names(alloc)?)?;
     println!(rt; "aa_quoting: {names}")?;
     let places = glob::matching_places(alloc, b"/srv/www/index.html")?;
     println!(rt; "aa_glob: {places:?}")?;
@@ -41,8 +41,8 @@ fn tell_files<R: Print>(rt: &R, alloc: Global) -> Result<()> {
     Ok(())
 }
 
-// Tells what the examples of profiles give.
-fn tell_profiles<R: Print>(rt: &R, alloc: Global) -> Result<()> {
+// Reports what the examples of profiles give.
+fn report_profiles<R: Print>(rt: &R, alloc: Global) -> Result<()> {
     let refusal = profile::refusal(alloc, b"profile web { @{WBE}/** r, }")?;
     let refusal = refusal.context("the file was taken")?;
     println!(rt; "aa_profile: {refusal}")?;
@@ -52,8 +52,8 @@ fn tell_profiles<R: Print>(rt: &R, alloc: Global) -> Result<()> {
     Ok(())
 }
 
-// Tells what the examples of the journal, a run and the program give.
-fn tell_runs<R: Print>(rt: &R, alloc: Global) -> Result<()> {
+// Reports what the examples of the journal, a run and the program give.
+fn report_runs<R: Print>(rt: &R, alloc: Global) -> Result<()> {
     let number = history::number_after_undo(alloc).context("no memory")?;
     println!(rt; "aa_history: {number}")?;
     let replies = String::from_utf8(set::replies(alloc, WEB, b"add web\nlist\nundo\n")?)?;
@@ -66,7 +66,7 @@ fn tell_runs<R: Print>(rt: &R, alloc: Global) -> Result<()> {
 
 fn main(rt: HostRuntime) -> Result<()> {
     let alloc = rt.alloc();
-    tell_files(&rt, alloc)?;
-    tell_profiles(&rt, alloc)?;
-    tell_runs(&rt, alloc)
+    report_files(&rt, alloc)?;
+    report_profiles(&rt, alloc)?;
+    report_runs(&rt, alloc)
 }

@@ -5,7 +5,7 @@ use percent_encoding::{AsciiSet, CONTROLS, percent_encode};
 use std::alloc::Global;
 
 /// How many rows of a file were asked, how many were answered otherwise, and how those were answered. It has room for what a row
-/// wants to be told and for what was told.
+/// wants and for what was answered.
 #[derive(Drop)]
 pub struct Tally {
     alloc: Global,
@@ -15,10 +15,10 @@ pub struct Tally {
     rows: usize,
     wrong: usize,
     report: String,
-    /// What the row wants to be told, before `settle`.
+    /// What the row wants to be answered, before `settle`.
     pub wanted: Vec<u8>,
-    /// What was told, before `settle`.
-    pub told: Vec<u8>,
+    /// What was answered, before `settle`.
+    pub answered: Vec<u8>,
 }
 
 // What is written as `%XX`.
@@ -40,12 +40,12 @@ fn put_asked(text: &mut String, alloc: Global, line: usize, what: &str) -> Resul
     Ok(())
 }
 
-// Puts what was wanted and told behind a text.
-fn put_answers(text: &mut String, wanted: &[u8], told: &[u8]) -> Result<(), RowError> {
+// Puts what was wanted and answered behind a text.
+fn put_answers(text: &mut String, wanted: &[u8], answered: &[u8]) -> Result<(), RowError> {
     text.push_str("  wanted ")?;
     put_shown(text, wanted)?;
     text.push_str("  told   ")?;
-    put_shown(text, told)
+    put_shown(text, answered)
 }
 
 impl Tally {
@@ -59,7 +59,7 @@ impl Tally {
             wrong: 0,
             report: String::new(alloc),
             wanted: Vec::new(alloc),
-            told: Vec::new(alloc),
+            answered: Vec::new(alloc),
         }
     }
 
@@ -107,25 +107,25 @@ impl Tally {
         }
     }
 
-    /// Compares what a row wants to be told with what was told. The one error is that of memory.
-    pub fn compare(&mut self, what: &str, wanted: &[u8], told: &[u8]) -> Result<(), RowError> {
-        if wanted == told {
+    /// Compares what a row wants to be answered with what was answered. The one error is that of memory.
+    pub fn compare(&mut self, what: &str, wanted: &[u8], answered: &[u8]) -> Result<(), RowError> {
+        if wanted == answered {
             return Ok(());
         }
         self.count_wrong();
         put_asked(&mut self.report, self.alloc, self.line, what)?;
-        put_answers(&mut self.report, wanted, told)
+        put_answers(&mut self.report, wanted, answered)
     }
 
-    /// Compares `wanted` with `told`, and empties both. The one error is that of memory.
+    /// Compares `wanted` with `answered`, and empties both. The one error is that of memory.
     pub fn settle(&mut self, what: &str) -> Result<(), RowError> {
-        if self.wanted.as_slice() != self.told.as_slice() {
+        if self.wanted.as_slice() != self.answered.as_slice() {
             self.count_wrong();
             put_asked(&mut self.report, self.alloc, self.line, what)?;
-            put_answers(&mut self.report, &self.wanted, &self.told)?;
+            put_answers(&mut self.report, &self.wanted, &self.answered)?;
         }
         self.wanted.clear();
-        self.told.clear();
+        self.answered.clear();
         Ok(())
     }
 }

@@ -26,38 +26,38 @@ fn read_all(alloc: Global, texts: &[Vec<u8>]) -> Result<Vec<Pattern>, RowError> 
 }
 
 // Puts one more place behind an answer.
-fn put_place(told: &mut Vec<u8>, place: usize) -> Result<(), RowError> {
-    if !told.is_empty() {
-        told.push(b',')?;
+fn put_place(answered: &mut Vec<u8>, place: usize) -> Result<(), RowError> {
+    if !answered.is_empty() {
+        answered.push(b',')?;
     }
-    put_number(told, place)
+    put_number(answered, place)
 }
 
 // Puts `none` as an answer where there is no place.
-fn put_none(told: &mut Vec<u8>) -> Result<(), RowError> {
-    if told.is_empty() {
-        put_word(told, b"none")
+fn put_none(answered: &mut Vec<u8>) -> Result<(), RowError> {
+    if answered.is_empty() {
+        put_word(answered, b"none")
     } else {
         Ok(())
     }
 }
 
 // Puts places as an answer.
-fn put_places(told: &mut Vec<u8>, places: &[usize]) -> Result<(), RowError> {
+fn put_places(answered: &mut Vec<u8>, places: &[usize]) -> Result<(), RowError> {
     for place in places {
-        put_place(told, *place)?;
+        put_place(answered, *place)?;
     }
-    put_none(told)
+    put_none(answered)
 }
 
 // Puts the places of the patterns that match a path as an answer, each of them asked by itself.
-fn put_matches(told: &mut Vec<u8>, patterns: &[Pattern], path: &[u8]) -> Result<(), RowError> {
+fn put_matches(answered: &mut Vec<u8>, patterns: &[Pattern], path: &[u8]) -> Result<(), RowError> {
     for (place, pattern) in patterns.iter().enumerate() {
         if pattern.matches(path) {
-            put_place(told, place)?;
+            put_place(answered, place)?;
         }
     }
-    put_none(told)
+    put_none(answered)
 }
 
 // Puts what is wanted: places with commas between, or `none`.
@@ -78,7 +78,7 @@ fn ask_automaton(
 ) -> Result<(), RowError> {
     let places = automaton.matching(tally.alloc(), path, &mut Steps::new())?;
     want(tally, answer)?;
-    put_places(&mut tally.told, &places)?;
+    put_places(&mut tally.answered, &places)?;
     tally.settle("matching")
 }
 
@@ -103,7 +103,7 @@ fn ask_matching(
 ) -> Result<(), RowError> {
     let patterns = read_all(tally.alloc(), texts)?;
     want(tally, answer)?;
-    put_matches(&mut tally.told, &patterns, path)?;
+    put_matches(&mut tally.answered, &patterns, path)?;
     tally.settle("matches of each pattern")?;
     let automaton = Automaton::build(tally.alloc(), &patterns)?;
     ask_copies(tally, &automaton, path, answer)
@@ -119,7 +119,7 @@ fn automaton_of(alloc: Global, texts: &[Vec<u8>]) -> Result<Automaton, RowError>
 fn ask_states(tally: &mut Tally, number: &[u8], texts: &[Vec<u8>]) -> Result<(), RowError> {
     let automaton = automaton_of(tally.alloc(), texts)?;
     put_word(&mut tally.wanted, number)?;
-    put_number_word(&mut tally.told, automaton.states())?;
+    put_number_word(&mut tally.answered, automaton.states())?;
     tally.settle("states")
 }
 

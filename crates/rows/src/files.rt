@@ -8,62 +8,67 @@ use row_texts::{
 
 // Hands in a file.
 fn put_insertion(
-    told: &mut Vec<u8>,
+    answered: &mut Vec<u8>,
     files: &mut Files,
     name: &[u8],
     bytes: &[u8],
 ) -> Result<(), RowError> {
-    let name = Vec::from_slice(*told.allocator(), name)?;
-    let bytes = Vec::from_slice(*told.allocator(), bytes)?;
+    let name = Vec::from_slice(*answered.allocator(), name)?;
+    let bytes = Vec::from_slice(*answered.allocator(), bytes)?;
     match files.insert(name, bytes) {
-        Ok(()) => put_word(told, b"ok"),
-        Err(error) => put_word(told, error.name().as_bytes()),
+        Ok(()) => put_word(answered, b"ok"),
+        Err(error) => put_word(answered, error.name().as_bytes()),
     }
 }
 
 // The answer to a question about a name.
-fn put_answer(told: &mut Vec<u8>, files: &Files, kind: &str, name: &[u8]) -> Result<(), RowError> {
+fn put_answer(
+    answered: &mut Vec<u8>,
+    files: &Files,
+    kind: &str,
+    name: &[u8],
+) -> Result<(), RowError> {
     match kind {
-        "bytes" => put_word(told, files.bytes(name).unwrap_or(b"none")),
-        "is_folder" => put_word(told, yes_or_no(Files::is_folder(name))),
+        "bytes" => put_word(answered, files.bytes(name).unwrap_or(b"none")),
+        "is_folder" => put_word(answered, yes_or_no(Files::is_folder(name))),
         _ => Err(RowError::NoSuchFileRow),
     }
 }
 
 // The answer to a question of these words. That of two words hands in a file.
 fn put_words_answer(
-    told: &mut Vec<u8>,
+    answered: &mut Vec<u8>,
     files: &mut Files,
     kind: &str,
     words: &[Vec<u8>],
 ) -> Result<(), RowError> {
     match words {
-        [name, bytes] => put_insertion(told, files, name, bytes),
-        [name] => put_answer(told, files, kind, name),
+        [name, bytes] => put_insertion(answered, files, name, bytes),
+        [name] => put_answer(answered, files, kind, name),
         _ => Err(RowError::NoSuchFileRow),
     }
 }
 
 // The name of the file at a place.
-fn put_name(told: &mut Vec<u8>, files: &Files, place: &str) -> Result<(), RowError> {
-    put_word(told, files.name(number_of(place)?).unwrap_or(b"none"))
+fn put_name(answered: &mut Vec<u8>, files: &Files, place: &str) -> Result<(), RowError> {
+    put_word(answered, files.name(number_of(place)?).unwrap_or(b"none"))
 }
 
 // The answer to a question, a blank behind each of its words.
-fn put_told(told: &mut Vec<u8>, files: &mut Files, question: &str) -> Result<(), RowError> {
+fn put_answered(answered: &mut Vec<u8>, files: &mut Files, question: &str) -> Result<(), RowError> {
     let (kind, rest) = split_at(question, " ")?;
     if kind == "name" {
-        return put_name(told, files, rest);
+        return put_name(answered, files, rest);
     }
-    let words = words_of(*told.allocator(), rest, 0)?;
-    put_words_answer(told, files, kind, &words)
+    let words = words_of(*answered.allocator(), rest, 0)?;
+    put_words_answer(answered, files, kind, &words)
 }
 
 // Asks a row.
 fn ask_line(tally: &mut Tally, files: &mut Files, line: &str) -> Result<(), RowError> {
     let (question, wanted) = question_of(line);
     put_words(&mut tally.wanted, wanted, 0)?;
-    put_told(&mut tally.told, files, question)?;
+    put_answered(&mut tally.answered, files, question)?;
     tally.settle(question)
 }
 

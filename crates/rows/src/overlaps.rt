@@ -10,10 +10,10 @@ fn ask_pair(
     other: &Pattern,
     wanted: &[u8],
 ) -> Result<(), RowError> {
-    let told = overlap(tally.alloc(), one, other)?;
-    tally.compare("overlap", wanted, yes_or_no(told))?;
-    let told = overlap(tally.alloc(), other, one)?;
-    tally.compare("overlap the other way round", wanted, yes_or_no(told))
+    let answered = overlap(tally.alloc(), one, other)?;
+    tally.compare("overlap", wanted, yes_or_no(answered))?;
+    let answered = overlap(tally.alloc(), other, one)?;
+    tally.compare("overlap the other way round", wanted, yes_or_no(answered))
 }
 
 // Asks whether a pattern overlaps with that of a text.

@@ -9,10 +9,10 @@ use row_texts::{
 
 // What is told of a pattern but its matches: whether it is exact, how many items stand before the first that isn't a byte for itself, and
 // its text.
-fn put_pattern(told: &mut Vec<u8>, pattern: &Pattern) -> Result<(), RowError> {
-    put_word(told, yes_or_no(pattern.is_exact()))?;
-    put_number_word(told, pattern.literal_prefix())?;
-    put_word(told, pattern.text())
+fn put_pattern(answered: &mut Vec<u8>, pattern: &Pattern) -> Result<(), RowError> {
+    put_word(answered, yes_or_no(pattern.is_exact()))?;
+    put_number_word(answered, pattern.literal_prefix())?;
+    put_word(answered, pattern.text())
 }
 
 // Asks whether a pattern and its copy match a text.
@@ -47,7 +47,7 @@ fn ask_texts(
 // Compares a copy with its pattern.
 fn ask_copy(tally: &mut Tally, pattern: &Pattern, copy: &Pattern) -> Result<(), RowError> {
     put_pattern(&mut tally.wanted, pattern)?;
-    put_pattern(&mut tally.told, copy)?;
+    put_pattern(&mut tally.answered, copy)?;
     tally.settle("try_copy")
 }
 
@@ -85,13 +85,18 @@ fn ask_match(tally: &mut Tally, text: &[u8], words: &[Vec<u8>]) -> Result<(), Ro
 // Puts what is told of a text behind bytes: of the pattern that it reads as, or why it is none.
 fn put_reading(tally: &mut Tally, text: &[u8]) -> Result<(), RowError> {
     match Pattern::read(tally.alloc(), text) {
-        Ok(pattern) => put_pattern(&mut tally.told, &pattern),
-        Err(error) => put_word(&mut tally.told, error.name().as_bytes()),
+        Ok(pattern) => put_pattern(&mut tally.answered, &pattern),
+        Err(error) => put_word(&mut tally.answered, error.name().as_bytes()),
     }
 }
 
-// Asks whether a text reads as a pattern of which this is told. Its text is wanted too.
-fn ask_told(tally: &mut Tally, answer: &[u8], number: &[u8], text: &[u8]) -> Result<(), RowError> {
+// Asks whether a text reads as a pattern that is described so. Its text is wanted too.
+fn ask_described(
+    tally: &mut Tally,
+    answer: &[u8],
+    number: &[u8],
+    text: &[u8],
+) -> Result<(), RowError> {
     put_each(&mut tally.wanted, &[answer, number, text])?;
     put_reading(tally, text)?;
     tally.settle("is_exact and literal_prefix")
@@ -103,18 +108,18 @@ fn ask_exact(tally: &mut Tally, answer: &[u8], words: &[Vec<u8>]) -> Result<(), 
         return Err(RowError::NoNumber);
     };
     for pattern in patterns {
-        ask_told(tally, answer, number, pattern)?;
+        ask_described(tally, answer, number, pattern)?;
     }
     Ok(())
 }
 
 // Asks for why a text is refused.
 fn ask_refusal(tally: &mut Tally, wanted: &[u8], text: &[u8]) -> Result<(), RowError> {
-    let told = match Pattern::read(tally.alloc(), text) {
+    let answered = match Pattern::read(tally.alloc(), text) {
         Ok(_) => "a pattern",
         Err(error) => error.name(),
     };
-    tally.compare("read", wanted, told.as_bytes())
+    tally.compare("read", wanted, answered.as_bytes())
 }
 
 // `refuse NAME TEXT..`
@@ -140,9 +145,9 @@ fn spelled(number: usize) -> [u8; 5] {
 }
 
 // Puts a text behind others where a pattern matches it.
-fn put_matched(told: &mut Vec<u8>, pattern: &Pattern, text: &[u8]) -> Result<(), RowError> {
+fn put_matched(answered: &mut Vec<u8>, pattern: &Pattern, text: &[u8]) -> Result<(), RowError> {
     if pattern.matches(text) {
-        put_word(told, text)
+        put_word(answered, text)
     } else {
         Ok(())
     }
@@ -150,22 +155,22 @@ fn put_matched(told: &mut Vec<u8>, pattern: &Pattern, text: &[u8]) -> Result<(),
 
 // Puts the texts of so many letters that a pattern matches behind others.
 fn put_matching(
-    told: &mut Vec<u8>,
+    answered: &mut Vec<u8>,
     pattern: &Pattern,
     length: usize,
     count: usize,
 ) -> Result<(), RowError> {
     for number in 0..count {
         let text = spelled(number);
-        put_matched(told, pattern, text.get(..length).unwrap_or(&[]))?;
+        put_matched(answered, pattern, text.get(..length).unwrap_or(&[]))?;
     }
     Ok(())
 }
 
 // Puts the texts of at most five letters that a pattern matches behind others.
-fn put_short_texts(told: &mut Vec<u8>, pattern: &Pattern) -> Result<(), RowError> {
+fn put_short_texts(answered: &mut Vec<u8>, pattern: &Pattern) -> Result<(), RowError> {
     for (length, count) in [1, 4, 16, 64, 256, 1_024].iter().enumerate() {
-        put_matching(told, pattern, length, *count)?;
+        put_matching(answered, pattern, length, *count)?;
     }
     Ok(())
 }
@@ -173,8 +178,8 @@ fn put_short_texts(told: &mut Vec<u8>, pattern: &Pattern) -> Result<(), RowError
 // Puts which of all short texts match behind bytes, or why a text is no pattern.
 fn put_only(tally: &mut Tally, text: &[u8]) -> Result<(), RowError> {
     match Pattern::read(tally.alloc(), text) {
-        Ok(pattern) => put_short_texts(&mut tally.told, &pattern),
-        Err(error) => put_word(&mut tally.told, error.name().as_bytes()),
+        Ok(pattern) => put_short_texts(&mut tally.answered, &pattern),
+        Err(error) => put_word(&mut tally.answered, error.name().as_bytes()),
     }
 }
 

@@ -11,46 +11,50 @@ fn name_of(files: &Files, file: usize) -> &[u8] {
 }
 
 // Puts the line of a token behind others.
-fn put_token(told: &mut Vec<u8>, files: &Files, token: &Spliced<'_>) -> Result<(), RowError> {
+fn put_token(answered: &mut Vec<u8>, files: &Files, token: &Spliced<'_>) -> Result<(), RowError> {
     let name = name_of(files, token.file);
-    put_each(told, &[b"token".as_slice(), name, token.token.text])?;
-    put_number_word(told, token.token.start)?;
-    told.extend_from_slice(b"\n")?;
+    put_each(answered, &[b"token".as_slice(), name, token.token.text])?;
+    put_number_word(answered, token.token.start)?;
+    answered.extend_from_slice(b"\n")?;
     Ok(())
 }
 
 // Puts the line of a refusal behind others.
-fn put_refusal(told: &mut Vec<u8>, files: &Files, error: TextError) -> Result<(), RowError> {
-    put_each(told, &[b"refused".as_slice(), error.name().as_bytes()])?;
+fn put_refusal(answered: &mut Vec<u8>, files: &Files, error: TextError) -> Result<(), RowError> {
+    put_each(answered, &[b"refused".as_slice(), error.name().as_bytes()])?;
     if let Some(place) = error.place {
-        put_each(told, &[name_of(files, place.file)])?;
-        put_number_word(told, place.at)?;
+        put_each(answered, &[name_of(files, place.file)])?;
+        put_number_word(answered, place.at)?;
     }
-    told.extend_from_slice(b"\n")?;
+    answered.extend_from_slice(b"\n")?;
     Ok(())
 }
 
 // Puts the lines of tokens behind others.
-fn put_tokens(told: &mut Vec<u8>, files: &Files, found: &[Spliced<'_>]) -> Result<(), RowError> {
+fn put_tokens(
+    answered: &mut Vec<u8>,
+    files: &Files,
+    found: &[Spliced<'_>],
+) -> Result<(), RowError> {
     for token in found {
-        put_token(told, files, token)?;
+        put_token(answered, files, token)?;
     }
     Ok(())
 }
 
 // What is told of a file.
-fn put_answer(told: &mut Vec<u8>, files: &Files, name: &[u8]) -> Result<(), RowError> {
-    match spliced(*told.allocator(), files, name) {
-        Ok(found) => put_tokens(told, files, &found),
-        Err(error) => put_refusal(told, files, error),
+fn put_answer(answered: &mut Vec<u8>, files: &Files, name: &[u8]) -> Result<(), RowError> {
+    match spliced(*answered.allocator(), files, name) {
+        Ok(found) => put_tokens(answered, files, &found),
+        Err(error) => put_refusal(answered, files, error),
     }
 }
 
 // What is told of the file that a paragraph names.
-fn put_told(told: &mut Vec<u8>, files: &Files, parts: &[Part<'_>]) -> Result<(), RowError> {
+fn put_answered(answered: &mut Vec<u8>, files: &Files, parts: &[Part<'_>]) -> Result<(), RowError> {
     let (name, _) = find(parts, "splice ")?;
-    let name = word_bytes(*told.allocator(), name, 0)?;
-    put_answer(told, files, &name)
+    let name = word_bytes(*answered.allocator(), name, 0)?;
+    put_answer(answered, files, &name)
 }
 
 // Asks a row over its files, behind those that are common.
@@ -63,7 +67,7 @@ fn ask_parts(
     take_files(tally.alloc(), files, common)?;
     take_files(tally.alloc(), files, parts)?;
     put_lines(&mut tally.wanted, parts)?;
-    put_told(&mut tally.told, files, parts)?;
+    put_answered(&mut tally.answered, files, parts)?;
     tally.settle("spliced")
 }
 

@@ -9,51 +9,51 @@ use row_texts::{
 };
 
 // Puts a number behind an answer.
-fn put_number(told: &mut Vec<u8>, number: Option<u8>) -> Result<(), RowError> {
+fn put_number(answered: &mut Vec<u8>, number: Option<u8>) -> Result<(), RowError> {
     match number {
-        Some(number) => put_number_word(told, usize::from(number)),
-        None => put_word(told, b"none"),
+        Some(number) => put_number_word(answered, usize::from(number)),
+        None => put_word(answered, b"none"),
     }
 }
 
 // Puts a name behind an answer.
-fn put_name(told: &mut Vec<u8>, name: Option<&str>) -> Result<(), RowError> {
-    put_word(told, name.unwrap_or("none").as_bytes())
+fn put_name(answered: &mut Vec<u8>, name: Option<&str>) -> Result<(), RowError> {
+    put_word(answered, name.unwrap_or("none").as_bytes())
 }
 
 // The number of a name.
-fn put_number_of(told: &mut Vec<u8>, kind: &str, name: &[u8]) -> Result<(), RowError> {
+fn put_number_of(answered: &mut Vec<u8>, kind: &str, name: &[u8]) -> Result<(), RowError> {
     match kind {
-        "capability" => put_number(told, capability_number(name)),
-        "domain" => put_number(told, domain_number(name)),
-        "kind" => put_number(told, kind_number(name)),
+        "capability" => put_number(answered, capability_number(name)),
+        "domain" => put_number(answered, domain_number(name)),
+        "kind" => put_number(answered, kind_number(name)),
         _ => Err(RowError::NoSuchTableRow),
     }
 }
 
 // The name of a number.
-fn put_name_of(told: &mut Vec<u8>, kind: &str, number: u8) -> Result<(), RowError> {
+fn put_name_of(answered: &mut Vec<u8>, kind: &str, number: u8) -> Result<(), RowError> {
     match kind {
-        "capability_at" => put_name(told, capability_name(number)),
-        "domain_at" => put_name(told, domain_name(number)),
-        "kind_at" => put_name(told, kind_name(number)),
-        "type_of" => put_name(told, kind_name(type_of(number))),
+        "capability_at" => put_name(answered, capability_name(number)),
+        "domain_at" => put_name(answered, domain_name(number)),
+        "kind_at" => put_name(answered, kind_name(number)),
+        "type_of" => put_name(answered, kind_name(type_of(number))),
         _ => Err(RowError::NoSuchTableRow),
     }
 }
 
 // The answer to a question, a blank behind it.
-fn put_told(told: &mut Vec<u8>, question: &str) -> Result<(), RowError> {
+fn put_answered(answered: &mut Vec<u8>, question: &str) -> Result<(), RowError> {
     let (kind, rest) = split_at(question, " ")?;
     if let "capability" | "domain" | "kind" = kind {
-        let words = words_of(*told.allocator(), rest, 0)?;
+        let words = words_of(*answered.allocator(), rest, 0)?;
         return match words.as_slice() {
-            [name] => put_number_of(told, kind, name),
+            [name] => put_number_of(answered, kind, name),
             _ => Err(RowError::NoSuchTableRow),
         };
     }
     match u8::try_from(number_of(rest)?) {
-        Ok(number) => put_name_of(told, kind, number),
+        Ok(number) => put_name_of(answered, kind, number),
         Err(_) => Err(RowError::NoSuchTableRow),
     }
 }
@@ -62,7 +62,7 @@ fn put_told(told: &mut Vec<u8>, question: &str) -> Result<(), RowError> {
 fn ask_line(tally: &mut Tally, line: &str) -> Result<(), RowError> {
     let (question, wanted) = question_of(line);
     put_words(&mut tally.wanted, wanted, 0)?;
-    put_told(&mut tally.told, question)?;
+    put_answered(&mut tally.answered, question)?;
     tally.settle(question)
 }
 

@@ -20,38 +20,38 @@ fn kind_word(kind: TokenKind) -> &'static str {
 }
 
 // Puts the line of a token behind others.
-fn put_token(told: &mut Vec<u8>, token: &Token<'_>) -> Result<(), RowError> {
-    put_word(told, kind_word(token.kind).as_bytes())?;
-    put_word(told, token.text)?;
-    put_number_word(told, token.start)?;
-    put_number_word(told, token.end)?;
-    told.extend_from_slice(b"\n")?;
+fn put_token(answered: &mut Vec<u8>, token: &Token<'_>) -> Result<(), RowError> {
+    put_word(answered, kind_word(token.kind).as_bytes())?;
+    put_word(answered, token.text)?;
+    put_number_word(answered, token.start)?;
+    put_number_word(answered, token.end)?;
+    answered.extend_from_slice(b"\n")?;
     Ok(())
 }
 
 // Puts the line of a fault behind others.
-fn put_fault(told: &mut Vec<u8>, fault: CutFault) -> Result<(), RowError> {
-    put_each(told, &[b"refused".as_slice(), fault.name().as_bytes()])?;
+fn put_fault(answered: &mut Vec<u8>, fault: CutFault) -> Result<(), RowError> {
+    put_each(answered, &[b"refused".as_slice(), fault.name().as_bytes()])?;
     if let Some(at) = fault.at {
-        put_number_word(told, at)?;
+        put_number_word(answered, at)?;
     }
-    told.extend_from_slice(b"\n")?;
+    answered.extend_from_slice(b"\n")?;
     Ok(())
 }
 
 // Puts the lines of tokens behind others.
-fn put_tokens(told: &mut Vec<u8>, found: &[Token<'_>]) -> Result<(), RowError> {
+fn put_tokens(answered: &mut Vec<u8>, found: &[Token<'_>]) -> Result<(), RowError> {
     for token in found {
-        put_token(told, token)?;
+        put_token(answered, token)?;
     }
     Ok(())
 }
 
 // What is told of a text.
-fn put_answer(told: &mut Vec<u8>, source: &[u8]) -> Result<(), RowError> {
-    match tokens(*told.allocator(), source) {
-        Ok(found) => put_tokens(told, &found),
-        Err(fault) => put_fault(told, fault),
+fn put_answer(answered: &mut Vec<u8>, source: &[u8]) -> Result<(), RowError> {
+    match tokens(*answered.allocator(), source) {
+        Ok(found) => put_tokens(answered, &found),
+        Err(fault) => put_fault(answered, fault),
     }
 }
 
@@ -62,6 +62,6 @@ pub fn ask(tally: &mut Tally, parts: &[Part<'_>]) -> Result<(), RowError> {
     };
     tally.begin(source.line);
     put_lines(&mut tally.wanted, lines)?;
-    put_answer(&mut tally.told, &source.bytes)?;
+    put_answer(&mut tally.answered, &source.bytes)?;
     tally.settle("tokens")
 }

@@ -8,47 +8,50 @@ use row_texts::{
 use std::alloc::Global;
 
 // Puts a refusal behind an answer. None has a place.
-fn put_refusal(told: &mut Vec<u8>, error: TextError) -> Result<(), RowError> {
-    put_word(told, error.name().as_bytes())?;
+fn put_refusal(answered: &mut Vec<u8>, error: TextError) -> Result<(), RowError> {
+    put_word(answered, error.name().as_bytes())?;
     if error.place.is_some() {
-        put_word(told, b"at a place")?;
+        put_word(answered, b"at a place")?;
     }
     Ok(())
 }
 
 // Puts what a step answers behind an answer.
-fn put_step(told: &mut Vec<u8>, answer: Result<(), TextError>) -> Result<(), RowError> {
+fn put_step(answered: &mut Vec<u8>, answer: Result<(), TextError>) -> Result<(), RowError> {
     match answer {
-        Ok(()) => put_word(told, b"ok"),
-        Err(error) => put_refusal(told, error),
+        Ok(()) => put_word(answered, b"ok"),
+        Err(error) => put_refusal(answered, error),
     }
 }
 
 // Puts a count behind an answer.
-fn put_count(told: &mut Vec<u8>, answer: Result<usize, TextError>) -> Result<(), RowError> {
+fn put_count(answered: &mut Vec<u8>, answer: Result<usize, TextError>) -> Result<(), RowError> {
     match answer {
-        Ok(count) => put_number_word(told, count),
-        Err(error) => put_refusal(told, error),
+        Ok(count) => put_number_word(answered, count),
+        Err(error) => put_refusal(answered, error),
     }
 }
 
 // Puts the expansions of a text behind an answer.
 fn put_expansions(
-    told: &mut Vec<u8>,
+    answered: &mut Vec<u8>,
     answer: Result<Vec<Vec<u8>>, TextError>,
 ) -> Result<(), RowError> {
     match answer {
-        Ok(texts) => put_all(told, &texts),
-        Err(error) => put_refusal(told, error),
+        Ok(texts) => put_all(answered, &texts),
+        Err(error) => put_refusal(answered, error),
     }
 }
 
 // Puts a place behind an answer.
-fn put_place(told: &mut Vec<u8>, answer: Result<Option<usize>, TextError>) -> Result<(), RowError> {
+fn put_place(
+    answered: &mut Vec<u8>,
+    answer: Result<Option<usize>, TextError>,
+) -> Result<(), RowError> {
     match answer {
-        Ok(Some(place)) => put_number_word(told, place),
-        Ok(None) => put_word(told, b"none"),
-        Err(error) => put_refusal(told, error),
+        Ok(Some(place)) => put_number_word(answered, place),
+        Ok(None) => put_word(answered, b"none"),
+        Err(error) => put_refusal(answered, error),
     }
 }
 
@@ -63,49 +66,56 @@ fn borrowed(alloc: Global, words: &[Vec<u8>]) -> Result<Vec<&[u8]>, RowError> {
 
 // Does `=` or `+=`.
 fn put_assignment(
-    told: &mut Vec<u8>,
+    answered: &mut Vec<u8>,
     variables: &mut Variables,
     kind: &str,
     name: &[u8],
     words: &[&[u8]],
 ) -> Result<(), RowError> {
     if words.is_empty() {
-        return put_word(told, b"no words");
+        return put_word(answered, b"no words");
     }
     match kind {
-        "=" => put_step(told, variables.define(name, words)),
-        _ => put_step(told, variables.append(name, words)),
+        "=" => put_step(answered, variables.define(name, words)),
+        _ => put_step(answered, variables.append(name, words)),
     }
 }
 
 // The name of the variable at a place.
-fn put_name(told: &mut Vec<u8>, variables: &Variables, place: &str) -> Result<(), RowError> {
-    put_word(told, variables.name(number_of(place)?).unwrap_or(b"none"))
+fn put_name(answered: &mut Vec<u8>, variables: &Variables, place: &str) -> Result<(), RowError> {
+    put_word(
+        answered,
+        variables.name(number_of(place)?).unwrap_or(b"none"),
+    )
 }
 
 // Asks about a text, or about all variables.
 fn put_answer(
-    told: &mut Vec<u8>,
+    answered: &mut Vec<u8>,
     variables: &Variables,
     kind: &str,
     text: &[u8],
 ) -> Result<(), RowError> {
     match kind {
-        "undefined" => put_word(told, yes_or_no(variables.undefined(text))),
-        "count" => put_count(told, variables.count(text)),
-        "expand" => put_expansions(told, variables.expand(text)),
-        "first_cycle" => put_place(told, variables.first_cycle()),
+        "undefined" => put_word(answered, yes_or_no(variables.undefined(text))),
+        "count" => put_count(answered, variables.count(text)),
+        "expand" => put_expansions(answered, variables.expand(text)),
+        "first_cycle" => put_place(answered, variables.first_cycle()),
         _ => Err(RowError::NoSuchVariableRow),
     }
 }
 
 // What a table answers, one step behind the other: behind `#` a word is a text to count, and without it one to expand.
-fn put_steps(told: &mut Vec<u8>, variables: &Variables, steps: &[Vec<u8>]) -> Result<(), RowError> {
-    let mut table = ExpansionTable::new(*told.allocator(), variables);
+fn put_steps(
+    answered: &mut Vec<u8>,
+    variables: &Variables,
+    steps: &[Vec<u8>],
+) -> Result<(), RowError> {
+    let mut table = ExpansionTable::new(*answered.allocator(), variables);
     for step in steps {
         match step.as_slice() {
-            [b'#', text @ ..] => put_count(told, table.count(text))?,
-            text => put_expansions(told, table.expand(text))?,
+            [b'#', text @ ..] => put_count(answered, table.count(text))?,
+            text => put_expansions(answered, table.expand(text))?,
         }
     }
     Ok(())
@@ -113,7 +123,7 @@ fn put_steps(told: &mut Vec<u8>, variables: &Variables, steps: &[Vec<u8>]) -> Re
 
 // The answer to a question of these words.
 fn put_words_answer(
-    told: &mut Vec<u8>,
+    answered: &mut Vec<u8>,
     variables: &mut Variables,
     kind: &str,
     words: &[Vec<u8>],
@@ -123,18 +133,18 @@ fn put_words_answer(
         [] => (&[], &[]),
     };
     if kind == "table" {
-        return put_steps(told, variables, words);
+        return put_steps(answered, variables, words);
     }
     if kind == "=" || kind == "+=" {
-        let rest = borrowed(*told.allocator(), rest)?;
-        return put_assignment(told, variables, kind, first, &rest);
+        let rest = borrowed(*answered.allocator(), rest)?;
+        return put_assignment(answered, variables, kind, first, &rest);
     }
-    put_answer(told, variables, kind, first)
+    put_answer(answered, variables, kind, first)
 }
 
 // The answer to a question, a blank behind each of its words.
-fn put_told(
-    told: &mut Vec<u8>,
+fn put_answered(
+    answered: &mut Vec<u8>,
     variables: &mut Variables,
     question: &str,
     turn: usize,
@@ -144,10 +154,10 @@ fn put_told(
         None => (question, ""),
     };
     if kind == "name" {
-        return put_name(told, variables, rest);
+        return put_name(answered, variables, rest);
     }
-    let words = words_of(*told.allocator(), rest, turn)?;
-    put_words_answer(told, variables, kind, &words)
+    let words = words_of(*answered.allocator(), rest, turn)?;
+    put_words_answer(answered, variables, kind, &words)
 }
 
 // Asks a row.
@@ -159,7 +169,7 @@ fn ask_line(
 ) -> Result<(), RowError> {
     let (question, wanted) = question_of(line);
     put_words(&mut tally.wanted, wanted, turn)?;
-    put_told(&mut tally.told, variables, question, turn)?;
+    put_answered(&mut tally.answered, variables, question, turn)?;
     tally.settle(question)
 }
 

@@ -151,28 +151,28 @@ fn described(kind: &str, at: usize) -> Option<Described> {
 }
 
 // What a fault of the cut prints.
-fn put_printed(told: &mut Vec<u8>, refusal: CutRefusal) -> Result<(), RowError> {
+fn put_printed(answered: &mut Vec<u8>, refusal: CutRefusal) -> Result<(), RowError> {
     let fault = CutFault { refusal, at: None };
-    let text = format!(in *told.allocator(); " {fault}")?;
-    told.extend_from_slice(text.as_str().as_bytes())?;
+    let text = format!(in *answered.allocator(); " {fault}")?;
+    answered.extend_from_slice(text.as_str().as_bytes())?;
     Ok(())
 }
 
 // Puts the number and the name of a variant behind bytes.
-fn put_described(told: &mut Vec<u8>, (number, name): Described) -> Result<(), RowError> {
-    put_number_word(told, number as usize)?;
-    told.extend_from_slice(name.as_bytes())?;
+fn put_described(answered: &mut Vec<u8>, (number, name): Described) -> Result<(), RowError> {
+    put_number_word(answered, number as usize)?;
+    answered.extend_from_slice(name.as_bytes())?;
     Ok(())
 }
 
 // Puts what is told of the variant so many behind a type's first behind bytes.
-fn put_told(told: &mut Vec<u8>, kind: &str, at: usize) -> Result<(), RowError> {
+fn put_answered(answered: &mut Vec<u8>, kind: &str, at: usize) -> Result<(), RowError> {
     match described(kind, at) {
-        Some(described) => put_described(told, described)?,
+        Some(described) => put_described(answered, described)?,
         None => return Err(RowError::NoSuchVariant),
     }
     match CUT_REFUSALS.get(at) {
-        Some(refusal) if kind == "CutFault" => put_printed(told, *refusal),
+        Some(refusal) if kind == "CutFault" => put_printed(answered, *refusal),
         _ => Ok(()),
     }
 }
@@ -180,7 +180,7 @@ fn put_told(told: &mut Vec<u8>, kind: &str, at: usize) -> Result<(), RowError> {
 // Asks for the number and the name of the variant so many behind a type's first.
 fn ask_line(tally: &mut Tally, kind: &str, at: usize, line: &str) -> Result<(), RowError> {
     tally.wanted.extend_from_slice(line.as_bytes())?;
-    put_told(&mut tally.told, kind, at)?;
+    put_answered(&mut tally.answered, kind, at)?;
     tally.settle(kind)
 }
 

@@ -68,6 +68,6 @@ pub fn compare(
 ) -> Result<(), RowError> {
     tally.compare("output", wanted.output, written)?;
     tally.wanted.extend_from_slice(wanted.end.as_bytes())?;
-    put_end(&mut tally.told, outcome)?;
+    put_end(&mut tally.answered, outcome)?;
     tally.settle("end")
 }

@@ -20,7 +20,7 @@ GetsLed g old new Led = Gets old new (λ x. Led x × IsFree g x) (λ c x. Led x 
 abbrev pub GetsStay : Graph → Moves → Moves → ℕ → Type 0
 GetsStay g old new q = Gets old new (λ x. ⊥) (λ c x. (x ≡ q) × Stays g q c)
 
--- the patterns of some ends are told, with their classes
-abbrev pub AreTold : List ℕ → List End → List Ending → Type 0
-AreTold classes ends endings =
+-- the patterns of some ends are gathered, with their classes
+abbrev pub AreGathered : List ℕ → List End → List Ending → Type 0
+AreGathered classes ends endings =
     (e : Ending) → (Contains endings e ↔ ((end : End) × Contains ends end × (e.pattern ≡ end.pattern) × (e.class ≡ class_at classes end.pattern)))

@@ -25,7 +25,7 @@ AreDistinct (r ∷ rs) = (is_in r rs ≡ false) × AreDistinct rs
 pub record IsFront (states : List ℕ) (room : ℕ) (members : List ℕ) : Type 0 where
   pub distinct : AreDistinct states
   pub below : All (λ r. r < room) states
-  pub told : (r : ℕ) → has_bit members r ≡ is_in r states
+  pub marked : (r : ℕ) → has_bit members r ≡ is_in r states
   pub bits : room ≤ 64 * length members
 
 -- a list of states got those of a kind, and no others, behind its own

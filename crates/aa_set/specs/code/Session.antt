@@ -8,17 +8,17 @@ use Rattle.aa_set_lines.specs.Lines.{is_line_feed, whole_lines}
 use Rattle.aa_set.specs.Reply.{reply_text}
 use Rattle.aa_set_answers.specs.Answers.{line_with}
 use Rattle.aa_set.specs.Run.{HoldsOfRead, IsAnswered, IsAnsweredSoFar, IsFrontAnswered, IsLeftAnswered, replies_to, after_lines, SumsUp}
-use Rattle.aa_set_lines.specs.Streams.{AppendsFront, Tells}
+use Rattle.aa_set_lines.specs.Streams.{AppendsFront, WritesBehind}
 use Rattle.aa_set_lines.specs.Limits.{longest_line}
 use Rattle.aa_set.specs.declared.session.Session.{Session}
 use Rattle.aa_set.specs.declared.session.Summary.{Summary}
 
--- A session is one after these lines, each with its flag; the text of the replies was told to a writer that had `before`
+-- A session is one after these lines, each with its flag; the text of the replies was written to a writer that had `before`
 -- and has `now`.
 pub record IsAfter (files : List File) (force_complain : Bool) (before now : Option (List ℕ)) (session : Session)
     (lines : List (List ℕ × Bool)) : Type 0 where
   pub managed : session.manager ≡ after_lines files (new_manager force_complain) lines
-  pub told : Tells before now [] session.waiting.items (flat_map (reply_text files) (replies_to files (new_manager force_complain) lines))
+  pub written : WritesBehind before now [] session.waiting.items (flat_map (reply_text files) (replies_to files (new_manager force_complain) lines))
   pub summed : SumsUp session.summary (replies_to files (new_manager force_complain) lines)
 
 -- An input consists of these lines, each ended by a line feed, and then of a line that isn't finished, of which a line

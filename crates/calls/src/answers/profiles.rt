@@ -10,7 +10,7 @@ use std::alloc::Global;
 
 const TEXT: &[u8] = b"profile web /usr/sbin/httpd { /srv/** r, owner /srv/up/* w, hat up { } }";
 
-pub fn letters_are_told(alloc: Global) -> Option<bool> {
+pub fn letters_are_written(alloc: Global) -> Option<bool> {
     let mut text = Vec::from_slice(alloc, b"file ").ok()?;
     Perms::of_letters(b"mwr")?.push_letters(&mut text).ok()?;
     Some(text.as_slice() == b"file rwm".as_slice())

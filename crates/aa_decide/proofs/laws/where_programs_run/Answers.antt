@@ -1,4 +1,4 @@
-use Rattle.aa_decide.proofs.AttachmentLemmas.{attached-from, attached-order, attached-told}
+use Rattle.aa_decide.proofs.AttachmentLemmas.{attached-from, attached-holds, attached-order}
 use Rattle.aa_decide.proofs.ExecLemmas.{answer-in_force, answer-masked, answer-order, denied-first}
 use Rattle.aa_decide.proofs.laws.where_programs_run.Goals as goal
 
@@ -7,7 +7,7 @@ returns-clause-none_runs_under_a_disabled_profile c = answer-in_force c.which_ra
 
 pub returns-clause-best_fit_is_attached : goal.returns-clause-best_fit_is_attached
 returns-clause-best_fit_is_attached c path entries entry distinct =
-    (attached-told c.which_rank_stands_out.ensures path entries entry, attached-from c.which_rank_stands_out.ensures path entries entry distinct)
+    (attached-holds c.which_rank_stands_out.ensures path entries entry, attached-from c.which_rank_stands_out.ensures path entries entry distinct)
 
 pub returns-clause-order_changes_no_attachment : goal.returns-clause-order_changes_no_attachment
 returns-clause-order_changes_no_attachment c = attached-order c.which_rank_stands_out.ensures

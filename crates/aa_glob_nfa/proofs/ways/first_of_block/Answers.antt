@@ -12,8 +12,8 @@ returns-in-Ok c = λ known.
     let in_order = blocks_in_order ways c.requires.sorted c.requires.each in
     let point = IsPartitionPoint-from_clause (λ w. nat_lt (block_of w.from) c.args.block) ways _ c.partition_point.ensures.partitioned
     (IsPartitionedBy-ltb (λ w. block_of w.from) ways c.args.block in_order) (λ a r q k. search (rules, of_calls)) in
-    let told = c.in-Ok.ensures in
-    rw told.1 (record {
+    let first = c.in-Ok.ensures in
+    rw first.1 (record {
       within = c.partition_point.ensures.bound;
       before = λ k d low h. ltb-true _ _ (point.0 k d low h);
       behind = λ k d low h. ltb-false _ _ (point.1 k d low h);

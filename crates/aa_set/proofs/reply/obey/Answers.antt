@@ -2,13 +2,13 @@ use Rattle.std.proofs.Common.{ap, not, refl}
 use Rattle.aa_set_answers.specs.Answers.{reply_lines}
 use Rattle.aa_set_commands.specs.Command.{Ask}
 use Rattle.aa_set_commands.specs.Question.{seen_question}
-use Rattle.aa_set.proofs.ReplyLemmas.{obeyed-mark, obeyed-told, of-that}
+use Rattle.aa_set.proofs.ReplyLemmas.{obeyed-answered, obeyed-mark, of-that}
 use Rattle.aa_set.proofs.reply.obey.Goals as goal
 
 pub returns-in-Ask : goal.returns-in-Ask
 returns-in-Ask c =
-    rw c.in-Ask.is (obeyed-told (λ lines. lines.items) c.args.files.now c.args.manager.now (Ask (seen_question c.in-Ask.question)) (reply_lines c.args.manager.now.machine.now (seen_question c.in-Ask.question))
-    c.ask.result c.told.result refl c.ask.ensures.told c.ask.ensures.refused (of-that c.ask.result c.ask.ensures.memory (λ refusal absent memory. ap not (absent memory))) c.told.ensures)
+    rw c.in-Ask.is (obeyed-answered (λ lines. lines.items) c.args.files.now c.args.manager.now (Ask (seen_question c.in-Ask.question)) (reply_lines c.args.manager.now.machine.now (seen_question c.in-Ask.question))
+    c.ask.result c.answered.result refl c.ask.ensures.answered c.ask.ensures.refused (of-that c.ask.result c.ask.ensures.memory (λ refusal absent memory. ap not (absent memory))) c.answered.ensures)
 
 pub returns-in-Mark : goal.returns-in-Mark
 returns-in-Mark c =

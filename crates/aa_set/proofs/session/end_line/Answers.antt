@@ -27,7 +27,7 @@ returns-then-is_empty-clause-ok g c =
 
 pub returns-clause-ok : goal.returns-clause-ok
 returns-clause-ok g c =
-    on_ok_weaker c.answer-told.result (λ answers force_complain before input follows.
+    on_ok_weaker c.answer-outcome.result (λ answers force_complain before input follows.
     let next = answers force_complain before follows.lines follows.after in
     let line = follows.cut.unfinished ++ c.args.last.now in
     let front = c.as_slice.ensures ∙ c.keep.ensures ∙ ap (λ (text : List ℕ). take 65537 (text ++ c.args.last.now)) follows.cut.held ∙ take-of_front 65537 follows.cut.unfinished c.args.last.now in
@@ -38,7 +38,7 @@ returns-clause-ok g c =
           (λ m. ap (λ (text : List ℕ). line_outcome c.args.files.now m text next.0) front ∙ outcome-front c.args.files.now m line next.0) next.1;
       cut = subst (λ (buffer : List ℕ). IsCut (input ++ (c.args.last.now ++ 10 ∷ [])) (follows.lines ++ (line, next.0) ∷ []) buffer) (sym c.clear.ensures) cut;
     })
-    c.answer-told.ensures.ok
+    c.answer-outcome.ensures.ok
 
 pub returns-then-is_empty-clause-err : goal.returns-then-is_empty-clause-err
 returns-then-is_empty-clause-err g c =
@@ -52,11 +52,11 @@ returns-then-is_empty-clause-err g c =
 
 pub returns-clause-err : goal.returns-clause-err
 returns-clause-err g c =
-    weaker_err c.answer-told.result (λ breaks force_complain before input follows.
+    weaker_err c.answer-outcome.result (λ breaks force_complain before input follows.
     let next = breaks force_complain before follows.lines follows.after in
     let line = follows.cut.unfinished ++ c.args.last.now in
     let front = c.as_slice.ensures ∙ c.keep.ensures ∙ ap (λ (text : List ℕ). take 65537 (text ++ c.args.last.now)) follows.cut.held ∙ take-of_front 65537 follows.cut.unfinished c.args.last.now in
     front-cut c.args.files.now force_complain (IsCut-ended follows.cut c.args.last.now (line, next.0) c.requires.one_line refl)
-    (front-line-same c.args.files.now force_complain before (g.W.Sink.written c.answer-told.new.writer) follows.lines c.as_slice.result.now line next.0
+    (front-line-same c.args.files.now force_complain before (g.W.Sink.written c.answer-outcome.new.writer) follows.lines c.as_slice.result.now line next.0
     (λ m. ap (λ (text : List ℕ). line_outcome c.args.files.now m text next.0) front ∙ outcome-front c.args.files.now m line next.0) next.1))
-    c.answer-told.ensures.err
+    c.answer-outcome.ensures.err

@@ -1,6 +1,6 @@
 use Rattle.std.proofs.Common.{[], List, ℕ, refl, sym, subst}
-use Rattle.aa_set_lines.specs.Streams.{Tells}
-use Rattle.aa_set.proofs.StreamLemmas.{Tells-nil}
+use Rattle.aa_set_lines.specs.Streams.{WritesBehind}
+use Rattle.aa_set.proofs.StreamLemmas.{WritesBehind-nil}
 use Rattle.aa_set.proofs.session.prepared.Goals as goal
 
 pub returns-clause-session : goal.returns-clause-session
@@ -8,7 +8,7 @@ returns-clause-session c = λ files before. record {
   lines = [];
   after = record {
     managed = c.new.ensures;
-    told = subst (λ (waits : List ℕ). Tells before before [] waits []) (sym c.in_ok-with_capacity.ensures.items) (Tells-nil before []);
+    written = subst (λ (waits : List ℕ). WritesBehind before before [] waits []) (sym c.in_ok-with_capacity.ensures.items) (WritesBehind-nil before []);
     summed = record { accepted = refl; refused = refl };
   };
   cut = record { unfinished = []; cut = refl; held = c.in_ok-held.ensures };

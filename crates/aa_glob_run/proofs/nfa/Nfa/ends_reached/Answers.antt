@@ -11,8 +11,8 @@ pub returns-clause-found : goal.returns-clause-found
 returns-clause-found c =
     let g = graph_of c.self.inside.tables in
     IfOk-then c.patterns_of.result _ (λ patterns. IsFound c.args.self.now c.args.text.now patterns.items)
-    (λ patterns told. subst (λ h. IsFound h c.args.text.now patterns.items) c.self.view_is
-    (found_all g c.args.text.now c.run.new.here.states patterns.items c.in_ok-run.ensures.whole told)) c.patterns_of.ensures.told
+    (λ patterns ends. subst (λ h. IsFound h c.args.text.now patterns.items) c.self.view_is
+    (found_all g c.args.text.now c.run.new.here.states patterns.items c.in_ok-run.ensures.whole ends)) c.patterns_of.ensures.found
 
 pub returns-in_err-run-clause-steps : goal.returns-in_err-run-clause-steps
 returns-in_err-run-clause-steps c =

@@ -3,13 +3,13 @@ use Rattle.std.specs.Prelude.{Contains}
 use Rattle.aa_glob_run.specs.code.Ends.{IsEndIn}
 use Rattle.aa_glob_nfa.specs.OfTables.{graph_of}
 use Rattle.aa_glob_run.proofs.PatternLemmas.{ends_more}
-use Rattle.aa_glob_run.proofs.patterns.told_by.Goals as goal
+use Rattle.aa_glob_run.proofs.patterns.found_by.Goals as goal
 
 pub loop-at-preserved : goal.loop-at-preserved
-loop-at-preserved c = ends_more (graph_of c.args.tables.now) c.loop-at.at c.state.result c.args.front.now.states _ _ c.loop-at.invariant c.state.ensures.state c.in_ok-tell.ensures
+loop-at-preserved c = ends_more (graph_of c.args.tables.now) c.loop-at.at c.state.result c.args.front.now.states _ _ c.loop-at.invariant c.state.ensures.state c.in_ok-push_found.ensures
 
 pub returns : goal.returns
 returns c =
     let live = c.args.front.now.states in
     let end : c.loop-at.at ≡ length live = omega (arith, c.len-at-end.ensures.len) in
-    subst (λ n. (p : ℕ) → Contains c.loop-at.told.items p ↔ IsEndIn (graph_of c.args.tables.now) n live p) end c.loop-at.invariant
+    subst (λ n. (p : ℕ) → Contains c.loop-at.found.items p ↔ IsEndIn (graph_of c.args.tables.now) n live p) end c.loop-at.invariant

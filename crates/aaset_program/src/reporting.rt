@@ -1,9 +1,9 @@
-//! What is told apart from replies: faults, and texts that were asked for.
+//! What is reported apart from replies: faults, and texts that were asked for.
 ghost use Rattle.std.specs.Prelude.{◌≡◌, OnOk, OnErr, true, string_bytes};
 ghost use Rattle.std.specs.Io.KnownBytes.{Appends};
 ghost use Rattle.aaset_exit.specs.Fault.{joined};
 ghost use Rattle.aaset_program.specs.Streams.{written_to};
-ghost use Rattle.aaset_program.specs.Program.{IsShown, IsTold, line_of};
+ghost use Rattle.aaset_program.specs.Program.{IsReported, IsShown, line_of};
 
 use aa_set::{Failed, Sink};
 use aaset_exit::{Fault, FaultText};
@@ -16,7 +16,7 @@ fn write<W: Sink>(alloc: Global, writer: &mut W, text: &str) -> Result<(), Faile
     ensures fault { OnErr result (W.failed writer.new ≡ true) }
 {
     let mut waiting = Vec::new(alloc);
-    aa_set_lines::tell(writer, &mut waiting, text.as_bytes())?;
+    aa_set_lines::write_behind(writer, &mut waiting, text.as_bytes())?;
     aa_set_lines::flush(writer, &mut waiting)
 }
 
@@ -31,9 +31,9 @@ fn write_line<E: Sink>(alloc: Global, errors: &mut E, text: FaultText<'_>) -> Re
     write(alloc, errors, "\n")
 }
 
-// Tells a fault on standard error, and gives its exit status, which alone tells it where that can't be written.
-pub fn tell<E: Sink>(alloc: Global, errors: &mut E, fault: &Fault) -> u8
-    ensures { IsTold fault.now (written_to (E.written errors.old) (E.written errors.new) (E.failed errors.new)) result }
+// Reports a fault on standard error, and gives its exit status, which alone reports it where that can't be written.
+pub fn report<E: Sink>(alloc: Global, errors: &mut E, fault: &Fault) -> u8
+    ensures { IsReported fault.now (written_to (E.written errors.old) (E.written errors.new) (E.failed errors.new)) result }
 {
     let _ = write_line(alloc, errors, aaset_exit::fault_text(fault));
     aaset_exit::fault_status(fault)
@@ -46,6 +46,6 @@ pub fn show<W: Sink, E: Sink>(alloc: Global, text: &str, output: &mut W, errors:
 {
     match write(alloc, output, text) {
         Ok(()) => 0,
-        Err(_) => tell(alloc, errors, &Fault::Write),
+        Err(_) => report(alloc, errors, &Fault::Write),
     }
 }
