@@ -7,11 +7,9 @@ use Rattle.aa_glob_automaton.specs.code.Growths.{Follows, GoesOver}
 use Rattle.aa_glob_automaton.specs.declared.growing.Growing.{Growing}
 use Rattle.aa_glob_automaton.proofs.StandLemmas.{stands_start}
 use Rattle.aa_glob_syntax.specs.Elements.{Element}
-use Rattle.aa_glob_syntax.specs.declared.context.Context.{Context}
-use Rattle.aa_glob_syntax.specs.declared.context.Context.TheVariants.{Elsewhere}
-use Rattle.aa_glob_prefixes.specs.Elements.{EachMayStand, elements_left, elements_of}
+use Rattle.aa_glob_prefixes.specs.Elements.{elements_of}
 use Rattle.aa_glob_prefixes.specs.Laws.{WholeTrailsAreElements}
-use Rattle.aa_glob_prefixes.specs.Trails.{Trail, depth_behind, trail_of}
+use Rattle.aa_glob_prefixes.specs.Trails.{Trail, trail_of}
 
 -- a walk begins where no text was followed yet
 pub follows-start : (patterns : List (List ℕ)) (g : Growing) (walk : Standing) → walk ≡ standing_at 0 [] → Between patterns g → Follows patterns [] g walk
@@ -21,12 +19,11 @@ follows-start patterns g walk is between = record {
   stands = rw is (stands_start between.0 between.1.drawn.begins between.1.drawn.start);
 }
 
-pub following-start : WholeTrailsAreElements → (g : Growing) (text : List ℕ) (walk : Standing) → walk ≡ standing_at 0 [] → EachMayStand 0 (elements_of text)
-    → IsFollowing g text g walk 0 Elsewhere text
-following-start law g text walk is stands = record {
+pub following-start : WholeTrailsAreElements → (g : Growing) (text : List ℕ) (walk : Standing) (left : List Element) → walk ≡ standing_at 0 [] → left ≡ elements_of text
+    → IsFollowing g text g walk left
+following-start law g text walk left is all = record {
   trail = [];
-  whole = append-nil (reverse (elements_of text)) ∙ sym (law text);
-  stands = stands;
+  whole = append-nil (reverse left) ∙ ap reverse all ∙ sym (law text);
   each = λ patterns between. follows-start patterns g walk is between;
 }
 
@@ -34,22 +31,18 @@ following-start law g text walk is stands = record {
 front : (e : Element) (es : List Element) (trail : Trail) → reverse (e ∷ es) ++ trail ≡ reverse es ++ e ∷ trail
 front e es trail = ap (λ l. l ++ trail) (reverse-append (e ∷ []) es) ∙ append_assoc (reverse es) (e ∷ []) trail
 
-pub following-more : (old before after : Growing) (text : List ℕ) (walk on : Standing) (depth deep : ℕ) (context later : Context) (rest behind : List ℕ) (e : Element)
-    → elements_left depth context rest ≡ e ∷ elements_left (depth_behind depth e) later behind → EachMayStand (depth_behind depth e) (elements_left (depth_behind depth e) later behind)
-    → deep ≡ depth_behind depth e → GoesOver before walk e after on → IsFollowing old text before walk depth context rest → IsFollowing old text after on deep later behind
-following-more old before after text walk on depth deep context later rest behind e found stands is goes was =
-    subst (λ (d : ℕ). IsFollowing old text after on d later behind) (sym is) (record {
-      trail = e ∷ was.trail;
-      whole =
-          sym (front e (elements_left (depth_behind depth e) later behind) was.trail) ∙ ap (λ es. reverse es ++ was.trail) (sym found) ∙ was.whole;
-      stands = stands;
-      each = λ patterns between. goes patterns was.trail (was.each patterns between);
-    })
+pub following-more : (old before after : Growing) (text : List ℕ) (walk on : Standing) (left rest : List Element) (e : Element)
+    → left ≡ e ∷ rest → GoesOver before walk e after on → IsFollowing old text before walk left → IsFollowing old text after on rest
+following-more old before after text walk on left rest e found goes was = record {
+  trail = e ∷ was.trail;
+  whole = sym (front e rest was.trail) ∙ ap (λ es. reverse es ++ was.trail) (sym found) ∙ was.whole;
+  each = λ patterns between. goes patterns was.trail (was.each patterns between);
+}
 
-pub following-end : (old g : Growing) (text : List ℕ) (walk : Standing) (depth : ℕ) (context : Context) (rest : List ℕ) (state : ℕ)
-    → elements_left depth context rest ≡ [] → state ≡ walk.state → IsFollowing old text g walk depth context rest
+pub following-end : (old g : Growing) (text : List ℕ) (walk : Standing) (left : List Element) (state : ℕ)
+    → left ≡ [] → state ≡ walk.state → IsFollowing old text g walk left
     → (patterns : List (List ℕ)) → Between patterns old → EndsWhole patterns text g state
-following-end old g text walk depth context rest state none is was patterns between =
+following-end old g text walk left state none is was patterns between =
     let all : was.trail ≡ trail_of text = ap (λ es. reverse es ++ was.trail) (sym none) ∙ was.whole in
     let follows = subst (λ (t : Trail). Follows patterns t g walk) all (was.each patterns between) in
     record {

@@ -4,8 +4,7 @@ use Rattle.std.proofs.Common.{◌≡◌, ◌∙◌, ℕ, zero, suc, ◌+◌, ◌
 use Rattle.std.proofs.lemmas.Bool.{cases_lt}
 use Rattle.std.proofs.lemmas.List.{get_or-set_other, get_or-set_same}
 use Rattle.aa_glob_syntax.specs.Elements.{Element}
-use Rattle.aa_glob_syntax.specs.declared.context.Context.{Context}
-use Rattle.aa_glob_prefixes.specs.Elements.{elements_left, elements_of}
+use Rattle.aa_glob_prefixes.specs.Elements.{elements_of}
 use Rattle.aa_glob_match.specs.Active.{AreActive, is_none, known_at, is_active, next_past, Past}
 use Rattle.aa_glob_match.specs.code.Passes.{ArePassed, IsLeft, TellsSome}
 use Rattle.aa_glob_prefixes.specs.Reads.{Known, known, known_behind}
@@ -29,12 +28,11 @@ known_at-more es at k e rest found =
     subst (λ n. (known_at k es n ≡ known_behind e (known_at k es at)) × (drop n es ≡ rest) × (n ≤ length es)) next (known_at-suc es at k e rest found)
 
 -- where no element is left, all were read
-pub all-read : (text : List ℕ) (at depth deep : ℕ) (context : Context) (rest : List ℕ) → IsLeft text at depth context rest → deep ≡ depth → elements_left deep context rest ≡ []
-    → at ≡ length (elements_of text)
-all-read text at depth deep context rest is_left same none =
-    let left = length-drop at (elements_of text) in
+pub all-read : (text : List ℕ) (at : ℕ) (left : List Element) → IsLeft text at left → left ≡ [] → at ≡ length (elements_of text)
+all-read text at left is_left none =
+    let dropped = length-drop at (elements_of text) in
     let within = is_left.0 in
-    let nothing = ap length (is_left.1 ∙ ap (λ n. elements_left n context rest) (sym same) ∙ none) in
+    let nothing = ap length (is_left.1 ∙ none) in
     omega arith
 
 -- one beginning more is written

@@ -5,8 +5,7 @@ ghost use Rattle.aa_glob_syntax.specs.Reading.{items_of, reading};
 ghost use Rattle.aa_glob_match.specs.Active.{AreUnset, ActiveGoesOn, TellsWhole};
 
 use crate::places::Places;
-use aa_glob_prefixes::{next_within, which_elements_stand};
-use aa_glob_syntax::Context;
+use aa_glob_prefixes::Elements;
 
 /// What a pass tells of its past.
 #[derive(Clone, Copy, Debug)]
@@ -26,21 +25,17 @@ pub fn pass(first: bool, byte: u8, text: &[u8], active: &mut [bool]) -> Passed
     ensures whole { TellsWhole text.now first byte active.old result.whole }
     ensures some { result.some ≡ false → AreUnset text.now active.new }
 {
-    which_elements_stand();
     let mut places = Places::beginning(active[0], first);
     let mut some = first;
     active[0] = first;
     let mut at = 0;
-    let mut context = Context::Elsewhere;
-    let mut rest = text;
-    while let Some(next) = next_within(places.depth(), context, rest) {
+    let mut elements = Elements::of(text);
+    while let Some(element) = elements.next() {
         at += 1;
-        places = places.behind(byte, next.element, active[at]);
+        places = places.behind(byte, element, active[at]);
         let here = places.here();
         some = either(some, here);
         active[at] = here;
-        context = next.context;
-        rest = next.rest;
     }
     Passed {
         whole: places.here(),

@@ -47,13 +47,6 @@ impl Place {
         self.here
     }
 
-    /// How many groups are open here.
-    pub fn depth(&self) -> u32
-        ensures { result ≡ length self.now.beginnings }
-    {
-        self.beginnings.len()
-    }
-
     /// Whether the past reads what leads to an element that stands here.
     pub fn leading(&self, element: Element) -> bool
         requires { MayStand (length self.now.beginnings) (meaning element) }

@@ -43,13 +43,6 @@ impl Places {
         self.after.here()
     }
 
-    /// How many groups are open here.
-    pub fn depth(&self) -> u32
-        ensures { result ≡ length self.now.after.beginnings }
-    {
-        self.after.depth()
-    }
-
     /// The places behind an element; it is given whether it was active for the past without the byte.
     pub fn behind(&self, byte: u8, element: Element, own: bool) -> Places
         requires { MayStand (length self.now.after.beginnings) (meaning element) }

@@ -1,6 +1,5 @@
 -- What holds of graphs that are drawn of trails.
-use Rattle.std.specs.Prelude.{◌≡◌, ◌↔◌, ℕ, ◌<◌, ◌^◌, true, Contains, List, [], ◌∷◌, ◌++◌, length, Ok, reverse}
-use Rattle.std.specs.List.{All}
+use Rattle.std.specs.Prelude.{◌≡◌, ◌↔◌, ℕ, ◌<◌, true, Contains, List, [], ◌∷◌, ◌++◌, length, Ok, reverse}
 use Rattle.aa_glob_syntax.specs.Elements.{Element}
 use Rattle.aa_glob_syntax.specs.Matching.{matches}
 use Rattle.aa_glob_syntax.specs.Reading.{items_of, reading}

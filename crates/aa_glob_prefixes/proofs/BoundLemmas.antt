@@ -12,6 +12,7 @@ use Rattle.aa_glob_syntax.specs.declared.symbol.Symbol.{Symbol}
 use Rattle.aa_glob_syntax.specs.declared.symbol.Symbol.TheVariants.{Plain, Escaped, Broken}
 use Rattle.aa_glob_prefixes.proofs.BeginningLemmas.{later, length-among}
 use Rattle.aa_glob_prefixes.specs.Beginnings.{HasStates, IsSuffixOf, most_states}
+use Rattle.aa_glob_prefixes.specs.Elements.{elements_of}
 use Rattle.aa_glob_prefixes.specs.Trails.{depth_behind, grouped, Trail, trail_of}
 
 -- either branch is small enough
@@ -67,13 +68,17 @@ length-grouped : (depth : ℕ) (es : List Element) → length (grouped depth es)
 length-grouped depth [] = refl
 length-grouped depth (e ∷ es) = let rest = length-grouped (depth_behind depth e) es in omega arith
 
-length-trail_of : (text : List ℕ) → length (trail_of text) ≤ 2 * length text
-length-trail_of text =
-    let es = elements Elsewhere (symbols text) in
-    let turned = length-reverse (grouped 0 es) in
-    let same = length-grouped 0 es in
+pub length-elements_of : (text : List ℕ) → length (elements_of text) ≤ 2 * length text
+length-elements_of text =
+    let same = length-grouped 0 (elements Elsewhere (symbols text)) in
     let of_elements = length-elements Elsewhere (symbols text) in
     let of_symbols = length-symbols text in
+    omega arith
+
+length-trail_of : (text : List ℕ) → length (trail_of text) ≤ 2 * length text
+length-trail_of text =
+    let turned = length-reverse (elements_of text) in
+    let few = length-elements_of text in
     omega arith
 
 -- a trail and all its beginnings

@@ -1,5 +1,7 @@
 pub mod Beginnings
 pub mod Elements
 pub mod Laws
+pub mod Left
 pub mod Reads
+pub mod Standing
 pub mod Trails

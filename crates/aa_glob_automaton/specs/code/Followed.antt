@@ -4,8 +4,7 @@ use Rattle.aa_glob_automaton.specs.Walks.{Standing}
 use Rattle.aa_glob_automaton.specs.code.Growths.{Follows, IsGrowing}
 use Rattle.aa_glob_automaton.specs.declared.growing.Growing.{Growing}
 use Rattle.aa_glob_nfa_laws.specs.Drawn.{trail_at}
-use Rattle.aa_glob_syntax.specs.declared.context.Context.{Context}
-use Rattle.aa_glob_prefixes.specs.Elements.{EachMayStand, elements_left}
+use Rattle.aa_glob_syntax.specs.Elements.{Element}
 use Rattle.aa_glob_prefixes.specs.Trails.{Trail, trail_of}
 
 -- what has grown stands for these patterns, and no other is being followed
@@ -17,10 +16,9 @@ abbrev pub IsGrown : Growing → Type 0
 IsGrown g = (patterns : List (List ℕ)) × Between patterns g
 
 -- A walk over a text has come this far: it has read a trail, and what is left, the last element first, stands before it in the whole trail.
-pub record IsFollowing (old : Growing) (text : List ℕ) (g : Growing) (walk : Standing) (depth : ℕ) (context : Context) (rest : List ℕ) : Type 0 where
+pub record IsFollowing (old : Growing) (text : List ℕ) (g : Growing) (walk : Standing) (left : List Element) : Type 0 where
   pub trail : Trail
-  pub whole : reverse (elements_left depth context rest) ++ trail ≡ trail_of text
-  pub stands : EachMayStand depth (elements_left depth context rest)
+  pub whole : reverse left ++ trail ≡ trail_of text
   pub each : (patterns : List (List ℕ)) → Between patterns old → Follows patterns trail g walk
 
 -- a state is that of a text's whole trail

@@ -1,8 +1,7 @@
 -- What holds in the midst of a pass.
 use Rattle.std.specs.Prelude.{◌≡◌, ℕ, ◌+◌, ◌*◌, ◌≤◌, ◌<◌, Bool, false, List, [], length, drop, get_or, Some}
-use Rattle.aa_glob_syntax.specs.Cursor.{left}
-use Rattle.aa_glob_syntax.specs.declared.context.Context.{Context}
-use Rattle.aa_glob_prefixes.specs.Elements.{EachMayStand, elements_left, elements_of}
+use Rattle.aa_glob_syntax.specs.Elements.{Element}
+use Rattle.aa_glob_prefixes.specs.Elements.{elements_of}
 use Rattle.aa_glob_match.specs.Active.{AreActive, is_none, known_at, is_active, next_past, Past}
 use Rattle.aa_glob_match.specs.code.Places.{AreAt}
 use Rattle.aa_glob_match.specs.declared.places.Places.{Places}
@@ -18,13 +17,9 @@ ArePassed text past byte here active =
     ((at : ℕ) → at ≤ here → at ≤ length (elements_of text) → get_or active at false ≡ is_active text (Some (next_past byte past)) at)
     × ((at : ℕ) → here < at → at ≤ length (elements_of text) → get_or active at false ≡ is_active text past at)
 
--- so many elements were read, and what is left stands in a context and in so many groups
-abbrev pub IsLeft : List ℕ → ℕ → ℕ → Context → List ℕ → Type 0
-IsLeft text at depth context rest =
-    (at ≤ length (elements_of text))
-    × (drop at (elements_of text) ≡ elements_left depth context rest)
-    × EachMayStand depth (elements_left depth context rest)
-    × (at + left context rest ≤ 2 * length text)
+-- so many elements were read, and these are left
+abbrev pub IsLeft : List ℕ → ℕ → List Element → Type 0
+IsLeft text at left = (at ≤ length (elements_of text)) × (drop at (elements_of text) ≡ left) × (at + length left ≤ 2 * length text)
 
 -- the places and what is active for any past are passed as far as here, if it was told what was active for it before
 abbrev pub IsPassed : List ℕ → Bool → ℕ → ℕ → Places → List Bool → List Bool → Type 0

@@ -8,9 +8,10 @@ returns-clause-undo_gives_back c = restored c.where_machines_go_back_to.ensures.
 pub returns-clause-steps_add_and_return : goal.returns-clause-steps_add_and_return
 returns-clause-steps_add_and_return c =
     let on = c.how_machines_go_back_and_on.ensures in
-    let left = c.where_machines_go_back_to.ensures in
-    (steps-add on.can_go_back_in_parts on.goes_back_in_parts on.can_go_on_in_parts on.goes_on_in_parts,
-    steps-return left.lengths_after_back on.on_after_back left.lengths_after_on on.back_after_on)
+    let left = c.where_machines_go_back_to.ensures in (
+      steps-add on.can_go_back_in_parts on.goes_back_in_parts on.can_go_on_in_parts on.goes_on_in_parts,
+      steps-return left.lengths_after_back on.on_after_back left.lengths_after_on on.back_after_on,
+    )
 
 pub returns-clause-sets_have_distinct_names : goal.returns-clause-sets_have_distinct_names
 returns-clause-sets_have_distinct_names c = distinct (record {

@@ -1,9 +1,10 @@
-use Rattle.aa_glob_syntax.specs.Cursor.{left}
+use Rattle.std.proofs.Common.{length}
+use Rattle.aa_glob_prefixes.specs.Left.{left_in}
 use Rattle.aa_glob_automaton.specs.code.Followed.{IsFollowing}
 use Rattle.aa_glob_automaton.proofs.growing.Growing.follow.Given as goal
 
-abbrev pub invariant-loop-next : goal.invariant-loop-next
-invariant-loop-next l = IsFollowing l.fn.self l.text l.self l.walk l.depth l.context l.rest
+abbrev pub invariant-loop-element : goal.invariant-loop-element
+invariant-loop-element l = IsFollowing l.fn.self l.text l.self l.walk (left_in l.elements)
 
-abbrev pub decreases-loop-next : goal.decreases-loop-next
-decreases-loop-next l = left l.context l.rest
+abbrev pub decreases-loop-element : goal.decreases-loop-element
+decreases-loop-element l = length (left_in l.elements)
