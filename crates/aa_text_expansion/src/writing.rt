@@ -4,7 +4,7 @@ ghost use Rattle.std.specs.Prelude.{◌≡◌, ◌<◌, ◌≤◌, ◌+◌, ◌+
 ghost use Rattle.aa_text_expansion.specs.Joining.{cut_off, most_kept, texts_of};
 ghost use Rattle.aa_text_expansion.specs.Lists.{list_at};
 ghost use Rattle.aa_text_expansion.specs.code.Made.{AreRight, Listed, listed, listed_at, lists_of, with_ends};
-ghost use Rattle.aa_text_expansion.specs.code.Written.{Adds, IsAllDone, IsBegunLast, IsStacked, IsStarted, IsStep, Waits, ends_of, rest_at};
+ghost use Rattle.aa_text_expansion.specs.code.Written.{Adds, IsAllDone, IsBegunLast, IsStacked, IsStarted, IsStep, Waits, ends_at, ends_of, rest_at};
 ghost use Rattle.aa_text_expansion.specs.code.Written.{rests, the_end};
 
 use crate::joining::{MOST_KEPT, put_behind};
@@ -74,8 +74,8 @@ impl Writing {
         requires stacked { IsStacked self.old }
         requires within { rest ≤ length self.old.cells.items }
         ensures { (lists : List Listed) → OnOk result (Waits lists self.old
-            (ends_of text (with_ends (listed_at lists list) (rest_at (rests lists self.old.cells.items) rest)).texts)
-            (with_ends (listed_at lists list) (rest_at (rests lists self.old.cells.items) rest)).steps
+            (ends_of text (ends_at lists self.old.cells.items list rest).texts)
+            (ends_at lists self.old.cells.items list rest).steps
             self.new) }
     {
         let height = self.cells.len();
@@ -128,8 +128,8 @@ impl Writing {
         requires stacked { IsStacked self.old }
         requires within { rest ≤ length self.old.cells.items }
         ensures { (lists : List Listed) → OnOk result (Adds lists self.old
-            (ends_of text (with_ends (listed_at lists first) (with_ends (listed_at lists second) (rest_at (rests lists self.old.cells.items) rest))).texts)
-            (with_ends (listed_at lists first) (with_ends (listed_at lists second) (rest_at (rests lists self.old.cells.items) rest))).steps
+            (ends_of text (with_ends (listed_at lists first) (ends_at lists self.old.cells.items second rest)).texts)
+            (with_ends (listed_at lists first) (ends_at lists self.old.cells.items second rest)).steps
             self.new) }
     {
         self.cells.push(Cell { list: second, rest })?;
@@ -150,10 +150,10 @@ impl Writing {
         requires stacked { IsStacked self.old }
         requires within { rest ≤ length self.old.cells.items }
         ensures { (lists : List Listed) → OnOk result (Adds lists self.old
-            (ends_of text (with_ends (listed_at lists first) (rest_at (rests lists self.old.cells.items) rest)).texts
-            ++ ends_of text (with_ends (listed_at lists second) (rest_at (rests lists self.old.cells.items) rest)).texts)
-            ((with_ends (listed_at lists first) (rest_at (rests lists self.old.cells.items) rest)).steps
-            + (with_ends (listed_at lists second) (rest_at (rests lists self.old.cells.items) rest)).steps)
+            (ends_of text (ends_at lists self.old.cells.items first rest).texts
+            ++ ends_of text (ends_at lists self.old.cells.items second rest).texts)
+            ((ends_at lists self.old.cells.items first rest).steps
+            + (ends_at lists self.old.cells.items second rest).steps)
             self.new) }
     {
         let copy = Vec::from_slice(alloc, text.as_slice())?;

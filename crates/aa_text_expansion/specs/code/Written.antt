@@ -21,6 +21,10 @@ of_cell lists before cell = with_ends (listed_at lists cell.list) (rest_at befor
 abbrev pub rests : List Listed → List Cell → List Listed
 rests lists cells = grown (of_cell lists) (the_end ∷ []) cells
 
+-- the texts of a list, and behind them what a number stands for
+abbrev pub ends_at : List Listed → List Cell → ℕ → ℕ → Listed
+ends_at lists cells list rest = with_ends (listed_at lists list) (rest_at (rests lists cells) rest)
+
 -- a text with each of these behind it, each cut off
 abbrev pub ends_of : {A : Type 0} → Vec ℕ A → List (List ℕ) → List (List ℕ)
 ends_of text ends = cut_off (map (λ end. text.items ++ end) ends)
