@@ -1,5 +1,5 @@
 -- The manager as it stands for its machine over whole policy sets.
-use Rattle.std.proofs.Common.{◌≡◌, ◌≢◌, not, ℕ, Bool, true, false, cond, List, [], ◌∷◌, ◌++◌, length, take, map, Option, None, Some, Result, Ok, Err, IfOk, IfErr, OnOk, OnErr, refl, sym, ap, subst, ◌∙◌}
+use Rattle.std.proofs.Common.{◌≡◌, not, ℕ, Bool, true, false, cond, List, [], ◌∷◌, ◌++◌, length, take, map, Option, None, Some, Result, Ok, Err, IfOk, IfErr, OnOk, OnErr, refl, sym, ap, subst, ◌∙◌}
 use Rattle.std.proofs.lemmas.List.{length-map, map_push}
 use Rattle.aa_decide.specs.Named.{entry_named, have_distinct_names}
 use Rattle.aa_decide_verdict.specs.Entries.{Loaded, is_in_force}
@@ -14,7 +14,7 @@ use Rattle.aa_set_changes.specs.Changes.{by_file, disabled, in_force, is_disable
 use Rattle.aa_profile_data.specs.declared.profile.Mode.{Mode}
 use Rattle.std.specs.Prelude.{is_none}
 use Rattle.aa_set.specs.code.Making.{Makes}
-use Rattle.aa_set_commands.specs.Refusal.{plain}
+use Rattle.aa_set_commands.specs.Refusal.{IsRefusalOf, plain}
 use Rattle.aa_set_commands.specs.declared.refusal.Refusal.{Refusal}
 use Rattle.aa_set_commands.specs.declared.refusal.RefusalKind.TheVariants.{Absent, BadRequest, Disabled, Memory, NoMark, NothingToRedo, NothingToUndo}
 use Rattle.aa_set_parts.specs.Parts.{Reaching, after}
@@ -179,8 +179,8 @@ made-ok force kept new slots size outcome (Err cause) (Err refusal) makes state 
 
 -- where it was refused
 pub made-refused : (managed : Managed) (kept new : Kept (List (Option Loaded))) (size : ℕ) (outcome : Result (List Loaded) Refusal) (exchange : Result Reaching Refusal)
-    (result : Result (Unit {0}) Refusal) → Makes kept new exchange result → IfErr exchange (λ refusal. refusal ≢ plain Memory → outcome ≡ Err refusal)
-    → IfErr result (λ refusal. refusal ≢ plain Memory → after_change managed size outcome ≡ Err refusal)
+    (result : Result (Unit {0}) Refusal) → Makes kept new exchange result → IfErr exchange (IsRefusalOf outcome)
+    → IfErr result (IsRefusalOf (after_change managed size outcome))
 made-refused managed kept new size outcome (Ok exchange) (Ok done) makes refused = tt
 made-refused managed kept new size outcome (Ok exchange) (Err refusal) makes refused = λ other. absurd (other makes.0)
 made-refused managed kept new size outcome (Err cause) (Ok done) makes refused = absurd makes

@@ -7,7 +7,7 @@ use Rattle.aa_set_changes.specs.Changes.{change_takes_memory, is_disabled, is_lo
 use Rattle.aa_set_commands.specs.Command.{Command, Make, Mark, PolicyChange}
 use Rattle.aa_set.specs.Manager.{Managed, is_mark_name, made, marking}
 use Rattle.aa_decide_verdict.specs.Entries.{Loaded}
-use Rattle.aa_set_commands.specs.Refusal.{plain}
+use Rattle.aa_set_commands.specs.Refusal.{IsRefusalOf, plain}
 use Rattle.aa_set.specs.Run.{answered, changed, obeyed, obeyed_flagged, takes_memory}
 use Rattle.aa_text_files.specs.Files.{File, name_at}
 use Rattle.aa_text_files.specs.declared.text_error.Place.{Place}
@@ -48,7 +48,7 @@ disable-takes name entries (Err refusal) loaded in_force = λ memory. rw (loaded
 obeyed-changed : (files : List File) (managed after : Managed) (command : Command) (becomes : Result Managed Refusal) (outcome : Result (Unit {0}) Refusal) (reply : Reply)
     → obeyed files managed command ≡ changed managed becomes
     → OnOk outcome (becomes ≡ Ok after)
-    → IfErr outcome (λ refusal. refusal ≢ plain Memory → becomes ≡ Err refusal)
+    → IfErr outcome (IsRefusalOf becomes)
     → OnErr outcome (after ≡ managed)
     → IfErr outcome (λ refusal. refusal ≡ plain Memory → takes_memory managed command ≡ true)
     → MatchResult outcome (λ _. reply ≡ Done) (λ refusal. reply ≡ Refused refusal)
@@ -63,7 +63,7 @@ obeyed-changed files managed after command becomes (Err refusal) reply is accept
 -- so a change
 pub obeyed-made : (files : List File) (managed after : Managed) (change : PolicyChange) (outcome : Result (Unit {0}) Refusal) (reply : Reply)
     → OnOk outcome (made files managed change ≡ Ok after)
-    → IfErr outcome (λ refusal. refusal ≢ plain Memory → made files managed change ≡ Err refusal)
+    → IfErr outcome (IsRefusalOf (made files managed change))
     → OnErr outcome (after ≡ managed)
     → IfErr outcome (λ refusal. refusal ≡ plain Memory → change_takes_memory managed.machine.now change ≡ true)
     → MatchResult outcome (λ _. reply ≡ Done) (λ refusal. reply ≡ Refused refusal)
@@ -73,7 +73,7 @@ obeyed-made files managed after change outcome reply = obeyed-changed files mana
 -- and a mark
 pub obeyed-mark : (files : List File) (managed after : Managed) (name : List ℕ) (outcome : Result (Unit {0}) Refusal) (reply : Reply)
     → OnOk outcome (marking name managed ≡ Ok after)
-    → IfErr outcome (λ refusal. refusal ≢ plain Memory → marking name managed ≡ Err refusal)
+    → IfErr outcome (IsRefusalOf (marking name managed))
     → OnErr outcome (after ≡ managed)
     → IfErr outcome (λ refusal. refusal ≡ plain Memory → is_mark_name name ≡ true)
     → MatchResult outcome (λ _. reply ≡ Done) (λ refusal. reply ≡ Refused refusal)
@@ -84,7 +84,7 @@ obeyed-mark files managed after name outcome reply = obeyed-changed files manage
 pub obeyed-answered : {V : Type 0} (items : V → List ℕ) (files : List File) (managed : Managed) (command : Command) (answer : Result (List ℕ) Refusal) (outcome : Result V Refusal) (reply : Reply)
     → obeyed files managed command ≡ answered managed answer
     → IfOk outcome (λ lines. answer ≡ Ok (items lines))
-    → IfErr outcome (λ refusal. refusal ≢ plain Memory → answer ≡ Err refusal)
+    → IfErr outcome (IsRefusalOf answer)
     → IfErr outcome (λ refusal. refusal ≡ plain Memory → takes_memory managed command ≡ true)
     → MatchResult outcome (λ lines. reply ≡ Answered (items lines)) (λ refusal. reply ≡ Refused refusal)
     → (flag : Bool) × (record { reply = reply; managed = managed } ≡ obeyed_flagged files managed flag command)

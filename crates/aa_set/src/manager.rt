@@ -1,11 +1,11 @@
 //! The manager: a policy set with its history.
 
-ghost use Rattle.std.specs.Prelude.{◌≡◌, ◌≢◌, Ok, Err, IfOk, IfErr, OnOk, OnErr, false, true, sum};
+ghost use Rattle.std.specs.Prelude.{◌≡◌, Ok, Err, IfOk, IfErr, OnOk, OnErr, false, true, sum};
 ghost use Rattle.aa_set_answers.specs.Answers.{asks_absent, reply_lines, shown, shows_absent};
 ghost use Rattle.aa_set_changes.specs.Changes.{is_disabled, is_loaded};
 ghost use Rattle.aa_set_commands.specs.Command.{Add, Remove, Replace};
 ghost use Rattle.aa_set_commands.specs.Question.{IsWellFormed, seen_question};
-ghost use Rattle.aa_set_commands.specs.Refusal.{plain};
+ghost use Rattle.aa_set_commands.specs.Refusal.{IsRefusalOf, plain};
 ghost use Rattle.aa_set_commands.specs.declared.refusal.RefusalKind.TheVariants.{Memory};
 ghost use Rattle.aa_set_listing.specs.List.{list_lines};
 ghost use Rattle.aa_set.specs.Manager.{is_mark_name};
@@ -111,7 +111,7 @@ impl Manager {
     /// out. After each of these the policy set and its history are as they were.
     pub fn add(&mut self, files: &Files, name: &[u8]) -> Result<(), Refusal>
         ensures ok { OnOk result (made files.now self.old (Add name.now) ≡ Ok self.new) }
-        ensures refused { IfErr result (λ refusal. refusal ≢ plain Memory → made files.now self.old (Add name.now) ≡ Err refusal) }
+        ensures refused { IfErr result (IsRefusalOf (made files.now self.old (Add name.now))) }
         ensures unchanged { OnErr result (self.new ≡ self.old) }
     {
         let profiles = read_file(self.alloc, files, name)?;
@@ -132,7 +132,7 @@ impl Manager {
     /// disabled. `Memory`, without a place, may come anywhere: memory ran out. After each of these the policy set and its history are as they were.
     pub fn replace(&mut self, files: &Files, name: &[u8]) -> Result<(), Refusal>
         ensures ok { OnOk result (made files.now self.old (Replace name.now) ≡ Ok self.new) }
-        ensures refused { IfErr result (λ refusal. refusal ≢ plain Memory → made files.now self.old (Replace name.now) ≡ Err refusal) }
+        ensures refused { IfErr result (IsRefusalOf (made files.now self.old (Replace name.now))) }
         ensures unchanged { OnErr result (self.new ≡ self.old) }
     {
         let profiles = read_file(self.alloc, files, name)?;
@@ -151,7 +151,7 @@ impl Manager {
     /// loaded. `Memory`, without a place, may come anywhere: memory ran out. After each of these the policy set and its history are as they were.
     pub fn remove(&mut self, files: &Files, name: &[u8]) -> Result<(), Refusal>
         ensures ok { OnOk result (made files.now self.old (Remove name.now) ≡ Ok self.new) }
-        ensures refused { IfErr result (λ refusal. refusal ≢ plain Memory → made files.now self.old (Remove name.now) ≡ Err refusal) }
+        ensures refused { IfErr result (IsRefusalOf (made files.now self.old (Remove name.now))) }
         ensures unchanged { OnErr result (self.new ≡ self.old) }
     {
         let profiles = read_file(self.alloc, files, name)?;
@@ -169,7 +169,7 @@ impl Manager {
     /// history are as they were.
     pub fn enforce(&mut self, name: &[u8]) -> Result<(), Refusal>
         ensures ok { OnOk result (in_mode Enforce self.old name.now ≡ Ok self.new) }
-        ensures refused { IfErr result (λ refusal. refusal ≢ plain Memory → in_mode Enforce self.old name.now ≡ Err refusal) }
+        ensures refused { IfErr result (IsRefusalOf (in_mode Enforce self.old name.now)) }
         ensures unchanged { OnErr result (self.new ≡ self.old) }
         ensures memory { IfErr result (λ refusal. refusal ≡ plain Memory → is_loaded name.now self.old.machine.now ≡ true) }
     {
@@ -186,7 +186,7 @@ impl Manager {
     /// As `enforce`.
     pub fn complain(&mut self, name: &[u8]) -> Result<(), Refusal>
         ensures ok { OnOk result (in_mode Complain self.old name.now ≡ Ok self.new) }
-        ensures refused { IfErr result (λ refusal. refusal ≢ plain Memory → in_mode Complain self.old name.now ≡ Err refusal) }
+        ensures refused { IfErr result (IsRefusalOf (in_mode Complain self.old name.now)) }
         ensures unchanged { OnErr result (self.new ≡ self.old) }
         ensures memory { IfErr result (λ refusal. refusal ≡ plain Memory → is_loaded name.now self.old.machine.now ≡ true) }
     {
@@ -205,7 +205,7 @@ impl Manager {
     /// memory ran out. After each the policy set and its history are as they were.
     pub fn disable(&mut self, name: &[u8]) -> Result<(), Refusal>
         ensures ok { OnOk result (disabled self.old name.now ≡ Ok self.new) }
-        ensures refused { IfErr result (λ refusal. refusal ≢ plain Memory → disabled self.old name.now ≡ Err refusal) }
+        ensures refused { IfErr result (IsRefusalOf (disabled self.old name.now)) }
         ensures unchanged { OnErr result (self.new ≡ self.old) }
         ensures loaded { IfErr result (λ refusal. refusal ≡ plain Memory → is_loaded name.now self.old.machine.now ≡ true) }
         ensures in_force { IfErr result (λ refusal. refusal ≡ plain Memory → is_disabled name.now self.old.machine.now ≡ false) }
@@ -263,7 +263,7 @@ impl Manager {
     /// out. After each the policy set, its history and the marks are as they were.
     pub fn mark(&mut self, name: &[u8]) -> Result<(), Refusal>
         ensures ok { OnOk result (marking name.now self.old ≡ Ok self.new) }
-        ensures refused { IfErr result (λ refusal. refusal ≢ plain Memory → marking name.now self.old ≡ Err refusal) }
+        ensures refused { IfErr result (IsRefusalOf (marking name.now self.old)) }
         ensures unchanged { OnErr result (self.new ≡ self.old) }
         ensures memory { IfErr result (λ refusal. refusal ≡ plain Memory → is_mark_name name.now ≡ true) }
     {
@@ -317,7 +317,7 @@ impl Manager {
     /// `Absent` where no profile, child or hat of the full name is loaded, which is found without memory, and `Memory` where memory ran out.
     pub fn show(&self, name: &[u8]) -> Result<Vec<u8>, Refusal>
         ensures answered { IfOk result (λ lines. shown self.now.machine.now name.now ≡ Ok lines.items) }
-        ensures refused { IfErr result (λ refusal. refusal ≢ plain Memory → shown self.now.machine.now name.now ≡ Err refusal) }
+        ensures refused { IfErr result (IsRefusalOf (shown self.now.machine.now name.now)) }
         ensures memory { IfErr result (λ refusal. refusal ≡ plain Memory → shows_absent self.now.machine.now name.now ≡ false) }
     {
         shown_lines(self.alloc, self.policy_set().slots(), name)
@@ -333,8 +333,7 @@ impl Manager {
     pub fn ask(&self, question: &Question<'_>) -> Result<Vec<u8>, Refusal>
         requires { IsWellFormed question.now }
         ensures answered { IfOk result (λ lines. reply_lines self.now.machine.now (seen_question question.entry.now) ≡ Ok lines.items) }
-        ensures refused { IfErr result (λ refusal.
-            refusal ≢ plain Memory → reply_lines self.now.machine.now (seen_question question.entry.now) ≡ Err refusal) }
+        ensures refused { IfErr result (IsRefusalOf (reply_lines self.now.machine.now (seen_question question.entry.now))) }
         // That it is absent is found without memory.
         ensures memory { IfErr result (λ refusal.
             refusal ≡ plain Memory → asks_absent self.now.machine.now (seen_question question.entry.now) ≡ false) }

@@ -1,8 +1,8 @@
 //! The lines that answer questions, and those that tell what a profile consists of.
 
-ghost use Rattle.std.specs.Prelude.{◌≡◌, ◌≢◌, ◌++◌, Ok, Err, IfOk, IfErr, OnOk, false};
+ghost use Rattle.std.specs.Prelude.{◌≡◌, ◌++◌, Ok, Err, IfOk, IfErr, OnOk, false};
 ghost use Rattle.aa_set_commands.specs.Question.{OfAccess, OfExec};
-ghost use Rattle.aa_set_commands.specs.Refusal.{plain};
+ghost use Rattle.aa_set_commands.specs.Refusal.{IsRefusalOf, plain};
 ghost use Rattle.aa_set_commands.specs.declared.refusal.RefusalKind.TheVariants.{Memory};
 ghost use Rattle.aa_decide_verdict.specs.Slots.{filled};
 ghost use Rattle.aa_decide_verdict.specs.Confinement.{found};
@@ -65,8 +65,7 @@ pub fn access_lines(
     request: &Request<'_>,
 ) -> Result<Vec<u8>, Refusal>
     ensures answered { IfOk result (λ lines. reply_lines (filled slots.now) (OfAccess who.now (request_of request.entry.now)) ≡ Ok lines.items) }
-    ensures refused { IfErr result (λ refusal.
-        refusal ≢ plain Memory → reply_lines (filled slots.now) (OfAccess who.now (request_of request.entry.now)) ≡ Err refusal) }
+    ensures refused { IfErr result (IsRefusalOf (reply_lines (filled slots.now) (OfAccess who.now (request_of request.entry.now)))) }
     ensures memory { IfErr result (λ refusal.
         refusal ≡ plain Memory → asks_absent (filled slots.now) (OfAccess who.now (request_of request.entry.now)) ≡ false) }
 {
@@ -158,8 +157,7 @@ pub fn exec_lines(
     path: &[u8],
 ) -> Result<Vec<u8>, Refusal>
     ensures answered { IfOk result (λ lines. reply_lines (filled slots.now) (OfExec who.now owned path.now) ≡ Ok lines.items) }
-    ensures refused { IfErr result (λ refusal.
-        refusal ≢ plain Memory → reply_lines (filled slots.now) (OfExec who.now owned path.now) ≡ Err refusal) }
+    ensures refused { IfErr result (IsRefusalOf (reply_lines (filled slots.now) (OfExec who.now owned path.now))) }
     ensures memory { IfErr result (λ refusal. refusal ≡ plain Memory → asks_absent (filled slots.now) (OfExec who.now owned path.now) ≡ false) }
 {
     let Some(asker) = find_asker(slots, who) else {
@@ -176,7 +174,7 @@ pub fn exec_lines(
 /// `Absent` where no profile, child or hat of the full name is loaded, which is found without memory, and `Memory` where memory ran out.
 pub fn shown_lines(alloc: Global, slots: &[Option<Entry>], name: &[u8]) -> Result<Vec<u8>, Refusal>
     ensures answered { IfOk result (λ lines. shown (filled slots.now) name.now ≡ Ok lines.items) }
-    ensures refused { IfErr result (λ refusal. refusal ≢ plain Memory → shown (filled slots.now) name.now ≡ Err refusal) }
+    ensures refused { IfErr result (IsRefusalOf (shown (filled slots.now) name.now)) }
     ensures memory { IfErr result (λ refusal. refusal ≡ plain Memory → shows_absent (filled slots.now) name.now ≡ false) }
 {
     let Some(named) = find_loaded(slots, name) else {

@@ -1,6 +1,6 @@
 //! The changes that commands make of a policy set, each as the parts that it exchanges.
 
-ghost use Rattle.std.specs.Prelude.{◌≡◌, ◌≢◌, Ok, Err, IfOk, IfErr, length, true, false};
+ghost use Rattle.std.specs.Prelude.{◌≡◌, Ok, Err, IfOk, IfErr, length, true, false};
 ghost use Rattle.std.specs.List.{list_all};
 ghost use Rattle.aa_decide.specs.Named.{have_distinct_names};
 ghost use Rattle.aa_decide_verdict.specs.Slots.{filled};
@@ -8,7 +8,7 @@ ghost use Rattle.aa_profile_data.specs.Conflicts.{profile_agrees};
 ghost use Rattle.aa_profile_data.specs.Profile.{are_distinct};
 ghost use Rattle.aa_set_changes.specs.Changes.{are_there, is_disabled, is_loaded, some_are_absent, some_are_disabled};
 ghost use Rattle.aa_set_changes.specs.Changes.{with_added, with_disabled, with_mode, with_removed, with_replaced};
-ghost use Rattle.aa_set_commands.specs.Refusal.{plain};
+ghost use Rattle.aa_set_commands.specs.Refusal.{IsRefusalOf, plain};
 ghost use Rattle.aa_set_commands.specs.declared.refusal.RefusalKind.TheVariants.{Memory};
 ghost use Rattle.aa_set_parts.specs.Parts.{after};
 
@@ -40,7 +40,7 @@ pub fn adding(
     ensures ok { IfOk result (λ exchange.
         with_added force_complain (filled slots.now) profiles.items ≡ Ok (filled (after slots.now exchange.parts))) }
     ensures parts { IfOk result (λ exchange. length exchange.parts ≡ length profiles.items) }
-    ensures refused { IfErr result (λ refusal. refusal ≢ plain Memory → with_added force_complain (filled slots.now) profiles.items ≡ Err refusal) }
+    ensures refused { IfErr result (IsRefusalOf (with_added force_complain (filled slots.now) profiles.items)) }
     ensures memory { IfErr result (λ refusal. refusal ≡ plain Memory → are_there profiles.items (filled slots.now) ≡ false) }
 {
     let found = found_for(alloc, FileChange::Add, slots.as_slice(), &profiles)?;
@@ -66,8 +66,7 @@ pub fn replacing(
     ensures ok { IfOk result (λ exchange.
         with_replaced force_complain (filled slots.now) profiles.items ≡ Ok (filled (after slots.now exchange.parts))) }
     ensures parts { IfOk result (λ exchange. length exchange.parts ≡ length profiles.items) }
-    ensures refused { IfErr result (λ refusal.
-        refusal ≢ plain Memory → with_replaced force_complain (filled slots.now) profiles.items ≡ Err refusal) }
+    ensures refused { IfErr result (IsRefusalOf (with_replaced force_complain (filled slots.now) profiles.items)) }
     ensures memory { IfErr result (λ refusal. refusal ≡ plain Memory → some_are_disabled profiles.items (filled slots.now) ≡ false) }
 {
     let found = found_for(alloc, FileChange::Replace, slots.as_slice(), &profiles)?;
@@ -85,7 +84,7 @@ pub fn removing(alloc: Global, slots: &Slots, profiles: &[Profile]) -> Result<Ex
     requires apart { have_distinct_names (filled slots.now) ≡ true }
     ensures ok { IfOk result (λ exchange. with_removed (filled slots.now) profiles.now ≡ Ok (filled (after slots.now exchange.parts))) }
     ensures parts { IfOk result (λ exchange. length exchange.parts ≡ length profiles.now) }
-    ensures refused { IfErr result (λ refusal. refusal ≢ plain Memory → with_removed (filled slots.now) profiles.now ≡ Err refusal) }
+    ensures refused { IfErr result (IsRefusalOf (with_removed (filled slots.now) profiles.now)) }
     ensures memory { IfErr result (λ refusal. refusal ≡ plain Memory → some_are_absent profiles.now (filled slots.now) ≡ false) }
 {
     let found = found_for(alloc, FileChange::Remove, slots.as_slice(), profiles)?;
@@ -101,7 +100,7 @@ pub fn removing(alloc: Global, slots: &Slots, profiles: &[Profile]) -> Result<Ex
 pub fn switching(alloc: Global, slots: &Slots, mode: Mode, name: &[u8]) -> Result<Exchange, Refusal>
     ensures ok { IfOk result (λ exchange. with_mode mode (filled slots.now) name.now ≡ Ok (filled (after slots.now exchange.parts))) }
     ensures parts { IfOk result (λ exchange. length exchange.parts ≡ 1) }
-    ensures refused { IfErr result (λ refusal. refusal ≢ plain Memory → with_mode mode (filled slots.now) name.now ≡ Err refusal) }
+    ensures refused { IfErr result (IsRefusalOf (with_mode mode (filled slots.now) name.now)) }
     ensures memory { IfErr result (λ refusal. refusal ≡ plain Memory → is_loaded name.now (filled slots.now) ≡ true) }
 {
     let Some((slot, entry)) = find(slots.as_slice(), name) else {
@@ -121,7 +120,7 @@ pub fn switching(alloc: Global, slots: &Slots, mode: Mode, name: &[u8]) -> Resul
 pub fn disabling(alloc: Global, slots: &Slots, name: &[u8]) -> Result<Exchange, Refusal>
     ensures ok { IfOk result (λ exchange. with_disabled (filled slots.now) name.now ≡ Ok (filled (after slots.now exchange.parts))) }
     ensures parts { IfOk result (λ exchange. length exchange.parts ≡ 1) }
-    ensures refused { IfErr result (λ refusal. refusal ≢ plain Memory → with_disabled (filled slots.now) name.now ≡ Err refusal) }
+    ensures refused { IfErr result (IsRefusalOf (with_disabled (filled slots.now) name.now)) }
     ensures loaded { IfErr result (λ refusal. refusal ≡ plain Memory → is_loaded name.now (filled slots.now) ≡ true) }
     ensures in_force { IfErr result (λ refusal. refusal ≡ plain Memory → is_disabled name.now (filled slots.now) ≡ false) }
 {

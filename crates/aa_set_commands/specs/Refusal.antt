@@ -1,5 +1,5 @@
 -- The refusals: each one's number and name, as replies tell them (docs/commands.md). Those of a file stand in the tables of the layers below.
-use Rattle.std.specs.Prelude.{ℕ, List, codes, None}
+use Rattle.std.specs.Prelude.{◌≡◌, ◌≢◌, ℕ, List, codes, None, Result, Err}
 use Rattle.aa_profile_errors.specs.ProfileError.{described as described_file}
 use Rattle.aa_profile_errors.specs.declared.profile_error.ProfileError.{ProfileError}
 use Rattle.aa_profile_errors.specs.declared.profile_error.ProfileRefusal.{ProfileRefusal}
@@ -31,6 +31,10 @@ name_of kind = (described kind).1
 -- a refusal without a place
 abbrev pub plain : RefusalKind → Refusal
 plain kind = record { refusal = kind; place = None }
+
+-- what a definition gives is this refusal, unless a call found no memory, which no definition foresees
+abbrev pub IsRefusalOf : {A : Type 0} → Result A Refusal → Refusal → Type 0
+IsRefusalOf outcome refusal = refusal ≢ plain Memory → outcome ≡ Err refusal
 
 -- the refusal of a command whose file is refused; want of memory is one refusal, so this never gives `File Memory`
 abbrev pub kind_of_profile : ProfileRefusal → RefusalKind

@@ -1,10 +1,9 @@
-use Rattle.std.proofs.Common.{◌≡◌, ◌≢◌, length, Ok, Err, IfErr, OnOk, subst}
+use Rattle.std.proofs.Common.{◌≡◌, length, Ok, Err, IfErr, OnOk, subst}
 use Rattle.aa_decide_verdict.specs.Slots.{filled}
 use Rattle.aa_profile.specs.FileReading.{file_profiles}
 use Rattle.aa_set_changes.specs.Changes.{by_file, profile_count, with_added}
 use Rattle.aa_set_commands.specs.Command.{Add}
-use Rattle.aa_set_commands.specs.Refusal.{plain}
-use Rattle.aa_set_commands.specs.declared.refusal.RefusalKind.TheVariants.{Memory}
+use Rattle.aa_set_commands.specs.Refusal.{IsRefusalOf}
 use Rattle.aa_set_parts.specs.Parts.{after}
 use Rattle.aa_set.specs.Manager.{made, managed_by}
 use Rattle.aa_set.proofs.ManagerLemmas.{by-file, entries-seen, file-parts, made-distinct, made-ok, made-refused, now-distinct, of-err, of-ok, seen}
@@ -36,10 +35,10 @@ returns-clause-ok c =
 
 pub returns-clause-refused : goal.returns-clause-refused
 returns-clause-refused c =
-    subst (λ managed. IfErr c.make.result (λ refusal. refusal ≢ plain Memory → made c.args.files.now managed (Add c.args.name.now) ≡ Err refusal)) c.self.view_is
+    subst (λ managed. IfErr c.make.result (IsRefusalOf (made c.args.files.now managed (Add c.args.name.now)))) c.self.view_is
     (made-refused (managed_by c.self.inside.force_complain (seen c.self.inside.journal)) c.self.inside.journal c.make.new.journal (profile_count (file_profiles c.args.files.now c.args.name.now))
     (by_file (with_added c.self.inside.force_complain (filled c.self.inside.journal.machine.now)) (file_profiles c.args.files.now c.args.name.now)) c.adding-exchange.result c.make.result c.make.ensures
-    (of-err (λ refusal. refusal ≢ plain Memory → (with_added c.self.inside.force_complain) (filled c.state-slots.result.now) c.in_ok-profiles.profiles.items ≡ Err refusal) (λ refusal. refusal ≢ plain Memory → by_file (with_added c.self.inside.force_complain (filled c.self.inside.journal.machine.now)) (file_profiles c.args.files.now c.args.name.now) ≡ Err refusal)
+    (of-err (IsRefusalOf ((with_added c.self.inside.force_complain) (filled c.state-slots.result.now) c.in_ok-profiles.profiles.items)) (IsRefusalOf (by_file (with_added c.self.inside.force_complain (filled c.self.inside.journal.machine.now)) (file_profiles c.args.files.now c.args.name.now)))
     c.adding-exchange.result c.adding-exchange.ensures.refused
     (λ refusal is other. by-file (with_added c.self.inside.force_complain) c.args.files.now c.args.name.now (filled c.state-slots.result.now) (filled c.self.inside.journal.machine.now) c.in_ok-profiles.profiles.items (Err refusal)
     c.in_ok-profiles.ensures.ok (entries-seen c.state-slots.result.now c.self.inside.journal.machine.now c.state-slots.ensures) (is other))))

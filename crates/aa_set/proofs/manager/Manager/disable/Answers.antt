@@ -1,8 +1,8 @@
-use Rattle.std.proofs.Common.{◌≡◌, ◌≢◌, true, false, [], Ok, Err, IfErr, OnOk, sym, ap, subst, ◌∙◌}
+use Rattle.std.proofs.Common.{◌≡◌, true, false, [], Ok, IfErr, OnOk, sym, ap, subst, ◌∙◌}
 use Rattle.aa_decide_verdict.specs.Slots.{filled}
 use Rattle.aa_set_changes.specs.Changes.{is_disabled, is_loaded, with_disabled}
 use Rattle.aa_set_commands.specs.Command.{Disable}
-use Rattle.aa_set_commands.specs.Refusal.{plain}
+use Rattle.aa_set_commands.specs.Refusal.{IsRefusalOf, plain}
 use Rattle.aa_set_commands.specs.declared.refusal.RefusalKind.TheVariants.{Memory}
 use Rattle.aa_set_parts.specs.Parts.{after}
 use Rattle.aa_set.specs.Manager.{disabled, managed_by}
@@ -29,9 +29,9 @@ returns-clause-ok c =
 
 pub returns-clause-refused : goal.returns-clause-refused
 returns-clause-refused c =
-    subst (λ managed. IfErr c.make.result (λ refusal. refusal ≢ plain Memory → disabled managed c.args.name.now ≡ Err refusal)) c.self.view_is
+    subst (λ managed. IfErr c.make.result (IsRefusalOf (disabled managed c.args.name.now))) c.self.view_is
     (made-refused (managed_by c.self.inside.force_complain (seen c.self.inside.journal)) c.self.inside.journal c.make.new.journal 1 (with_disabled (filled c.self.inside.journal.machine.now) c.args.name.now) c.disabling-exchange.result c.make.result c.make.ensures
-    (of-err (λ refusal. refusal ≢ plain Memory → with_disabled (filled c.state.result.now) c.args.name.now ≡ Err refusal) (λ refusal. refusal ≢ plain Memory → with_disabled (filled c.self.inside.journal.machine.now) c.args.name.now ≡ Err refusal)
+    (of-err (IsRefusalOf (with_disabled (filled c.state.result.now) c.args.name.now)) (IsRefusalOf (with_disabled (filled c.self.inside.journal.machine.now) c.args.name.now))
     c.disabling-exchange.result c.disabling-exchange.ensures.refused (λ refusal is other. ap (λ entries. with_disabled entries c.args.name.now) (sym (entries-seen c.state.result.now c.self.inside.journal.machine.now c.state.ensures)) ∙ is other)))
 
 pub returns-clause-loaded : goal.returns-clause-loaded

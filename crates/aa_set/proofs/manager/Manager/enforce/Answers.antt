@@ -1,9 +1,9 @@
-use Rattle.std.proofs.Common.{◌≡◌, ◌≢◌, true, [], Ok, Err, IfErr, OnOk, sym, ap, subst, ◌∙◌}
+use Rattle.std.proofs.Common.{◌≡◌, true, [], Ok, IfErr, OnOk, sym, ap, subst, ◌∙◌}
 use Rattle.aa_decide_verdict.specs.Slots.{filled}
 use Rattle.aa_profile_data.specs.declared.profile.Mode.TheVariants.{Enforce as EnforceMode}
 use Rattle.aa_set_changes.specs.Changes.{is_loaded, with_mode}
 use Rattle.aa_set_commands.specs.Command.{Enforce}
-use Rattle.aa_set_commands.specs.Refusal.{plain}
+use Rattle.aa_set_commands.specs.Refusal.{IsRefusalOf, plain}
 use Rattle.aa_set_commands.specs.declared.refusal.RefusalKind.TheVariants.{Memory}
 use Rattle.aa_set_parts.specs.Parts.{after}
 use Rattle.aa_set.specs.Manager.{in_mode, managed_by}
@@ -30,9 +30,9 @@ returns-clause-ok c =
 
 pub returns-clause-refused : goal.returns-clause-refused
 returns-clause-refused c =
-    subst (λ managed. IfErr c.make.result (λ refusal. refusal ≢ plain Memory → in_mode EnforceMode managed c.args.name.now ≡ Err refusal)) c.self.view_is
+    subst (λ managed. IfErr c.make.result (IsRefusalOf (in_mode EnforceMode managed c.args.name.now))) c.self.view_is
     (made-refused (managed_by c.self.inside.force_complain (seen c.self.inside.journal)) c.self.inside.journal c.make.new.journal 1 (with_mode EnforceMode (filled c.self.inside.journal.machine.now) c.args.name.now) c.switching-exchange.result c.make.result c.make.ensures
-    (of-err (λ refusal. refusal ≢ plain Memory → with_mode EnforceMode (filled c.state.result.now) c.args.name.now ≡ Err refusal) (λ refusal. refusal ≢ plain Memory → with_mode EnforceMode (filled c.self.inside.journal.machine.now) c.args.name.now ≡ Err refusal)
+    (of-err (IsRefusalOf (with_mode EnforceMode (filled c.state.result.now) c.args.name.now)) (IsRefusalOf (with_mode EnforceMode (filled c.self.inside.journal.machine.now) c.args.name.now))
     c.switching-exchange.result c.switching-exchange.ensures.refused (λ refusal is other. ap (λ entries. with_mode EnforceMode entries c.args.name.now) (sym (entries-seen c.state.result.now c.self.inside.journal.machine.now c.state.ensures)) ∙ is other)))
 
 pub returns-clause-memory : goal.returns-clause-memory

@@ -1,12 +1,11 @@
-use Rattle.std.proofs.Common.{◌≡◌, ◌≢◌, length, List, Ok, Err, IfErr, OnOk, sym, ap, subst, ◌∙◌}
+use Rattle.std.proofs.Common.{◌≡◌, length, List, Ok, Err, IfErr, OnOk, sym, ap, subst, ◌∙◌}
 use Rattle.aa_decide.specs.Named.{have_distinct_names}
 use Rattle.aa_decide_verdict.specs.Slots.{filled}
 use Rattle.aa_profile.specs.FileReading.{file_profiles}
 use Rattle.aa_profile_data.specs.declared.profile.Profile.{Profile}
 use Rattle.aa_set_changes.specs.Changes.{by_file, profile_count, with_removed}
 use Rattle.aa_set_commands.specs.Command.{Remove}
-use Rattle.aa_set_commands.specs.Refusal.{plain}
-use Rattle.aa_set_commands.specs.declared.refusal.RefusalKind.TheVariants.{Memory}
+use Rattle.aa_set_commands.specs.Refusal.{IsRefusalOf}
 use Rattle.aa_set_parts.specs.Parts.{after}
 use Rattle.aa_set.specs.Manager.{made, managed_by}
 use Rattle.aa_set.proofs.ManagerLemmas.{by-file, entries-seen, file-parts, made-distinct, made-ok, made-refused, now-distinct, of-err, of-ok, seen}
@@ -42,10 +41,10 @@ returns-clause-ok c =
 
 pub returns-clause-refused : goal.returns-clause-refused
 returns-clause-refused c =
-    subst (λ managed. IfErr c.make.result (λ refusal. refusal ≢ plain Memory → made c.args.files.now managed (Remove c.args.name.now) ≡ Err refusal)) c.self.view_is
+    subst (λ managed. IfErr c.make.result (IsRefusalOf (made c.args.files.now managed (Remove c.args.name.now)))) c.self.view_is
     (made-refused (managed_by c.self.inside.force_complain (seen c.self.inside.journal)) c.self.inside.journal c.make.new.journal (profile_count (file_profiles c.args.files.now c.args.name.now))
     (by_file (with_removed (filled c.self.inside.journal.machine.now)) (file_profiles c.args.files.now c.args.name.now)) c.removing-exchange.result c.make.result c.make.ensures
-    (of-err (λ refusal. refusal ≢ plain Memory → with_removed (filled c.state.result.now) c.as_slice.result.now ≡ Err refusal) (λ refusal. refusal ≢ plain Memory → by_file (with_removed (filled c.self.inside.journal.machine.now)) (file_profiles c.args.files.now c.args.name.now) ≡ Err refusal)
+    (of-err (IsRefusalOf (with_removed (filled c.state.result.now) c.as_slice.result.now)) (IsRefusalOf (by_file (with_removed (filled c.self.inside.journal.machine.now)) (file_profiles c.args.files.now c.args.name.now)))
     c.removing-exchange.result c.removing-exchange.ensures.refused
     (λ refusal is other. by-file with_removed c.args.files.now c.args.name.now (filled c.state.result.now) (filled c.self.inside.journal.machine.now) c.as_slice.result.now (Err refusal)
     (c.in_ok-profiles.ensures.ok ∙ ap (λ (profiles : List Profile). Ok profiles) (sym c.as_slice.ensures.value)) (entries-seen c.state.result.now c.self.inside.journal.machine.now c.state.ensures) (is other))))
