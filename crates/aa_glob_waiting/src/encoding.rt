@@ -10,16 +10,31 @@ use std::alloc::AllocError;
 // The byte before the four of a state whose difference from the one before it isn't told by a byte.
 const FAR: u8 = 255;
 
+// How many bytes a state takes at most.
+const LONGEST: usize = 5;
+
 /// Puts a state behind another one that came last; `AllocError` where memory ran out.
 pub fn push_state(bytes: &mut Vec<u8>, before: u32, state: u32) -> Result<(), AllocError>
     ensures ok { OnOk result (bytes.new.items ≡ bytes.old.items ++ bytes_behind before state) }
     ensures err { OnErr result (bytes.new.items ≡ bytes.old.items) }
 {
+    make_room(bytes)?;
     if is_near(before, state) {
         bytes.push((state - before) as u8)?;
         Ok(())
     } else {
         bytes.extend_from_slice(&far_bytes(state))
+    }
+}
+
+// Makes room for a state, where there is none: an eighth of what is there already, since many long rows wait at once.
+fn make_room(bytes: &mut Vec<u8>) -> Result<(), AllocError>
+    ensures { bytes.new.items ≡ bytes.old.items }
+{
+    if bytes.capacity() - bytes.len() < LONGEST {
+        bytes.reserve_exact(bytes.len() / 8 + 8)
+    } else {
+        Ok(())
     }
 }
 
@@ -31,7 +46,7 @@ fn is_near(before: u32, state: u32) -> bool
 }
 
 // The bytes of any state.
-fn far_bytes(state: u32) -> [u8; 5]
+fn far_bytes(state: u32) -> [u8; LONGEST]
     ensures { result ≡ 255 ∷ bytes_of state }
 {
     [
@@ -58,7 +73,7 @@ pub fn next_place(bytes: &[u8], place: Place) -> Option<Place>
         }),
         Some(_) => Some(Place {
             index: place.index + 1,
-            offset: place.offset + 5,
+            offset: place.offset + LONGEST,
             state: state_at(bytes, place.offset + 1),
         }),
     }
