@@ -1,7 +1,7 @@
 -- What the steps of the code say of a text's parts.
-use Rattle.std.proofs.Common.{◌≡◌, ℕ, suc, ◌+◌, ◌<◌, ◌==◌, ◌&&◌, ◌≤◌, Bool, true, false, not, List, [], ◌∷◌, ◌++◌, map, length, take, drop, Some, refl, sym, ap, ◌∙◌, append_assoc, append-nil, arith, inl, inr}
+use Rattle.std.proofs.Common.{◌≡◌, ℕ, suc, ◌+◌, ◌<◌, ◌==◌, ◌&&◌, ◌≤◌, Bool, true, false, not, List, [], ◌∷◌, ◌++◌, map, length, get_or, take, drop, Some, refl, sym, ap, ◌∙◌, append_assoc, append-nil, arith, inl, inr}
 use Rattle.std.specs.List.{prefix_len}
-use Rattle.std.proofs.lemmas.Bool.{cases_Bool}
+use Rattle.std.proofs.lemmas.Bool.{cases_Bool, false_from_ne_true}
 use Rattle.aa_bytes.specs.Bytes.{at_sign, backslash, closing_brace, opening_brace}
 use Rattle.aa_text_expansion.specs.code.TextParts.{begins_name, plain_size, taken}
 use Rattle.aa_text_expansion.specs.Parts.{Byte, Name, Unclosed, parts, parts_behind}
@@ -65,6 +65,16 @@ pub plain_size-some : (text : List ℕ) → 0 < length text → begins_name text
 plain_size-some [] some h = absurd (omega arith)
 plain_size-some (b ∷ []) some h = omega arith
 plain_size-some (b ∷ c ∷ bs) some h = rw h (elim (cases_Bool (b == backslash)) [ inl slash ↦ rw slash (omega arith) | inr plain ↦ rw plain (omega arith) ])
+
+-- where there is no byte with which a name begins, all are before the first
+pub plain_size-no_at : (text : List ℕ) → ((k : ℕ) → k < length text → (get_or text k 0 == at_sign) ≡ true → ⊥) → plain_size text ≡ length text
+plain_size-no_at [] none = refl
+plain_size-no_at (b ∷ []) none = refl
+plain_size-no_at (b ∷ c ∷ bs) none =
+    let first : (b == at_sign) ≡ false = false_from_ne_true (b == at_sign) (none 0 (omega arith)) in
+    let two : plain_size bs ≡ length bs = plain_size-no_at bs (λ k below. none (suc (suc k)) (omega arith)) in
+    let one : plain_size (c ∷ bs) ≡ length (c ∷ bs) = plain_size-no_at (c ∷ bs) (λ k below. none (suc k) (omega arith)) in
+    elim (cases_Bool (b == backslash)) [ inl slash ↦ rw (first, slash) (omega (arith, two)) | inr plain ↦ rw (first, plain) (omega (arith, one)) ]
 
 -- the bytes before the first name, and the parts behind them
 pub parts-text : (text : List ℕ) → map Byte (take (plain_size text) text) ++ parts (drop (plain_size text) text) ≡ parts text

@@ -12,6 +12,7 @@ mod writing;
 
 pub use counting::{Counts, MOST_COUNTED, count_text, count_words};
 pub use expanding::{Values, expand_text, expand_words};
+pub use joining::MOST_KEPT;
 pub use lists::Lists;
 pub use missing::{has_missing, have_missing};
 pub use numbers::{gather_numbers, gather_numbers_within};

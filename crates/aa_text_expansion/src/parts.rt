@@ -7,6 +7,7 @@ ghost use Rattle.aa_text_expansion.specs.code.TextParts.{begins_name, parts_of, 
 ghost use Rattle.aa_text_expansion.specs.Parts.{parts, parts_behind};
 
 use aa_bytes::{behind, length_while};
+use memchr::memchr;
 
 /// What a text begins with.
 #[derive(Clone, Copy)]
@@ -64,8 +65,8 @@ fn taken(text: &[u8]) -> usize
     }
 }
 
-// How many bytes of a text stand for themselves before its first name.
-fn plain_size(text: &[u8]) -> usize
+// How many bytes of a text stand for themselves before its first name, step by step.
+fn stepped_size(text: &[u8]) -> usize
     ensures value { result ≡ plain_size text.now }
     ensures within { result ≤ length text.now }
 {
@@ -77,6 +78,17 @@ fn plain_size(text: &[u8]) -> usize
         rest = behind(more, rest);
     }
     size
+}
+
+// The same, at once where there is no `@`, with which each name begins: most texts have none.
+fn plain_size(text: &[u8]) -> usize
+    ensures value { result ≡ plain_size text.now }
+    ensures within { result ≤ length text.now }
+{
+    match memchr(b'@', text) {
+        Some(_) => stepped_size(text),
+        None => text.len(),
+    }
 }
 
 /// What a text begins with and what follows it, or nothing where it is empty. Bytes that stand for themselves are taken up to the next

@@ -10,6 +10,7 @@ pub mod LeadLaws
 pub mod ListLemmas
 pub mod OrderLemmas
 pub mod PartLemmas
+pub mod PlainLemmas
 pub mod ReachedLemmas
 pub mod SomeExpansionLaws
 pub mod TableLemmas

@@ -186,6 +186,7 @@ mod count;
 mod expand;
 mod indexes;
 mod order;
+mod plain;
 mod reached;
 mod table;
 mod walk;

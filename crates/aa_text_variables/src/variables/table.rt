@@ -2,11 +2,12 @@
 //!
 //! Each variable that some text leads to is counted once, and a list of its values is made once, of the lists of those that its words name, when a
 //! text is expanded.
+//! A text that names nothing is its one expansion at once, and the table stays as it is.
 //! What is held decides how long an answer takes, not what it is: for what isn't held a list is made anew.
 
 ghost use Rattle.std.specs.Prelude.{◌≡◌, ◌≢◌, ◌<◌, [], None, Some, IfOk, IfErr, IfSome, OnOk, drop, length, true, false, map, min, take};
 ghost use Rattle.aa_text_expansion.specs.Counting.{most_counted};
-ghost use Rattle.aa_text_expansion.specs.Joining.{most_kept};
+ghost use Rattle.aa_text_expansion.specs.Joining.{cut_off, most_kept, texts_of};
 ghost use Rattle.aa_text_variables.specs.code.ExpansionTables.{number_of};
 ghost use Rattle.aa_text_variables.specs.code.HeldValues.{AreRows, HasList, HasText, is_text_lacking, names_undefined_at};
 ghost use Rattle.aa_text_variables.specs.Expansions.{expansion_refusal, expansions};
@@ -15,6 +16,7 @@ ghost use Rattle.std.specs.List.{list_any};
 ghost use Rattle.aa_text_files.specs.declared.text_error.TextRefusal.TheVariants.{Memory};
 
 use crate::variables::Variables;
+use crate::variables::plain::{alone, names_nothing};
 use aa_text_expansion::{Lists, count_text, expand_text, has_missing};
 use aa_text_files::TextError;
 use indexmap::IndexSet;
@@ -138,6 +140,19 @@ impl Variables {
         };
         Ok((rows, number))
     }
+
+    // Rows with such a list, and the expansions in it.
+    fn written(&self, text: &[u8], rows: Rows) -> Result<(Rows, Vec<Vec<u8>>), AllocError>
+        requires rows { AreRows self.now rows }
+        requires listed { is_text_lacking (number_of self.now rows.order.keys rows.numbers.items) text.now ≡ false }
+        ensures rows { IfOk result (λ found. AreRows self.now found.0) }
+        ensures fine { OnOk result (expansion_refusal self.now text.now ≡ None) }
+        ensures texts { IfOk result (λ found. texts_of found.1 ≡ cut_off (expansions self.now text.now)) }
+    {
+        let (rows, number) = self.listed(text, rows)?;
+        let texts = rows.lists.texts(number)?;
+        Ok((rows, texts))
+    }
 }
 
 /// What variables stand for, worked out once for many texts.
@@ -184,6 +199,9 @@ impl<'v> ExpansionTable<'v> {
         ensures place { IfErr result (λ e. e.place ≡ None) }
         ensures same { self.new ≡ self.old }
     {
+        if names_nothing(text) {
+            return Ok(1);
+        }
         let alloc = *self.rows.order.allocator();
         let rows = mem::replace(&mut self.rows, Rows::new(alloc));
         match self.variables.grown(text, rows)? {
@@ -214,6 +232,9 @@ impl<'v> ExpansionTable<'v> {
         ensures same { self.new ≡ self.old }
     {
         let alloc = *self.rows.order.allocator();
+        if names_nothing(text) {
+            return Ok(alone(alloc, text)?);
+        }
         let rows = mem::replace(&mut self.rows, Rows::new(alloc));
         let rows = self.variables.filled(rows)?;
         let held = self.variables.beside(&rows.order, rows.numbers.as_slice());
@@ -222,8 +243,7 @@ impl<'v> ExpansionTable<'v> {
             return self.variables.expand(text);
         }
         self.variables.lawful();
-        let (rows, number) = self.variables.listed(text, rows)?;
-        let texts = rows.lists.texts(number)?;
+        let (rows, texts) = self.variables.written(text, rows)?;
         self.rows = rows;
         Ok(texts)
     }

@@ -5,8 +5,18 @@ use Rattle.aa_text_expansion.specs.Counting.{most_counted}
 use Rattle.aa_text_variables.specs.code.HeldValues.{HasText}
 use Rattle.aa_text_variables.proofs.CountLemmas.{text-counted}
 use Rattle.aa_text_variables.proofs.HeldLemmas.{known-fine, settled-values}
+use Rattle.aa_text_variables.proofs.ExpansionLaws.{choices-plain}
+use Rattle.aa_text_variables.proofs.PlainLemmas.{plain-fine}
 use Rattle.aa_text_variables.proofs.SomeExpansionLaws.{some-expansion}
 use Rattle.aa_text_variables.proofs.variables.table.ExpansionTable.count.Goals as goal
+
+pub returns-then-names_nothing-clause-fine : goal.returns-then-names_nothing-clause-fine
+returns-then-names_nothing-clause-fine c = plain-fine c.args.self.now c.args.text.now (sym c.names_nothing.ensures ∙ c.if-names_nothing.true)
+
+pub returns-then-names_nothing-clause-count : goal.returns-then-names_nothing-clause-count
+returns-then-names_nothing-clause-count c =
+    ap (λ all. min (length all) most_counted)
+    (sym (choices-plain (values c.args.self.now) c.args.text.now (sym c.names_nothing.ensures ∙ c.if-names_nothing.true)))
 
 pub returns-in-Some-clause-fine : goal.returns-in-Some-clause-fine
 returns-in-Some-clause-fine c =

@@ -1,6 +1,6 @@
 use Rattle.std.proofs.Common.{◌≡◌, ◌+◌, length}
 use Rattle.aa_text_expansion.specs.code.TextParts.{plain_size}
-use Rattle.aa_text_expansion.proofs.parts.plain_size.Given as goal
+use Rattle.aa_text_expansion.proofs.parts.stepped_size.Given as goal
 
 -- the bytes so far, and those of the rest, are all
 abbrev pub invariant-loop-rest : goal.invariant-loop-rest
