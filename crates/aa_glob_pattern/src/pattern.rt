@@ -61,6 +61,24 @@ impl Pattern {
         })
     }
 
+    /// Reads a text that it takes over, as `read` does. No refusal needs memory, so none is `Memory`. Room that the text
+    /// doesn't fill is given back, where there is memory for its smaller place.
+    pub fn from_vec(text: Vec<u8>) -> Result<Pattern, PatternError>
+        ensures text { IfOk result (λ pattern. pattern ≡ text.items) }
+        ensures read { IfOk result (λ pattern. reading text.items ≡ Ok (items_of text.items)) }
+        ensures refused { IfErr result (λ error. reading text.items ≡ Err error) }
+        ensures memory { IfErr result (λ error. error ≢ Memory) }
+    {
+        let facts = check_pattern(&text)?;
+        let mut text = text;
+        text.shrink_to_fit();
+        Ok(Pattern {
+            text,
+            exact: facts.exact,
+            prefix: facts.prefix,
+        })
+    }
+
     /// Whether a text matches the pattern. A directory's path has to end with `/`, which the caller writes. It takes no
     /// memory, and its work grows with the length of the text times that of the pattern's: an automaton answers the same sooner.
     pub fn matches(&self, text: &[u8]) -> bool

@@ -9,7 +9,6 @@ ghost use Rattle.aa_profile.specs.code.FileReadingProgress.{IsRefusal, have_expa
 ghost use Rattle.aa_profile_errors.specs.ProfileError.{placed, plain};
 ghost use Rattle.aa_profile_errors.specs.declared.profile_error.ProfileRefusal.TheVariants.{Memory};
 
-use aa_bytes::begins_with_byte;
 use aa_glob_pattern::{LONGEST_PATTERN, Pattern};
 use aa_glob_syntax::PatternError;
 use aa_profile_errors::{ProfileError, ProfileRefusal, placed};
@@ -17,7 +16,7 @@ use aa_profile_parsing::place_of;
 use aa_text_files::Place;
 use aa_text_splicing::Spliced;
 use aa_text_variables::ExpansionTable;
-use std::alloc::{AllocError, Global};
+use std::alloc::Global;
 
 /// How many patterns a file may have.
 pub const MOST_RULES: usize = 16_384;
@@ -46,55 +45,43 @@ pub fn check_limit(
     Ok(())
 }
 
-// A text in which each run of slashes is one slash.
-fn collapsed(alloc: Global, text: &[u8]) -> Result<Vec<u8>, AllocError>
-    ensures { IfOk result (λ bytes. bytes.items ≡ collapsed text.now) }
+// Makes each run of slashes of a text one slash.
+fn collapse(text: &mut Vec<u8>)
+    ensures { text.new.items ≡ collapsed text.old.items }
 {
-    let mut collapsed = Vec::with_capacity(alloc, text.len())?;
-    let mut rest = text;
-    while let [byte, more @ ..] = rest {
-        if *byte != b'/' || !begins_with_byte(b'/', more) {
-            collapsed.push(*byte)?;
-        }
-        rest = more;
-    }
-    Ok(collapsed)
+    text.dedup_by(|byte, before| *byte == b'/' && *before == b'/');
 }
 
 // The pattern of an expansion.
-fn read_expansion(alloc: Global, text: &[u8]) -> Result<Pattern, ProfileRefusal>
-    ensures ok { IfOk result (λ pattern. pattern ≡ collapsed text.now) }
-    ensures fine { OnOk result (refusal_of_expansion text.now ≡ None) }
-    ensures refused { IfErr result (λ refusal. refusal ≢ Memory → refusal_of_expansion text.now ≡ Some refusal) }
+fn read_expansion(text: Vec<u8>) -> Result<Pattern, ProfileRefusal>
+    ensures ok { IfOk result (λ pattern. pattern ≡ collapsed text.items) }
+    ensures fine { OnOk result (refusal_of_expansion text.items ≡ None) }
+    ensures refused { IfErr result (λ refusal. refusal_of_expansion text.items ≡ Some refusal) }
 {
     if text.len() > LONGEST_PATTERN {
         return Err(ProfileRefusal::Pattern(PatternError::TooLong));
     }
-    let text = match collapsed(alloc, text) {
-        Ok(text) => text,
-        Err(_) => return Err(ProfileRefusal::Memory),
-    };
-    Ok(Pattern::read(alloc, &text)?)
+    let mut text = text;
+    collapse(&mut text);
+    Ok(Pattern::from_vec(text)?)
 }
 
 // The patterns of expansions, or the refusal of the first that makes none, at a place.
 fn read_expansions(
     alloc: Global,
     place: Place,
-    texts: &[Vec<u8>],
+    texts: Vec<Vec<u8>>,
 ) -> Result<Vec<Pattern>, ProfileError>
-    ensures ok { IfOk result (λ patterns. patterns.items ≡ map collapsed (map (λ text. text.items) texts.now)) }
-    ensures fine { IfOk result (λ patterns. refusal_of_expansions (map (λ text. text.items) texts.now) ≡ None) }
-    ensures refused { IsRefusal (option_map (λ refusal. placed refusal place) (refusal_of_expansions (map (λ text. text.items) texts.now))) result }
+    ensures ok { IfOk result (λ patterns. patterns.items ≡ map collapsed (map (λ text. text.items) texts.items)) }
+    ensures fine { IfOk result (λ patterns. refusal_of_expansions (map (λ text. text.items) texts.items) ≡ None) }
+    ensures refused { IsRefusal (option_map (λ refusal. placed refusal place) (refusal_of_expansions (map (λ text. text.items) texts.items))) result }
 {
     let mut patterns = Vec::with_capacity(alloc, texts.len())?;
-    let mut rest = texts;
-    while let [text, behind @ ..] = rest {
-        match read_expansion(alloc, text) {
+    for text in texts {
+        match read_expansion(text) {
             Ok(pattern) => patterns.push(pattern)?,
             Err(refusal) => return Err(placed(refusal, place)),
         }
-        rest = behind;
     }
     Ok(patterns)
 }
@@ -117,5 +104,5 @@ pub fn read_patterns(
     ensures same { table.new ≡ table.old }
 {
     let texts = table.expand(token.token.text)?;
-    read_expansions(alloc, place_of(token), &texts)
+    read_expansions(alloc, place_of(token), texts)
 }

@@ -15,9 +15,10 @@ use std::alloc::Global;
 // A call, and whether it answers as it should; none where what it wants isn't there.
 type Row = (&'static str, Option<bool>);
 
-fn pattern_rows(alloc: Global) -> [Row; 9] {
+fn pattern_rows(alloc: Global) -> [Row; 10] {
     [
         ("Pattern::read", patterns::is_read(alloc)),
+        ("Pattern::from_vec", patterns::is_taken_over(alloc)),
         ("Pattern::try_copy", patterns::is_copied(alloc)),
         ("overlap", patterns::overlaps(alloc)),
         ("Automaton::build", patterns::automaton_is_built(alloc)),

@@ -18,6 +18,11 @@ pub fn is_read(alloc: Global) -> Option<bool> {
     Some(is_star(&pattern))
 }
 
+pub fn is_taken_over(alloc: Global) -> Option<bool> {
+    let pattern = Pattern::from_vec(Vec::from_slice(alloc, STAR).ok()?).ok()?;
+    Some(is_star(&pattern))
+}
+
 pub fn is_copied(alloc: Global) -> Option<bool> {
     let pattern = Pattern::read(alloc, STAR).ok()?;
     let copy = pattern.try_copy(alloc).ok()?;

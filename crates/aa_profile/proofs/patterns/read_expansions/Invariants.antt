@@ -1,13 +1,10 @@
-use Rattle.std.proofs.Common.{◌≡◌, ◌++◌, length, map}
+use Rattle.std.proofs.Common.{◌≡◌, ◌++◌, map}
 use Rattle.aa_profile.specs.Patterns.{collapsed, refusal_of_expansions}
 use Rattle.aa_profile.proofs.patterns.read_expansions.Given as goal
 
--- the patterns so far, and those of the rest, are all, and the rest decides
-abbrev pub invariant-loop-rest : goal.invariant-loop-rest
-invariant-loop-rest l = record {
-  patterns : l.patterns.items ++ map collapsed (map (λ text. text.items) l.rest) ≡ map collapsed (map (λ text. text.items) l.texts);
-  refusal : refusal_of_expansions (map (λ text. text.items) l.rest) ≡ refusal_of_expansions (map (λ text. text.items) l.texts);
+-- the patterns so far, and those of the texts that are left, are all, and what is left decides
+abbrev pub invariant-loop-text : goal.invariant-loop-text
+invariant-loop-text l = record {
+  patterns : l.patterns.items ++ map collapsed (map (λ text. text.items) l.text-iterator.rest.items) ≡ map collapsed (map (λ text. text.items) l.fn.texts.items);
+  refusal : refusal_of_expansions (map (λ text. text.items) l.text-iterator.rest.items) ≡ refusal_of_expansions (map (λ text. text.items) l.fn.texts.items);
 }
-
-abbrev pub decreases-loop-rest : goal.decreases-loop-rest
-decreases-loop-rest l = length l.rest
