@@ -41,8 +41,8 @@ impl From<io::Error> for ReadFault {
     }
 }
 
-// How many bytes a read asks for.
-const PIECE: usize = 65_536;
+// How many bytes a read asks for: as many as most files of policy have. Room for them is cleared for each file.
+const PIECE: usize = 8_192;
 
 // Reads a piece behind the bytes that are there, and says whether the reader is at its end.
 fn is_read_to_end<F: Read>(
