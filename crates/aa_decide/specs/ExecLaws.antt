@@ -6,7 +6,7 @@ use Rattle.aa_decide_exec_rules.specs.ExecRules.{Denying, said_of}
 use Rattle.aa_profile_data.specs.declared.profile.Profile.{Profile}
 use Rattle.aa_profile_data.specs.declared.profile.Rule.{Rule}
 use Rattle.aa_decide.specs.Attachment.{entry_rank}
-use Rattle.aa_decide.specs.Named.{have_distinct_names}
+use Rattle.aa_decide_slots.specs.Named.{have_distinct_names}
 use Rattle.aa_decide_verdict.specs.Entries.{Loaded}
 use Rattle.aa_decide_verdict.specs.Ready.{audits, rules_at}
 

@@ -1,6 +1,5 @@
 pub mod Attachment
 pub mod Exec
 pub mod ExecLaws
-pub mod Named
 pub mod SeenExec
 pub mod code

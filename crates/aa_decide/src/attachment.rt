@@ -1,13 +1,14 @@
 //! Which of the profiles in force a program belongs to by its path.
 
-ghost use Rattle.std.specs.Prelude.{◌≡◌, IfOk, map};
+ghost use Rattle.std.specs.Prelude.{◌≡◌, IfOk, map, slice_get};
 ghost use Rattle.aa_decide_attachment.specs.Ranks.{best_rank};
 ghost use Rattle.aa_decide.specs.Attachment.{attached, attached_child, entry_rank};
-ghost use Rattle.aa_decide_verdict.specs.Slots.{Holds, filled};
+ghost use Rattle.aa_decide_verdict.specs.Slots.{Holds, entry_at, filled};
 ghost use Rattle.aa_decide_verdict.specs.Visits.{attachments_at};
 ghost use Rattle.aa_decide.specs.code.SlotRanks.{slot_rank};
 
-use aa_decide_attachment::{best_rank, standing_out};
+use aa_decide_attachment::{best_rank, standing_out, which_rank_stands_out};
+use aa_decide_slots::{IndexedSlots, entry_at};
 use aa_decide_verdict::{Entry, Ready, Steps};
 use std::alloc::{AllocError, Global};
 
@@ -36,24 +37,41 @@ fn entry_rank(alloc: Global, entry: &Entry, path: &[u8]) -> Result<u128, AllocEr
 }
 
 // The rank of what a slot holds.
-fn slot_rank(alloc: Global, slot: &Option<Entry>, path: &[u8]) -> Result<u128, AllocError>
-    ensures { IfOk result (λ rank. rank ≡ slot_rank path.now slot.now) }
+fn rank_at(
+    alloc: Global,
+    slots: &[Option<Entry>],
+    slot: usize,
+    path: &[u8],
+) -> Result<u128, AllocError>
+    ensures { IfOk result (λ rank. rank ≡ slot_rank path.now (entry_at slots.now slot)) }
 {
-    match slot {
+    match entry_at(slots, slot) {
         None => Ok(0),
         Some(entry) => entry_rank(alloc, entry, path),
     }
 }
 
-// The rank of what each slot holds.
-fn slot_ranks(alloc: Global, slots: &[Option<Entry>], path: &[u8]) -> Result<Vec<u128>, AllocError>
-    ensures { IfOk result (λ ranks. ranks.items ≡ map (slot_rank path.now) slots.now) }
+// The rank of what each of these slots holds.
+fn ranks_at(
+    alloc: Global,
+    slots: &[Option<Entry>],
+    places: &[usize],
+    path: &[u8],
+) -> Result<Vec<u128>, AllocError>
+    ensures { IfOk result (λ ranks. ranks.items ≡ map (λ slot. slot_rank path.now (entry_at slots.now slot)) places.now) }
 {
-    let mut ranks = Vec::with_capacity(alloc, slots.len())?;
-    for slot in slots {
-        ranks.push(slot_rank(alloc, slot, path)?)?;
+    let mut ranks = Vec::with_capacity(alloc, places.len())?;
+    for place in places {
+        ranks.push(rank_at(alloc, slots, *place, path)?)?;
     }
     Ok(ranks)
+}
+
+// The slot at a place among some, if there is one.
+fn slot_at(slots: &[usize], place: usize) -> Option<usize>
+    ensures { result ≡ slice_get slots.now place }
+{
+    slots.get(place).copied()
 }
 
 /// The slot of the profile that the program of a path is attached to (docs/policy.md, "Exec and attachment"): of those in force the one whose best
@@ -65,12 +83,18 @@ fn slot_ranks(alloc: Global, slots: &[Option<Entry>], path: &[u8]) -> Result<Vec
 /// Where memory runs out.
 pub fn attach(
     alloc: Global,
-    slots: &[Option<Entry>],
+    slots: &IndexedSlots<'_>,
     path: &[u8],
 ) -> Result<Option<usize>, AllocError>
     ensures { IfOk result (λ slot. Holds slots.now slot (attached path.now (filled slots.now))) }
 {
-    Ok(standing_out(&slot_ranks(alloc, slots, path)?))
+    which_rank_stands_out();
+    let places = slots.attaching(alloc, path)?;
+    let ranks = ranks_at(alloc, slots.as_slice(), &places, path)?;
+    match standing_out(&ranks) {
+        None => Ok(None),
+        Some(place) => Ok(slot_at(&places, place)),
+    }
 }
 
 // The ranks of a profile's children on a path.

@@ -18,6 +18,7 @@ use crate::attachment::{attach, attached_child};
 use crate::slots::find_in_force;
 use aa_decide_audit::{Answer, ExecTo, ExecVerdict, Tag, Verdict};
 use aa_decide_exec_rules::{ExecChoice, exec_choice};
+use aa_decide_slots::IndexedSlots;
 use aa_decide_verdict::{Confinement, Entry, Ready, Steps};
 use aa_profile_access::{Destination, Perms};
 use aa_profile_data::{Mode, Transition, child_place};
@@ -93,7 +94,7 @@ fn in_profile(slot: usize, entry: &Entry, child: Option<&[u8]>) -> Option<ExecTo
 }
 
 // What is in force by this full name.
-fn by_full_name(slots: &[Option<Entry>], name: &[u8]) -> Option<ExecTo>
+fn by_full_name(slots: &IndexedSlots<'_>, name: &[u8]) -> Option<ExecTo>
     ensures { IsDestination slots.now result (by_full_name name.now (filled slots.now)) }
 {
     let (profile, child) = cut_full_name(name);
@@ -104,7 +105,7 @@ fn by_full_name(slots: &[Option<Entry>], name: &[u8]) -> Option<ExecTo>
 // The profile that a path is attached to.
 fn to_attached(
     alloc: Global,
-    slots: &[Option<Entry>],
+    slots: &IndexedSlots<'_>,
     path: &[u8],
 ) -> Result<Option<ExecTo>, AllocError>
     ensures { IfOk result (λ to. IsDestination slots.now to (to_profile path.now None (filled slots.now))) }
@@ -118,7 +119,7 @@ fn to_attached(
 // A profile in force: the one that is named, or else the one that the path is attached to.
 fn to_profile(
     alloc: Global,
-    slots: &[Option<Entry>],
+    slots: &IndexedSlots<'_>,
     path: &[u8],
     target: &Option<SharedBytes>,
 ) -> Result<Option<ExecTo>, AllocError>
@@ -169,7 +170,7 @@ fn to_child(
 // Where a destination leads who asks, if that is there.
 fn led(
     alloc: Global,
-    slots: &[Option<Entry>],
+    slots: &IndexedSlots<'_>,
     asker: Asker<'_>,
     path: &[u8],
     target: &Option<SharedBytes>,
@@ -193,7 +194,7 @@ fn led(
 // Where a transition leads: where its word does, or else where its fallback does.
 fn led_by(
     alloc: Global,
-    slots: &[Option<Entry>],
+    slots: &IndexedSlots<'_>,
     asker: Asker<'_>,
     path: &[u8],
     transition: &Transition,
@@ -216,7 +217,7 @@ fn led_by(
 // A transition that is carried out.
 fn carried_out(
     alloc: Global,
-    slots: &[Option<Entry>],
+    slots: &IndexedSlots<'_>,
     asker: Asker<'_>,
     mode: Mode,
     path: &[u8],
@@ -237,7 +238,7 @@ fn carried_out(
 // The answer by what the rules say together.
 fn by_choice(
     alloc: Global,
-    slots: &[Option<Entry>],
+    slots: &IndexedSlots<'_>,
     asker: Asker<'_>,
     mode: Mode,
     path: &[u8],
@@ -261,7 +262,7 @@ fn by_choice(
 // The answer to who is confined by nothing.
 fn unconfined_start(
     alloc: Global,
-    slots: &[Option<Entry>],
+    slots: &IndexedSlots<'_>,
     path: &[u8],
 ) -> Result<ExecVerdict, AllocError>
     ensures { IfOk result (λ found. IsAnswer slots.now found (unconfined_start path.now (filled slots.now))) }
@@ -290,7 +291,7 @@ fn choice_at<'a>(
 // The answer to who asks by a loaded profile.
 fn asked_by(
     alloc: Global,
-    slots: &[Option<Entry>],
+    slots: &IndexedSlots<'_>,
     asker: Asker<'_>,
     owned: bool,
     path: &[u8],
@@ -323,7 +324,7 @@ fn asked_by(
 /// Where memory runs out.
 pub fn exec_by(
     alloc: Global,
-    slots: &[Option<Entry>],
+    slots: &IndexedSlots<'_>,
     asker: Option<Asker<'_>>,
     owned: bool,
     path: &[u8],
@@ -345,7 +346,7 @@ pub fn exec_by(
 /// Where memory runs out.
 pub fn exec(
     alloc: Global,
-    slots: &[Option<Entry>],
+    slots: &IndexedSlots<'_>,
     who: Who,
     owned: bool,
     path: &[u8],
@@ -353,5 +354,5 @@ pub fn exec(
     ensures { IfOk result (λ found.
         IsAnswer slots.now found (exec_answer (filled slots.now) (asker_in slots.now who) owned path.now)) }
 {
-    exec_by(alloc, slots, asker_in(slots, who), owned, path)
+    exec_by(alloc, slots, asker_in(slots.as_slice(), who), owned, path)
 }

@@ -8,10 +8,10 @@ mod laws;
 mod slots;
 
 pub use aa_decide_audit::{Answer, ExecTo, ExecVerdict, Tag, Verdict, exec_line, log_line};
+pub use aa_decide_slots::{IndexedSlots, entry_at, find_named};
 pub use aa_decide_verdict::{Confinement, Entry, Ready, State, Steps, what_rules_decide};
 pub use aa_profile_access::Request;
 pub use asker::{Asker, Who};
 pub use attachment::attach;
 pub use execution::{exec, exec_by};
 pub use laws::{where_programs_run, where_the_rules_lead};
-pub use slots::{entry_at, find_named};

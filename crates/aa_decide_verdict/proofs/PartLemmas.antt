@@ -7,7 +7,7 @@ use Rattle.aa_profile_data.specs.declared.profile.Rule.{Rule}
 use Rattle.aa_profile_data.specs.declared.profile.Rule.TheVariants.{Cap, File, Net, Other}
 use Rattle.aa_glob_automaton.specs.Visits.{IsReadOf}
 use Rattle.aa_glob_prefixes.specs.Beginnings.{HasStates}
-use Rattle.aa_glob_run.specs.Visits.{AreEach, AreVisits}
+use Rattle.aa_glob_front.specs.Visits.{AreEach, AreVisits}
 use Rattle.aa_decide_verdict.specs.Visits.{AreAllVisitsOf, AreVisitsOf, child_attachments}
 use Rattle.aa_profile_data.specs.FileRules.{file_patterns}
 use Rattle.aa_profile_data.specs.Matching.{AreMatchingRules}

@@ -5,8 +5,8 @@ use Rattle.aa_glob_automaton.specs.Visits.{IsReadOf}
 use Rattle.aa_profile_data.specs.declared.profile.Child.{Child}
 use Rattle.aa_profile_data.specs.declared.profile.Profile.{Profile}
 use Rattle.aa_profile_data.specs.declared.profile.Rule.{Rule}
-use Rattle.aa_glob_run.specs.Steps.{IsCounted, most_visits}
-use Rattle.aa_glob_run.specs.Visits.{CountsAllVisits, CountsFirstVisits}
+use Rattle.aa_glob_front.specs.Steps.{IsCounted, most_visits}
+use Rattle.aa_glob_front.specs.Visits.{CountsAllVisits, CountsFirstVisits}
 use Rattle.aa_glob_prefixes.specs.Beginnings.{HasStates, most_states}
 use Rattle.aa_profile_data.specs.FileRules.{file_patterns}
 

@@ -123,4 +123,18 @@ impl Entry {
         let state = self.state.try_copy(alloc)?;
         Ok(Entry { ready, state })
     }
+
+    /// Remembers what follows at the places of a path, and tells whether all of it is remembered now (`Ready::remember`).
+    pub fn remember(&mut self, alloc: Global, child: Option<usize>, path: &[u8]) -> bool
+        ensures { self.new ≡ self.old }
+    {
+        self.ready.remember(alloc, child, path)
+    }
+
+    /// Forgets what was remembered, of the profile or of its child or hat at a place.
+    pub fn forget(&mut self, alloc: Global, child: Option<usize>)
+        ensures { self.new ≡ self.old }
+    {
+        self.ready.forget(alloc, child);
+    }
 }

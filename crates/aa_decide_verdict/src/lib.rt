@@ -12,4 +12,5 @@ pub use aa_glob_automaton::Steps;
 pub use confinement::Confinement;
 pub use entry::{Entry, State};
 pub use laws::what_rules_decide;
+pub use part::picked;
 pub use ready::Ready;

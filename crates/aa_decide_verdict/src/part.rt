@@ -14,8 +14,8 @@ ghost use Rattle.aa_profile_data.specs.Picked.{picked};
 
 use aa_bytes::Sequence;
 use aa_glob_automaton::{Automaton, AutomatonBuilder};
+use aa_glob_front::Steps;
 use aa_glob_pattern::Pattern;
-use aa_glob_run::Steps;
 use aa_profile_data::{Child, Rule, which_rules_match};
 use std::alloc::{AllocError, Global};
 
@@ -74,8 +74,12 @@ fn places_of(alloc: Global, rules: &[Rule]) -> Result<Vec<usize>, AllocError>
     Ok(places)
 }
 
-// What stands at some places of a list.
-fn picked(alloc: Global, numbers: &[usize], places: &[usize]) -> Result<Vec<usize>, AllocError>
+/// What stands at some places of a list, in the order of the places. Places behind its end pick nothing.
+///
+/// # Errors
+///
+/// Where memory runs out.
+pub fn picked(alloc: Global, numbers: &[usize], places: &[usize]) -> Result<Vec<usize>, AllocError>
     ensures { IfOk result (λ found. found.items ≡ picked numbers.now places.now) }
 {
     let mut found = Vec::with_capacity(alloc, places.len())?;
@@ -171,6 +175,20 @@ impl Part {
         ensures all { HoldsOf self.now (λ rules attachments. OnOk result (AreAllVisitsOf attachments path.now steps.old steps.new)) }
     {
         self.attachments.matching(alloc, path, steps)
+    }
+
+    /// Remembers what follows at the places of a path, of the file rules (`Automaton::remember`), and tells whether all of it is remembered now.
+    pub fn remember(&mut self, alloc: Global, path: &[u8]) -> bool
+        ensures { self.new ≡ self.old }
+    {
+        self.files.remember(alloc, path)
+    }
+
+    /// Forgets what was remembered.
+    pub fn forget(&mut self, alloc: Global)
+        ensures { self.new ≡ self.old }
+    {
+        self.files.forget(alloc);
     }
 }
 

@@ -17,11 +17,10 @@ ghost use Rattle.aa_profile_access.specs.SeenRequests.{request_of};
 
 use crate::part::{Part, copied_parts, parts_of};
 use crate::verdict::{found_verdict, rules_verdict};
-use aa_bytes::Sequence;
 use aa_decide_audit::Verdict;
+use aa_glob_front::Steps;
 use aa_glob_pattern::Pattern;
 use aa_glob_prefixes::how_many_states_there_are;
-use aa_glob_run::Steps;
 use aa_profile_access::Request;
 use aa_profile_data::{Mode, Profile, Rule, which_rules_match};
 use std::alloc::{AllocError, Global};
@@ -35,7 +34,7 @@ pub struct Ready {
     // What was made of its own rules and attachments.
     own: Part,
     // What was made of those of each child and hat.
-    parts: Sequence<Part>,
+    parts: Vec<Part>,
 }
 
 impl Model for Ready {
@@ -51,7 +50,7 @@ impl Model for Ready {
 
     ghost invariant = { λ r.
         IsPartOf r.own r.profile.rules r.profile.attachments
-        × ArePartsOf r.parts r.profile.children
+        × ArePartsOf r.parts.items r.profile.children
         × IsTrue (profile_agrees r.profile) };
 }
 
@@ -75,7 +74,7 @@ impl Ready {
         Ok(Ready {
             profile,
             own,
-            parts: Sequence::from_vec(parts),
+            parts,
         })
     }
 
@@ -103,7 +102,7 @@ impl Ready {
         Ok(Ready {
             profile,
             own,
-            parts: Sequence::from_vec(parts),
+            parts,
         })
     }
 
@@ -152,7 +151,7 @@ impl Ready {
     {
         match child {
             None => Some(&self.own),
-            Some(place) => self.parts.as_slice().get(place),
+            Some(place) => self.parts.get(place),
         }
     }
 
@@ -243,6 +242,33 @@ impl Ready {
             }
             Request::Cap(_) => Ok(rules_verdict(mode, audit, rules, request)),
             Request::Net { .. } => Ok(rules_verdict(mode, audit, rules, request)),
+        }
+    }
+
+    /// Remembers what follows at the places of a path, of the rules of the profile, or of its child or hat at a place, and tells whether all of it is
+    /// remembered now: so questions about this path are answered quicker from now on, and others as far as they go the same ways. Contracts don't see it.
+    /// It takes at most some 3 MB for the profile and for each child and hat (docs/PERFORMANCE.md, "What is remembered"). Where there is no room, or no
+    /// memory, no more is remembered.
+    pub fn remember(&mut self, alloc: Global, child: Option<usize>, path: &[u8]) -> bool
+        ensures { self.new ≡ self.old }
+    {
+        match child {
+            None => self.own.remember(alloc, path),
+            Some(place) => { place >= self.parts.len() || self.parts[place].remember(alloc, path) }
+        }
+    }
+
+    /// Forgets what was remembered, of the profile or of its child or hat at a place.
+    pub fn forget(&mut self, alloc: Global, child: Option<usize>)
+        ensures { self.new ≡ self.old }
+    {
+        match child {
+            None => self.own.forget(alloc),
+            Some(place) => {
+                if place < self.parts.len() {
+                    self.parts[place].forget(alloc);
+                }
+            }
         }
     }
 }

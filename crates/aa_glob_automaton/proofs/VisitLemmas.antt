@@ -12,7 +12,7 @@ use Rattle.aa_glob_nfa_laws.specs.Drawn.{IsDrawn, trail_at}
 use Rattle.aa_glob_nfa_laws.specs.Laws.{ReachingIsReading}
 use Rattle.aa_glob_prefixes.specs.Reads.{reads}
 use Rattle.aa_glob_prefixes.specs.Trails.{Trail}
-use Rattle.aa_glob_run.specs.Visits.{AreEach, AreVisits, CountsAllVisits, CountsFirstVisits}
+use Rattle.aa_glob_front.specs.Visits.{AreEach, AreVisits, CountsAllVisits, CountsFirstVisits}
 
 -- a state that is reached has a trail
 reached-within : (g : Graph) (trails : List Trail) → IsDrawn g trails → {past : List ℕ} {r : ℕ} → Reaches g past r → r < length trails

@@ -7,15 +7,16 @@ ghost use Rattle.aa_glob_automaton.specs.Visits.{IsReadOf};
 ghost use Rattle.aa_glob_pairs.specs.Clashes.{IsLeast};
 ghost use Rattle.aa_glob_syntax.specs.Overlap.{ClashesAmong};
 ghost use Rattle.aa_glob_syntax.specs.Patterns.{AreMatching};
-ghost use Rattle.aa_glob_run.specs.Steps.{IsCounted, most_visits};
-ghost use Rattle.aa_glob_run.specs.Visits.{CountsAllVisits, CountsFirstVisits};
+ghost use Rattle.aa_glob_front.specs.Steps.{IsCounted, most_visits};
+ghost use Rattle.aa_glob_front.specs.Visits.{CountsAllVisits, CountsFirstVisits};
 ghost use Rattle.aa_glob_prefixes.specs.Beginnings.{HasStates, most_states};
 
 use crate::builder::AutomatonBuilder;
+use aa_glob_front::Steps;
 use aa_glob_nfa_laws::what_reaches_a_state;
 use aa_glob_pattern::Pattern;
 use aa_glob_prefixes::how_many_states_there_are;
-use aa_glob_run::{Nfa, Steps};
+use aa_glob_run::Nfa;
 use std::alloc::{AllocError, Global};
 use std::marker::Model;
 
@@ -144,6 +145,27 @@ impl Automaton {
         match &self.nfa {
             None => Ok(Vec::new(alloc)),
             Some(nfa) => nfa.ends_reached(alloc, path, steps),
+        }
+    }
+
+    /// Remembers what follows at the places of a path, and tells whether all of it is remembered now: so this path is gone through quicker from now on,
+    /// and others as far as they go the same ways. Contracts don't see it. It takes at most some 3 MB (docs/PERFORMANCE.md, "What is remembered"). Where
+    /// there is no room, or no memory, no more is remembered.
+    pub fn remember(&mut self, alloc: Global, path: &[u8]) -> bool
+        ensures { self.new ≡ self.old }
+    {
+        match &mut self.nfa {
+            None => true,
+            Some(nfa) => nfa.remember(alloc, path),
+        }
+    }
+
+    /// Forgets what was remembered.
+    pub fn forget(&mut self, alloc: Global)
+        ensures { self.new ≡ self.old }
+    {
+        if let Some(nfa) = &mut self.nfa {
+            nfa.forget(alloc);
         }
     }
 }

@@ -11,7 +11,7 @@ mod overlapping;
 mod walk;
 mod ways;
 
-pub use aa_glob_run::Steps;
+pub use aa_glob_front::Steps;
 pub use automaton::Automaton;
 pub use builder::AutomatonBuilder;
 pub use overlapping::overlap;

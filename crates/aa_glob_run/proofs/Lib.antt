@@ -1,8 +1,4 @@
-pub mod CountLemmas
-pub mod FrontLemmas
-pub mod LeadLemmas
+pub mod MemoLemmas
 pub mod PatternLemmas
 pub mod ReachLemmas
-pub mod RunLemmas
-pub mod StepLemmas
-pub mod VisitLemmas
+pub mod RecallLemmas

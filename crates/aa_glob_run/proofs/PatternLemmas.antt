@@ -5,11 +5,11 @@ use Rattle.std.proofs.lemmas.Option.{slice_get-get_or}
 use Rattle.std.proofs.lemmas.List.{take_more, length-take, get_or-take, get_or_default}
 use Rattle.std.proofs.lemmas.List.Elements.{All-contains, Contains-append_left, Contains-push, Contains-push_cases, Contains-get_or}
 use Rattle.std.proofs.lemmas.List.Quantifiers.{all_pairs_push}
-use Rattle.std.specs.Prelude.{All, AllPairs, Contains, slice_get, Result, Ok, Err, IfOk, OnOk}
+use Rattle.std.specs.Prelude.{All, AllPairs, Contains, slice_get, Result, Ok, Err, OnOk}
 use Rattle.std.specs.List.Sorted.{IsNonDecreasing}
 use Rattle.aa_glob_nfa.specs.Graphs.{Graph, EndsAt, IsFound, Reaches}
-use Rattle.aa_glob_run.specs.code.Runs.{IsWhole}
-use Rattle.aa_glob_run.proofs.RunLemmas.{Contains-slice_get}
+use Rattle.aa_glob_front.specs.Runs.{IsWhole}
+use Rattle.aa_glob_front.proofs.RunLemmas.{Contains-slice_get}
 use Rattle.aa_glob_run.specs.code.Ends.{Gets, is_new, IsEndIn}
 use Rattle.aa_glob_nfa.specs.OfTables.{graph_of}
 use Rattle.aa_glob_nfa.specs.declared.state.End.{End}
@@ -133,11 +133,7 @@ rising_step numbers each grown at order within same rise is =
           (subst (λ l. (p : ℕ) → Contains l p ↔ Contains (take (at + 1) numbers) p) (sym kept) all, subst (AllPairs (λ p q. p < q)) (sym kept) rise)
     ]
 
--- what holds of a value holds of a weaker fact too
-pub IfOk-then : {T R : Type 0} → (r : Result T R) (P Q : T → Type 0) → ((v : T) → P v → Q v) → IfOk r P → IfOk r Q
-IfOk-then (Ok v) P Q f h = f v h
-IfOk-then (Err e) P Q f h = tt
-
+-- a fact holds of a success too
 pub OnOk-from : {T R : Type 0} → (r : Result T R) (P : Type 0) → P → OnOk r P
 OnOk-from (Ok v) P p = p
 OnOk-from (Err e) P p = tt

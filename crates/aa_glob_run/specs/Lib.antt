@@ -1,4 +1,1 @@
-pub mod Laws
-pub mod Steps
-pub mod Visits
 pub mod code

@@ -1,4 +1,3 @@
--- What the code's own forms mean: lists of states that live, how far a run has come, and the patterns of ends. No public contract names these.
+-- What the code's own forms mean: what is remembered of runs, and the patterns of ends. No public contract names these.
 pub mod Ends
-pub mod Fronts
-pub mod Runs
+pub mod Memos

@@ -1,16 +1,12 @@
-//! Automata, and their runs over a text: all patterns that match it are found together.
+//! Automata while they are drawn and when they are finished, which find all patterns that match a text together, and remember what they found on the way.
 #![tactic(auto)]
 
 mod drawing;
-mod front;
-mod laws;
-mod leading;
+mod ends;
+mod memo;
 mod nfa;
 mod patterns;
-mod run;
-mod steps;
+mod recall;
 
 pub use drawing::Drawing;
-pub use laws::visits_have_one_count;
 pub use nfa::Nfa;
-pub use steps::Steps;

@@ -2,17 +2,18 @@
 
 ghost use Rattle.std.specs.Prelude.{◌≡◌, ◌<◌, ℕ, length, IfOk, OnOk};
 ghost use Rattle.std.specs.List.Sorted.{IsStrictlyIncreasing};
+ghost use Rattle.aa_glob_front.specs.Steps.{IsCounted, most_visits};
+ghost use Rattle.aa_glob_front.specs.Visits.{CountsAllVisits, CountsFirstVisits};
 ghost use Rattle.aa_glob_nfa.specs.Graphs.{EndsAt, IsFound, Reaches, SameGraph};
-ghost use Rattle.aa_glob_run.specs.Steps.{IsCounted, most_visits};
-ghost use Rattle.aa_glob_run.specs.Visits.{CountsAllVisits, CountsFirstVisits};
 ghost use Rattle.aa_glob_nfa.specs.OfTables.{AreSound, graph_of};
 ghost use Rattle.aa_glob_pairs.specs.Clashes.{IsLeast};
 ghost use Rattle.aa_glob_pairs.specs.Graphs.{ClashesAt, IsLaid};
 
-use crate::front::Front;
+use crate::ends::ends;
+use crate::memo::Memo;
 use crate::patterns::patterns_of;
-use crate::run::run;
-use crate::steps::Steps;
+use crate::recall::recall;
+use aa_glob_front::Steps;
 use aa_glob_nfa::Tables;
 use aa_glob_pairs::first_clash;
 use std::alloc::{AllocError, Global};
@@ -22,17 +23,21 @@ use std::marker::Model;
 #[derive(Debug, Drop)]
 pub struct Nfa {
     tables: Tables,
+    // What was remembered of runs. Contracts don't see it.
+    memo: Memo,
 }
 
 impl Model for Nfa {
     ghost use Rattle.aa_glob_nfa.specs.Graphs.{Graph};
     ghost use Rattle.aa_glob_nfa.specs.OfTables.{AreSound, AreSorted, graph_of};
+    ghost use Rattle.aa_glob_run.specs.code.Memos.{Remembers};
+    ghost use Rattle.std.specs.Prelude.{length};
 
     ghost Value = { Graph };
 
     ghost view = { λ s. graph_of s.tables };
 
-    ghost invariant = { λ s. AreSound s.tables × AreSorted s.tables };
+    ghost invariant = { λ s. AreSound s.tables × AreSorted s.tables × Remembers (graph_of s.tables) (length s.tables.states) s.memo };
 }
 
 impl Nfa {
@@ -44,7 +49,11 @@ impl Nfa {
         let mut tables = tables;
         tables.sort();
         tables.shrink();
-        Nfa { tables }
+        let alloc = *tables.ways.allocator();
+        Nfa {
+            tables,
+            memo: Memo::new(alloc),
+        }
     }
 
     /// How many states there are. It takes no memory.
@@ -64,6 +73,7 @@ impl Nfa {
     {
         Ok(Nfa {
             tables: self.tables.try_copy(alloc)?,
+            memo: Memo::new(alloc),
         })
     }
 
@@ -102,10 +112,23 @@ impl Nfa {
         ensures all { OnOk result (CountsAllVisits (Reaches self.now) text.now steps.old steps.new) }
         ensures first { CountsFirstVisits (Reaches self.now) text.now steps.old steps.new }
     {
-        let count = self.tables.states.len();
-        let mut here = Front::new(alloc, count)?;
-        let mut next = Front::new(alloc, count)?;
-        run(&self.tables, text, &mut here, &mut next, steps)?;
-        patterns_of(alloc, &self.tables, &here)
+        ends(alloc, &self.tables, text, &self.memo, steps)
+    }
+
+    /// Remembers what follows at the places of a text, and tells whether all of it is remembered now: so this text is gone through quicker from now on,
+    /// and others as far as the same states live together. Contracts don't see it. It takes at most some 3 MB (docs/PERFORMANCE.md, "What is remembered").
+    /// Where there is no room, or no memory, no more is remembered.
+    pub fn remember(&mut self, alloc: Global, text: &[u8]) -> bool
+        ensures { self.new ≡ self.old }
+    {
+        // What can't be remembered is looked for when it is asked.
+        recall(alloc, &self.tables, text, &mut self.memo).unwrap_or(false)
+    }
+
+    /// Forgets what was remembered.
+    pub fn forget(&mut self, alloc: Global)
+        ensures { self.new ≡ self.old }
+    {
+        self.memo = Memo::new(alloc);
     }
 }

@@ -6,33 +6,32 @@ ghost use Rattle.aa_glob_nfa.specs.Graphs.{EndsAt};
 ghost use Rattle.aa_glob_run.specs.code.Ends.{AreEndsOf, Gets, is_new, with_new};
 ghost use Rattle.aa_glob_nfa.specs.OfTables.{AreSound, AreSorted, graph_of};
 
-use crate::front::Front;
 use aa_glob_nfa::Tables;
 use std::alloc::{AllocError, Global};
 
 // The patterns of which states are ends, each once, in rising order.
-pub fn patterns_of(alloc: Global, tables: &Tables, front: &Front) -> Result<Vec<usize>, AllocError>
+pub fn patterns_of(alloc: Global, tables: &Tables, live: &[u32]) -> Result<Vec<usize>, AllocError>
     requires sound { AreSound tables.now }
     requires sorted { AreSorted tables.now }
-    requires room { front.now.room ≡ length tables.now.states }
-    ensures found { IfOk result (λ patterns. AreEndsOf (graph_of tables.now) front.now.states patterns.items) }
+    requires are_states { All (λ r. r < length tables.now.states) live.now }
+    ensures found { IfOk result (λ patterns. AreEndsOf (graph_of tables.now) live.now patterns.items) }
     ensures rise { IfOk result (λ patterns. AllPairs (λ p q. p < q) patterns.items) }
 {
-    let mut found = found_by(alloc, tables, front)?;
+    let mut found = found_by(alloc, tables, live)?;
     found.sort_unstable();
     rising(alloc, &found)
 }
 
 // The patterns of which states are ends, for each state by itself.
-fn found_by(alloc: Global, tables: &Tables, front: &Front) -> Result<Vec<u32>, AllocError>
+fn found_by(alloc: Global, tables: &Tables, live: &[u32]) -> Result<Vec<u32>, AllocError>
     requires sound { AreSound tables.now }
     requires sorted { AreSorted tables.now }
-    requires room { front.now.room ≡ length tables.now.states }
-    ensures { IfOk result (λ found. AreEndsOf (graph_of tables.now) front.now.states found.items) }
+    requires are_states { All (λ r. r < length tables.now.states) live.now }
+    ensures { IfOk result (λ found. AreEndsOf (graph_of tables.now) live.now found.items) }
 {
-    let mut found = Vec::new(alloc);
-    for at in 0..front.len() {
-        push_found(tables, front.state(at), &mut found)?;
+    let mut found = Vec::with_capacity(alloc, live.len())?;
+    for at in 0..live.len() {
+        push_found(tables, live[at], &mut found)?;
     }
     Ok(found)
 }

@@ -7,6 +7,7 @@ ghost use Rattle.aa_history.specs.Machine.{gone_to_mark, gone_to_number, is_mark
 
 use crate::change::Change;
 use crate::marks::Marks;
+use crate::tend::Tend;
 use std::alloc::{AllocError, Global};
 use std::marker::Model;
 use thiserror::Error;
@@ -76,6 +77,16 @@ impl<S: Drop, C: Change<S>> Journal<S, C> {
         ensures { C.means result.now ≡ self.now.machine.now }
     {
         &self.state
+    }
+
+    /// Does something to the state that leaves what it stands for as it was: no change is made, and nothing else is seen of it. What it leaves has to be
+    /// what the changes go by, as `C::means` and `C::room` say.
+    pub fn tend<T: Tend<S>>(&mut self, tend: &T)
+        requires kept { (state : S) → T.kept state ≡ C.means state }
+        requires room { (state : S) → T.room state ≡ C.room state }
+        ensures { self.new ≡ self.old }
+    {
+        tend.tend(&mut self.state);
     }
 
     /// How many changes can be undone.

@@ -1,5 +1,5 @@
 pub mod ConflictLemmas
 mod MatchingLemmas
 mod PickedLemmas
-mod PlaceLemmas
+pub mod PlaceLemmas
 pub mod TransitionLemmas

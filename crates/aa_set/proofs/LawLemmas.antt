@@ -11,7 +11,7 @@ use Rattle.aa_set_commands.specs.declared.refusal.RefusalKind.TheVariants.{BadRe
 use Rattle.aa_set_answers.specs.Answers.{reply_lines, shown}
 use Rattle.aa_set_changes.specs.ChangeLaws.{ChangesKeepNamesApart}
 use Rattle.aa_set_changes.specs.Changes.{changed as change_of_set, parts_of}
-use Rattle.aa_decide.specs.Named.{have_distinct_names}
+use Rattle.aa_decide_slots.specs.Named.{have_distinct_names}
 use Rattle.aa_set_lines.specs.Limits.{longest_line}
 use Rattle.aa_set_lines.specs.Lines.{lines}
 use Rattle.aa_set_listing.specs.List.{list_lines}

@@ -5,7 +5,7 @@ use Rattle.aa_text_files.specs.Files.{File}
 use Rattle.aa_history.specs.Machine.{all_sets, is_marked, marked}
 use Rattle.aa_set_commands.specs.Command.{Ask, Back, Command, Listed, Make, Mark, Redo, Show, Undo, line_command}
 use Rattle.aa_set_commands.specs.declared.refusal.Refusal.{Refusal}
-use Rattle.aa_decide.specs.Named.{have_distinct_names}
+use Rattle.aa_decide_slots.specs.Named.{have_distinct_names}
 use Rattle.aa_set_lines.specs.Words.{words_of}
 use Rattle.aa_set.specs.Manager.{Managed, back_at, new_manager, next, redone, undone}
 use Rattle.aa_set.specs.Reply.{is_refusal}

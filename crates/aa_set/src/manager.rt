@@ -13,17 +13,17 @@ ghost use Rattle.aa_set.specs.code.Making.{Makes};
 ghost use Rattle.aa_profile_data.specs.declared.profile.Mode.TheVariants.{Complain, Enforce};
 
 use aa_bytes::Sequence;
-use aa_decide::{Entry, Request};
+use aa_decide::{Asker, Entry, Request};
 use aa_history::{Journal, what_machines_keep, what_marked_sets_stand_for, what_sets_stand_for};
 use aa_profile::read_file;
 use aa_profile_data::Mode;
-use aa_set_answers::{access_lines, exec_lines, shown_lines};
+use aa_set_answers::{access_lines, exec_lines, find_asker, shown_lines};
 use aa_set_changes::{
     PolicySet, adding, disabling, removing, replacing, switching, what_changes_keep,
 };
 use aa_set_commands::{Question, Refusal, RefusalKind, plain};
 use aa_set_listing::list_lines;
-use aa_set_parts::{Exchange, Slots};
+use aa_set_parts::{Exchange, Indexing, Remembering, Slots, fingerprint};
 use aa_text_files::Files;
 use std::alloc::Global;
 use std::marker::Model;
@@ -297,6 +297,58 @@ impl Manager {
         }
     }
 
+    /// Remembers what a question about a path passes of the rules of who asks, so that it is answered quicker from now on, and others as far as they go the
+    /// same ways. Nothing of it is seen in any answer. It does so for at most eight profiles, children and hats: where a ninth asks, what was remembered of
+    /// the others is forgotten before, and all of it is with each change but a switch. Where memory runs out no more is remembered.
+    pub fn remember(&mut self, question: &Question<'_>)
+        ensures { self.new ≡ self.old }
+    {
+        match question {
+            Question::File { who, path, .. } => {
+                self.index(false);
+                self.remember_path(who, path);
+            }
+            Question::Exec { who, path, .. } => {
+                self.index(true);
+                self.remember_path(who, path);
+            }
+            Question::Cap { .. } | Question::Net { .. } => self.index(false),
+        }
+    }
+
+    /// Sees to it that profiles are found by their names without going over all, if it is called for more than the first few times since profiles were
+    /// added, replaced or removed. Nothing of it is seen in any answer. `remember` does it for a question.
+    pub fn index_names(&mut self)
+        ensures { self.new ≡ self.old }
+    {
+        self.index(false);
+    }
+
+    // The same, and for attachments if they are looked for.
+    fn index(&mut self, attachments: bool)
+        ensures { self.new ≡ self.old }
+    {
+        self.journal.tend(&Indexing { attachments });
+    }
+
+    // Remembers what a path passes of the rules of who asks by a full name.
+    fn remember_path(&mut self, who: &[u8], path: &[u8])
+        ensures { self.new ≡ self.old }
+    {
+        let fingerprint = fingerprint(who, path);
+        if self.journal.state().is_remembered(fingerprint) {
+            return;
+        }
+        if let Some(Some(Asker { slot, child, .. })) = find_asker(&self.policy_set().slots(), who) {
+            self.journal.tend(&Remembering {
+                slot,
+                child,
+                path,
+                fingerprint,
+            });
+        }
+    }
+
     /// The lines of the reply to `list`: how many profiles, children and hats are loaded, and a line for each, with its full name and its state
     /// (docs/commands.md, "What is loaded").
     ///
@@ -307,7 +359,7 @@ impl Manager {
         ensures answered { IfOk result (λ lines. lines.items ≡ list_lines self.now.machine.now) }
         ensures memory { IfErr result (λ refusal. refusal ≡ plain Memory) }
     {
-        Ok(list_lines(self.alloc, self.policy_set().slots())?)
+        Ok(list_lines(self.alloc, self.policy_set().slots().as_slice())?)
     }
 
     /// The lines of the reply to `show NAME`: what the profile, child or hat of this full name consists of (docs/commands.md, "What is loaded").
@@ -320,7 +372,7 @@ impl Manager {
         ensures refused { IfErr result (IsRefusalOf (shown self.now.machine.now name.now)) }
         ensures memory { IfErr result (λ refusal. refusal ≡ plain Memory → shows_absent self.now.machine.now name.now ≡ false) }
     {
-        shown_lines(self.alloc, self.policy_set().slots(), name)
+        shown_lines(self.alloc, &self.policy_set().slots(), name)
     }
 
     /// The lines of the reply to a question, each with its line feed: the word of the answer, and behind it the line that logs it, where it is
@@ -338,7 +390,7 @@ impl Manager {
         ensures memory { IfErr result (λ refusal.
             refusal ≡ plain Memory → asks_absent self.now.machine.now (seen_question question.entry.now) ≡ false) }
     {
-        let slots = self.policy_set().slots();
+        let slots = &self.policy_set().slots();
         match question {
             Question::File {
                 who,

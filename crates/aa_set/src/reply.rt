@@ -51,7 +51,10 @@ fn obey(files: &Files, manager: &mut Manager, command: Command<'_>) -> Reply
         Command::Redo(count) => done(manager.redo(count)),
         Command::Mark(name) => done(manager.mark(name)),
         Command::Back(name) => done(manager.back(name)),
-        Command::Ask(question) => answered(manager.ask(&question)),
+        Command::Ask(question) => {
+            manager.remember(&question);
+            answered(manager.ask(&question))
+        }
         Command::List => answered(manager.list()),
         Command::Show(name) => answered(manager.show(name)),
     }
@@ -67,9 +70,18 @@ fn make(files: &Files, manager: &mut Manager, change: PolicyChange<'_>) -> Reply
         PolicyChange::Add(file) => done(manager.add(files, file)),
         PolicyChange::Replace(file) => done(manager.replace(files, file)),
         PolicyChange::Remove(file) => done(manager.remove(files, file)),
-        PolicyChange::Enforce(name) => done(manager.enforce(name)),
-        PolicyChange::Complain(name) => done(manager.complain(name)),
-        PolicyChange::Disable(name) => done(manager.disable(name)),
+        PolicyChange::Enforce(name) => {
+            manager.index_names();
+            done(manager.enforce(name))
+        }
+        PolicyChange::Complain(name) => {
+            manager.index_names();
+            done(manager.complain(name))
+        }
+        PolicyChange::Disable(name) => {
+            manager.index_names();
+            done(manager.disable(name))
+        }
     }
 }
 

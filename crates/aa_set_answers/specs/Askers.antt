@@ -7,7 +7,7 @@ use Rattle.aa_decide_verdict.specs.Entries.{Loaded}
 use Rattle.aa_decide.specs.Exec.{Asker}
 use Rattle.aa_profile_names.specs.FullNames.{FullName, full_name}
 use Rattle.aa_profile_data.specs.Profile.{child_place}
-use Rattle.aa_decide.specs.Named.{entry_named}
+use Rattle.aa_decide_slots.specs.Named.{entry_named}
 
 -- who asks by an entry: its profile, or its child or hat of a name, if there is one
 abbrev pub entry_asker : Option (List ℕ) → Loaded → Option Asker

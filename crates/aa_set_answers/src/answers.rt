@@ -14,7 +14,8 @@ ghost use Rattle.aa_set_answers.specs.code.SeenTexts.{seen_text};
 
 use crate::asker::{confinement, find_asker, find_loaded};
 use aa_decide::{
-    Confinement, Entry, ExecTo, ExecVerdict, Request, Steps, entry_at, exec_by, exec_line, log_line,
+    Confinement, ExecTo, ExecVerdict, IndexedSlots, Request, Steps, entry_at, exec_by, exec_line,
+    log_line,
 };
 use aa_profile_data::Profile;
 use aa_quoting::push_text;
@@ -60,7 +61,7 @@ fn confined_lines(
 /// `Absent` where no profile, child or hat of the full name is loaded, which is found without memory, and `Memory` where memory ran out.
 pub fn access_lines(
     alloc: Global,
-    slots: &[Option<Entry>],
+    slots: &IndexedSlots<'_>,
     who: &[u8],
     request: &Request<'_>,
 ) -> Result<Vec<u8>, Refusal>
@@ -113,13 +114,13 @@ fn unconfined_text(alloc: Global, scrub: bool) -> Result<Vec<u8>, AllocError>
 // How it is told under what a program runs.
 fn started_text(
     alloc: Global,
-    slots: &[Option<Entry>],
+    slots: &IndexedSlots<'_>,
     verdict: &ExecVerdict,
 ) -> Result<Vec<u8>, AllocError>
     ensures { IfOk result (λ text. text.items ≡ seen_text slots.now verdict.now) }
 {
     match verdict.to {
-        ExecTo::Profile { slot, child } => match entry_at(slots, slot) {
+        ExecTo::Profile { slot, child } => match entry_at(slots.as_slice(), slot) {
             None => Ok(Vec::new(alloc)),
             Some(entry) => under_text(alloc, entry.profile(), child, verdict.scrub),
         },
@@ -132,7 +133,7 @@ fn started_text(
 // The lines of the answer on the start of the program of a path.
 fn verdict_lines(
     alloc: Global,
-    slots: &[Option<Entry>],
+    slots: &IndexedSlots<'_>,
     who: &[u8],
     path: &[u8],
     verdict: &ExecVerdict,
@@ -151,7 +152,7 @@ fn verdict_lines(
 /// `Absent` where no profile, child or hat of the full name is loaded, which is found without memory, and `Memory` where memory ran out.
 pub fn exec_lines(
     alloc: Global,
-    slots: &[Option<Entry>],
+    slots: &IndexedSlots<'_>,
     who: &[u8],
     owned: bool,
     path: &[u8],
@@ -172,7 +173,7 @@ pub fn exec_lines(
 /// # Errors
 ///
 /// `Absent` where no profile, child or hat of the full name is loaded, which is found without memory, and `Memory` where memory ran out.
-pub fn shown_lines(alloc: Global, slots: &[Option<Entry>], name: &[u8]) -> Result<Vec<u8>, Refusal>
+pub fn shown_lines(alloc: Global, slots: &IndexedSlots<'_>, name: &[u8]) -> Result<Vec<u8>, Refusal>
     ensures answered { IfOk result (λ lines. shown (filled slots.now) name.now ≡ Ok lines.items) }
     ensures refused { IfErr result (IsRefusalOf (shown (filled slots.now) name.now)) }
     ensures memory { IfErr result (λ refusal. refusal ≡ plain Memory → shows_absent (filled slots.now) name.now ≡ false) }

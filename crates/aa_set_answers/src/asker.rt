@@ -8,7 +8,7 @@ ghost use Rattle.aa_profile_names.specs.FullNames.{full_name};
 ghost use Rattle.aa_decide_verdict.specs.Confinement.{found};
 ghost use Rattle.aa_set_answers.specs.Askers.{asker, confinement, entry_asker, named_asker};
 
-use aa_decide::{Asker, Confinement, Entry, find_named};
+use aa_decide::{Asker, Confinement, Entry, IndexedSlots, find_named};
 use aa_profile_data::child_place;
 use aa_profile_names::cut_full_name;
 
@@ -26,7 +26,7 @@ fn named_in<'a>(slot: usize, entry: &'a Entry, child: Option<&[u8]>) -> Option<A
 }
 
 /// The profile, child or hat of a full name, in whatever state it is. It takes no memory.
-pub fn find_loaded<'a>(slots: &'a [Option<Entry>], name: &[u8]) -> Option<Asker<'a>>
+pub fn find_loaded<'a>(slots: &IndexedSlots<'a>, name: &[u8]) -> Option<Asker<'a>>
     ensures named { option_map seen_asker result ≡ named_asker (filled slots.now) (full_name name.now) }
     ensures there { IfSome result (IsIn slots.now) }
 {
@@ -37,7 +37,7 @@ pub fn find_loaded<'a>(slots: &'a [Option<Entry>], name: &[u8]) -> Option<Asker<
 
 /// Who asks by this full name, or as the word `unconfined`, which is no one in particular. None where there is no such
 /// profile, child or hat. It takes no memory.
-pub fn find_asker<'a>(slots: &'a [Option<Entry>], who: &[u8]) -> Option<Option<Asker<'a>>>
+pub fn find_asker<'a>(slots: &IndexedSlots<'a>, who: &[u8]) -> Option<Option<Asker<'a>>>
     ensures asker { option_map (option_map seen_asker) result ≡ asker (filled slots.now) who.now }
     ensures there { IfSome result (λ asker. IfSome asker (IsIn slots.now)) }
 {

@@ -6,4 +6,5 @@ mod asker;
 mod laws;
 
 pub use answers::{access_lines, exec_lines, shown_lines};
+pub use asker::find_asker;
 pub use laws::where_listed_names_lead;

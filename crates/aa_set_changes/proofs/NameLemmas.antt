@@ -9,7 +9,7 @@ use Rattle.std.proofs.lemmas.Slice.Eq.{bytes_eq-Decides}
 use Rattle.std.proofs.lemmas.Bool.Decides.{same_from_decides, nat_tests}
 use Rattle.std.proofs.lemmas.List.Folds.{list_any-append}
 use Rattle.aa_decide_verdict.specs.Entries.{Loaded}
-use Rattle.aa_decide.specs.Named.{entry_named, has_name, have_distinct_names, is_named, profiles_of}
+use Rattle.aa_decide_slots.specs.Named.{entry_named, has_name, have_distinct_names, is_named, profiles_of}
 use Rattle.aa_profile_data.specs.Profile.{are_distinct, is_named as is_profile_named}
 use Rattle.aa_profile_data.specs.declared.profile.Mode.{Mode}
 use Rattle.aa_profile_data.specs.declared.profile.Profile.{Profile}

@@ -9,7 +9,7 @@ use Rattle.std.proofs.lemmas.Bool.Decides.{nat_tests}
 use Rattle.std.proofs.lemmas.List.{length-map, length_push}
 use Rattle.std.proofs.lemmas.List.Elements.{All-cons, All-nil, All-same}
 use Rattle.std.proofs.lemmas.Slice.Eq.{bytes_eq-Decides}
-use Rattle.aa_decide.specs.Named.{entry_named, has_name, have_distinct_names, is_named, profiles_of}
+use Rattle.aa_decide_slots.specs.Named.{entry_named, has_name, have_distinct_names, is_named, profiles_of}
 use Rattle.aa_decide_verdict.specs.Entries.{Loaded, can_be_in, fits, is_in_force}
 use Rattle.aa_decide_verdict.specs.Slots.{filled}
 use Rattle.aa_decide_verdict.specs.declared.entry.State.{State}
@@ -23,8 +23,9 @@ use Rattle.aa_set_commands.specs.Refusal.{plain}
 use Rattle.aa_set_commands.specs.declared.refusal.RefusalKind.TheVariants.{Absent, Disabled, Exists}
 use Rattle.aa_set_changes.specs.code.Places.{behind, emptying, filling, is_disabled_at, next_behind, place_for, places}
 use Rattle.aa_set_changes.proofs.NameLemmas.{bytes_eq-comm, has-profile, put_absent-end, there-more, without-distinct}
-use Rattle.aa_set_changes.proofs.PlaceLemmas.{Finds, content-behind, disabled-found, filled-put, finds, found, found-is, found-kept, length-with, none-found, some-found, stands-at, with-end}
-use Rattle.aa_set_names.specs.SlotNames.{holds, slot_named, slots_named}
+use Rattle.aa_decide_slots.proofs.FindLemmas.{found, found-is}
+use Rattle.aa_set_changes.proofs.PlaceLemmas.{Finds, content-behind, disabled-found, filled-put, finds, found-kept, length-with, none-found, some-found, stands-at, with-end}
+use Rattle.aa_decide_slots.specs.SlotNames.{holds, slot_named, slots_named}
 use Rattle.aa_set_parts.specs.Parts.{after, put_in}
 use Rattle.aa_set_parts.specs.Slots.{content_at, trimmed, with_content}
 use Rattle.aa_set_parts.specs.SlotLaws.{filled-onto, filled-trimmed, with-settled}

@@ -5,49 +5,16 @@ use Rattle.std.specs.Option.{is_some, option_map}
 use Rattle.std.specs.List.{position_from}
 use Rattle.std.proofs.lemmas.Iterator.Adapters.{position_from-zero}
 use Rattle.std.proofs.lemmas.Slice.Eq.{bytes_eq-Decides}
-use Rattle.aa_decide.specs.Named.{entry_named, has_name, is_named}
+use Rattle.aa_decide_slots.specs.Named.{entry_named, has_name, is_named}
 use Rattle.aa_decide_verdict.specs.Entries.{Loaded, is_in_force}
 use Rattle.aa_decide_verdict.specs.Slots.{entry_at, filled}
 use Rattle.aa_set_changes.specs.Changes.{is_disabled, put}
 use Rattle.aa_set_changes.specs.code.Places.{is_disabled_at, place_for}
 use Rattle.aa_set_changes.proofs.NameLemmas.{has-found}
-use Rattle.aa_set_names.specs.SlotNames.{holds, slot_named}
+use Rattle.aa_decide_slots.proofs.FindLemmas.{found, found-is}
+use Rattle.aa_decide_slots.specs.SlotNames.{holds, slot_named}
 use Rattle.aa_set_parts.specs.Slots.{content_at, onto, trimmed, with_content}
 use Rattle.aa_set_parts.specs.SlotLaws.{content-trimmed, filled-onto, filled-trimmed}
-
--- the first slot of a name, slot by slot
-abbrev pub found : List ℕ → List (Option Loaded) → Option ℕ
-found name [] = None
-found name (slot ∷ slots) = cond (holds name slot) (Some 0) (option_map (λ k. suc k) (found name slots))
-
-one_more : (n : ℕ) → n + 1 ≡ suc n
-one_more n = omega arith
-
-from-found : (name : List ℕ) (slots : List (Option Loaded)) (start : ℕ) → position_from (holds name) start slots ≡ option_map (λ k. start + k) (found name slots)
-from-found name [] start = refl
-from-found name (slot ∷ slots) start = by (holds name slot) (found name slots) (from-found name slots (start + 1))
-  where
-    on : (k : ℕ) → start + 1 + k ≡ start + suc k
-    on k = omega arith
-
-    here : start ≡ start + 0
-    here = omega arith
-
-    next : (rest : Option ℕ) → option_map (λ k. start + 1 + k) rest ≡ option_map (λ k. start + k) (option_map (λ k. suc k) rest)
-    next None = refl
-    next (Some k) = ap (λ (n : ℕ). Some n) (on k)
-
-    by : (held : Bool) (rest : Option ℕ) → position_from (holds name) (start + 1) slots ≡ option_map (λ k. start + 1 + k) rest
-        → cond held (Some start) (position_from (holds name) (start + 1) slots) ≡ option_map (λ k. start + k) (cond held (Some 0) (option_map (λ k. suc k) rest))
-    by true rest h = ap (λ (n : ℕ). Some n) here
-    by false rest h = h ∙ next rest
-
-same_place : (k : Option ℕ) → option_map (λ k. 0 + k) k ≡ k
-same_place None = refl
-same_place (Some k) = ap (λ (n : ℕ). Some n) (omega arith)
-
-pub found-is : (name : List ℕ) (slots : List (Option Loaded)) → slot_named name slots ≡ found name slots
-found-is name slots = position_from-zero (holds name) slots ∙ from-found name slots 0 ∙ same_place (found name slots)
 
 found-onto : (name : List ℕ) (slot : Option Loaded) (slots : List (Option Loaded)) → found name (onto slot slots) ≡ found name (slot ∷ slots)
 found-onto name (Some entry) slots = refl
@@ -127,22 +94,6 @@ entry-content : (slots : List (Option Loaded)) (k : ℕ) → entry_at slots k �
 entry-content [] k = refl
 entry-content (slot ∷ slots) zero = refl
 entry-content (slot ∷ slots) (suc k) = entry-content slots k
-
--- the entry in the slot where a name was found
-pub entry-found : (name : List ℕ) (slots : List (Option Loaded)) (k : ℕ) → slot_named name slots ≡ Some k → entry_at slots k ≡ entry_named name (filled slots)
-entry-found name slots k h = by (found name slots) (sym (found-is name slots) ∙ h) (finds name slots)
-  where
-    by : (j : Option ℕ) → j ≡ Some k → Finds name slots j (entry_named name (filled slots)) → entry_at slots k ≡ entry_named name (filled slots)
-    by None e h = absurd (cc)
-    by (Some j) e h = let same : j ≡ k = cc in entry-content slots k ∙ ap (λ n. content_at n slots) (sym same) ∙ h.at ∙ sym h.is
-
--- no name is found where no entry has it
-pub entry-missing : (name : List ℕ) (slots : List (Option Loaded)) → slot_named name slots ≡ None → entry_named name (filled slots) ≡ None
-entry-missing name slots h = by (found name slots) (sym (found-is name slots) ∙ h) (finds name slots)
-  where
-    by : (j : Option ℕ) → j ≡ None → Finds name slots j (entry_named name (filled slots)) → entry_named name (filled slots) ≡ None
-    by None e h = h
-    by (Some j) e h = absurd (cc)
 
 -- the profile in the slot where a name was found is disabled
 pub disabled-found : (name : List ℕ) (slots : List (Option Loaded)) → is_disabled_at slots (found name slots) ≡ is_disabled name (filled slots)
@@ -231,11 +182,3 @@ stands-at name slots k entry h is = by (found name slots) (sym (found-is name sl
         let one : f.entry ≡ entry = cc in
         let own : entry.profile.name ≡ name = ap (λ (entry : Loaded). entry.profile.name) (sym one) ∙ (bytes_eq-Decides f.entry.profile.name name).0 f.named in
         (ap (λ n. content_at n slots) (sym same) ∙ f.at ∙ ap (λ (entry : Loaded). Some entry) one, ap (λ name. found name slots) own ∙ o ∙ e)
-
--- an entry stands in the slot where a name was found
-pub entry-there : (name : List ℕ) (slots : List (Option Loaded)) (k : ℕ) → slot_named name slots ≡ Some k → is_some (entry_at slots k) ≡ true
-entry-there name slots k h = by (found name slots) (sym (found-is name slots) ∙ h) (finds name slots)
-  where
-    by : (j : Option ℕ) → j ≡ Some k → Finds name slots j (entry_named name (filled slots)) → is_some (entry_at slots k) ≡ true
-    by None e f = absurd (cc)
-    by (Some j) e f = let same : j ≡ k = cc in ap is_some (entry-content slots k ∙ ap (λ n. content_at n slots) (sym same) ∙ f.at)

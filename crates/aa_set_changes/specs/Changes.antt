@@ -9,7 +9,7 @@ use Rattle.aa_profile_data.specs.declared.profile.Mode.TheVariants.{Complain as 
 use Rattle.aa_profile_data.specs.declared.profile.Profile.{Profile}
 use Rattle.aa_decide_verdict.specs.Entries.{Loaded, is_in_force}
 use Rattle.aa_decide_verdict.specs.declared.entry.State.TheVariants.{Disabled as DisabledState, Modes}
-use Rattle.aa_decide.specs.Named.{entry_named, has_name, is_named}
+use Rattle.aa_decide_slots.specs.Named.{entry_named, has_name, is_named}
 use Rattle.aa_profile.specs.FileReading.{file_profiles}
 use Rattle.aa_profile_errors.specs.declared.profile_error.ProfileError.{ProfileError}
 use Rattle.aa_set_commands.specs.Command.{PolicyChange, Add, Replace, Remove, Enforce, Complain, Disable}

@@ -2,7 +2,7 @@
 
 ghost use Rattle.std.specs.Prelude.{◌≡◌, Ok, Err, IfOk, IfErr, length, true, false};
 ghost use Rattle.std.specs.List.{list_all};
-ghost use Rattle.aa_decide.specs.Named.{have_distinct_names};
+ghost use Rattle.aa_decide_slots.specs.Named.{have_distinct_names};
 ghost use Rattle.aa_decide_verdict.specs.Slots.{filled};
 ghost use Rattle.aa_profile_data.specs.Conflicts.{profile_agrees};
 ghost use Rattle.aa_profile_data.specs.Profile.{are_distinct};
@@ -14,9 +14,10 @@ ghost use Rattle.aa_set_parts.specs.Parts.{after};
 
 use crate::loading::{in_state, loading, unloading};
 use crate::modes::{forced, modes_of};
-use crate::places::{FileChange, find, found_for};
+use crate::places::{FileChange, found_for};
 use aa_bytes::Sequence;
 use aa_decide::State;
+use aa_decide_slots::find_named;
 use aa_profile_data::{Mode, Profile};
 use aa_set_commands::{Refusal, RefusalKind, plain};
 use aa_set_parts::{Exchange, Slots};
@@ -43,7 +44,7 @@ pub fn adding(
     ensures refused { IfErr result (IsRefusalOf (with_added force_complain (filled slots.now) profiles.items)) }
     ensures memory { IfErr result (λ refusal. refusal ≡ plain Memory → are_there profiles.items (filled slots.now) ≡ false) }
 {
-    let found = found_for(alloc, FileChange::Add, slots.as_slice(), &profiles)?;
+    let found = found_for(alloc, FileChange::Add, &slots.indexed(), &profiles)?;
     Ok(loading(alloc, slots, forced(force_complain), profiles, &found)?)
 }
 
@@ -69,7 +70,7 @@ pub fn replacing(
     ensures refused { IfErr result (IsRefusalOf (with_replaced force_complain (filled slots.now) profiles.items)) }
     ensures memory { IfErr result (λ refusal. refusal ≡ plain Memory → some_are_disabled profiles.items (filled slots.now) ≡ false) }
 {
-    let found = found_for(alloc, FileChange::Replace, slots.as_slice(), &profiles)?;
+    let found = found_for(alloc, FileChange::Replace, &slots.indexed(), &profiles)?;
     Ok(loading(alloc, slots, forced(force_complain), profiles, &found)?)
 }
 
@@ -87,7 +88,7 @@ pub fn removing(alloc: Global, slots: &Slots, profiles: &[Profile]) -> Result<Ex
     ensures refused { IfErr result (IsRefusalOf (with_removed (filled slots.now) profiles.now)) }
     ensures memory { IfErr result (λ refusal. refusal ≡ plain Memory → some_are_absent profiles.now (filled slots.now) ≡ false) }
 {
-    let found = found_for(alloc, FileChange::Remove, slots.as_slice(), profiles)?;
+    let found = found_for(alloc, FileChange::Remove, &slots.indexed(), profiles)?;
     Ok(unloading(alloc, slots, profiles, &found)?)
 }
 
@@ -103,7 +104,7 @@ pub fn switching(alloc: Global, slots: &Slots, mode: Mode, name: &[u8]) -> Resul
     ensures refused { IfErr result (IsRefusalOf (with_mode mode (filled slots.now) name.now)) }
     ensures memory { IfErr result (λ refusal. refusal ≡ plain Memory → is_loaded name.now (filled slots.now) ≡ true) }
 {
-    let Some((slot, entry)) = find(slots.as_slice(), name) else {
+    let Some((slot, entry)) = find_named(&slots.indexed(), name) else {
         return Err(plain(RefusalKind::Absent));
     };
     let modes = modes_of(alloc, Some(mode), entry.profile())?;
@@ -124,7 +125,7 @@ pub fn disabling(alloc: Global, slots: &Slots, name: &[u8]) -> Result<Exchange, 
     ensures loaded { IfErr result (λ refusal. refusal ≡ plain Memory → is_loaded name.now (filled slots.now) ≡ true) }
     ensures in_force { IfErr result (λ refusal. refusal ≡ plain Memory → is_disabled name.now (filled slots.now) ≡ false) }
 {
-    let Some((slot, entry)) = find(slots.as_slice(), name) else {
+    let Some((slot, entry)) = find_named(&slots.indexed(), name) else {
         return Err(plain(RefusalKind::Absent));
     };
     if !entry.state().is_in_force() {

@@ -3,7 +3,7 @@
 ghost use Rattle.std.specs.Prelude.{◌≡◌, ◌≢◌, ◌+◌, ◌≤◌, false, true, length, List, IfErr, IfOk, IfSome, OnOk, is_none};
 ghost use Rattle.std.specs.List.{list_any};
 ghost use Rattle.std.specs.Option.{is_some, option_map};
-ghost use Rattle.aa_decide.specs.Named.{entry_named, has_name};
+ghost use Rattle.aa_decide_slots.specs.Named.{entry_named, has_name};
 ghost use Rattle.aa_decide_verdict.specs.Entries.{fits};
 ghost use Rattle.aa_decide_verdict.specs.Slots.{filled};
 ghost use Rattle.aa_profile_data.specs.declared.profile.Profile.{Profile};
@@ -11,41 +11,22 @@ ghost use Rattle.aa_set_changes.specs.Changes.{are_there, is_disabled, some_are_
 ghost use Rattle.aa_set_changes.specs.code.Places.{behind, is_disabled_at, is_refused, next_behind, place_for, places, refused_as};
 ghost use Rattle.aa_set_commands.specs.Refusal.{plain};
 ghost use Rattle.aa_set_commands.specs.declared.refusal.RefusalKind.TheVariants.{Memory};
-ghost use Rattle.aa_set_names.specs.SlotNames.{slot_named, slots_named};
+ghost use Rattle.aa_decide_slots.specs.SlotNames.{slot_named, slots_named};
 
-use aa_decide::{Entry, entry_at};
+use aa_decide_slots::{IndexedSlots, entry_at, find_named, slots_named};
 use aa_profile_data::Profile;
 use aa_set_commands::{Refusal, RefusalKind, plain};
-use aa_set_names::{slot_named, slots_named};
 use std::alloc::{AllocError, Global};
 
-/// The entry of a name, whose state fits it, and its slot. It takes no memory.
-pub fn find<'a>(slots: &'a [Option<Entry>], name: &[u8]) -> Option<(usize, &'a Entry)>
-    ensures slot { option_map (λ found. found.0) result ≡ slot_named name.now slots.now }
-    ensures entry { option_map (λ found. found.1.now) result ≡ entry_named name.now (filled slots.now) }
-    ensures fits { IfSome result (λ found. fits found.1.now.profile found.1.now.state ≡ true) }
-{
-    match slot_named(slots, name) {
-        None => None,
-        Some(slot) => match entry_at(slots, slot) {
-            None => None,
-            Some(entry) => {
-                let _state = entry.state();
-                Some((slot, entry))
-            }
-        },
-    }
-}
-
 // Whether a profile of this name is there.
-fn has_name(slots: &[Option<Entry>], name: &[u8]) -> bool
+fn has_name(slots: &IndexedSlots<'_>, name: &[u8]) -> bool
     ensures { result ≡ has_name name.now (filled slots.now) }
 {
-    slot_named(slots, name).is_some()
+    slots.slot_named(name).is_some()
 }
 
 // Whether one of these profiles has a name that is there.
-fn are_there(slots: &[Option<Entry>], profiles: &[Profile]) -> bool
+fn are_there(slots: &IndexedSlots<'_>, profiles: &[Profile]) -> bool
     ensures { result ≡ are_there profiles.now (filled slots.now) }
 {
     profiles
@@ -54,7 +35,7 @@ fn are_there(slots: &[Option<Entry>], profiles: &[Profile]) -> bool
 }
 
 // Whether one of these profiles has a name that isn't there.
-fn some_are_absent(slots: &[Option<Entry>], profiles: &[Profile]) -> bool
+fn some_are_absent(slots: &IndexedSlots<'_>, profiles: &[Profile]) -> bool
     ensures { result ≡ some_are_absent profiles.now (filled slots.now) }
 {
     profiles
@@ -63,17 +44,17 @@ fn some_are_absent(slots: &[Option<Entry>], profiles: &[Profile]) -> bool
 }
 
 // Whether the profile of this name is disabled.
-fn is_disabled(slots: &[Option<Entry>], name: &[u8]) -> bool
+fn is_disabled(slots: &IndexedSlots<'_>, name: &[u8]) -> bool
     ensures { result ≡ is_disabled name.now (filled slots.now) }
 {
-    match find(slots, name) {
+    match find_named(slots, name) {
         None => false,
         Some((_, entry)) => !entry.state().is_in_force(),
     }
 }
 
 // Whether the profile of the name of one of these is disabled.
-fn some_are_disabled(slots: &[Option<Entry>], profiles: &[Profile]) -> bool
+fn some_are_disabled(slots: &IndexedSlots<'_>, profiles: &[Profile]) -> bool
     ensures { result ≡ some_are_disabled profiles.now (filled slots.now) }
 {
     profiles
@@ -96,20 +77,20 @@ fn some_are_missing(found: &[Option<usize>]) -> bool
 }
 
 // Whether the profile in a slot that was found is disabled.
-fn is_disabled_at(slots: &[Option<Entry>], found: Option<usize>) -> bool
+fn is_disabled_at(slots: &IndexedSlots<'_>, found: Option<usize>) -> bool
     ensures { result ≡ is_disabled_at slots.now found }
 {
     let Some(slot) = found else {
         return false;
     };
-    match entry_at(slots, slot) {
+    match entry_at(slots.as_slice(), slot) {
         None => false,
         Some(entry) => !entry.state().is_in_force(),
     }
 }
 
 // Whether the profile in one of the slots that were found is disabled.
-fn some_are_disabled_at(slots: &[Option<Entry>], found: &[Option<usize>]) -> bool
+fn some_are_disabled_at(slots: &IndexedSlots<'_>, found: &[Option<usize>]) -> bool
     ensures { result ≡ list_any (is_disabled_at slots.now) found.now }
 {
     found.iter().any(|slot| is_disabled_at(slots, *slot))
@@ -139,7 +120,7 @@ fn refused_as(change: FileChange) -> Refusal
 }
 
 // Whether a change is refused, by the slots in which the names of its profiles were found.
-fn is_refused_at(change: FileChange, slots: &[Option<Entry>], found: &[Option<usize>]) -> bool
+fn is_refused_at(change: FileChange, slots: &IndexedSlots<'_>, found: &[Option<usize>]) -> bool
     ensures { (profiles : List Profile)
         → found.now ≡ slots_named profiles slots.now
         → result ≡ is_refused change profiles (filled slots.now) }
@@ -152,7 +133,7 @@ fn is_refused_at(change: FileChange, slots: &[Option<Entry>], found: &[Option<us
 }
 
 // The same without memory, by their names.
-fn is_refused(change: FileChange, slots: &[Option<Entry>], profiles: &[Profile]) -> bool
+fn is_refused(change: FileChange, slots: &IndexedSlots<'_>, profiles: &[Profile]) -> bool
     ensures { result ≡ is_refused change profiles.now (filled slots.now) }
 {
     match change {
@@ -171,7 +152,7 @@ fn is_refused(change: FileChange, slots: &[Option<Entry>], profiles: &[Profile])
 pub fn found_for(
     alloc: Global,
     change: FileChange,
-    slots: &[Option<Entry>],
+    slots: &IndexedSlots<'_>,
     profiles: &[Profile],
 ) -> Result<Vec<Option<usize>>, Refusal>
     ensures found { IfOk result (λ found. found.items ≡ slots_named profiles.now slots.now) }

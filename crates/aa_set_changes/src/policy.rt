@@ -1,10 +1,10 @@
 //! Policy sets: profiles in the order in which they were loaded.
 
 ghost use Rattle.std.specs.Prelude.{◌≡◌, true};
-ghost use Rattle.aa_decide.specs.Named.{have_distinct_names};
+ghost use Rattle.aa_decide_slots.specs.Named.{have_distinct_names};
 ghost use Rattle.aa_decide_verdict.specs.Slots.{filled};
 
-use aa_decide::Entry;
+use aa_decide_slots::IndexedSlots;
 use aa_set_parts::Slots;
 use std::marker::Model;
 
@@ -18,7 +18,7 @@ pub struct PolicySet<'a> {
 impl<'a> Model for PolicySet<'a> {
     ghost use Rattle.std.specs.Prelude.{List, IsTrue};
     ghost use Rattle.aa_decide_verdict.specs.Entries.{Loaded};
-    ghost use Rattle.aa_decide.specs.Named.{have_distinct_names};
+    ghost use Rattle.aa_decide_slots.specs.Named.{have_distinct_names};
     ghost use Rattle.aa_decide_verdict.specs.Slots.{filled};
 
     ghost Value = { List Loaded };
@@ -38,10 +38,10 @@ impl<'a> PolicySet<'a> {
     }
 
     /// The slots: the entries, in the order in which they were loaded, stand in those that are filled. No two have one name. It takes no memory.
-    pub fn slots(&self) -> &'a [Option<Entry>]
-        ensures entries { filled result.now ≡ self.now }
-        ensures distinct { have_distinct_names (filled result.now) ≡ true }
+    pub fn slots(&self) -> IndexedSlots<'a>
+        ensures entries { filled result ≡ self.now }
+        ensures distinct { have_distinct_names (filled result) ≡ true }
     {
-        self.slots.as_slice()
+        self.slots.indexed()
     }
 }

@@ -1,11 +1,12 @@
 -- The exchange of parts, one behind the other, in the place where they stand.
-use Rattle.std.proofs.Common.{◌≡◌, ℕ, ◌+◌, ◌<◌, ◌≤◌, List, [], ◌∷◌, ◌++◌, length, take, drop, reverse, slice_index_or, slice_set, Option, refl, sym, ap, subst, ◌∙◌, append-nil, append_assoc, arith}
+use Rattle.std.proofs.Common.{◌≡◌, ℕ, ◌+◌, ◌<◌, ◌≤◌, true, List, [], ◌∷◌, ◌++◌, length, take, drop, reverse, slice_index_or, slice_set, Option, refl, sym, ap, subst, ◌∙◌, append-nil, append_assoc, arith}
 use Rattle.std.proofs.lemmas.Grind.{reverse_onto}
 use Rattle.std.proofs.lemmas.List.Elements.{All-head, All-nil, All-push, All-set, All-tail}
 use Rattle.std.proofs.lemmas.List.{drop_all, drop_more, drop-set-lt, take_all, take_more_set}
-use Rattle.std.specs.List.{All}
+use Rattle.std.proofs.lemmas.Bool.{and_parts}
+use Rattle.std.specs.List.{All, list_all}
 use Rattle.aa_decide_verdict.specs.Entries.{Loaded}
-use Rattle.aa_set_parts.specs.Parts.{after, back, exchanged, left}
+use Rattle.aa_set_parts.specs.Parts.{after, back, exchanged, is_state, left}
 use Rattle.aa_set_parts.specs.PartLaws.{after-trimmed, exchanged-trimmed, left-trimmed}
 use Rattle.aa_set_parts.specs.SlotLaws.{trimmed-again}
 use Rattle.aa_set_parts.specs.Slots.{trimmed}
@@ -48,6 +49,13 @@ lefts-more slots there parts at given turned h p q =
     ∙ append_assoc (take at parts) (turned ∷ []) (lefts (trimmed there) (drop (at + 1) parts))
     ∙ (λ i. take at parts ++ q i ∷ lefts (p i) (drop (at + 1) parts))
     ∙ ap (λ rest. take at parts ++ rest) (sym (ap (lefts (trimmed slots)) (drop_more parts at given h) ∙ lefts-trimmed slots (slice_index_or parts at given ∷ drop (at + 1) parts)))
+
+-- what is left are states alone, where it was before one more was exchanged
+pub states-more : (parts : List Part) (at : ℕ) (given turned : Part) → at < length parts → list_all is_state (drop at parts) ≡ true
+    → (is_state (slice_index_or parts at given) ≡ true) × (list_all is_state (drop (at + 1) (slice_set parts at turned)) ≡ true)
+states-more parts at given turned h states =
+    let parts_of = and_parts (is_state (slice_index_or parts at given)) (list_all is_state (drop (at + 1) parts)) (ap (list_all is_state) (sym (drop_more parts at given h)) ∙ states) in
+    (parts_of.0, ap (list_all is_state) (drop-set-lt (at + 1) parts at turned (omega arith)) ∙ parts_of.1)
 
 -- the slots of the parts stay
 pub All-more : (slots there : List (Option Loaded)) (parts : List Part) (at : ℕ) (given turned : Part) → at < length parts → length there ≡ length slots

@@ -1,8 +1,15 @@
 -- What the code does to slots, and what they then stand for.
-use Rattle.std.proofs.Common.{◌≡◌, ℕ, zero, suc, ◌+◌, ◌-◌, ◌<◌, ◌≤◌, true, false, List, [], ◌∷◌, ◌++◌, length, take, slice_index_or, slice_set, Option, None, Some, refl, sym, ap, ◌∙◌, arith}
+use Rattle.std.proofs.Common.{◌≡◌, ℕ, zero, suc, ◌+◌, ◌-◌, ◌<◌, ◌≤◌, Bool, true, false, List, [], ◌∷◌, ◌++◌, length, take, slice_index_or, slice_set, Option, None, Some, refl, sym, ap, ◌∙◌, arith}
+use Rattle.std.specs.Prelude.{if◌then◌else◌}
 use Rattle.std.specs.Option.{is_some}
 use Rattle.std.proofs.lemmas.List.{length_push, length-take-le, take_more}
-use Rattle.aa_decide_verdict.specs.Entries.{Loaded}
+use Rattle.aa_decide_slots.specs.Indexes.{profile_in}
+use Rattle.aa_decide_verdict.specs.Entries.{Loaded, can_be_in}
+use Rattle.aa_decide_verdict.specs.declared.entry.State.{State}
+use Rattle.aa_set_parts.specs.Parts.{is_state, put_in}
+use Rattle.aa_set_parts.specs.declared.parts.Content.{Content}
+use Rattle.aa_set_parts.specs.declared.parts.Content.TheVariants.{InState, Whole}
+use Rattle.aa_set_parts.specs.declared.parts.Part.{Part}
 use Rattle.aa_set_parts.specs.Slots.{content_at, onto, trimmed, with_content}
 
 -- a slot that is there is filled or emptied
@@ -58,3 +65,16 @@ trimmed-at slots end given h k is =
     ∙ ap (λ slots. length (trimmed slots)) (take_more slots (end - 1) given (omega arith))
     ∙ ends (take (end - 1) slots) (slice_index_or slots (end - 1) given) is
     ∙ omega arith
+
+-- a state that comes to a slot's entry leaves its profile
+pub state-keeps : (part : Part) (held : Option Loaded) → is_state part ≡ true → profile_in (put_in part.content held) ≡ profile_in held
+state-keeps part held state = by part.content held state
+  where
+    in-state : (state : State) (entry : Loaded) (can : Bool) → Some (if can then record entry { state = state } else entry).profile ≡ Some entry.profile
+    in-state state entry true = refl
+    in-state state entry false = refl
+
+    by : (content : Content) (held : Option Loaded) → elim content [ Whole content ↦ false | InState state ↦ true ] ≡ true → profile_in (put_in content held) ≡ profile_in held
+    by (Whole content) held state = absurd (cc)
+    by (InState state) None is = refl
+    by (InState state) (Some entry) is = in-state state entry (can_be_in state entry)

@@ -1,5 +1,5 @@
 -- Parts, each of which is exchanged with a slot: for all that the slot holds, or for the state of the entry that is there.
-use Rattle.std.specs.Prelude.{ℕ, List, [], ◌∷◌, ◌++◌, Option, None, Some}
+use Rattle.std.specs.Prelude.{ℕ, Bool, true, false, List, [], ◌∷◌, ◌++◌, Option, None, Some}
 use Rattle.aa_decide_verdict.specs.Entries.{Loaded, state_left, with_state}
 use Rattle.aa_set_parts.specs.Slots.{content_at, trimmed, with_content}
 use Rattle.aa_set_parts.specs.declared.parts.Content.{Content}
@@ -22,6 +22,10 @@ abbrev pub taken_out : Content → Option Loaded → Content
 taken_out (Whole content) held = Whole held
 taken_out (InState state) None = InState state
 taken_out (InState state) (Some entry) = InState (state_left state entry)
+
+-- a part exchanges a state alone
+abbrev pub is_state : Part → Bool
+is_state part = elim part.content [ Whole content ↦ false | InState state ↦ true ]
 
 -- slots after the exchange of a part
 abbrev pub exchanged : Part → List (Option Loaded) → List (Option Loaded)

@@ -3,8 +3,12 @@
 
 mod exchange;
 mod parts;
+mod remembered;
 mod slots;
+mod tending;
 
 pub use exchange::Exchange;
 pub use parts::{Content, Part};
+pub use remembered::fingerprint;
 pub use slots::Slots;
+pub use tending::{Indexing, Remembering};

@@ -1,28 +1,47 @@
 //! Slots, each of which is empty or holds a loaded profile.
 
-ghost use Rattle.std.specs.Prelude.{◌≡◌, ◌<◌, ◌≤◌, [], OnOk, length, vec_len};
-ghost use Rattle.std.specs.List.{All};
-ghost use Rattle.aa_set_parts.specs.Parts.{after, back, exchanged, left};
+ghost use Rattle.std.specs.Prelude.{◌≡◌, ◌<◌, ◌≤◌, [], true, OnOk, length, vec_len};
+ghost use Rattle.std.specs.List.{All, list_all};
+ghost use Rattle.aa_decide_slots.specs.Indexes.{HoldSame};
+ghost use Rattle.aa_set_parts.specs.Parts.{after, back, exchanged, is_state, left};
 ghost use Rattle.aa_set_parts.specs.Slots.{trimmed};
 
-use crate::parts::Part;
+use crate::parts::{Content, Part};
+use crate::remembered::{Remembered, Warm};
+use aa_decide_slots::{AttachmentIndex, IndexedSlots, NameIndex};
 use aa_decide_verdict::Entry;
 use std::alloc::{AllocError, Global};
 use std::marker::Model;
 
+// So many times names and attachments are looked for by going over the slots, before they are kept beside them.
+const SEVERAL: u8 = 3;
+
 /// Slots, each of which is empty or holds a loaded profile. Contracts see the list of the slots, with the empty ones.
 #[derive(Debug, Drop)]
 pub struct Slots {
+    alloc: Global,
     slots: Vec<Option<Entry>>,
+    // What is kept beside the slots until other profiles come into them. Contracts don't see it.
+    names: Option<NameIndex>,
+    attachments: Option<AttachmentIndex>,
+    // How often it was asked for since then, as far as that matters.
+    asked: u8,
+    // Of whom something is remembered.
+    remembered: Remembered,
 }
 
 impl Model for Slots {
-    ghost use Rattle.std.specs.Prelude.{List, Option};
+    ghost use Rattle.std.specs.Prelude.{List, Option, IfSome};
+    ghost use Rattle.aa_decide_slots.specs.Indexes.{IsAttachmentIndexOf, IsNameIndexOf};
     ghost use Rattle.aa_decide_verdict.specs.Entries.{Loaded};
 
     ghost Value = { List (Option Loaded) };
 
     ghost view = { λ s. s.slots.items };
+
+    ghost invariant = { λ s.
+        IfSome s.names (λ index. IsNameIndexOf index s.slots.items)
+        × IfSome s.attachments (λ index. IsAttachmentIndexOf index s.slots.items) };
 }
 
 impl Slots {
@@ -31,7 +50,12 @@ impl Slots {
         ensures { result ≡ [] }
     {
         Slots {
+            alloc,
             slots: Vec::new(alloc),
+            names: None,
+            attachments: None,
+            asked: 0,
+            remembered: Remembered::new(alloc),
         }
     }
 
@@ -40,6 +64,30 @@ impl Slots {
         ensures { result.now ≡ self.now }
     {
         self.slots.as_slice()
+    }
+
+    /// The slots with what is kept beside them. It takes no memory.
+    pub fn indexed(&self) -> IndexedSlots<'_>
+        ensures { result ≡ self.now }
+    {
+        IndexedSlots::with(&self.slots, self.names.as_ref(), self.attachments.as_ref())
+    }
+
+    /// Sees to it that names are found without going over the slots, and attachments if they are looked for. It does nothing when it is called for the
+    /// first few times since other profiles came into the slots; and where memory runs out, they are gone over. Contracts don't see it.
+    pub fn index(&mut self, attachments: bool)
+        ensures { self.new ≡ self.old }
+    {
+        if self.asked < SEVERAL {
+            self.asked += 1;
+            return;
+        }
+        if self.names.is_none() {
+            self.names = NameIndex::of(self.alloc, &self.slots).ok();
+        }
+        if attachments && self.attachments.is_none() {
+            self.attachments = AttachmentIndex::of(self.alloc, &self.slots).ok();
+        }
     }
 
     /// The number of the slot behind the last filled one: from there on a change can fill slots that no other has. It takes no memory.
@@ -56,6 +104,12 @@ impl Slots {
         ensures grows { length self.old ≤ length self.new }
         ensures ok { OnOk result (many ≤ length self.new) }
     {
+        if many <= self.slots.len() {
+            return Ok(());
+        }
+        self.names = None;
+        self.attachments = None;
+        self.asked = 0;
         grow(&mut self.slots, many)
     }
 
@@ -66,7 +120,65 @@ impl Slots {
         ensures parts { parts.new.items ≡ back (trimmed self.old) parts.old.items }
         ensures room { length self.new ≡ length self.old }
     {
+        if are_states(parts) {
+            self.exchange_states(parts);
+        } else {
+            self.exchange_any(parts);
+        }
+    }
+
+    // The same with parts that exchange states alone: what is kept beside the slots stays.
+    fn exchange_states(&mut self, parts: &mut Vec<Part>)
+        requires within { All (λ part. part.slot < length self.old) parts.old.items }
+        requires states { list_all is_state parts.old.items ≡ true }
+        ensures slots { trimmed self.new ≡ after (trimmed self.old) parts.old.items }
+        ensures parts { parts.new.items ≡ back (trimmed self.old) parts.old.items }
+        ensures room { length self.new ≡ length self.old }
+    {
         exchange_all(&mut self.slots, parts);
+    }
+
+    // The same with any parts: nothing stays, and nothing that was remembered goes with a profile out of the slots.
+    fn exchange_any(&mut self, parts: &mut Vec<Part>)
+        requires { All (λ part. part.slot < length self.old) parts.old.items }
+        ensures slots { trimmed self.new ≡ after (trimmed self.old) parts.old.items }
+        ensures parts { parts.new.items ≡ back (trimmed self.old) parts.old.items }
+        ensures room { length self.new ≡ length self.old }
+    {
+        self.names = None;
+        self.attachments = None;
+        self.asked = 0;
+        self.remembered.forget_all(&mut self.slots);
+        exchange_all(&mut self.slots, parts);
+    }
+
+    /// Remembers what follows at the places of a path, of the profile in a slot or of its child or hat at a place (`Entry::remember`), for at most eight
+    /// of them: where a ninth comes, what is remembered of the others is forgotten before. It stays until other profiles come into the slots. Where all
+    /// of it is remembered now, the question is known by its fingerprint (`is_remembered`). Contracts don't see it.
+    pub fn remember(&mut self, slot: usize, child: Option<usize>, path: &[u8], fingerprint: u32)
+        ensures { self.new ≡ self.old }
+    {
+        if slot < self.slots.len()
+            && self.remembered.keep(&mut self.slots, Warm { slot, child })
+            && remember(&mut self.slots[slot], self.alloc, child, path)
+        {
+            self.remembered.note(fingerprint);
+        }
+    }
+
+    /// Whether no more is to be remembered of the path of a question with this fingerprint. Contracts don't see it.
+    pub fn is_remembered(&self, fingerprint: u32) -> bool {
+        self.remembered.has(fingerprint)
+    }
+}
+
+// Remembers what follows at the places of a path, of the profile in a slot, if one is in it. Tells whether all of it is remembered now.
+fn remember(slot: &mut Option<Entry>, alloc: Global, child: Option<usize>, path: &[u8]) -> bool
+    ensures { slot.new ≡ slot.old }
+{
+    match slot {
+        None => false,
+        Some(entry) => entry.remember(alloc, child, path),
     }
 }
 
@@ -95,21 +207,40 @@ fn grow(slots: &mut Vec<Option<Entry>>, many: usize) -> Result<(), AllocError>
 }
 
 // Exchanges a part with its slot.
-fn exchange(slots: &mut [Option<Entry>], part: &mut Part)
-    requires { part.old.slot < length slots.old }
-    ensures slots { trimmed slots.new ≡ exchanged part.old slots.old }
-    ensures part { part.new ≡ left part.old slots.old }
-    ensures length { length slots.new ≡ length slots.old }
+fn exchange(slots: &mut Vec<Option<Entry>>, part: &mut Part)
+    requires { part.old.slot < length slots.old.items }
+    ensures slots { trimmed slots.new.items ≡ exchanged part.old slots.old.items }
+    ensures part { part.new ≡ left part.old slots.old.items }
+    ensures length { length slots.new.items ≡ length slots.old.items }
+    ensures same { is_state part.old ≡ true → HoldSame slots.new.items slots.old.items }
 {
     part.content.exchange(&mut slots[part.slot]);
 }
 
+// Whether each of some parts exchanges a state alone.
+fn are_states(parts: &[Part]) -> bool
+    ensures { result ≡ list_all is_state parts.now }
+{
+    parts.iter().all(is_state)
+}
+
+// Whether a part exchanges a state alone.
+fn is_state(part: &Part) -> bool
+    ensures { result ≡ is_state part.now }
+{
+    match part.content {
+        Content::Whole(_) => false,
+        Content::InState(_) => true,
+    }
+}
+
 // Exchanges parts with their slots, one behind the other, and turns the order of the parts.
-fn exchange_all(slots: &mut [Option<Entry>], parts: &mut [Part])
-    requires { All (λ part. part.slot < length slots.old) parts.old }
-    ensures slots { trimmed slots.new ≡ after (trimmed slots.old) parts.old }
-    ensures parts { parts.new ≡ back (trimmed slots.old) parts.old }
-    ensures length { length slots.new ≡ length slots.old }
+fn exchange_all(slots: &mut Vec<Option<Entry>>, parts: &mut [Part])
+    requires { All (λ part. part.slot < length slots.old.items) parts.old }
+    ensures slots { trimmed slots.new.items ≡ after (trimmed slots.old.items) parts.old }
+    ensures parts { parts.new ≡ back (trimmed slots.old.items) parts.old }
+    ensures length { length slots.new.items ≡ length slots.old.items }
+    ensures same { list_all is_state parts.old ≡ true → HoldSame slots.new.items slots.old.items }
 {
     for at in 0..parts.len() {
         exchange(slots, &mut parts[at]);

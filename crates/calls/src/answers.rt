@@ -62,10 +62,11 @@ fn profile_rows(alloc: Global) -> [Row; 8] {
     ]
 }
 
-fn decision_rows(alloc: Global) -> [Row; 6] {
+fn decision_rows(alloc: Global) -> [Row; 7] {
     [
         ("Entry::try_copy", decisions::entry_is_copied(alloc)),
         ("attach", decisions::path_is_attached(alloc)),
+        ("IndexedSlots::attaching", decisions::slots_attach(alloc)),
         ("exec", decisions::program_is_started(alloc)),
         // `exec` calls it, with who asks by the slot.
         ("exec_by", decisions::program_is_started(alloc)),

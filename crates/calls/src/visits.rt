@@ -50,12 +50,16 @@ fn is_unattached(alloc: Global, ready: &Ready, path: &[u8]) -> Option<bool> {
 }
 
 // Whether the states are few, and the visits many.
+fn visits_many(alloc: Global, ready: &Ready, path: &[u8]) -> Option<bool> {
+    let is_refused = refuses(alloc, ready, path)?;
+    let is_unattached = is_unattached(alloc, ready, path)?;
+    Some(ready.states(None) <= 32 && is_refused && is_unattached)
+}
+
 fn takes_many(alloc: Global) -> Option<bool> {
     let path = path_of(alloc, 4_000)?;
     let ready = made_ready(alloc)?;
-    let is_refused = refuses(alloc, &ready, &path)?;
-    let is_unattached = is_unattached(alloc, &ready, &path)?;
-    Some(ready.states(None) <= 32 && is_refused && is_unattached)
+    visits_many(alloc, &ready, &path)
 }
 
 #[test]

@@ -1,13 +1,13 @@
 //! What a profile answers a request.
 
-use aa_decide::{Answer, Entry, Request, Steps, find_named};
+use aa_decide::{Answer, IndexedSlots, Request, Steps, find_named};
 use aa_profile::{Mode, Perms};
 use std::alloc::{AllocError, Global};
 
 /// Whether the profile `web` lets a file of another owner be written, in enforce mode, if it is loaded.
 pub fn lets_write(
     alloc: Global,
-    slots: &[Option<Entry>],
+    slots: &IndexedSlots<'_>,
     path: &[u8],
 ) -> Result<Option<bool>, AllocError> {
     let Some((_, web)) = find_named(slots, b"web") else {

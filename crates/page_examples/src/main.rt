@@ -47,7 +47,7 @@ fn report_profiles<R: Print>(rt: &R, alloc: Global) -> Result<()> {
     let refusal = refusal.context("the file was taken")?;
     println!(rt; "aa_profile: {refusal}")?;
     let manager = managed(alloc)?;
-    let lets = decide::lets_write(alloc, manager.policy_set().slots(), b"/srv/www/private")?;
+    let lets = decide::lets_write(alloc, &manager.policy_set().slots(), b"/srv/www/private")?;
     println!(rt; "aa_decide: {lets:?}")?;
     Ok(())
 }

@@ -36,6 +36,7 @@ impl Asks for PolicySets {
             | "places"
             | "lengths"
             | "marks"
+            | "remembered"
             | "streams" => runs::ask(tally, common, parts),
             _ => Err(RowError::NoSuchKind),
         }

@@ -68,10 +68,14 @@ pub fn ready_is_built(alloc: Global) -> Option<bool> {
     Some(is_web_ready(alloc, &ready))
 }
 
-pub fn ready_is_copied(alloc: Global) -> Option<bool> {
-    let ready = built(alloc)?;
+fn is_web_copied(alloc: Global, ready: &Ready) -> Option<bool> {
     let copy = ready.try_copy(alloc).ok()?;
     Some(is_web_ready(alloc, &copy))
+}
+
+pub fn ready_is_copied(alloc: Global) -> Option<bool> {
+    let ready = built(alloc)?;
+    is_web_copied(alloc, &ready)
 }
 
 pub fn rules_match(alloc: Global) -> Option<bool> {
@@ -79,11 +83,15 @@ pub fn rules_match(alloc: Global) -> Option<bool> {
     Some(finds(alloc, &ready, b"/srv/up/x", &[0, 1]) && finds(alloc, &ready, b"/etc/x", &[]))
 }
 
-pub fn attachments_match(alloc: Global) -> Option<bool> {
-    let ready = built(alloc)?;
+fn finds_attachment(alloc: Global, ready: &Ready) -> Option<bool> {
     let mut steps = Steps::new();
     let found = ready.matching_attachments(alloc, None, b"/usr/sbin/httpd", &mut steps);
     Some(found.ok()?.as_slice() == [0].as_slice())
+}
+
+pub fn attachments_match(alloc: Global) -> Option<bool> {
+    let ready = built(alloc)?;
+    finds_attachment(alloc, &ready)
 }
 
 // Whether a request to read and write an owned or other file is answered so.
@@ -104,9 +112,13 @@ fn decides(
     Some(verdict.answer == answer && verdict.tag == tag)
 }
 
+fn decides_both(alloc: Global, ready: &Ready) -> Option<bool> {
+    let allowed = decides(alloc, ready, true, Answer::Allow, None)?;
+    let refused = decides(alloc, ready, false, Answer::Refuse, Some(Tag::Denied))?;
+    Some(allowed && refused)
+}
+
 pub fn request_is_decided(alloc: Global) -> Option<bool> {
     let ready = built(alloc)?;
-    let allowed = decides(alloc, &ready, true, Answer::Allow, None)?;
-    let refused = decides(alloc, &ready, false, Answer::Refuse, Some(Tag::Denied))?;
-    Some(allowed && refused)
+    decides_both(alloc, &ready)
 }

@@ -5,4 +5,4 @@ use Rattle.aa_glob_nfa.specs.OfTables.{graph_of}
 use Rattle.aa_glob_run.proofs.patterns.found_by.Given as goal
 
 abbrev pub invariant-loop-at : goal.invariant-loop-at
-invariant-loop-at l = (p : ℕ) → Contains l.found.items p ↔ IsEndIn (graph_of l.tables) l.at l.front.states p
+invariant-loop-at l = (p : ℕ) → Contains l.found.items p ↔ IsEndIn (graph_of l.tables) l.at l.live p

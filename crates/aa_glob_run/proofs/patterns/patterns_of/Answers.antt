@@ -4,7 +4,7 @@ use Rattle.std.specs.Prelude.{Contains}
 use Rattle.std.specs.List.Sorted.{IsNonDecreasing}
 use Rattle.aa_glob_run.specs.code.Ends.{IsEndIn}
 use Rattle.aa_glob_nfa.specs.OfTables.{graph_of}
-use Rattle.aa_glob_run.proofs.PatternLemmas.{IfOk-then}
+use Rattle.std.proofs.lemmas.Result.{IfOk-weaker}
 use Rattle.aa_glob_run.proofs.patterns.patterns_of.Goals as goal
 
 pub rising-requires : goal.rising-requires
@@ -13,7 +13,7 @@ rising-requires c =
 
 pub returns-clause-found : goal.returns-clause-found
 returns-clause-found c =
-    let live = c.args.front.now.states in
+    let live = c.args.live.now in
     let before = c.in_ok-found.found.items in
     let after = c.sort_unstable.new.self.items in
     let moved = c.sort_unstable.ensures.permutation in
@@ -22,4 +22,4 @@ returns-clause-found c =
       (λ h. (c.in_ok-found.ensures p).0 (Contains-permutation after before p (IsPermutation-sym before after moved) h)),
       (λ known. Contains-permutation before after p moved ((c.in_ok-found.ensures p).1 known)),
     )) in
-    IfOk-then c.rising.result _ _ (λ patterns same p. ((λ h. (shown p).0 ((same p).0 h)), (λ known. (same p).1 ((shown p).1 known)))) c.rising.ensures.same
+    IfOk-weaker c.rising.result _ _ (λ patterns same p. ((λ h. (shown p).0 ((same p).0 h)), (λ known. (same p).1 ((shown p).1 known)))) c.rising.ensures.same

@@ -7,7 +7,8 @@ use Rattle.aa_set.proofs.reply.obey.Goals as goal
 
 pub returns-in-Ask : goal.returns-in-Ask
 returns-in-Ask c =
-    rw c.in-Ask.is (obeyed-answered (λ lines. lines.items) c.args.files.now c.args.manager.now (Ask (seen_question c.in-Ask.question)) (reply_lines c.args.manager.now.machine.now (seen_question c.in-Ask.question))
+    let managed = c.remember.new.self in
+    rw (c.in-Ask.is, ← c.remember.ensures) (obeyed-answered (λ lines. lines.items) c.args.files.now managed (Ask (seen_question c.in-Ask.question)) (reply_lines managed.machine.now (seen_question c.in-Ask.question))
     c.ask.result c.answered.result refl c.ask.ensures.answered c.ask.ensures.refused (of-that c.ask.result c.ask.ensures.memory (λ refusal absent memory. ap not (absent memory))) c.answered.ensures)
 
 pub returns-in-Mark : goal.returns-in-Mark

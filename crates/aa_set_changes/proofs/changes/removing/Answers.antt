@@ -7,5 +7,5 @@ use Rattle.aa_set_changes.proofs.changes.removing.Goals as goal
 pub unloading-requires-clause-all : goal.unloading-requires-clause-all
 unloading-requires-clause-all c =
     ap (list_any is_none) c.deref.ensures.value
-    ∙ named-absent c.in_ok-found.found.items c.args.profiles.now c.as_slice.result.now c.in_ok-found.ensures.found
+    ∙ named-absent c.in_ok-found.found.items c.args.profiles.now c.indexed.result c.in_ok-found.ensures.found
     ∙ c.in_ok-found.ensures.ok

@@ -1,9 +1,9 @@
 use Rattle.std.proofs.Common.{Ok, Some, sym, ap, ◌∙◌}
-use Rattle.aa_decide.specs.Named.{entry_named}
+use Rattle.aa_decide_slots.specs.Named.{entry_named}
 use Rattle.aa_decide_verdict.specs.Slots.{filled}
 use Rattle.aa_set_changes.specs.Changes.{modes_of}
 use Rattle.aa_set_changes.proofs.PartLemmas.{mode-seen}
-use Rattle.aa_set_names.specs.SlotNames.{slot_named}
+use Rattle.aa_decide_slots.specs.SlotNames.{slot_named}
 use Rattle.aa_set_parts.specs.Parts.{after}
 use Rattle.aa_set_changes.proofs.changes.switching.Goals as goal
 
@@ -12,8 +12,8 @@ returns-clause-ok c =
     let name = c.args.name.now in
     let found = c.in-Some.ensures in
     mode-seen c.args.mode name c.args.slots.now c.in-Some.slot c.in-Some.entry.now c.from_vec.result
-    (ap (slot_named name) (sym c.as_slice.ensures) ∙ sym found.slot)
-    (ap (λ slots. entry_named name (filled slots)) (sym c.as_slice.ensures) ∙ sym found.entry)
+    (ap (slot_named name) (sym c.indexed.ensures) ∙ sym found.slot)
+    (ap (λ slots. entry_named name (filled slots)) (sym c.indexed.ensures) ∙ sym found.found)
     found.fits
     (c.from_vec.ensures ∙ c.in_ok-modes.ensures ∙ ap (modes_of (Some c.args.mode)) c.profile.ensures)
     ∙ ap (λ parts. Ok (filled (after c.args.slots.now parts))) (sym c.in_ok-in_state.ensures)

@@ -1,6 +1,7 @@
 use Rattle.std.proofs.Common.{ap, ◌∙◌}
 use Rattle.std.specs.Option.{is_some}
-use Rattle.aa_set_changes.proofs.PlaceLemmas.{found-is, some-found}
+use Rattle.aa_decide_slots.proofs.FindLemmas.{found-is}
+use Rattle.aa_set_changes.proofs.PlaceLemmas.{some-found}
 use Rattle.aa_set_changes.proofs.places.has_name.Goals as goal
 
 pub returns : goal.returns

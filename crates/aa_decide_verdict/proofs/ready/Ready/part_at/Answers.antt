@@ -6,6 +6,6 @@ use Rattle.aa_decide_verdict.proofs.ready.Ready.part_at.Goals as goal
 pub returns-in-Some : goal.returns-in-Some
 returns-in-Some c =
     let children = c.self.inside.profile.children in
-    let are : ArePartsOf c.as_slice.result.now children = rw c.as_slice.ensures c.self.invariant.1 in
+    let are : ArePartsOf c.deref.result.now children = rw c.deref.ensures.value c.self.invariant.1 in
     rw (c.in-Some.is, sym c.self.view_is)
-    (part-found c.as_slice.result.now children c.in-Some.place _ c.get.result are c.get.ensures.lookup.3 c.get.ensures.lookup.1)
+    (part-found c.deref.result.now children c.in-Some.place _ c.get.result are c.get.ensures.lookup.3 c.get.ensures.lookup.1)

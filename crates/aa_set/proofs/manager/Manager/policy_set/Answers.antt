@@ -1,5 +1,5 @@
 use Rattle.std.proofs.Common.{ap, ◌∙◌}
-use Rattle.aa_decide.specs.Named.{have_distinct_names}
+use Rattle.aa_decide_slots.specs.Named.{have_distinct_names}
 use Rattle.aa_set.specs.Manager.{Managed}
 use Rattle.aa_set.proofs.ManagerLemmas.{entries-seen, now-distinct}
 use Rattle.aa_set.proofs.manager.Manager.policy_set.Goals as goal

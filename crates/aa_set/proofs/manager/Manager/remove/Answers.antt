@@ -1,5 +1,5 @@
 use Rattle.std.proofs.Common.{◌≡◌, length, List, Ok, Err, IfErr, OnOk, sym, ap, subst, ◌∙◌}
-use Rattle.aa_decide.specs.Named.{have_distinct_names}
+use Rattle.aa_decide_slots.specs.Named.{have_distinct_names}
 use Rattle.aa_decide_verdict.specs.Slots.{filled}
 use Rattle.aa_profile.specs.FileReading.{file_profiles}
 use Rattle.aa_profile_data.specs.declared.profile.Profile.{Profile}

@@ -1,0 +1,4 @@
+pub mod AttachmentLemmas
+pub mod FindLemmas
+pub mod NameLemmas
+pub mod SameLemmas

@@ -1,0 +1,4 @@
+pub mod Indexes
+pub mod Named
+pub mod SlotAttachments
+pub mod SlotNames

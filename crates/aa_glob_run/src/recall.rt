@@ -1,0 +1,205 @@
+//! What follows at a place of a text, by what is remembered, and how it comes to be remembered.
+
+ghost use Rattle.std.specs.Prelude.{◌≡◌, ◌<◌, ◌≤◌, [], ℕ, List, length, IfOk, IfSome, OnOk};
+ghost use Rattle.aa_glob_nfa.specs.Graphs.{Graph};
+ghost use Rattle.aa_glob_nfa.specs.OfTables.{AreSound, AreSorted, graph_of};
+ghost use Rattle.aa_glob_front.specs.Fronts.{IsLive};
+ghost use Rattle.aa_glob_front.specs.Runs.{IsBegun, IsWhole};
+ghost use Rattle.aa_glob_run.specs.code.Memos.{IsRecalling, LeadsTo, Remembers, front_at, fronts_in};
+
+use crate::memo::Memo;
+use aa_glob_front::{Front, Steps, pass};
+use aa_glob_nfa::Tables;
+use std::alloc::{AllocError, Global};
+
+// How many states a list has at most that is remembered behind a byte, so that all lists take no more than some 2 MB.
+const LONGEST: usize = 64;
+
+// How many moves are looked for at most, as one text is remembered.
+const MOST_NEW: u32 = 8;
+
+// All states that live at a place, of those that its last byte brought.
+fn close(alloc: Global, tables: &Tables, brought: Front) -> Result<Vec<u32>, AllocError>
+    requires sound { AreSound tables.now }
+    requires sorted { AreSorted tables.now }
+    requires room { brought.room ≡ length tables.now.states }
+    ensures whole { IfOk result (λ states. (past : List ℕ) → IsBegun (graph_of tables.now) past brought.states → IsWhole (graph_of tables.now) past states.items) }
+    ensures live { IfOk result (λ states. IsLive (length tables.now.states) states.items) }
+{
+    let mut here = brought;
+    let mut next = Front::new(alloc, tables.states.len())?;
+    pass(tables, None, &mut here, &mut next, &mut Steps::new())?;
+    Ok(here.into_states())
+}
+
+// The states that live before a text.
+fn first(alloc: Global, tables: &Tables) -> Result<Vec<u32>, AllocError>
+    requires sound { AreSound tables.now }
+    requires sorted { AreSorted tables.now }
+    ensures whole { IfOk result (λ states. IsWhole (graph_of tables.now) [] states.items) }
+    ensures live { IfOk result (λ states. IsLive (length tables.now.states) states.items) }
+{
+    let mut here = Front::new(alloc, tables.states.len())?;
+    here.insert(0)?;
+    close(alloc, tables, here)
+}
+
+// The states that live behind a byte, of those that live before it.
+fn follow(alloc: Global, tables: &Tables, from: &[u32], byte: u8) -> Result<Vec<u32>, AllocError>
+    requires sound { AreSound tables.now }
+    requires sorted { AreSorted tables.now }
+    requires live { IsLive (length tables.now.states) from.now }
+    ensures leads { IfOk result (λ to. LeadsTo (graph_of tables.now) from.now byte to.items) }
+    ensures live { IfOk result (λ to. IsLive (length tables.now.states) to.items) }
+{
+    let count = tables.states.len();
+    let mut here = Front::of(alloc, count, from)?;
+    let mut next = Front::new(alloc, count)?;
+    pass(tables, Some(byte), &mut here, &mut next, &mut Steps::new())?;
+    close(alloc, tables, next)
+}
+
+impl Memo {
+    // Sees to it that the list of the states that live before a text is there. Its number is 0.
+    pub fn begin(&mut self, alloc: Global, tables: &Tables) -> Result<(), AllocError>
+        requires sound { AreSound tables.now }
+        requires sorted { AreSorted tables.now }
+        requires memo { Remembers (graph_of tables.now) (length tables.now.states) self.old }
+        ensures memo { Remembers (graph_of tables.now) (length tables.now.states) self.new }
+        ensures some { OnOk result (0 < length (fronts_in self.new)) }
+    {
+        if self.len() == 0 {
+            let states = first(alloc, tables)?;
+            self.add(alloc, &states)?;
+        }
+        Ok(())
+    }
+
+    // The number of a list, which is added where it isn't found. The others keep theirs.
+    fn place(&mut self, alloc: Global, states: &[u32]) -> Result<usize, AllocError>
+        requires few { length (fronts_in self.old) < 8192 }
+        requires some { 0 < length (fronts_in self.old) }
+        ensures memo { (g : Graph) (room : ℕ) → Remembers g room self.old → IsLive room states.now → Remembers g room self.new }
+        ensures kept { (n : ℕ) → n < length (fronts_in self.old) → (n < length (fronts_in self.new)) × (front_at self.new n ≡ front_at self.old n) }
+        ensures within { IfOk result (λ number. (number < length (fronts_in self.new)) × (number ≤ 8192)) }
+        ensures same { IfOk result (λ number. front_at self.new number ≡ states.now) }
+    {
+        match self.find(states) {
+            Some(number) => Ok(number),
+            None => self.add(alloc, states),
+        }
+    }
+
+    // Remembers that a list follows behind a byte, and gives its number.
+    fn remember(
+        &mut self,
+        alloc: Global,
+        number: usize,
+        byte: u8,
+        states: &[u32],
+    ) -> Result<usize, AllocError>
+        requires few { length (fronts_in self.old) < 8192 }
+        requires within { number < length (fronts_in self.old) }
+        ensures memo { (g : Graph) (room : ℕ) → Remembers g room self.old → LeadsTo g (front_at self.old number) byte states.now
+            → IsLive room states.now → Remembers g room self.new }
+        ensures within { IfOk result (λ to. to < length (fronts_in self.new)) }
+    {
+        let to = self.place(alloc, states)?;
+        self.note(number, byte, to)?;
+        Ok(to)
+    }
+
+    // Looks for the list that follows behind a byte, remembers it, and gives its number. One that is too long isn't remembered, nor is any where there is
+    // no room; that is answered as if memory had run out.
+    fn learn(
+        &mut self,
+        alloc: Global,
+        tables: &Tables,
+        number: usize,
+        byte: u8,
+    ) -> Result<usize, AllocError>
+        requires sound { AreSound tables.now }
+        requires sorted { AreSorted tables.now }
+        requires memo { Remembers (graph_of tables.now) (length tables.now.states) self.old }
+        requires within { number < length (fronts_in self.old) }
+        ensures memo { Remembers (graph_of tables.now) (length tables.now.states) self.new }
+        ensures within { IfOk result (λ to. to < length (fronts_in self.new)) }
+    {
+        if self.is_full() {
+            self.turn_away();
+            return Err(AllocError);
+        }
+        let states = follow(alloc, tables, self.front(number), byte)?;
+        if states.len() > LONGEST {
+            return Err(AllocError);
+        }
+        self.remember(alloc, number, byte, &states)
+    }
+}
+
+// Remembers what follows at the places of a text, as far as it is known already and some moves more. Tells whether all of it is known now.
+pub fn recall(
+    alloc: Global,
+    tables: &Tables,
+    text: &[u8],
+    memo: &mut Memo,
+) -> Result<bool, AllocError>
+    requires sound { AreSound tables.now }
+    requires sorted { AreSorted tables.now }
+    requires memo { Remembers (graph_of tables.now) (length tables.now.states) memo.old }
+    ensures memo { Remembers (graph_of tables.now) (length tables.now.states) memo.new }
+{
+    memo.begin(alloc, tables)?;
+    let mut at = 0;
+    let mut new = 0;
+    for byte in text {
+        match memo.behind(at, *byte) {
+            Some(to) => at = to,
+            None => {
+                if memo.front(at).is_empty() {
+                    return Ok(true);
+                }
+                if new == MOST_NEW {
+                    return Ok(false);
+                }
+                new += 1;
+                at = memo.learn(alloc, tables, at, *byte)?;
+            }
+        }
+    }
+    Ok(true)
+}
+
+// A place of a text to which a run has come, and the number of the list of the states that live there.
+#[derive(Clone, Copy, Debug)]
+pub struct Far {
+    pub place: usize,
+    pub number: usize,
+}
+
+// Goes through a text by what is remembered, as far as it is. Each place before the one that is come to is counted. None where nothing is remembered.
+pub fn known_far(tables: &Tables, text: &[u8], memo: &Memo, steps: &mut Steps) -> Option<Far>
+    requires memo { Remembers (graph_of tables.now) (length tables.now.states) memo.now }
+    ensures { IfSome result (λ far. (far.place ≤ length text.now)
+        × IsRecalling (graph_of tables.now) text.now far.place (length tables.now.states) memo.now far.number steps.old steps.new) }
+{
+    if memo.len() == 0 {
+        return None;
+    }
+    let mut far = Far {
+        place: 0,
+        number: 0,
+    };
+    while far.place < text.len() {
+        let live = memo.front(far.number).len();
+        match memo.behind(far.number, text[far.place]) {
+            Some(number) if live > 0 => {
+                steps.visited(live);
+                far.place += 1;
+                far.number = number;
+            }
+            _ => return Some(far),
+        }
+    }
+    Some(far)
+}

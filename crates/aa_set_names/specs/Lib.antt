@@ -1,2 +1,0 @@
-pub mod SlotNames
-pub mod code

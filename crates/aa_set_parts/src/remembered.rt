@@ -1,0 +1,109 @@
+//! Of whom something is remembered, and which questions need no more of it.
+
+ghost use Rattle.std.specs.Prelude.{◌≡◌};
+
+use aa_decide_verdict::Entry;
+use std::alloc::Global;
+
+// Of how many profiles, children and hats something is remembered at once.
+const MOST_ASKERS: usize = 8;
+
+// So many fingerprints are kept.
+const FINGERPRINTS: usize = 4096;
+
+/// A profile in a slot, or its child or hat at a place.
+#[derive(Clone, Copy, Debug, PartialEq, Eq)]
+pub(crate) struct Warm {
+    pub slot: usize,
+    pub child: Option<usize>,
+}
+
+/// Of whom something is remembered, and fingerprints of questions about paths of which all is.
+#[derive(Debug, Drop)]
+pub(crate) struct Remembered {
+    alloc: Global,
+    askers: Vec<Warm>,
+    // Each at its remainder. Where a fingerprint is that of another question too, no more is remembered of that one: its answer is the same.
+    fingerprints: Vec<u32>,
+}
+
+/// A number by which a question is known again: of who asks and of the path.
+pub fn fingerprint(who: &[u8], path: &[u8]) -> u32 {
+    let mut print: u32 = 0x811c_9dc5;
+    for byte in who {
+        print = (print ^ u32::from(*byte)).wrapping_mul(0x0100_0193);
+    }
+    print = print.wrapping_mul(0x0100_0193);
+    for byte in path {
+        print = (print ^ u32::from(*byte)).wrapping_mul(0x0100_0193);
+    }
+    print
+}
+
+// Where a fingerprint is kept.
+fn place_of(fingerprint: u32) -> usize {
+    fingerprint as usize % FINGERPRINTS
+}
+
+impl Remembered {
+    /// Nothing. It takes no memory.
+    pub fn new(alloc: Global) -> Remembered {
+        Remembered {
+            alloc,
+            askers: Vec::new(alloc),
+            fingerprints: Vec::new(alloc),
+        }
+    }
+
+    /// Whether all is remembered of the path of a question with this fingerprint.
+    pub fn has(&self, fingerprint: u32) -> bool {
+        self.fingerprints.get(place_of(fingerprint)) == Some(&fingerprint)
+    }
+
+    /// Notes that all is remembered of the path of a question with this fingerprint, where there is memory for that.
+    pub fn note(&mut self, fingerprint: u32) {
+        if self.fingerprints.is_empty() {
+            match vec![in self.alloc; 0; FINGERPRINTS] {
+                Ok(none) => self.fingerprints = none,
+                Err(_) => return,
+            }
+        }
+        if let Some(kept) = self.fingerprints.get_mut(place_of(fingerprint)) {
+            *kept = fingerprint;
+        }
+    }
+
+    /// Notes of whom something is remembered, if it can be noted. Where there are too many, all is forgotten before.
+    pub fn keep(&mut self, slots: &mut Vec<Option<Entry>>, asker: Warm) -> bool
+        ensures { slots.new.items ≡ slots.old.items }
+    {
+        if self.askers.contains(&asker) {
+            return true;
+        }
+        if self.askers.len() >= MOST_ASKERS {
+            self.forget_all(slots);
+        }
+        self.askers.push(asker).is_ok()
+    }
+
+    /// Forgets all, the last first.
+    pub fn forget_all(&mut self, slots: &mut Vec<Option<Entry>>)
+        ensures { slots.new.items ≡ slots.old.items }
+    {
+        self.fingerprints.clear();
+        while let Some(last) = self.askers.pop() {
+            if last.slot < slots.len() {
+                forget(&mut slots[last.slot], self.alloc, last.child);
+            }
+        }
+    }
+}
+
+// Forgets what is remembered of the profile in a slot, or of its child or hat at a place, if one is in it.
+fn forget(slot: &mut Option<Entry>, alloc: Global, child: Option<usize>)
+    ensures { slot.new ≡ slot.old }
+{
+    if let Some(entry) = slot {
+        entry.forget(alloc, child);
+    }
+}
