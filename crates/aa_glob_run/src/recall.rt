@@ -1,11 +1,11 @@
 //! What follows at a place of a text, by what is remembered, and how it comes to be remembered.
 
-ghost use Rattle.std.specs.Prelude.{◌≡◌, ◌<◌, ◌≤◌, [], ℕ, List, length, IfOk, IfSome, OnOk};
+ghost use Rattle.std.specs.Prelude.{◌≡◌, ◌<◌, ◌≤◌, [], ℕ, List, length, true, IfOk, IfSome, OnOk};
 ghost use Rattle.aa_glob_nfa.specs.Graphs.{Graph};
 ghost use Rattle.aa_glob_nfa.specs.OfTables.{AreSound, AreSorted, graph_of};
 ghost use Rattle.aa_glob_front.specs.Fronts.{IsLive};
 ghost use Rattle.aa_glob_front.specs.Runs.{IsBegun, IsWhole};
-ghost use Rattle.aa_glob_run.specs.code.Memos.{IsRecalling, LeadsTo, Remembers, front_at, fronts_in};
+ghost use Rattle.aa_glob_run.specs.code.Memos.{IsRecalling, LeadsTo, Remembers, front_at, fronts_in, most_fronts, most_new};
 
 use crate::memo::Memo;
 use aa_glob_front::{Front, Steps, pass};
@@ -16,7 +16,7 @@ use std::alloc::{AllocError, Global};
 const LONGEST: usize = 64;
 
 // How many moves are looked for at most, as one text is remembered.
-const MOST_NEW: u32 = 8;
+const MOST_NEW: u32 = 32;
 
 // All states that live at a place, of those that its last byte brought.
 fn close(alloc: Global, tables: &Tables, brought: Front) -> Result<Vec<u32>, AllocError>
@@ -77,11 +77,11 @@ impl Memo {
 
     // The number of a list, which is added where it isn't found. The others keep theirs.
     fn place(&mut self, alloc: Global, states: &[u32]) -> Result<usize, AllocError>
-        requires few { length (fronts_in self.old) < 8192 }
+        requires few { length (fronts_in self.old) < most_fronts }
         requires some { 0 < length (fronts_in self.old) }
         ensures memo { (g : Graph) (room : ℕ) → Remembers g room self.old → IsLive room states.now → Remembers g room self.new }
         ensures kept { (n : ℕ) → n < length (fronts_in self.old) → (n < length (fronts_in self.new)) × (front_at self.new n ≡ front_at self.old n) }
-        ensures within { IfOk result (λ number. (number < length (fronts_in self.new)) × (number ≤ 8192)) }
+        ensures within { IfOk result (λ number. (number < length (fronts_in self.new)) × (number ≤ most_fronts)) }
         ensures same { IfOk result (λ number. front_at self.new number ≡ states.now) }
     {
         match self.find(states) {
@@ -98,7 +98,7 @@ impl Memo {
         byte: u8,
         states: &[u32],
     ) -> Result<usize, AllocError>
-        requires few { length (fronts_in self.old) < 8192 }
+        requires few { length (fronts_in self.old) < most_fronts }
         requires within { number < length (fronts_in self.old) }
         ensures memo { (g : Graph) (room : ℕ) → Remembers g room self.old → LeadsTo g (front_at self.old number) byte states.now
             → IsLive room states.now → Remembers g room self.new }
@@ -109,31 +109,43 @@ impl Memo {
         Ok(to)
     }
 
-    // Looks for the list that follows behind a byte, remembers it, and gives its number. One that is too long isn't remembered, nor is any where there is
-    // no room; that is answered as if memory had run out.
+    // Looks for the list that follows behind a byte, remembers it, and gives its number. None where it is too long, or where there is no room for more.
     fn learn(
         &mut self,
         alloc: Global,
         tables: &Tables,
         number: usize,
         byte: u8,
-    ) -> Result<usize, AllocError>
+    ) -> Result<Option<usize>, AllocError>
         requires sound { AreSound tables.now }
         requires sorted { AreSorted tables.now }
         requires memo { Remembers (graph_of tables.now) (length tables.now.states) self.old }
         requires within { number < length (fronts_in self.old) }
         ensures memo { Remembers (graph_of tables.now) (length tables.now.states) self.new }
-        ensures within { IfOk result (λ to. to < length (fronts_in self.new)) }
+        ensures within { IfOk result (λ found. IfSome found (λ to. to < length (fronts_in self.new))) }
     {
         if self.is_full() {
             self.turn_away();
-            return Err(AllocError);
+            return Ok(None);
         }
         let states = follow(alloc, tables, self.front(number), byte)?;
         if states.len() > LONGEST {
-            return Err(AllocError);
+            return Ok(None);
         }
-        self.remember(alloc, number, byte, &states)
+        self.remember(alloc, number, byte, &states).map(Some)
+    }
+
+    // Whether a move of a text is looked for, where so many of it were. The first is where it was missed before, so a text that is asked once adds nothing.
+    fn is_worth_learning(&mut self, new: u32, number: usize, byte: u8) -> bool
+        ensures fronts { self.new.fronts ≡ self.old.fronts }
+        ensures moves { self.new.moves ≡ self.old.moves }
+        ensures few { result ≡ true → new < most_new }
+    {
+        if new == 0 {
+            self.is_missed_again(number, byte)
+        } else {
+            new < MOST_NEW
+        }
     }
 }
 
@@ -153,19 +165,21 @@ pub fn recall(
     let mut at = 0;
     let mut new = 0;
     for byte in text {
-        match memo.behind(at, *byte) {
-            Some(to) => at = to,
-            None => {
-                if memo.front(at).is_empty() {
-                    return Ok(true);
-                }
-                if new == MOST_NEW {
-                    return Ok(false);
-                }
-                new += 1;
-                at = memo.learn(alloc, tables, at, *byte)?;
-            }
+        if let Some(to) = memo.behind(at, *byte) {
+            at = to;
+            continue;
         }
+        if memo.front(at).is_empty() {
+            return Ok(true);
+        }
+        if !memo.is_worth_learning(new, at, *byte) {
+            return Ok(false);
+        }
+        match memo.learn(alloc, tables, at, *byte)? {
+            None => return Ok(false),
+            Some(to) => at = to,
+        }
+        new += 1;
     }
     Ok(true)
 }

@@ -94,6 +94,23 @@ fn ask_copies(
     ask_automaton(tally, &copy, path, answer)
 }
 
+// How often an automaton is asked of a path that it remembers more and more of: what is missed once is only noted.
+const TIMES_REMEMBERED: usize = 3;
+
+// Asks an automaton that remembers the path, in part and then, where it isn't long, in whole.
+fn ask_remembering(
+    tally: &mut Tally,
+    automaton: &mut Automaton,
+    path: &[u8],
+    answer: &[u8],
+) -> Result<(), RowError> {
+    for _ in 0..TIMES_REMEMBERED {
+        automaton.remember(tally.alloc(), path);
+        ask_automaton(tally, automaton, path, answer)?;
+    }
+    Ok(())
+}
+
 // `matching PATH PLACES PATTERN..`
 fn ask_matching(
     tally: &mut Tally,
@@ -105,8 +122,9 @@ fn ask_matching(
     want(tally, answer)?;
     put_matches(&mut tally.answered, &patterns, path)?;
     tally.settle("matches of each pattern")?;
-    let automaton = Automaton::build(tally.alloc(), &patterns)?;
-    ask_copies(tally, &automaton, path, answer)
+    let mut automaton = Automaton::build(tally.alloc(), &patterns)?;
+    ask_copies(tally, &automaton, path, answer)?;
+    ask_remembering(tally, &mut automaton, path, answer)
 }
 
 // The automaton of the patterns that some texts read as.

@@ -6,6 +6,14 @@ use Rattle.aa_glob_front.specs.Runs.{HasRun, IsWhole}
 use Rattle.aa_glob_run.specs.declared.memo.Memo.{Memo}
 use Rattle.aa_glob_run.specs.declared.memo.Move.{Move}
 
+-- how many lists are remembered at most
+abbrev pub most_fronts : ℕ
+most_fronts = 8192
+
+-- how many moves of one text are looked for at most, each time it is remembered
+abbrev pub most_new : ℕ
+most_new = 32
+
 -- behind any text that reaches the states of one list, and a byte more, those of another are reached
 abbrev pub LeadsTo : Graph → List ℕ → ℕ → List ℕ → Type 0
 LeadsTo g from c to = (past : List ℕ) → IsWhole g past from → IsWhole g (c ∷ past) to
