@@ -83,11 +83,23 @@ fn fill(alloc: Global, automaton: &mut Automaton) -> Result<(), AllocError> {
     Ok(())
 }
 
+// Whether so many patterns match a row of so many letters.
+fn finds_row(
+    alloc: Global,
+    automaton: &Automaton,
+    letter: u8,
+    letters: usize,
+    count: usize,
+) -> Result<bool, AllocError> {
+    let row = row_of(alloc, letter, letters)?;
+    finds(alloc, automaton, &row, count)
+}
+
 // Whether each row is found, and none that is a letter short.
 fn finds_rows(alloc: Global, automaton: &Automaton) -> Result<bool, AllocError> {
     for letter in b'a'..=b'e' {
-        let row = row_of(alloc, letter, 4_000)?;
-        if !finds(alloc, automaton, &row, 1)? || !finds(alloc, automaton, &row[..4_000], 0)? {
+        let is_found = finds_row(alloc, automaton, letter, 4_000, 1)?;
+        if !is_found || !finds_row(alloc, automaton, letter, 3_999, 0)? {
             return Ok(false);
         }
     }
