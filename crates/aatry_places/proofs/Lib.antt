@@ -1,0 +1,3 @@
+mod CaretLemmas
+mod LineLemmas
+mod PlaceLemmas

@@ -1,0 +1,4 @@
+pub mod CaretLine
+pub mod Characters
+pub mod Columns
+pub mod Lines
