@@ -1,0 +1,4 @@
+pub mod FoundLemmas
+pub mod ListingLemmas
+pub mod MemberLemmas
+pub mod StepLemmas

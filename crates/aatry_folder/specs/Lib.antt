@@ -1,0 +1,5 @@
+pub mod Links
+pub mod Members
+pub mod NamesBelow
+pub mod PassedOver
+pub mod code

@@ -1,0 +1,130 @@
+//! Where the members of folders are read from.
+ghost use Rattle.std.specs.Prelude.{◌≡◌, ℕ, List, ◌++◌, Option, None, IfOk, IfSome, IsNone, OnOk, codes, option_map, string_bytes};
+ghost use Rattle.std.specs.Fs.{IsDir, IsFile};
+ghost use Rattle.std.specs.List.Sorted.{IsSorted};
+ghost use Rattle.std.specs.String.{string_cmp};
+ghost use Rattle.aatry_folder.specs.Members.{texts_of};
+ghost use Rattle.aatry_folder.specs.Links.{leads_nowhere};
+
+use std::alloc::{AllocError, Global};
+use std::fs::FileType;
+use std::io::ErrorKind;
+use std::{fs, io, rt};
+
+/// A file system, as far as its folders are read.
+pub trait Folders {
+    // The names of the members of the folder at a path, where they are known.
+    ghost members_at: { Self → List ℕ → Option (List (List ℕ)) };
+
+    /// The members of the folder at a path, each by its name, a folder's with `/` at its end. Links are followed. What is neither a file nor
+    /// a folder is left out: a socket, a pipe, a device, and a link that leads nowhere.
+    ///
+    /// # Errors
+    ///
+    /// That of the system. Its kind is `OutOfMemory` for want of memory alone.
+    fn members(&self, alloc: Global, path: &str) -> io::Result<Vec<String>>
+        ensures { IfOk result (λ names. IfSome (members_at self.now path.now) (λ known. texts_of names ≡ known)) };
+}
+
+/// The folders of a runtime's file system. Nothing is known of their members before they are read, which come in the order of their
+/// names' bytes, a folder's `/` included, whatever the order of the system is. A folder with a name in it that isn't text (UTF-8) can't be
+/// read: its kind of error is `InvalidFilename`.
+#[derive(Drop)]
+pub struct RuntimeFolders<R> {
+    rt: R,
+}
+
+impl<R: rt::Files> RuntimeFolders<R> {
+    /// The folders that `rt` reads.
+    pub fn new(rt: R) -> RuntimeFolders<R> {
+        RuntimeFolders { rt }
+    }
+}
+
+// Whether a link leads nowhere, by the error of following it. What was taken away since its folder was read leads nowhere too.
+fn leads_nowhere(kind: ErrorKind) -> bool
+    ensures { result ≡ leads_nowhere kind }
+{
+    matches!(
+        kind,
+        ErrorKind::NotFound | ErrorKind::NotADirectory | ErrorKind::FilesystemLoop
+    )
+}
+
+// What a path leads to, if it leads anywhere.
+fn followed(rt: &impl rt::Files, path: &str) -> io::Result<Option<FileType>> {
+    match fs::metadata(rt, path) {
+        Ok(metadata) => Ok(Some(metadata.file_type())),
+        Err(error) => {
+            if leads_nowhere(error.kind()) {
+                Ok(None)
+            } else {
+                Err(error)
+            }
+        }
+    }
+}
+
+// A folder's name, with `/` behind it.
+fn folder_name(alloc: Global, name: &str) -> Result<String, AllocError>
+    ensures { IfOk result (λ told. string_bytes told ≡ name.now ++ codes "/") }
+{
+    let mut told = String::from_str(alloc, name)?;
+    told.push('/')?;
+    Ok(told)
+}
+
+// The name of a member by what its path leads to: a file's own, a folder's with `/` behind it, and else none.
+fn member_name(alloc: Global, name: &str, kind: Option<FileType>) -> io::Result<Option<String>>
+    ensures file { IfSome kind (λ kind. IsFile kind → IfOk result (λ told. option_map string_bytes told ≡ Some name.now)) }
+    ensures folder { IfSome kind (λ kind. IsDir kind → IfOk result (λ told. option_map string_bytes told ≡ Some (name.now ++ codes "/"))) }
+    ensures neither { IfSome kind (λ kind. ¬ IsFile kind → ¬ IsDir kind → IfOk result (λ told. told ≡ None)) }
+    ensures nowhere { IsNone kind → IfOk result (λ told. told ≡ None) }
+{
+    match kind {
+        Some(kind) if kind.is_dir() => Ok(Some(folder_name(alloc, name)?)),
+        Some(kind) if kind.is_file() => Ok(Some(String::from_str(alloc, name)?)),
+        _ => Ok(None),
+    }
+}
+
+// Takes a member behind the others, if it is a file or a folder.
+fn take_member<R: rt::Files + Drop>(
+    rt: &R,
+    alloc: Global,
+    entry: io::Result<fs::DirEntry<R, Global>>,
+    names: &mut Vec<String>,
+) -> io::Result<()> {
+    let entry = entry?;
+    let kind = followed(rt, entry.path().as_str())?;
+    if let Some(name) = member_name(alloc, entry.file_name(), kind)? {
+        names.push(name)?;
+    }
+    Ok(())
+}
+
+// The members of a folder, as they come.
+fn read_members<R: rt::Files + AllocGlobal + Clone + Drop>(
+    rt: &R,
+    alloc: Global,
+    path: &str,
+) -> io::Result<Vec<String>> {
+    let mut names = Vec::new(alloc);
+    for entry in fs::read_dir(rt, path)? {
+        take_member(rt, alloc, entry, &mut names)?;
+    }
+    Ok(names)
+}
+
+impl<R: rt::Files + AllocGlobal + Clone + Drop> Folders for RuntimeFolders<R> {
+    ghost members_at = { λ _ _. None };
+
+    // They are in order, whatever the order of the system is.
+    fn members(&self, alloc: Global, path: &str) -> io::Result<Vec<String>>
+        ensures { IfOk result (λ names. IsSorted string_cmp names.items) }
+    {
+        let mut names = read_members(&self.rt, alloc, path)?;
+        names.sort()?;
+        Ok(names)
+    }
+}
