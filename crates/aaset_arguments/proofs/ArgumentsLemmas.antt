@@ -69,7 +69,7 @@ stopped_ends Nothing w word words (inr (inr (inr h))) = inl (inr (inr (inr (rw h
 -- ---- the end of the words
 
 -- arguments without defaults
-abbrev NoDefaults : List Rule → Type 0
+abbrev pub NoDefaults : List Rule → Type 0
 NoDefaults [] = Unit {0}
 NoDefaults (a ∷ rules) = (a.defaults ≡ []) × NoDefaults rules
 
@@ -80,7 +80,7 @@ no_default rows a none = by (has_row a.id rows) refl
     by true e = (rw e refl, rw e refl)
     by false e = (rw (e, none) refl, rw (e, none) refl)
 
-no_defaults : (rules : List Rule) (rows : List Row) → NoDefaults rules → (fold with_default rows rules ≡ rows) × (defaults_fault rows rules ≡ [])
+pub no_defaults : (rules : List Rule) (rows : List Row) → NoDefaults rules → (fold with_default rows rules ≡ rows) × (defaults_fault rows rules ≡ [])
 unfolding defaults_fault
 no_defaults [] rows none = (refl, refl)
 no_defaults (a ∷ rules) rows none =

@@ -1,7 +1,7 @@
-mod ArgumentsLemmas
+pub mod ArgumentsLemmas
 mod LawLemmas
-mod OptionLemmas
-mod OutcomeLemmas
-mod RowLemmas
-mod WalkLemmas
+pub mod OptionLemmas
+pub mod OutcomeLemmas
+pub mod RowLemmas
+pub mod WalkLemmas
 mod WordLemmas

@@ -62,7 +62,7 @@ long_kinds h before name v s = by (bytes_eq (codes "help") name) refl (bytes_eq 
     by true e version g (Some x) = rw e refl
 
 -- all of a text stands before the first `=`, where there is none
-before_none : (text : Text) → has_byte 61 text ≡ false → before_first (λ x. x == 61) text ≡ text
+pub before_none : (text : Text) → has_byte 61 text ≡ false → before_first (λ x. x == 61) text ≡ text
 before_none [] h = refl
 before_none (x ∷ xs) h = by (x == 61) refl (before_none xs)
   where
@@ -74,7 +74,7 @@ before_none (x ∷ xs) h = by (x == 61) refl (before_none xs)
         rw (e, more) (ap (λ l. x ∷ l) (rest none))
 
 -- texts that differ do so in either order
-differs : (s t : Text) → bytes_eq t s ≡ false → bytes_eq s t ≡ false
+pub differs : (s t : Text) → bytes_eq t s ≡ false → bytes_eq s t ≡ false
 differs s t h = by (bytes_eq s t) refl
   where
     by : (b : Bool) → bytes_eq s t ≡ b → bytes_eq s t ≡ false
@@ -84,7 +84,7 @@ differs s t h = by (bytes_eq s t) refl
         cc
 
 -- a text without `=` isn't one with it
-without_equals : (text name : Text) → has_byte 61 text ≡ true → bytes_eq text name ≡ true → has_byte 61 name ≡ false → ⊥
+pub without_equals : (text name : Text) → has_byte 61 text ≡ true → bytes_eq text name ≡ true → has_byte 61 name ≡ false → ⊥
 without_equals text name v same none =
     let at : has_byte 61 name ≡ true = subst (λ t. has_byte 61 t ≡ true) ((bytes_eq-Decides text name).0 same) v in
     let bad : true ≡ false = sym at ∙ none in

@@ -67,7 +67,7 @@ state_open trailing rows = record { held = held_open rows; waiting = option base
 -- ---- uses that pass
 
 -- from one to `usize::MAX` values are wanted
-range_fits : (m : ℕ) → 1 ≤ m → m ≤ usize_max → range_kinds 1 usize_max m ≡ []
+pub range_fits : (m : ℕ) → 1 ≤ m → m ≤ usize_max → range_kinds 1 usize_max m ≡ []
 range_fits m least most =
     let some : eqb m 0 ≡ false = grind (arith, nat_tests) in
     let enough : nat_lt m 1 ≡ false = grind (arith, nat_tests) in
@@ -75,7 +75,7 @@ range_fits m least most =
     rw (some, enough, few) refl
 
 -- each text passes as a value
-texts_pass : (vs : List Text) → values_kinds false String vs ≡ []
+pub texts_pass : (vs : List Text) → values_kinds false String vs ≡ []
 texts_pass [] = refl
 texts_pass (v ∷ vs) = texts_pass vs
 

@@ -1,0 +1,6 @@
+mod CheckLemmas
+mod LawLemmas
+mod OptionLemmas
+mod OutcomeLemmas
+mod WalkLemmas
+mod WordLemmas

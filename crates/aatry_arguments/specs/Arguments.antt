@@ -1,0 +1,30 @@
+-- What the words of the arguments ask for.
+use Rattle.std.specs.Prelude.{ℕ, Bool, ◌||◌, if◌then◌else◌, List, [], ◌∷◌, codes}
+use Rattle.std.specs.Str.{bytes_eq}
+use Rattle.aatry_arguments.specs.Asked.{Asked, ForHelp, ForVersion, Nothing, asked_as}
+use Rattle.aatry_arguments.specs.CheckWords.{CheckAsked, asked_check}
+
+-- a command that is asked for
+pub data CommandAsked : Type 0 where
+  ForCheck : CheckAsked → CommandAsked
+
+-- a word that asks for help in the place of a command
+abbrev pub is_help_word : List ℕ → Bool
+is_help_word word = bytes_eq word (codes "-h") || bytes_eq word (codes "--help")
+
+-- a word that asks for the version in the place of a command
+abbrev pub is_version_word : List ℕ → Bool
+is_version_word word = bytes_eq word (codes "-V") || bytes_eq word (codes "--version")
+
+-- what a first word asks for, with the words behind it: it is the name of a command, or asks for help or the version
+abbrev pub asked_by_first : List ℕ → List (List ℕ) → Asked CommandAsked
+asked_by_first first words =
+    if bytes_eq first (codes "check") then asked_as ForCheck (asked_check words)
+    else if is_help_word first then ForHelp
+    else if is_version_word first then ForVersion
+    else Nothing
+
+-- what the words of all arguments ask for: where there is none, for help
+abbrev pub asked : List (List ℕ) → Asked CommandAsked
+asked [] = ForHelp
+asked (first ∷ words) = asked_by_first first words

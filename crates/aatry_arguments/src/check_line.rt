@@ -1,0 +1,81 @@
+//! The command line behind `check`, as `clap` is told of it.
+ghost use Rattle.std.specs.Prelude.{◌≡◌, false, IfOk};
+ghost use Rattle.clap.specs.Words.{app_of, rule_of, with_rule};
+ghost use Rattle.aaset_arguments.specs.CommandLine.{base_rule};
+ghost use Rattle.aatry_arguments.specs.CheckLine.{bare_line, check_line, name_rule};
+
+use clap::{Arg, ArgAction, Command};
+use std::alloc::{AllocError, Global};
+
+// What help says behind the arguments and options.
+const MORE_HELP: &str = "\
+Without a NAME each file at the top of DIR is checked. All files below DIR are read, and
+includes are looked up among them; passed over are hidden files, README, `*~`, what package
+managers leave, as `*.dpkg-old`, and the folders disable, force-complain and cache*.
+
+Of each file one of these is told:
+  FILE: taken: PROFILE..           The file is taken, with these profiles
+  FILE:LINE:COLUMN: what is wrong  It is refused. The line follows, with a caret below it
+
+Rules of kinds that decide nothing here, as mount or dbus, are read and counted.
+
+Exit status:
+  0  Each file was taken, or help was asked for
+  1  Some file was refused
+  2  The arguments are bad, or DIR, or a file or folder below it, can't be read
+  3  Writing failed, or memory ran out";
+
+// The option for the folder of policy.
+fn base_argument<'a>(alloc: Global) -> Arg<'a>
+    ensures rule { rule_of result ≡ base_rule }
+    ensures local { result.global ≡ false }
+{
+    Arg::new(alloc, "DIR")
+        .short('b')
+        .action(ArgAction::Set)
+        .help("The folder of policy, /etc/apparmor.d unless it is given")
+}
+
+// The argument for the names.
+fn name_argument<'a>(alloc: Global) -> Arg<'a>
+    ensures rule { rule_of result ≡ name_rule }
+    ensures local { result.global ≡ false }
+{
+    Arg::new(alloc, "NAME")
+        .num_args(1..)
+        .action(ArgAction::Append)
+        .help("A file of the folder to check, in place of all files at its top")
+}
+
+// The command line before its arguments.
+fn bare_command<'a>(alloc: Global) -> Command<'a>
+    ensures { app_of result ≡ bare_line }
+{
+    Command::new(alloc, "aatry check")
+        .no_binary_name(true)
+        .args_override_self(true)
+        .about(
+            "Tells of each file of a folder of AppArmor policy whether it is taken, or what is wrong with it",
+        )
+        .after_help(MORE_HELP)
+}
+
+// The command line with one more argument.
+fn with_argument<'a>(command: Command<'a>, argument: Arg<'a>) -> Result<Command<'a>, AllocError>
+    requires { argument.global ≡ false }
+    ensures { IfOk result (λ more. app_of more ≡ with_rule (app_of command.entry) (rule_of argument.entry)) }
+{
+    command.arg(argument)
+}
+
+/// The command line behind `check` as `clap` is to read it.
+///
+/// # Errors
+///
+/// Where memory ran out.
+pub fn check_command<'a>(alloc: Global) -> Result<Command<'a>, AllocError>
+    ensures { IfOk result (λ command. app_of command ≡ check_line) }
+{
+    let below = with_argument(bare_command(alloc), base_argument(alloc))?;
+    with_argument(below, name_argument(alloc))
+}
