@@ -5,6 +5,7 @@ mod bytes;
 mod decide;
 mod glob;
 mod history;
+mod places;
 mod profile;
 mod program;
 mod set;
@@ -61,6 +62,8 @@ fn report_runs<R: Print>(rt: &R, alloc: Global) -> Result<()> {
     let folder = program::folder(alloc, &["aaset", "-b", "/srv/policy", "web"]);
     let folder = folder.context("no run")?;
     println!(rt; "aaset: {folder}")?;
+    let marked = String::from_utf8(places::marked(alloc, b"profile p { /a q, }", 15)?)?;
+    println!(rt; "aatry:\n{marked}")?;
     Ok(())
 }
 

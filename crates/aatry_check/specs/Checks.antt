@@ -1,0 +1,51 @@
+-- What is told of files of policy that are checked.
+use Rattle.std.specs.Prelude.{◌≡◌, ◌+◌, ℕ, List, [], ◌∷◌, ◌++◌, codes, if◌then◌else◌, Option, None, Some, Result, Ok, Err}
+use Rattle.std.specs.Str.{bytes_eq}
+use Rattle.aa_bytes.specs.Bytes.{line_feed}
+use Rattle.aa_text_files.specs.Files.{File, bytes_at, name_at}
+use Rattle.aa_text_files.specs.declared.text_error.Place.{Place}
+use Rattle.aa_profile.specs.FileReading.{file_profiles}
+use Rattle.aa_profile_data.specs.declared.profile.Profile.{Profile}
+use Rattle.aa_profile_errors.specs.ProfileError.{number_of}
+use Rattle.aa_profile_errors.specs.declared.profile_error.ProfileError.{ProfileError}
+use Rattle.aatry_report.specs.Faults.{fault_lines}
+use Rattle.aatry_report.specs.Shown.{shown}
+use Rattle.aatry_report.specs.Taken.{taken_line}
+
+-- the path that a file is told by: its name below the folder of policy
+abbrev pub path_below : List ℕ → List ℕ → List ℕ
+path_below base name = base ++ codes "/" ++ name
+
+-- which file includes the one that a fault stands in, where it isn't that file itself
+abbrev pub included_line : List ℕ → List ℕ → List ℕ → List ℕ
+included_line base name faulty = if bytes_eq name faulty then [] else codes "  included from " ++ shown (path_below base name) ++ line_feed ∷ []
+
+-- what is told of a file that is refused, in these words
+abbrev pub refusal_lines : List ℕ → List File → List ℕ → List ℕ → ℕ → Option Place → List ℕ
+refusal_lines words files base name number None = fault_lines words (path_below base name) number None []
+refusal_lines words files base name number (Some place) =
+    fault_lines words (path_below base (name_at files place.file)) number (Some place.at) (bytes_at files place.file)
+    ++ included_line base name (name_at files place.file)
+
+-- lines tell how the reading of a file came out
+abbrev pub TellsReading : List File → List ℕ → List ℕ → Result (List Profile) ProfileError → List ℕ → Type 0
+TellsReading files base name (Ok profiles) lines = lines ≡ taken_line (path_below base name) profiles
+TellsReading files base name (Err error) lines = (words : List ℕ) × (lines ≡ refusal_lines words files base name (number_of error.refusal) error.place)
+
+-- lines tell a file: that it was taken, or why it is refused, exactly as its reading says
+abbrev pub Tells : List File → List ℕ → List ℕ → List ℕ → Type 0
+Tells files base name lines = TellsReading files base name (file_profiles files name) lines
+
+-- one file is refused, or none: its reading gives no profiles
+abbrev pub refused_in : List File → List ℕ → ℕ
+refused_in files name = elim (file_profiles files name) [ Ok _ ↦ 0 | Err _ ↦ 1 ]
+
+-- how many of these files are refused
+abbrev pub refused_count : List File → List (List ℕ) → ℕ
+refused_count files [] = 0
+refused_count files (name ∷ names) = refused_in files name + refused_count files names
+
+-- lines tell each of these files in turn
+abbrev pub TellsEach : List File → List ℕ → List (List ℕ) → List ℕ → Type 0
+TellsEach files base [] lines = lines ≡ []
+TellsEach files base (name ∷ names) lines = (first rest : List ℕ) × (lines ≡ first ++ rest) × Tells files base name first × TellsEach files base names rest

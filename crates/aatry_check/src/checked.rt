@@ -1,0 +1,89 @@
+//! The check of files of policy, each by itself.
+
+ghost use Rattle.std.specs.Prelude.{◌≡◌, ◌≤◌, ◌+◌, ◌++◌, ℕ, List, IfOk, OnOk, length, map, string_bytes};
+ghost use Rattle.aatry_report.specs.Taken.{taken_line};
+ghost use Rattle.aatry_check.specs.Checks.{Tells, TellsEach, path_below, refused_count, refused_in};
+
+use crate::refusal::{path_below, push_refusal};
+use aa_profile::{Profile, ProfileRefusal, read_file};
+use aa_text_files::Files;
+use aatry_report::push_taken;
+use std::alloc::{AllocError, Global};
+
+/// How files came out that were checked.
+#[derive(Clone, Copy, Debug, PartialEq, Eq)]
+pub struct Checked {
+    /// How many were taken.
+    pub taken: usize,
+    /// How many were refused.
+    pub refused: usize,
+}
+
+// Puts what is told of a file that was taken behind a text.
+fn push_profiles(
+    alloc: Global,
+    base: &[u8],
+    name: &[u8],
+    profiles: &[Profile],
+    out: &mut Vec<u8>,
+) -> Result<(), AllocError>
+    ensures { OnOk result (out.new.items ≡ out.old.items ++ taken_line (path_below base.now name.now) profiles.now) }
+{
+    let path = path_below(alloc, base, name)?;
+    push_taken(out, &path, profiles)
+}
+
+// Checks a file, puts what is told of it behind a text, and says how many are refused: one or none.
+fn check_file(
+    alloc: Global,
+    files: &Files,
+    base: &[u8],
+    name: &[u8],
+    out: &mut Vec<u8>,
+) -> Result<usize, AllocError>
+    ensures refused { IfOk result (λ refused. refused ≡ refused_in files.now name.now) }
+    ensures few { IfOk result (λ refused. refused ≤ 1) }
+    ensures told { OnOk result ((lines : List ℕ) × (out.new.items ≡ out.old.items ++ lines) × Tells files.now base.now name.now lines) }
+{
+    match read_file(alloc, files, name) {
+        Ok(profiles) => {
+            push_profiles(alloc, base, name, &profiles, out)?;
+            Ok(0)
+        }
+        Err(error) => {
+            if error.refusal == ProfileRefusal::Memory {
+                return Err(AllocError);
+            }
+            push_refusal(alloc, files, base, name, error, out)?;
+            Ok(1)
+        }
+    }
+}
+
+/// Checks files of policy, each by itself, with the files that they include, and puts what is told of each behind a text, in their order: that it was
+/// taken, or why it is refused and where. `base` is the folder that `files` were taken from, without a `/` at its end; each file is told by its path
+/// below that. A name that no file has is told as such.
+///
+/// # Errors
+///
+/// Where memory runs out. What is told of some files may have been put then.
+pub fn check(
+    alloc: Global,
+    files: &Files,
+    base: &str,
+    names: &[String],
+    out: &mut Vec<u8>,
+) -> Result<Checked, AllocError>
+    ensures all { IfOk result (λ checked. checked.taken + checked.refused ≡ length names.now) }
+    ensures refused { IfOk result (λ checked. checked.refused ≡ refused_count files.now (map string_bytes names.now)) }
+    ensures told { OnOk result ((lines : List ℕ) × (out.new.items ≡ out.old.items ++ lines) × TellsEach files.now base.now (map string_bytes names.now) lines) }
+{
+    let mut refused = 0;
+    for name in names {
+        refused += check_file(alloc, files, base.as_bytes(), name.as_bytes(), out)?;
+    }
+    Ok(Checked {
+        taken: names.len() - refused,
+        refused,
+    })
+}

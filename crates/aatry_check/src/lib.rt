@@ -1,0 +1,7 @@
+//! Checks files of policy, each by itself, and tells what is found.
+#![tactic(auto)]
+
+mod checked;
+mod refusal;
+
+pub use checked::{Checked, check};

@@ -1,0 +1,121 @@
+//! What is told of a file that is refused.
+
+ghost use Rattle.std.specs.Prelude.{◌≡◌, ◌++◌, ℕ, List, Some, IfOk, OnOk};
+ghost use Rattle.aa_profile_errors.specs.ProfileError.{number_of};
+ghost use Rattle.aatry_check.specs.Checks.{included_line, path_below, refusal_lines};
+ghost use Rattle.aatry_report.specs.Faults.{fault_lines};
+ghost use Rattle.aa_text_files.specs.Files.{bytes_at, name_at};
+
+use aa_profile::ProfileError;
+use aa_text_files::{Files, Place};
+use aatry_report::{push_fault, push_fault_at, push_shown, words_of};
+use std::alloc::{AllocError, Global};
+
+/// The path that a file is told by: its name below the folder of policy.
+pub fn path_below(alloc: Global, base: &[u8], name: &[u8]) -> Result<Vec<u8>, AllocError>
+    ensures { IfOk result (λ path. path.items ≡ path_below base.now name.now) }
+{
+    let mut path = Vec::from_slice(alloc, base)?;
+    path.push(b'/')?;
+    path.extend_from_slice(name)?;
+    Ok(path)
+}
+
+// Puts which file includes the one that a fault stands in behind a text, where it isn't that file itself.
+fn push_included(
+    alloc: Global,
+    base: &[u8],
+    name: &[u8],
+    faulty: &[u8],
+    out: &mut Vec<u8>,
+) -> Result<(), AllocError>
+    ensures { OnOk result (out.new.items ≡ out.old.items ++ included_line base.now name.now faulty.now) }
+{
+    if name == faulty {
+        return Ok(());
+    }
+    let path = path_below(alloc, base, name)?;
+    out.extend_from_slice(b"  included from ")?;
+    push_shown(out, &path)?;
+    out.push(b'\n')?;
+    Ok(())
+}
+
+// Puts what is told of a fault at a place behind a text.
+fn push_placed(
+    alloc: Global,
+    files: &Files,
+    base: &[u8],
+    words: &str,
+    number: u8,
+    place: Place,
+    out: &mut Vec<u8>,
+) -> Result<(), AllocError>
+    ensures { OnOk result (out.new.items ≡ out.old.items
+        ++ fault_lines words.now (path_below base.now (name_at files.now place.file)) number (Some place.at) (bytes_at files.now place.file)) }
+{
+    let path = path_below(alloc, base, files.name_at(place.file))?;
+    push_fault_at(
+        out,
+        &path,
+        words,
+        number,
+        files.bytes_at(place.file),
+        place.at,
+    )
+}
+
+// Puts what is told of a file that is refused at a place behind a text, in these words.
+fn push_with_place(
+    alloc: Global,
+    files: &Files,
+    base: &[u8],
+    name: &[u8],
+    words: &str,
+    number: u8,
+    place: Place,
+    out: &mut Vec<u8>,
+) -> Result<(), AllocError>
+    ensures { OnOk result (out.new.items ≡ out.old.items ++ refusal_lines words.now files.now base.now name.now number (Some place)) }
+{
+    push_placed(alloc, files, base, words, number, place, out)?;
+    push_included(alloc, base, name, files.name_at(place.file), out)?;
+    Ok(())
+}
+
+// Puts what is told of a file that is refused behind a text, in these words.
+fn push_in_words(
+    alloc: Global,
+    files: &Files,
+    base: &[u8],
+    name: &[u8],
+    words: &str,
+    error: ProfileError,
+    out: &mut Vec<u8>,
+) -> Result<(), AllocError>
+    ensures { OnOk result (out.new.items ≡ out.old.items ++ refusal_lines words.now files.now base.now name.now (number_of error.refusal) error.place) }
+{
+    let number = error.number();
+    match error.place {
+        None => {
+            let path = path_below(alloc, base, name)?;
+            push_fault(out, &path, words, number)
+        }
+        Some(place) => push_with_place(alloc, files, base, name, words, number, place, out),
+    }
+}
+
+/// Puts what is told of a file that is refused behind a text.
+pub fn push_refusal(
+    alloc: Global,
+    files: &Files,
+    base: &[u8],
+    name: &[u8],
+    error: ProfileError,
+    out: &mut Vec<u8>,
+) -> Result<(), AllocError>
+    ensures { OnOk result ((words : List ℕ) × (out.new.items ≡ out.old.items ++ refusal_lines words files.now base.now name.now (number_of error.refusal) error.place)) }
+{
+    let words = words_of(alloc, error.refusal)?;
+    push_in_words(alloc, files, base, name, words.as_str(), error, out)
+}

@@ -1,0 +1,34 @@
+-- What a check of a folder of policy comes to.
+use Rattle.std.specs.Prelude.{◌≡◌, ◌==◌, ℕ, Bool, not, List, [], Option, All, filter, if◌then◌else◌, length}
+use Rattle.aa_bytes.specs.Bytes.{slash}
+use Rattle.aa_bytes.specs.Texts.{has_byte}
+use Rattle.aa_text_files.specs.Files.{File}
+use Rattle.aaset_gather.specs.Gathering.{IsReadBelow, IsTakable, names_of}
+use Rattle.aatry_check.specs.Checks.{TellsEach, refused_count}
+use Rattle.aatry_folder.specs.NamesBelow.{AreFound, IsClosed}
+
+-- a file at the top of the folder: no folder stands in its name
+abbrev pub is_at_top : List ℕ → Bool
+is_at_top name = not (has_byte slash name)
+
+abbrev pub top_names : List (List ℕ) → List (List ℕ)
+top_names names = filter is_at_top names
+
+-- the files that are meant: those that are given, and all at the top where none is
+abbrev pub meant : List (List ℕ) → List (List ℕ) → List (List ℕ)
+meant names given = if length given == 0 then top_names names else given
+
+-- Files and folders are those below the folder of policy: each that stands there and isn't passed over is among them, no other is, and each has the bytes
+-- that lie at its path, where these are known.
+pub record AreBelow (members_at : List ℕ → Option (List (List ℕ))) (bytes_at : List ℕ → Option (List ℕ)) (base : List ℕ) (files : List File) : Type 0 where
+  pub closed : IsClosed members_at base (names_of files)
+  pub found : AreFound members_at base [] (names_of files)
+  pub takable : All IsTakable files
+  pub read : All (IsReadBelow bytes_at base) files
+
+-- The files that are meant were checked over all that lies below the folder, the text tells each of them, and so many were refused.
+pub record IsChecked (members_at : List ℕ → Option (List (List ℕ))) (bytes_at : List ℕ → Option (List ℕ)) (base : List ℕ) (given : List (List ℕ)) (text : List ℕ) (refused : ℕ) : Type 0 where
+  pub files : List File
+  pub below : AreBelow members_at bytes_at base files
+  pub told : TellsEach files base (meant (names_of files) given) text
+  pub counted : refused ≡ refused_count files (meant (names_of files) given)

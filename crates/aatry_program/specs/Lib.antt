@@ -1,0 +1,3 @@
+pub mod Checking
+pub mod Fault
+pub mod Program

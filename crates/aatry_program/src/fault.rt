@@ -1,0 +1,88 @@
+//! What keeps the program from doing what it is asked for.
+
+ghost use Rattle.std.specs.Prelude.{◌≡◌};
+ghost use Rattle.aatry_program.specs.Fault.{fault_of_files, fault_of_folder, name_of, status_of, words_of};
+ghost use Rattle.aatry_program.specs.declared.fault.Fault.TheVariants as fault;
+
+use aaset_gather::GatherFault;
+use aatry_folder::FolderFault;
+use std::alloc::AllocError;
+
+/// What keeps the program from doing what it is asked for.
+#[derive(Debug, Drop)]
+pub enum Fault {
+    /// The arguments ask for something that there isn't.
+    BadArguments,
+    /// The first file or folder that can't be read, by its name below the folder of policy, and that folder by its path.
+    Unreadable(String),
+    /// More than 65,536 files and folders lie below the folder of policy.
+    TooMany,
+    /// Memory ran out.
+    NoMemory,
+    /// Standard output failed.
+    Write,
+}
+
+impl From<FolderFault> for Fault {
+    ghost from_gives = { λ given fault. fault ≡ fault_of_folder given };
+
+    fn from(fault: FolderFault) -> Fault {
+        match fault {
+            FolderFault::Unreadable(name) => Fault::Unreadable(name),
+            FolderFault::TooMany => Fault::TooMany,
+            FolderFault::Memory => Fault::NoMemory,
+        }
+    }
+}
+
+impl From<GatherFault> for Fault {
+    ghost from_gives = { λ given fault. fault ≡ fault_of_files given };
+
+    fn from(fault: GatherFault) -> Fault {
+        match fault {
+            GatherFault::Untaken(name) => Fault::Unreadable(name),
+            GatherFault::Memory => Fault::NoMemory,
+        }
+    }
+}
+
+impl From<AllocError> for Fault {
+    ghost from_gives = { λ _ told. told ≡ fault.NoMemory };
+
+    fn from(_: AllocError) -> Fault {
+        Fault::NoMemory
+    }
+}
+
+// The words that tell a fault.
+pub fn words_of(fault: &Fault) -> &'static str
+    ensures { result.now ≡ words_of fault.now }
+{
+    match fault {
+        Fault::BadArguments => "aatry: bad arguments: see aatry --help",
+        Fault::Unreadable(_) => "aatry: cannot read ",
+        Fault::TooMany => "aatry: more than 65,536 files and folders",
+        Fault::NoMemory => "aatry: no memory",
+        Fault::Write => "aatry: write fault",
+    }
+}
+
+// The name that stands behind the words. It is empty where the fault is about none.
+pub fn name_of(fault: &Fault) -> &str
+    ensures { result.now ≡ name_of fault.now }
+{
+    match fault {
+        Fault::Unreadable(name) => name.as_str(),
+        _ => "",
+    }
+}
+
+// The exit status of a fault.
+pub fn status_of(fault: &Fault) -> u8
+    ensures { result ≡ status_of fault.now }
+{
+    match fault {
+        Fault::BadArguments | Fault::Unreadable(_) | Fault::TooMany => 2,
+        Fault::NoMemory | Fault::Write => 3,
+    }
+}

@@ -1,0 +1,25 @@
+-- What is told of a fault in a file of policy.
+use Rattle.std.specs.Prelude.{ℕ, List, [], ◌∷◌, ◌++◌, codes, Option, None, Some}
+use Rattle.std.specs.Fmt.{decimal}
+use Rattle.aa_bytes.specs.Bytes.{line_feed}
+use Rattle.aatry_places.specs.CaretLine.{caret_line}
+use Rattle.aatry_places.specs.Columns.{column}
+use Rattle.aatry_places.specs.Lines.{line_at, line_number}
+use Rattle.aatry_report.specs.Shown.{shown}
+
+-- `PATH:LINE:COLUMN: `, of a place in a file's bytes
+abbrev pub place_text : List ℕ → List ℕ → ℕ → List ℕ
+place_text path text at = shown path ++ codes ":" ++ decimal (line_number text at) ++ codes ":" ++ decimal (column text at) ++ codes ": "
+
+-- the words that tell the fault, with its number, and the line's end
+abbrev pub words_text : List ℕ → ℕ → List ℕ
+words_text words number = words ++ codes " (" ++ decimal number ++ codes ")" ++ line_feed ∷ []
+
+-- the line of a place, and a line with a caret below the place
+abbrev pub marked_line : List ℕ → ℕ → List ℕ
+marked_line text at = shown (line_at text at) ++ line_feed ∷ [] ++ caret_line text at ++ line_feed ∷ []
+
+-- what is told of a fault of this number at a place of a file, if it has one
+abbrev pub fault_lines : List ℕ → List ℕ → ℕ → Option ℕ → List ℕ → List ℕ
+fault_lines words path number None text = shown path ++ codes ": " ++ words_text words number
+fault_lines words path number (Some at) text = place_text path text at ++ words_text words number ++ marked_line text at

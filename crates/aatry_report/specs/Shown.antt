@@ -1,0 +1,21 @@
+-- Texts of files and names, as they are shown at a terminal, which obeys some bytes.
+use Rattle.std.specs.Prelude.{ℕ, Bool, List, map, not, ◌==◌, ◌&&◌, ◌||◌, nat_lt, if◌then◌else◌}
+use Rattle.aa_bytes.specs.Bytes.{space, tab}
+
+abbrev pub delete : ℕ
+delete = 127
+
+abbrev pub question_mark : ℕ
+question_mark = 63
+
+-- A byte that a terminal obeys by itself: one below the space, but for the tab, or that of the delete key. What several bytes of UTF-8 write isn't
+-- looked at.
+abbrev pub is_obeyed : ℕ → Bool
+is_obeyed b = (nat_lt b space && not (b == tab)) || b == delete
+
+-- a byte as it is shown: a question mark stands for one that a terminal obeys
+abbrev pub shown_byte : ℕ → ℕ
+shown_byte b = if is_obeyed b then question_mark else b
+
+abbrev pub shown : List ℕ → List ℕ
+shown text = map shown_byte text

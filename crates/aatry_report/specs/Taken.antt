@@ -1,0 +1,47 @@
+-- What is told of a file of policy that was taken.
+use Rattle.std.specs.Prelude.{ℕ, Bool, true, false, List, [], ◌∷◌, ◌++◌, ◌+◌, ◌-◌, ◌^◌, ◌==◌, codes, count_by, flat_map, if◌then◌else◌, min}
+use Rattle.std.specs.Fmt.{decimal}
+use Rattle.aa_bytes.specs.Bytes.{line_feed}
+use Rattle.aa_profile_data.specs.declared.profile.Child.{Child}
+use Rattle.aa_profile_data.specs.declared.profile.Profile.{Profile}
+use Rattle.aa_profile_data.specs.declared.profile.Rule.{Rule}
+use Rattle.aa_profile_data.specs.declared.profile.Rule.TheVariants.{Other}
+use Rattle.aatry_report.specs.Shown.{shown}
+
+-- a rule that is kept as it is written, and decides nothing here
+abbrev pub is_kept : Rule → Bool
+is_kept (Other _) = true
+is_kept _ = false
+
+-- how many of these rules decide nothing here
+abbrev pub kept_in : List Rule → ℕ
+kept_in rules = count_by is_kept rules
+
+abbrev pub kept_in_children : List Child → ℕ
+kept_in_children [] = 0
+kept_in_children (child ∷ children) = kept_in child.rules + kept_in_children children
+
+-- how many rules of these profiles, of their children and hats, decide nothing here
+abbrev pub kept_rules : List Profile → ℕ
+kept_rules [] = 0
+kept_rules (profile ∷ profiles) = (kept_in profile.rules + kept_in_children profile.children) + kept_rules profiles
+
+-- a number, as far as it is counted
+abbrev pub counted : ℕ → ℕ
+counted n = min n (2 ^ 64 - 1)
+
+-- the names of profiles, each behind a blank
+abbrev pub names_text : List Profile → List ℕ
+names_text profiles = flat_map (λ profile. codes " " ++ shown profile.name) profiles
+
+-- what is told of how many rules decide nothing here
+abbrev pub kept_words : ℕ → List ℕ
+kept_words n = codes "; " ++ decimal n ++ codes " of its rules decide nothing here"
+
+-- the same where there are any, and nothing else
+abbrev pub kept_text : ℕ → List ℕ
+kept_text n = if n == 0 then [] else kept_words n
+
+-- `PATH: taken: NAME..`, and how many rules decide nothing here
+abbrev pub taken_line : List ℕ → List Profile → List ℕ
+taken_line path profiles = shown path ++ codes ": taken:" ++ names_text profiles ++ kept_text (counted (kept_rules profiles)) ++ line_feed ∷ []

@@ -1,0 +1,78 @@
+//! What is told of a fault in a file of policy.
+
+ghost use Rattle.std.specs.Prelude.{◌≡◌, ◌++◌, [], None, OnOk, Some};
+ghost use Rattle.aatry_report.specs.Faults.{fault_lines, marked_line, place_text, words_text};
+ghost use Rattle.aatry_report.specs.Shown.{shown};
+
+use crate::numbers::push_number;
+use crate::shown::push_shown;
+use aatry_places::{line_at, line_place, push_caret_line};
+use std::alloc::AllocError;
+
+// Puts a place in a file's bytes behind a text, by the path that the file is told by, its line and its column.
+fn push_place(out: &mut Vec<u8>, path: &[u8], text: &[u8], at: usize) -> Result<(), AllocError>
+    ensures { OnOk result (out.new.items ≡ out.old.items ++ place_text path.now text.now at) }
+{
+    let place = line_place(text, at);
+    push_shown(out, path)?;
+    push_number(out, ":", place.line)?;
+    push_number(out, ":", place.column)?;
+    out.extend_from_slice(b": ")?;
+    Ok(())
+}
+
+// Puts the words that tell a fault behind a text, with its number.
+fn push_words(out: &mut Vec<u8>, words: &str, number: u8) -> Result<(), AllocError>
+    ensures { OnOk result (out.new.items ≡ out.old.items ++ words_text words.now number) }
+{
+    out.extend_from_slice(words.as_bytes())?;
+    push_number(out, " (", number as usize)?;
+    out.extend_from_slice(b")\n")?;
+    Ok(())
+}
+
+// Puts the line of a place behind a text, and a line with a caret below the place.
+fn push_marked_line(out: &mut Vec<u8>, text: &[u8], at: usize) -> Result<(), AllocError>
+    ensures { OnOk result (out.new.items ≡ out.old.items ++ marked_line text.now at) }
+{
+    push_shown(out, line_at(text, at))?;
+    out.push(b'\n')?;
+    push_caret_line(text, at, out)?;
+    out.push(b'\n')?;
+    Ok(())
+}
+
+/// Puts what is told of a fault that has no place behind a text: `PATH: WORDS (NUMBER)` on a line of its own. `path` is what the file is told by,
+/// `words` say what is wrong, and `number` is that of the refusal (`docs/commands.md`, "Refusals").
+///
+/// # Errors
+///
+/// Where memory runs out. A beginning may have been put then.
+pub fn push_fault(out: &mut Vec<u8>, path: &[u8], words: &str, number: u8) -> Result<(), AllocError>
+    ensures { OnOk result (out.new.items ≡ out.old.items ++ fault_lines words.now path.now number None []) }
+{
+    push_shown(out, path)?;
+    out.extend_from_slice(b": ")?;
+    push_words(out, words, number)
+}
+
+/// Puts what is told of a fault at a place behind a text: `PATH:LINE:COLUMN: WORDS (NUMBER)`, the line that it stands in, and a line with a caret
+/// below the place. `text` is the file's bytes, and `at` says how many of them stand before the place; lines and columns are counted from 1.
+///
+/// # Errors
+///
+/// Where memory runs out. A beginning may have been put then.
+pub fn push_fault_at(
+    out: &mut Vec<u8>,
+    path: &[u8],
+    words: &str,
+    number: u8,
+    text: &[u8],
+    at: usize,
+) -> Result<(), AllocError>
+    ensures { OnOk result (out.new.items ≡ out.old.items ++ fault_lines words.now path.now number (Some at) text.now) }
+{
+    push_place(out, path, text, at)?;
+    push_words(out, words, number)?;
+    push_marked_line(out, text, at)
+}

@@ -1,0 +1,13 @@
+//! What people at a terminal are told of a file of policy: that it was taken, or what is wrong with it, where, and the line that it stands in.
+#![tactic(auto)]
+
+mod faults;
+mod numbers;
+mod shown;
+mod taken;
+mod words;
+
+pub use faults::{push_fault, push_fault_at};
+pub use shown::push_shown;
+pub use taken::{kept_rules, push_taken};
+pub use words::words_of;

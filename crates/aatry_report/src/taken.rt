@@ -1,0 +1,107 @@
+//! What is told of a file of policy that was taken.
+
+ghost use Rattle.std.specs.Prelude.{◌≡◌, ◌+◌, ◌++◌, OnOk};
+ghost use Rattle.aatry_report.specs.Taken.{counted, is_kept, kept_in, kept_in_children, kept_rules, kept_text, kept_words, names_text, taken_line};
+
+use crate::numbers::push_number;
+use crate::shown::push_shown;
+use aa_profile_data::{Child, Profile, Rule};
+use std::alloc::AllocError;
+
+// Whether a rule is kept as it is written, and decides nothing here.
+fn is_kept(rule: &Rule) -> bool
+    ensures { result ≡ is_kept rule.now }
+{
+    matches!(rule, Rule::Other(_))
+}
+
+// How many of these rules decide nothing here.
+fn kept_in(rules: &[Rule]) -> usize
+    ensures { result ≡ kept_in rules.now }
+{
+    let mut count = 0;
+    for rule in rules {
+        if is_kept(rule) {
+            count += 1;
+        }
+    }
+    count
+}
+
+// How many rules of a profile's children and hats decide nothing here, added to a number as far as that goes.
+fn add_kept_in_children(kept: usize, children: &[Child]) -> usize
+    ensures { result ≡ counted (kept + kept_in_children children.now) }
+{
+    let mut sum = kept;
+    let mut rest = children;
+    while let [child, behind @ ..] = rest {
+        sum = sum.saturating_add(kept_in(child.rules.as_slice()));
+        rest = behind;
+    }
+    sum
+}
+
+/// How many rules of these profiles, of their children and hats, are kept as they are written and decide nothing here; where they are more than
+/// a `usize` counts, the most that it does.
+pub fn kept_rules(profiles: &[Profile]) -> usize
+    ensures { result ≡ counted (kept_rules profiles.now) }
+{
+    let mut sum: usize = 0;
+    let mut rest = profiles;
+    while let [profile, behind @ ..] = rest {
+        let own = sum.saturating_add(kept_in(profile.rules.as_slice()));
+        sum = add_kept_in_children(own, profile.children.as_slice());
+        rest = behind;
+    }
+    sum
+}
+
+// Puts the names of profiles behind a text, each behind a blank.
+fn push_names(out: &mut Vec<u8>, profiles: &[Profile]) -> Result<(), AllocError>
+    ensures { OnOk result (out.new.items ≡ out.old.items ++ names_text profiles.now) }
+{
+    for profile in profiles {
+        out.push(b' ')?;
+        push_shown(out, profile.name.as_slice())?;
+    }
+    Ok(())
+}
+
+// What stands behind the number of rules that decide nothing here.
+const KEPT: &str = " of its rules decide nothing here";
+
+// Puts how many rules decide nothing here behind a text.
+fn push_kept_words(out: &mut Vec<u8>, kept: usize) -> Result<(), AllocError>
+    ensures { OnOk result (out.new.items ≡ out.old.items ++ kept_words kept) }
+{
+    push_number(out, "; ", kept)?;
+    out.extend_from_slice(KEPT.as_bytes())?;
+    Ok(())
+}
+
+// Puts it there where there are any.
+fn push_kept(out: &mut Vec<u8>, kept: usize) -> Result<(), AllocError>
+    ensures { OnOk result (out.new.items ≡ out.old.items ++ kept_text kept) }
+{
+    if kept == 0 {
+        return Ok(());
+    }
+    push_kept_words(out, kept)
+}
+
+/// Puts what is told of a file that was taken behind a text: `PATH: taken: NAME..` on a line of its own, with the names of its profiles, and behind
+/// that how many of their rules decide nothing here (`docs/policy.md`, "Rules that are kept"), where there are any.
+///
+/// # Errors
+///
+/// Where memory runs out. A beginning may have been put then.
+pub fn push_taken(out: &mut Vec<u8>, path: &[u8], profiles: &[Profile]) -> Result<(), AllocError>
+    ensures { OnOk result (out.new.items ≡ out.old.items ++ taken_line path.now profiles.now) }
+{
+    push_shown(out, path)?;
+    out.extend_from_slice(b": taken:")?;
+    push_names(out, profiles)?;
+    push_kept(out, kept_rules(profiles))?;
+    out.push(b'\n')?;
+    Ok(())
+}

@@ -1,0 +1,51 @@
+//! What is wrong with a file of policy, in words.
+
+use aa_profile_errors::ProfileRefusal;
+use aa_profile_parsing::GrammarRefusal;
+use std::alloc::{AllocError, Global};
+
+// What is wrong with a file's grammar, in words.
+fn words_of_grammar(refusal: GrammarRefusal) -> &'static str {
+    match refusal {
+        GrammarRefusal::BadToken => "nothing that may stand here begins so",
+        GrammarRefusal::OpenBlock => "this brace isn't closed",
+        GrammarRefusal::BadFlag => "there is no such flag, or `enforce` stands beside `complain`",
+        GrammarRefusal::BadAccess => "the access holds what is no access letter and no exec word",
+        GrammarRefusal::WriteAppend => "the access holds both `w` and `a`",
+        GrammarRefusal::TwoExec => "the access has two different exec words",
+        GrammarRefusal::ExecQualifier =>
+            "an exec word stands in a deny rule, or a bare `x` in another",
+        GrammarRefusal::TargetWithoutExec => "this rule can have no target",
+        GrammarRefusal::BadCapability => "there is no such capability",
+        GrammarRefusal::BadNetwork =>
+            "there is no such domain, type or protocol, or it can't stand here",
+        GrammarRefusal::TwiceNamed => "this name is there already",
+        GrammarRefusal::NestedChild => "a child or hat stands in another",
+        GrammarRefusal::LateAssignment => "a variable is assigned behind the first profile",
+        GrammarRefusal::NoProfile => "the file has no profile",
+        GrammarRefusal::BadName => "no profile, child, hat or target can have this name",
+        GrammarRefusal::Memory => "memory ran out",
+    }
+}
+
+/// What is wrong with a file of policy, in words.
+///
+/// # Errors
+///
+/// Where memory runs out.
+pub fn words_of(alloc: Global, refusal: ProfileRefusal) -> Result<String, AllocError> {
+    match refusal {
+        ProfileRefusal::Pattern(error) => error.to_string(alloc),
+        ProfileRefusal::Text(error) => error.to_string(alloc),
+        ProfileRefusal::Grammar(error) => String::from_str(alloc, words_of_grammar(error)),
+        ProfileRefusal::TooManyRules => String::from_str(
+            alloc,
+            "the file has more than 16,384 patterns, each expansion counted",
+        ),
+        ProfileRefusal::ExecConflict => String::from_str(
+            alloc,
+            "this rule and one before it lead a program of one path to different places",
+        ),
+        ProfileRefusal::Memory => String::from_str(alloc, "memory ran out"),
+    }
+}
