@@ -247,7 +247,7 @@ impl Ready {
 
     /// Remembers what follows at the places of a path, of the rules of the profile, or of its child or hat at a place, and tells whether all of it is
     /// remembered now: so questions about this path are answered quicker from now on, and others as far as they go the same ways. Contracts don't see it.
-    /// It takes at most some 3 MB for the profile and for each child and hat (docs/PERFORMANCE.md, "What is remembered"). Where there is no room, or no
+    /// It takes at most some 7 MB for the profile and for each child and hat (docs/PERFORMANCE.md, "What is remembered"). Where there is no room, or no
     /// memory, no more is remembered.
     pub fn remember(&mut self, alloc: Global, child: Option<usize>, path: &[u8]) -> bool
         ensures { self.new ≡ self.old }

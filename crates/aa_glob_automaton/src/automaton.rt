@@ -149,7 +149,7 @@ impl Automaton {
     }
 
     /// Remembers what follows at the places of a path, and tells whether all of it is remembered now: so this path is gone through quicker from now on,
-    /// and others as far as they go the same ways. Contracts don't see it. It takes at most some 3 MB (docs/PERFORMANCE.md, "What is remembered"). Where
+    /// and others as far as they go the same ways. Contracts don't see it. It takes at most some 7 MB (docs/PERFORMANCE.md, "What is remembered"). Where
     /// there is no room, or no memory, no more is remembered.
     pub fn remember(&mut self, alloc: Global, path: &[u8]) -> bool
         ensures { self.new ≡ self.old }

@@ -1,10 +1,8 @@
 -- What is remembered stays right.
-use Rattle.std.proofs.Common.{◌≡◌, ◌⊎◌, ℕ, ◌+◌, ◌-◌, ◌<◌, List, [], ◌∷◌, ◌++◌, length, get_or, take, Result, Ok, Err, OnOk, OnErr, refl, sym, ◌∙◌, ap, subst, inl, inr, arith, length-append}
-use Rattle.std.specs.Prelude.{All, Some, slice_get}
+use Rattle.std.proofs.Common.{◌≡◌, ℕ, suc, ◌+◌, ◌-◌, ◌*◌, ◌<◌, List, [], ◌∷◌, ◌++◌, length, get_or, Result, Ok, Err, OnOk, OnErr, refl, sym, ◌∙◌, ap, subst, inl, inr, arith, length-append}
 use Rattle.std.proofs.lemmas.Bool.{cases_eq}
-use Rattle.std.proofs.lemmas.List.{get_or-append_right, get_or_append_left}
-use Rattle.std.proofs.lemmas.List.Elements.{All-cons, All-get_or, All-nil, All-push, All-take, All-weaker}
-use Rattle.std.proofs.lemmas.Option.{get_or_from_slice_get, slice_get_within}
+use Rattle.std.proofs.lemmas.List.{get_or-append_right, get_or_append_left, get_or-replicate, get_or-set_other, get_or-set_same, length-set}
+use Rattle.std.proofs.lemmas.List.Elements.{All-cons, All-nil, All-push}
 use Rattle.std.specs.declared.alloc.AllocError.{AllocError}
 use Rattle.aa_glob_nfa.specs.Graphs.{Graph, Reaches}
 use Rattle.aa_glob_nfa.specs.Graphs.Reaches.{begins}
@@ -12,15 +10,15 @@ use Rattle.aa_glob_nfa.proofs.ListLemmas.{Contains-first}
 use Rattle.aa_glob_front.proofs.RunLemmas.{reached_next}
 use Rattle.aa_glob_front.specs.Fronts.{IsLive, Live, with_state}
 use Rattle.aa_glob_front.specs.Runs.{IsBegun, IsWhole}
-use Rattle.aa_glob_run.specs.code.Memos.{IsMemo, IsRight, LeadsTo, Notes, PushesMove, front_of}
-use Rattle.aa_glob_run.specs.declared.memo.Move.{Move}
+use Rattle.aa_glob_run.specs.code.Memos.{IsMemo, IsRight, LeadsTo, front_of, place_of, unknown_row, with_move}
 
 -- nothing is remembered yet
 pub memo-none : (g : Graph) (room : ℕ) → IsMemo g room [] []
 memo-none g room = record {
   start = λ some. absurd (omega arith);
   lists = All-nil (IsLive room);
-  known = All-nil (IsRight g []);
+  rows = refl;
+  known = λ from byte to low _ _. absurd (omega (arith, low));
 }
 
 -- a list among those before it
@@ -33,9 +31,29 @@ front-last fronts one =
     let none : length fronts - length fronts ≡ 0 = omega arith in
     get_or-append_right fronts (one ∷ []) (length fronts) (length fronts) [] refl (omega arith) ∙ ap (λ k. get_or (one ∷ []) k []) none
 
--- one list more
-pub memo-add : (g : Graph) (room : ℕ) (fronts : List (List ℕ)) (moves : List Move) (states : List ℕ) → IsMemo g room fronts moves
-    → IsLive room states → (length fronts ≡ 0 → IsWhole g [] states) → IsMemo g room (fronts ++ states ∷ []) moves
+-- what a row tells of a list that was there is told when a row more is there
+told-before : (moves : List ℕ) (count from byte : ℕ) → length moves ≡ count * 256 → from < count → byte < 256
+    → get_or (moves ++ unknown_row) (place_of from byte) 0 ≡ get_or moves (place_of from byte) 0
+told-before moves count from byte rows low small = get_or_append_left moves unknown_row 0 (place_of from byte) (omega (arith, rows, low, small))
+
+-- the row of a list that was added tells nothing
+told-last : (moves : List ℕ) (count byte : ℕ) → length moves ≡ count * 256 → byte < 256 → get_or (moves ++ unknown_row) (place_of count byte) 0 ≡ 0
+told-last moves count byte rows small =
+    get_or-append_right moves unknown_row (length moves) (place_of count byte) 0 refl (omega (arith, rows))
+    ∙ get_or-replicate 256 (place_of count byte - length moves) 0 0 (omega (arith, rows, small))
+
+-- a move that is right stays so with a list more
+right-more : (g : Graph) (fronts : List (List ℕ)) (states : List ℕ) (from byte to : ℕ) → from < length fronts → IsRight g fronts from byte to
+    → IsRight g (fronts ++ states ∷ []) from byte to
+right-more g fronts states from byte to low right = (
+  omega (arith, length-append fronts (states ∷ []), right.0),
+  subst (λ one. LeadsTo g one byte (front_of (fronts ++ states ∷ []) to)) (sym (front-before fronts states from low))
+      (subst (LeadsTo g (front_of fronts from) byte) (sym (front-before fronts states to right.0)) right.1),
+)
+
+-- one list more, behind which nothing is known
+pub memo-add : (g : Graph) (room : ℕ) (fronts : List (List ℕ)) (moves states : List ℕ) → IsMemo g room fronts moves
+    → IsLive room states → (length fronts ≡ 0 → IsWhole g [] states) → IsMemo g room (fronts ++ states ∷ []) (moves ++ unknown_row)
 memo-add g room fronts moves states memo live start =
     let count = length fronts in
     let more : length (fronts ++ states ∷ []) ≡ count + 1 = length-append fronts (states ∷ []) in
@@ -45,54 +63,47 @@ memo-add g room fronts moves states memo live start =
         | inr other ↦ subst (IsWhole g []) (sym (front-before fronts states 0 (omega arith))) (memo.start (omega arith))
       ];
       lists = All-push (IsLive room) fronts states memo.lists live;
-      known = All-weaker (IsRight g fronts) (IsRight g (fronts ++ states ∷ [])) (λ move right. record {
-        from = omega (arith, more, right.from);
-        to = omega (arith, more, right.to);
-        leads = subst (λ from. LeadsTo g from move.byte (front_of (fronts ++ states ∷ []) move.to)) (sym (front-before fronts states move.from right.from))
-            (subst (LeadsTo g (front_of fronts move.from) move.byte) (sym (front-before fronts states move.to right.to)) right.leads);
-      }) moves memo.known;
+      rows = omega (arith, length-append moves unknown_row, memo.rows, more);
+      known = λ from byte to low small notes. elim (cases_eq from count) [
+        | inl last ↦
+            let none : 0 ≡ suc to = sym (ap (λ n. get_or (moves ++ unknown_row) (place_of n byte) 0) last ∙ told-last moves count byte memo.rows small) ∙ notes in
+            absurd (omega (arith, none))
+        | inr other ↦
+            let before : from < count = omega (arith, low, more, other) in
+            right-more g fronts states from byte to before
+            (memo.known from byte to before small (sym (told-before moves count from byte memo.rows before small) ∙ notes))
+      ];
     }
 
 -- a list was added, or there was no memory for it
-pub memo-added : (g : Graph) (room : ℕ) (fronts after : List (List ℕ)) (moves : List Move) (states : List ℕ) (result : Result ℕ AllocError) → IsMemo g room fronts moves
+pub memo-added : (g : Graph) (room : ℕ) (fronts after : List (List ℕ)) (moves later states : List ℕ) (result : Result ℕ AllocError) → IsMemo g room fronts moves
     → IsLive room states → (length fronts ≡ 0 → IsWhole g [] states)
-    → OnOk result (after ≡ fronts ++ states ∷ []) → OnErr result (after ≡ fronts) → IsMemo g room after moves
-memo-added g room fronts after moves states (Ok number) memo live start more same = rw more (memo-add g room fronts moves states memo live start)
-memo-added g room fronts after moves states (Err error) memo live start more same = rw same memo
+    → OnOk result (after ≡ fronts ++ states ∷ []) → OnOk result (later ≡ moves ++ unknown_row)
+    → OnErr result (after ≡ fronts) → OnErr result (later ≡ moves) → IsMemo g room after later
+memo-added g room fronts after moves later states (Ok number) memo live start more row same still = rw (more, row) (memo-add g room fronts moves states memo live start)
+memo-added g room fronts after moves later states (Err error) memo live start more row same still = rw (same, still) memo
 
 -- one move more
-pub memo-note : (g : Graph) (room : ℕ) (fronts : List (List ℕ)) (old new : List Move) (from byte to : ℕ) → IsMemo g room fronts old → PushesMove old new from byte to
-    → from < length fronts → to < length fronts → LeadsTo g (front_of fronts from) byte (front_of fronts to) → IsMemo g room fronts new
-memo-note g room fronts old new from byte to memo (inl same) low within leads = rw same memo
-memo-note g room fronts old new from byte to memo (inr (before, more)) low within leads = record {
+pub memo-note : (g : Graph) (room : ℕ) (fronts : List (List ℕ)) (moves : List ℕ) (from byte to : ℕ) → IsMemo g room fronts moves
+    → from < length fronts → byte < 256 → to < length fronts → LeadsTo g (front_of fronts from) byte (front_of fronts to)
+    → IsMemo g room fronts (with_move moves from byte to)
+memo-note g room fronts moves from byte to memo low small within leads = record {
   start = memo.start;
   lists = memo.lists;
-  known = subst (All (IsRight g fronts)) (sym more) (All-push (IsRight g fronts) old (record { from = from; to = to; before = before; byte = byte }) memo.known (record {
-    from = low;
-    to = within;
-    leads = leads;
-  }));
+  rows = length-set moves (place_of from byte) (suc to) ∙ memo.rows;
+  known = λ other_from other_byte other_to other_low other_small notes. elim (cases_eq (place_of other_from other_byte) (place_of from byte)) [
+    | inl same ↦
+        let one : other_from ≡ from = omega (arith, same, small, other_small) in
+        let two : other_byte ≡ byte = omega (arith, same, one) in
+        let put : suc to ≡ suc other_to = sym (ap (λ k. get_or (with_move moves from byte to) k 0) same
+        ∙ get_or-set_same moves (place_of from byte) (suc to) 0 (omega (arith, memo.rows, low, small))) ∙ notes in
+        let three : other_to ≡ to = omega (arith, put) in
+        subst (λ n. IsRight g fronts n other_byte other_to) (sym one)
+        (subst (λ b. IsRight g fronts from b other_to) (sym two) (subst (IsRight g fronts from byte) (sym three) (within, leads)))
+    | inr apart ↦ memo.known other_from other_byte other_to other_low other_small
+        (sym (get_or-set_other moves (place_of from byte) (place_of other_from other_byte) (suc to) 0 apart) ∙ notes)
+  ];
 }
-
--- all but the first list are forgotten
-pub memo-forget : (g : Graph) (room : ℕ) (fronts : List (List ℕ)) (moves : List Move) → IsMemo g room fronts moves → IsMemo g room (take 1 fronts) []
-memo-forget g room [] moves memo = memo-none g room
-memo-forget g room (first ∷ others) moves memo = record {
-  start = λ some. memo.start (omega arith);
-  lists = All-take (IsLive room) 1 (first ∷ others) memo.lists;
-  known = All-nil (IsRight g (take 1 (first ∷ others)));
-}
-
--- a move that is noted is right
-pub noted-right : (g : Graph) (room : ℕ) (fronts : List (List ℕ)) (moves : List Move) (from byte to : ℕ) → IsMemo g room fronts moves → Notes moves from byte to
-    → (to < length fronts) × LeadsTo g (front_of fronts from) byte (front_of fronts to)
-noted-right g room fronts moves from byte to memo (k, move, at, is_from, is_byte, is_to) =
-    let right : IsRight g fronts move = subst (IsRight g fronts) (get_or_from_slice_get moves k move move at) (All-get_or (IsRight g fronts) moves k move (slice_get_within moves k move at) memo.known) in (
-      subst (λ n. n < length fronts) is_to right.to,
-      subst (λ n. LeadsTo g (front_of fronts n) byte (front_of fronts to)) is_from
-          (subst (λ b. LeadsTo g (front_of fronts move.from) b (front_of fronts to)) is_byte
-          (subst (λ n. LeadsTo g (front_of fronts move.from) move.byte (front_of fronts n)) is_to right.leads)),
-    )
 
 -- a list that has all that is reached has what the last byte brings
 pub begun-whole : (g : Graph) (past live : List ℕ) → IsWhole g past live → IsBegun g past live

@@ -2,41 +2,31 @@
 
 ghost use Rattle.std.specs.Prelude.{◌≡◌, ◌<◌, ◌++◌, ◌∷◌, [], ℕ, false, length, IfSome, OnOk, OnErr, IfOk};
 ghost use Rattle.aa_glob_nfa.specs.Graphs.{Graph};
-ghost use Rattle.aa_glob_run.specs.code.Memos.{IsEmpty, Notes, PushesMove, Remembers, front_at, fronts_in, most_fronts};
+ghost use Rattle.aa_glob_run.specs.code.Memos.{HasRows, IsEmpty, Notes, Remembers, front_at, fronts_in, most_fronts, unknown_row, with_move};
 
 use std::alloc::{AllocError, Global};
 
-// How many lists are remembered at most, and how many moves.
+// How many lists are remembered at most.
 const MOST_FRONTS: usize = 8192;
 
-const MOST_MOVES: usize = 16384;
-
-// So many lists aren't remembered, for want of room, before all but the first are forgotten to make room.
+// So many lists aren't remembered, for want of room, before all are forgotten to make room.
 const PATIENCE: usize = 16384;
 
-// By how many remainders lists and moves are found.
+// By how many remainders lists are found.
 const BUCKETS: usize = 16384;
 
 // So many of the moves that were looked for in vain are noted at once.
 const MOST_MISSED: usize = 4096;
 
-// A list that is known to follow behind a byte from another, by their numbers.
-#[derive(Clone, Copy, Debug)]
-pub struct Move {
-    pub from: u32,
-    pub to: u32,
-    // The number of the move that was noted before it with the same remainder, and one more; 0 where there is none.
-    pub before: u32,
-    pub byte: u8,
-}
+// The row of a list behind which nothing is known yet.
+const UNKNOWN_ROW: [u16; 256] = [0; 256];
 
-// Lists of states, and the moves between them that are known. What is found by remainders is looked at.
+// Lists of states, and the moves between them that are known. A list that is found by a remainder is looked at.
 #[derive(Debug, Drop)]
 pub struct Memo {
     fronts: Vec<Vec<u32>>,
-    moves: Vec<Move>,
-    // For each remainder of a list's number and a byte the number of the last move, and one more.
-    heads: Vec<u32>,
+    // A row for each list, with a place for each byte: the number of the list behind it, and one more; 0 where it isn't known.
+    moves: Vec<u16>,
     // For each remainder of a list's states the number of the last list.
     buckets: Vec<u16>,
     // Moves that were looked for in vain, each by its key at a remainder of it.
@@ -59,9 +49,9 @@ fn key_of(number: usize, byte: u8) -> u32 {
     (number % 65_536) as u32 * 256 + u32::from(byte) + 1
 }
 
-// The remainder by which a move is found.
-fn head_of(number: usize, byte: u8) -> usize {
-    (key_of(number, byte).wrapping_mul(2_654_435_761) >> 18) as usize
+// The remainder by which a move that was missed is noted.
+fn remainder_of(key: u32) -> usize {
+    (key.wrapping_mul(2_654_435_761) >> 20) as usize
 }
 
 impl Memo {
@@ -72,7 +62,6 @@ impl Memo {
         Memo {
             fronts: Vec::new(alloc),
             moves: Vec::new(alloc),
-            heads: Vec::new(alloc),
             buckets: Vec::new(alloc),
             missed: Vec::new(alloc),
             turned_away: 0,
@@ -86,11 +75,11 @@ impl Memo {
         self.fronts.len()
     }
 
-    // Whether there is no room for a list or a move more.
+    // Whether there is no room for a list more.
     pub fn is_full(&self) -> bool
         ensures { result ≡ false → length (fronts_in self.now) < most_fronts }
     {
-        self.fronts.len() >= MOST_FRONTS || self.moves.len() >= MOST_MOVES
+        self.fronts.len() >= MOST_FRONTS
     }
 
     // The list of a number.
@@ -103,19 +92,11 @@ impl Memo {
 
     // The number of the list that is known to follow behind a byte, if one is.
     pub fn behind(&self, number: usize, byte: u8) -> Option<usize>
+        requires rows { HasRows self.now }
+        requires within { number < length (fronts_in self.now) }
         ensures { IfSome result (λ to. Notes self.now.moves.items number byte to) }
     {
-        let mut at = *self.heads.get(head_of(number, byte))? as usize;
-        let mut left: u32 = 256;
-        while left > 0 {
-            left -= 1;
-            let known = self.moves.get(at.checked_sub(1)?)?;
-            if known.byte == byte && known.from as usize == number {
-                return Some(known.to as usize);
-            }
-            at = known.before as usize;
-        }
-        None
+        usize::from(self.moves[number * 256 + usize::from(byte)]).checked_sub(1)
     }
 
     // The number of an equal list, if one is found.
@@ -133,43 +114,14 @@ impl Memo {
     }
 
     // Notes which list follows behind a byte.
-    pub fn note(&mut self, number: usize, byte: u8, behind: usize) -> Result<(), AllocError>
-        requires from { number < 65536 }
-        requires to { behind < 65536 }
+    pub fn note(&mut self, number: usize, byte: u8, behind: usize)
+        requires rows { HasRows self.old }
+        requires from { number < length (fronts_in self.old) }
+        requires to { behind < 65535 }
         ensures fronts { self.new.fronts ≡ self.old.fronts }
-        ensures moves { PushesMove self.old.moves.items self.new.moves.items number byte behind }
+        ensures moves { self.new.moves.items ≡ with_move self.old.moves.items number byte behind }
     {
-        let head = head_of(number, byte);
-        let before = self.last_at(head);
-        self.moves.push(Move {
-            from: number as u32,
-            to: behind as u32,
-            before,
-            byte,
-        })?;
-        let count = self.moves.len();
-        self.set_last(head, count);
-        Ok(())
-    }
-
-    // The number of the last move with a remainder, and one more; 0 where none is known.
-    fn last_at(&self, head: usize) -> u32 {
-        match self.heads.get(head) {
-            None => 0,
-            Some(last) => *last,
-        }
-    }
-
-    // The last move with a remainder is the last of so many.
-    fn set_last(&mut self, head: usize, count: usize)
-        ensures fronts { self.new.fronts ≡ self.old.fronts }
-        ensures moves { self.new.moves ≡ self.old.moves }
-    {
-        if count <= MOST_MOVES {
-            if let Some(last) = self.heads.get_mut(head) {
-                *last = count as u32;
-            }
-        }
+        self.moves[number * 256 + usize::from(byte)] = behind as u16 + 1;
     }
 
     // Whether a move was looked for in vain before, as far as that is noted; it is noted now.
@@ -178,7 +130,7 @@ impl Memo {
         ensures moves { self.new.moves ≡ self.old.moves }
     {
         let key = key_of(number, byte);
-        match self.missed.get_mut(head_of(number, byte) % MOST_MISSED) {
+        match self.missed.get_mut(remainder_of(key)) {
             None => true,
             Some(missed) => {
                 let is_again = *missed == key;
@@ -188,29 +140,48 @@ impl Memo {
         }
     }
 
+    // Puts a list behind the others, and a row for it.
+    fn push(&mut self, list: Vec<u32>) -> Result<(), AllocError>
+        requires rows { HasRows self.old }
+        ensures fronts { OnOk result (fronts_in self.new ≡ fronts_in self.old ++ list.items ∷ []) }
+        ensures moves { OnOk result (self.new.moves.items ≡ self.old.moves.items ++ unknown_row) }
+        ensures same { OnErr result (fronts_in self.new ≡ fronts_in self.old) }
+        ensures still { OnErr result (self.new.moves.items ≡ self.old.moves.items) }
+    {
+        self.moves.extend_from_slice(&UNKNOWN_ROW)?;
+        match self.fronts.push(list) {
+            Ok(()) => Ok(()),
+            Err(_) => {
+                self.moves.truncate(self.fronts.len() * 256);
+                Err(AllocError)
+            }
+        }
+    }
+
     // Adds a list, and gives its number. It gets room for its states alone.
     pub fn add(&mut self, alloc: Global, states: &[u32]) -> Result<usize, AllocError>
-        requires { length (fronts_in self.old) < most_fronts }
+        requires rows { HasRows self.old }
+        requires few { length (fronts_in self.old) < most_fronts }
         ensures number { IfOk result (λ number. number ≡ length (fronts_in self.old)) }
         ensures fronts { OnOk result (fronts_in self.new ≡ fronts_in self.old ++ states.now ∷ []) }
+        ensures moves { OnOk result (self.new.moves.items ≡ self.old.moves.items ++ unknown_row) }
         ensures same { OnErr result (fronts_in self.new ≡ fronts_in self.old) }
-        ensures moves { self.new.moves ≡ self.old.moves }
+        ensures still { OnErr result (self.new.moves.items ≡ self.old.moves.items) }
     {
         let list = Vec::from_slice(alloc, states)?;
         let number = self.fronts.len();
         self.make_room(alloc)?;
         self.set_bucket(bucket_of(states), number);
-        self.fronts.push(list)?;
+        self.push(list)?;
         Ok(number)
     }
 
-    // Room to find lists and moves by, and to note what is missed.
+    // Room to find lists by, and to note what is missed.
     fn make_room(&mut self, alloc: Global) -> Result<(), AllocError>
         ensures fronts { self.new.fronts ≡ self.old.fronts }
         ensures moves { self.new.moves ≡ self.old.moves }
     {
         if self.missed.is_empty() {
-            self.heads = vec![in alloc; 0u32; BUCKETS]?;
             self.buckets = vec![in alloc; 0u16; BUCKETS]?;
             self.missed = vec![in alloc; 0u32; MOST_MISSED]?;
         }
@@ -228,7 +199,7 @@ impl Memo {
         }
     }
 
-    // Notes that a list wasn't remembered, for want of room. After many such, all but the first list are forgotten.
+    // Notes that a list wasn't remembered, for want of room. After many such, all are forgotten.
     pub fn turn_away(&mut self)
         ensures { (g : Graph) (room : ℕ) → Remembers g room self.old → Remembers g room self.new }
     {
@@ -236,9 +207,8 @@ impl Memo {
             self.turned_away += 1;
         } else {
             self.turned_away = 0;
-            self.fronts.truncate(1);
+            self.fronts.clear();
             self.moves.clear();
-            self.heads.fill(0);
         }
     }
 }

@@ -116,7 +116,7 @@ impl Nfa {
     }
 
     /// Remembers what follows at the places of a text, and tells whether all of it is remembered now: so this text is gone through quicker from now on,
-    /// and others as far as the same states live together. Contracts don't see it. It takes at most some 3 MB (docs/PERFORMANCE.md, "What is remembered").
+    /// and others as far as the same states live together. Contracts don't see it. It takes at most some 7 MB (docs/PERFORMANCE.md, "What is remembered").
     /// Where there is no room, or no memory, no more is remembered.
     pub fn remember(&mut self, alloc: Global, text: &[u8]) -> bool
         ensures { self.new ≡ self.old }

@@ -5,7 +5,7 @@ ghost use Rattle.aa_glob_nfa.specs.Graphs.{Graph};
 ghost use Rattle.aa_glob_nfa.specs.OfTables.{AreSound, AreSorted, graph_of};
 ghost use Rattle.aa_glob_front.specs.Fronts.{IsLive};
 ghost use Rattle.aa_glob_front.specs.Runs.{IsBegun, IsWhole};
-ghost use Rattle.aa_glob_run.specs.code.Memos.{IsRecalling, LeadsTo, Remembers, front_at, fronts_in, most_fronts, most_new};
+ghost use Rattle.aa_glob_run.specs.code.Memos.{HasRows, IsRecalling, LeadsTo, Remembers, front_at, fronts_in, most_fronts, most_new};
 
 use crate::memo::Memo;
 use aa_glob_front::{Front, Steps, pass};
@@ -15,8 +15,8 @@ use std::alloc::{AllocError, Global};
 // How many states a list has at most that is remembered behind a byte, so that all lists take no more than some 2 MB.
 const LONGEST: usize = 64;
 
-// How many moves are looked for at most, as one text is remembered.
-const MOST_NEW: u32 = 32;
+// A text of so many bytes is worth learning the first time: what is learnt at one of its places comes again at others.
+const LONG: usize = 1024;
 
 // All states that live at a place, of those that its last byte brought.
 fn close(alloc: Global, tables: &Tables, brought: Front) -> Result<Vec<u32>, AllocError>
@@ -77,8 +77,10 @@ impl Memo {
 
     // The number of a list, which is added where it isn't found. The others keep theirs.
     fn place(&mut self, alloc: Global, states: &[u32]) -> Result<usize, AllocError>
+        requires rows { HasRows self.old }
         requires few { length (fronts_in self.old) < most_fronts }
         requires some { 0 < length (fronts_in self.old) }
+        ensures rows { HasRows self.new }
         ensures memo { (g : Graph) (room : ℕ) → Remembers g room self.old → IsLive room states.now → Remembers g room self.new }
         ensures kept { (n : ℕ) → n < length (fronts_in self.old) → (n < length (fronts_in self.new)) × (front_at self.new n ≡ front_at self.old n) }
         ensures within { IfOk result (λ number. (number < length (fronts_in self.new)) × (number ≤ most_fronts)) }
@@ -98,6 +100,7 @@ impl Memo {
         byte: u8,
         states: &[u32],
     ) -> Result<usize, AllocError>
+        requires rows { HasRows self.old }
         requires few { length (fronts_in self.old) < most_fronts }
         requires within { number < length (fronts_in self.old) }
         ensures memo { (g : Graph) (room : ℕ) → Remembers g room self.old → LeadsTo g (front_at self.old number) byte states.now
@@ -105,7 +108,7 @@ impl Memo {
         ensures within { IfOk result (λ to. to < length (fronts_in self.new)) }
     {
         let to = self.place(alloc, states)?;
-        self.note(number, byte, to)?;
+        self.note(number, byte, to);
         Ok(to)
     }
 
@@ -135,18 +138,26 @@ impl Memo {
         self.remember(alloc, number, byte, &states).map(Some)
     }
 
-    // Whether a move of a text is looked for, where so many of it were. The first is where it was missed before, so a text that is asked once adds nothing.
-    fn is_worth_learning(&mut self, new: u32, number: usize, byte: u8) -> bool
+    // Whether a move of a text is looked for, where so many of it were. The first is where it was missed before or the text is long, so a short text that
+    // is asked once adds nothing.
+    fn is_worth_learning(&mut self, text: &[u8], new: usize, number: usize, byte: u8) -> bool
         ensures fronts { self.new.fronts ≡ self.old.fronts }
         ensures moves { self.new.moves ≡ self.old.moves }
-        ensures few { result ≡ true → new < most_new }
+        ensures few { result ≡ true → new < most_new text.now }
     {
-        if new == 0 {
+        if new == 0 && text.len() < LONG {
             self.is_missed_again(number, byte)
         } else {
-            new < MOST_NEW
+            new < most_new(text)
         }
     }
+}
+
+// How many moves of a text are looked for at most, each time it is remembered: some, and more of a long one.
+fn most_new(text: &[u8]) -> usize
+    ensures { result ≡ most_new text.now }
+{
+    32 + text.len() / 128
 }
 
 // Remembers what follows at the places of a text, as far as it is known already and some moves more. Tells whether all of it is known now.
@@ -172,7 +183,7 @@ pub fn recall(
         if memo.front(at).is_empty() {
             return Ok(true);
         }
-        if !memo.is_worth_learning(new, at, *byte) {
+        if !memo.is_worth_learning(text, new, at, *byte) {
             return Ok(false);
         }
         match memo.learn(alloc, tables, at, *byte)? {

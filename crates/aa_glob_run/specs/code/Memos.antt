@@ -1,18 +1,17 @@
 -- What is remembered of runs: states that live together at a place, and which follow behind a byte.
-use Rattle.std.specs.Prelude.{◌≡◌, ℕ, ◌<◌, ◌⊎◌, ◌++◌, List, [], ◌∷◌, length, map, reverse, take, All, Some, slice_get, slice_index_or}
+use Rattle.std.specs.Prelude.{◌≡◌, ℕ, suc, ◌+◌, ◌*◌, ◌/◌, ◌<◌, List, [], ◌∷◌, length, map, replicate, reverse, set, take, All, slice_index_or}
 use Rattle.aa_glob_nfa.specs.Graphs.{Graph}
 use Rattle.aa_glob_front.specs.Fronts.{IsLive}
 use Rattle.aa_glob_front.specs.Runs.{HasRun, IsWhole}
 use Rattle.aa_glob_run.specs.declared.memo.Memo.{Memo}
-use Rattle.aa_glob_run.specs.declared.memo.Move.{Move}
 
 -- how many lists are remembered at most
 abbrev pub most_fronts : ℕ
 most_fronts = 8192
 
--- how many moves of one text are looked for at most, each time it is remembered
-abbrev pub most_new : ℕ
-most_new = 32
+-- how many moves of a text are looked for at most, each time it is remembered: some, and more of a long one
+abbrev pub most_new : List ℕ → ℕ
+most_new text = 32 + length text / 128
 
 -- behind any text that reaches the states of one list, and a byte more, those of another are reached
 abbrev pub LeadsTo : Graph → List ℕ → ℕ → List ℕ → Type 0
@@ -22,25 +21,32 @@ LeadsTo g from c to = (past : List ℕ) → IsWhole g past from → IsWhole g (c
 abbrev pub front_of : List (List ℕ) → ℕ → List ℕ
 front_of fronts n = slice_index_or fronts n []
 
--- a move leads from a list that is there to one that is there
-pub record IsRight (g : Graph) (fronts : List (List ℕ)) (move : Move) : Type 0 where
-  pub from : move.from < length fronts
-  pub to : move.to < length fronts
-  pub leads : LeadsTo g (front_of fronts move.from) move.byte (front_of fronts move.to)
+-- where a row of moves tells which list follows behind a byte: each list has a row, and each byte a place in it
+abbrev pub place_of : ℕ → ℕ → ℕ
+place_of from byte = from * 256 + byte
+
+-- a row that tells nothing yet
+abbrev pub unknown_row : List ℕ
+unknown_row = replicate 256 0
+
+-- it is known that behind a byte a list leads to another: that one's number and one more stands there, and 0 where none is known
+abbrev pub Notes : List ℕ → ℕ → ℕ → ℕ → Type 0
+Notes moves from byte to = slice_index_or moves (place_of from byte) 0 ≡ suc to
+
+-- rows in which it is known from now on that a list leads to another behind a byte
+abbrev pub with_move : List ℕ → ℕ → ℕ → ℕ → List ℕ
+with_move moves from byte to = set moves (place_of from byte) (suc to)
+
+-- a move leads to a list that is there, and that is right
+abbrev pub IsRight : Graph → List (List ℕ) → ℕ → ℕ → ℕ → Type 0
+IsRight g fronts from byte to = (to < length fronts) × LeadsTo g (front_of fronts from) byte (front_of fronts to)
 
 -- What is remembered is right. The first list is of the states that live before a text.
-pub record IsMemo (g : Graph) (room : ℕ) (fronts : List (List ℕ)) (moves : List Move) : Type 0 where
+pub record IsMemo (g : Graph) (room : ℕ) (fronts : List (List ℕ)) (moves : List ℕ) : Type 0 where
   pub start : 0 < length fronts → IsWhole g [] (front_of fronts 0)
   pub lists : All (IsLive room) fronts
-  pub known : All (IsRight g fronts) moves
-
--- one of the moves leads from a list behind a byte to another
-abbrev pub Notes : List Move → ℕ → ℕ → ℕ → Type 0
-Notes moves from byte to = (k : ℕ) × (move : Move) × (slice_get moves k ≡ Some move) × (move.from ≡ from) × (move.byte ≡ byte) × (move.to ≡ to)
-
--- one move more, or the same where there was no memory
-abbrev pub PushesMove : List Move → List Move → ℕ → ℕ → ℕ → Type 0
-PushesMove old new from byte to = (new ≡ old) ⊎ ((before : ℕ) × (new ≡ old ++ record { from = from; to = to; before = before; byte = byte } ∷ []))
+  pub rows : length moves ≡ length fronts * 256
+  pub known : (from byte to : ℕ) → from < length fronts → byte < 256 → Notes moves from byte to → IsRight g fronts from byte to
 
 -- the lists that are remembered
 abbrev pub fronts_in : Memo → List (List ℕ)
@@ -48,6 +54,10 @@ fronts_in memo = map (λ front. front.items) memo.fronts.items
 
 abbrev pub front_at : Memo → ℕ → List ℕ
 front_at memo n = front_of (fronts_in memo) n
+
+-- each list that is remembered has a row of moves
+abbrev pub HasRows : Memo → Type 0
+HasRows memo = length memo.moves.items ≡ length (fronts_in memo) * 256
 
 -- nothing is remembered
 abbrev pub IsEmpty : Memo → Type 0

@@ -1,4 +1,4 @@
-use Rattle.std.proofs.Common.{◌≡◌, ◌≤◌, ◌+◌, ◌*◌, [], suc, length, reverse, take, ap, subst, sym, ◌∙◌, arith}
+use Rattle.std.proofs.Common.{◌≡◌, ◌≤◌, ◌+◌, ◌*◌, suc, length, reverse, take, ap, subst, sym, ◌∙◌, arith}
 use Rattle.std.proofs.Math.Seq.{take-length}
 use Rattle.std.proofs.lemmas.List.Elements.{All-get_or}
 use Rattle.aa_glob_nfa.specs.Graphs.{IsFound, Reaches}
@@ -6,7 +6,7 @@ use Rattle.aa_glob_nfa.specs.OfTables.{graph_of}
 use Rattle.aa_glob_front.specs.Fronts.{IsLive}
 use Rattle.aa_glob_front.specs.Runs.{HasRun, IsWhole}
 use Rattle.aa_glob_front.specs.Steps.{IsCounted, counted}
-use Rattle.aa_glob_front.specs.Visits.{CountsAllVisits, CountsVisits}
+use Rattle.aa_glob_front.specs.Visits.{CountsVisits}
 use Rattle.aa_glob_front.proofs.FrontLemmas.{length_distinct}
 use Rattle.aa_glob_front.proofs.RunLemmas.{counted_some}
 use Rattle.aa_glob_front.proofs.VisitLemmas.{counts_first, counts_more}

@@ -8,7 +8,6 @@ use Rattle.aa_glob_front.specs.Visits.{CountsVisits}
 use Rattle.aa_glob_front.proofs.FrontLemmas.{length_distinct}
 use Rattle.aa_glob_front.proofs.RunLemmas.{reverse-longer}
 use Rattle.aa_glob_front.proofs.VisitLemmas.{counts_more, counts_none}
-use Rattle.aa_glob_run.proofs.MemoLemmas.{noted-right}
 use Rattle.aa_glob_run.proofs.RecallLemmas.{recalled_more, recalled_start}
 use Rattle.aa_glob_run.specs.code.Memos.{front_at, fronts_in}
 use Rattle.aa_glob_run.proofs.recall.known_far.Goals as goal
@@ -48,7 +47,7 @@ loop-far-preserved c =
     let lives : length live ≢ 0 = omega (arith, ap length c.front-live.ensures, c.if-live-gt0.true) in
     let fits : length live ≤ room = length_distinct room live is_live.0 is_live.1 in
     let steps : c.visited.new.self ≡ counted c.loop-far.steps (length live) = c.visited.ensures ∙ ap (λ l. counted c.loop-far.steps (length l)) c.front-live.ensures in
-    let right = noted-right g room (fronts_in memo) memo.moves.items at _ c.in-Some.number c.requires.memo c.in-Some.ensures in
+    let right = c.requires.memo.known at _ c.in-Some.number inv.within (omega arith) c.in-Some.ensures in
     let whole = right.1 past inv.whole in
     let one_more : suc i ≡ i + 1 = omega arith in
     record {

@@ -7,5 +7,5 @@ abbrev pub invariant-loop-byte : goal.invariant-loop-byte
 invariant-loop-byte l = record {
   memo : Remembers (graph_of l.tables) (length l.tables.states) l.memo;
   within : l.at < length (fronts_in l.memo);
-  few : l.new ≤ most_new;
+  few : l.new ≤ most_new l.text;
 }

@@ -1,4 +1,4 @@
-use Rattle.std.proofs.Common.{length, subst, sym, ◌∙◌}
+use Rattle.std.proofs.Common.{length, subst, sym}
 use Rattle.aa_glob_nfa.specs.OfTables.{graph_of}
 use Rattle.aa_glob_front.specs.Fronts.{IsLive}
 use Rattle.aa_glob_run.specs.code.Memos.{LeadsTo}

@@ -1,7 +1,6 @@
 use Rattle.std.proofs.Common.{◌≡◌, ◌+◌, ◌*◌, length, ◌∙◌, ap, sym, subst}
 use Rattle.std.specs.Prelude.{IfOk, OnOk}
 use Rattle.aa_glob_nfa.specs.Graphs.{Graph, IsFound, Reaches}
-use Rattle.aa_glob_nfa.specs.OfTables.{graph_of}
 use Rattle.aa_glob_front.specs.Steps.{IsCounted}
 use Rattle.aa_glob_front.specs.Visits.{CountsAllVisits}
 use Rattle.aa_glob_nfa.proofs.TableLemmas.{length-entries_in}
