@@ -11,6 +11,9 @@ const MOST_ASKERS: usize = 8;
 // So many fingerprints are kept.
 const FINGERPRINTS: usize = 4096;
 
+// So many bytes of a path's end go into its fingerprint.
+const MOST_PRINTED: usize = 256;
+
 /// A profile in a slot, or its child or hat at a place.
 #[derive(Clone, Copy, Debug, PartialEq, Eq)]
 pub(crate) struct Warm {
@@ -27,17 +30,26 @@ pub(crate) struct Remembered {
     fingerprints: Vec<u32>,
 }
 
-/// A number by which a question is known again: of who asks and of the path.
+/// A number by which a question is known again: of who asks, and of how long the path is and how it ends, so that a long path takes no longer than others.
 pub fn fingerprint(who: &[u8], path: &[u8]) -> u32 {
-    let mut print: u32 = 0x811c_9dc5;
-    for byte in who {
-        print = (print ^ u32::from(*byte)).wrapping_mul(0x0100_0193);
-    }
-    print = print.wrapping_mul(0x0100_0193);
-    for byte in path {
-        print = (print ^ u32::from(*byte)).wrapping_mul(0x0100_0193);
+    let (_, end) = path.split_at(path.len().saturating_sub(MOST_PRINTED));
+    let print = with_bytes(0x811c_9dc5, who);
+    let print = with_number(print, (path.len() % 65_536) as u32);
+    with_bytes(print, end)
+}
+
+// A fingerprint of some bytes more.
+fn with_bytes(print: u32, bytes: &[u8]) -> u32 {
+    let mut print = print;
+    for byte in bytes {
+        print = with_number(print, u32::from(*byte));
     }
     print
+}
+
+// A fingerprint of a number more.
+fn with_number(print: u32, number: u32) -> u32 {
+    (print ^ number).wrapping_mul(0x0100_0193)
 }
 
 // Where a fingerprint is kept.
