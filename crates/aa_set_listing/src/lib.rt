@@ -9,4 +9,5 @@ mod states;
 
 pub use list::list_lines;
 pub use names::full_name;
+pub use rule_lines::push_rule;
 pub use show::show_lines;

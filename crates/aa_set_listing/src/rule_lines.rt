@@ -203,8 +203,12 @@ fn push_other(text: &mut Vec<u8>, rule: &OtherRule) -> Result<(), AllocError>
     text.extend_from_slice(rule.text.as_slice())
 }
 
-// Puts a rule behind a text.
-fn push_rule(text: &mut Vec<u8>, rule: &Rule) -> Result<(), AllocError>
+/// Puts a rule behind a text, as `show` tells it: what it is about, the words before it, and what it lets or denies.
+///
+/// # Errors
+///
+/// Where memory runs out. A beginning may have been put then.
+pub fn push_rule(text: &mut Vec<u8>, rule: &Rule) -> Result<(), AllocError>
     ensures { OnOk result (text.new.items ≡ text.old.items ++ rule_text rule.now) }
 {
     match rule {

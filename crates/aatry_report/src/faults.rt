@@ -9,8 +9,13 @@ use crate::shown::push_shown;
 use aatry_places::{line_at, line_place, push_caret_line};
 use std::alloc::AllocError;
 
-// Puts a place in a file's bytes behind a text, by the path that the file is told by, its line and its column.
-fn push_place(out: &mut Vec<u8>, path: &[u8], text: &[u8], at: usize) -> Result<(), AllocError>
+/// Puts a place in a file's bytes behind a text: `PATH:LINE:COLUMN: `. `path` is what the file is told by, `text` are its bytes, and `at` says how many of
+/// them stand before the place; lines and columns are counted from 1.
+///
+/// # Errors
+///
+/// Where memory runs out. A beginning may have been put then.
+pub fn push_place(out: &mut Vec<u8>, path: &[u8], text: &[u8], at: usize) -> Result<(), AllocError>
     ensures { OnOk result (out.new.items ≡ out.old.items ++ place_text path.now text.now at) }
 {
     let place = line_place(text, at);

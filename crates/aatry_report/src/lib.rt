@@ -7,7 +7,7 @@ mod shown;
 mod taken;
 mod words;
 
-pub use faults::{push_fault, push_fault_at};
+pub use faults::{push_fault, push_fault_at, push_place};
 pub use shown::push_shown;
 pub use taken::{kept_rules, push_taken};
 pub use words::words_of;
