@@ -1,0 +1,14 @@
+use Rattle.std.proofs.Common.{◌≡◌, ◌++◌, length, map}
+use Rattle.aa_profile_grammar.specs.SeenFiles.{seen_profile}
+use Rattle.aa_profile_places.specs.RulePlaces.{places_of_profile}
+use Rattle.aa_profile_places.proofs.places.read_profiles.Given as goal
+
+-- the places so far, and those of the rest, are all
+abbrev pub invariant-loop-rest : goal.invariant-loop-rest
+invariant-loop-rest l = record {
+  places : l.places.items ++ map (places_of_profile l.fn.table) (map seen_profile l.rest) ≡ map (places_of_profile l.fn.table) (map seen_profile l.profiles);
+  same : l.table ≡ l.fn.table;
+}
+
+abbrev pub decreases-loop-rest : goal.decreases-loop-rest
+decreases-loop-rest l = length l.rest
