@@ -1,0 +1,2 @@
+pub mod DecidingLemmas
+pub mod PlaceLemmas

@@ -1,0 +1,9 @@
+//! The rules behind an answer: which rules of a profile apply to a request and what each of them does, and which ones are near where none lets it.
+#![tactic(auto)]
+
+mod cover;
+mod laws;
+mod told;
+
+pub use laws::{what_is_told, what_told_rules_decide};
+pub use told::{ToldRule, near_rules, told_rules};

@@ -1,0 +1,31 @@
+-- The rules behind an answer by what they do.
+use Rattle.std.specs.Prelude.{ℕ, Bool, not, ◌&&◌, ◌==◌, List, codes}
+use Rattle.std.specs.List.{filter}
+use Rattle.aatry_why.specs.Laws.{places_of}
+use Rattle.aatry_why.specs.declared.told.ToldRule.{ToldRule}
+use Rattle.aatry_why_lines.specs.declared.groups.Group.{Group}
+use Rattle.aatry_why_lines.specs.declared.groups.Group.TheVariants.{Allowing, Auditing, Denying}
+
+-- the words over the rules of a group
+abbrev pub heading : Group → List ℕ
+heading Denying = codes "denied by"
+heading Allowing = codes "allowed by"
+heading Auditing = codes "audited by"
+
+-- a rule covers something of what is asked for
+abbrev pub does_something : ToldRule → Bool
+does_something rule = not (rule.covered.0 == 0)
+
+-- what a rule does puts it into a group
+abbrev pub does : Group → ToldRule → Bool
+does Denying rule = rule.denies
+does Allowing rule = not rule.denies
+does Auditing rule = rule.audited
+
+-- a rule is in a group
+abbrev pub is_in : Group → ToldRule → Bool
+is_in group rule = does_something rule && does group rule
+
+-- the places of the rules of a group
+abbrev pub places_in : Group → List ToldRule → List ℕ
+places_in group told = places_of (filter (is_in group) told)

@@ -1,0 +1,4 @@
+pub mod Askers
+pub mod Groups
+pub mod Lines
+pub mod Why

@@ -1,0 +1,67 @@
+-- What is told of the rules behind an answer.
+use Rattle.std.specs.Prelude.{◌≡◌, ℕ, Bool, false, if◌then◌else◌, List, [], ◌++◌, codes, Option, None, Some, Ok, slice_get}
+use Rattle.aa_decide_verdict.specs.Ready.{audits, rules_at}
+use Rattle.aa_profile.specs.FileReading.{file_profiles}
+use Rattle.aa_profile_access.specs.Request.{Request}
+use Rattle.aa_profile_data.specs.declared.profile.Profile.{Profile}
+use Rattle.aa_profile_data.specs.declared.profile.Rule.{Rule}
+use Rattle.aa_profile_places.specs.RulePlaces.{file_places}
+use Rattle.aa_profile_places.specs.declared.places.ProfilePlaces.{ProfilePlaces}
+use Rattle.aa_text_files.specs.Files.{File}
+use Rattle.aa_text_files.specs.declared.text_error.Place.{Place}
+use Rattle.aatry_why.specs.Told.{near, told}
+use Rattle.aatry_why.specs.declared.told.ToldRule.{ToldRule}
+use Rattle.aatry_why_lines.specs.Groups.{heading, places_in}
+use Rattle.aatry_why_lines.specs.Lines.{group_lines}
+use Rattle.aatry_why_lines.specs.declared.groups.Group.{Group}
+use Rattle.aatry_why_lines.specs.declared.groups.Group.TheVariants.{Allowing, Auditing, Denying}
+
+-- the lines of the rules of a group
+abbrev pub lines_of : List File → List ℕ → List ℕ → List Rule → List (Option Place) → List ToldRule → Group → List ℕ
+lines_of files base name rules places told group = group_lines files base name rules places (heading group) (places_in group told)
+
+-- the lines of the nearest rules, where they are wanted
+abbrev pub near_lines : List File → List ℕ → List ℕ → List Rule → List (Option Place) → Request → Bool → List ℕ
+near_lines files base name rules places request nearest =
+    if nearest then group_lines files base name rules places (codes "nearest rules") (near request rules) else []
+
+-- the lines of these rules by what they do: those that deny, that allow, and that audit
+abbrev pub told_lines : List File → List ℕ → List ℕ → List Rule → List (Option Place) → List ToldRule → List ℕ
+told_lines files base name rules places told =
+    lines_of files base name rules places told Denying
+    ++ lines_of files base name rules places told Allowing
+    ++ lines_of files base name rules places told Auditing
+
+-- the lines of the rules behind the answer to a request: those that apply, and the nearest ones
+abbrev pub why_lines : List File → List ℕ → List ℕ → Bool → List Rule → List (Option Place) → Request → Bool → List ℕ
+why_lines files base name flag rules places request nearest =
+    told_lines files base name rules places (told flag request rules) ++ near_lines files base name rules places request nearest
+
+-- the rules of the profile at an index, or of its child or hat; one that isn't there has none
+abbrev pub rules_in : List Profile → ℕ → Option ℕ → List Rule
+rules_in profiles index child = elim (slice_get profiles index) [ None ↦ [] | Some profile ↦ rules_at profile child ]
+
+-- whether its flag audits each of them
+abbrev pub audits_in : List Profile → ℕ → Option ℕ → Bool
+audits_in profiles index child = elim (slice_get profiles index) [ None ↦ false | Some profile ↦ audits profile child ]
+
+abbrev pub child_places : Option (List (Option Place)) → List (Option Place)
+child_places None = []
+child_places (Some places) = places
+
+-- the places of the rules of a profile, or of its child or hat
+abbrev pub places_at : ProfilePlaces → Option ℕ → List (Option Place)
+places_at places None = places.rules
+places_at places (Some child) = child_places (slice_get places.children child)
+
+-- where its rules stand
+abbrev pub stands_in : List ProfilePlaces → ℕ → Option ℕ → List (Option Place)
+stands_in places index child = elim (slice_get places index) [ None ↦ [] | Some own ↦ places_at own child ]
+
+-- lines tell the rules behind the answer of a file's profile, or of its child or hat, to a request
+abbrev pub TellWhy : List File → List ℕ → List ℕ → ℕ → Option ℕ → Request → Bool → List ℕ → Type 0
+TellWhy files base name index child request nearest lines =
+    (profiles : List Profile) × (places : List ProfilePlaces)
+    × (file_profiles files name ≡ Ok profiles) × (file_places files name ≡ Some places)
+    × (lines
+    ≡ why_lines files base name (audits_in profiles index child) (rules_in profiles index child) (stands_in places index child) request nearest)

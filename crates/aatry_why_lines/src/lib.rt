@@ -1,0 +1,9 @@
+//! What people at a terminal are told of the rules behind an answer: each with the line and the column where it is written.
+#![tactic(auto)]
+
+mod asker;
+mod groups;
+mod lines;
+mod why;
+
+pub use why::{push_why, push_why_of};

@@ -1,0 +1,307 @@
+//! What is told of the rules behind an answer.
+
+ghost use Rattle.std.specs.Prelude.{◌≡◌, ◌≢◌, ◌++◌, ℕ, List, Option, true, false, Ok, Err, IfErr, IfOk, OnOk};
+ghost use Rattle.aa_profile.specs.FileReading.{file_profiles};
+ghost use Rattle.aa_profile_access.specs.SeenRequests.{request_of};
+ghost use Rattle.aa_profile_errors.specs.ProfileError.{plain};
+ghost use Rattle.aa_profile_errors.specs.declared.profile_error.ProfileRefusal.TheVariants.{Memory};
+ghost use Rattle.aatry_why_lines.specs.Askers.{HasNoAsker, IsAsker};
+ghost use Rattle.aatry_why_lines.specs.Why.{TellWhy, audits_in, lines_of, near_lines, rules_in, stands_in, told_lines, why_lines};
+ghost use Rattle.aatry_why.specs.Told.{told};
+
+use crate::asker::asker_in;
+use crate::groups::{Group, heading, places_in};
+use crate::lines::push_group;
+use aa_profile::{Profile, ProfileError, Rule, read_file};
+use aa_profile_access::Request;
+use aa_profile_places::{Place, ProfilePlaces, rule_places};
+use aa_text_files::Files;
+use aatry_why::{ToldRule, near_rules, told_rules};
+use std::alloc::{AllocError, Global};
+
+// Puts the lines of the rules of a group behind a text.
+fn push_told_group(
+    alloc: Global,
+    files: &Files,
+    base: &[u8],
+    name: &[u8],
+    rules: &[Rule],
+    places: &[Option<Place>],
+    told: &[ToldRule],
+    group: Group,
+    out: &mut Vec<u8>,
+) -> Result<(), AllocError>
+    ensures { OnOk result (out.new.items ≡ out.old.items ++ lines_of files.now base.now name.now rules.now places.now told.now group) }
+{
+    let indexes = places_in(alloc, group, told)?;
+    push_group(
+        alloc,
+        files,
+        base,
+        name,
+        rules,
+        places,
+        heading(group),
+        &indexes,
+        out,
+    )
+}
+
+// Puts the lines of the nearest rules behind a text, where they are wanted.
+fn push_near(
+    alloc: Global,
+    files: &Files,
+    base: &[u8],
+    name: &[u8],
+    rules: &[Rule],
+    places: &[Option<Place>],
+    request: &Request<'_>,
+    nearest: bool,
+    out: &mut Vec<u8>,
+) -> Result<(), AllocError>
+    ensures { OnOk result (out.new.items
+        ≡ out.old.items ++ near_lines files.now base.now name.now rules.now places.now (request_of request.entry.now) nearest) }
+{
+    if !nearest {
+        return Ok(());
+    }
+    let indexes = near_rules(alloc, rules, request)?;
+    push_group(
+        alloc,
+        files,
+        base,
+        name,
+        rules,
+        places,
+        "nearest rules",
+        &indexes,
+        out,
+    )
+}
+
+// Puts the lines of the rules of each group behind a text.
+fn push_groups(
+    alloc: Global,
+    files: &Files,
+    base: &[u8],
+    name: &[u8],
+    rules: &[Rule],
+    places: &[Option<Place>],
+    told: &[ToldRule],
+    out: &mut Vec<u8>,
+) -> Result<(), AllocError>
+    ensures { OnOk result (out.new.items ≡ out.old.items ++ told_lines files.now base.now name.now rules.now places.now told.now) }
+{
+    push_told_group(
+        alloc,
+        files,
+        base,
+        name,
+        rules,
+        places,
+        told,
+        Group::Denying,
+        out,
+    )?;
+    push_told_group(
+        alloc,
+        files,
+        base,
+        name,
+        rules,
+        places,
+        told,
+        Group::Allowing,
+        out,
+    )?;
+    push_told_group(
+        alloc,
+        files,
+        base,
+        name,
+        rules,
+        places,
+        told,
+        Group::Auditing,
+        out,
+    )
+}
+
+// Puts the lines of the rules that apply to a request behind a text.
+fn push_applying(
+    alloc: Global,
+    files: &Files,
+    base: &[u8],
+    name: &[u8],
+    audit: bool,
+    rules: &[Rule],
+    places: &[Option<Place>],
+    request: &Request<'_>,
+    out: &mut Vec<u8>,
+) -> Result<(), AllocError>
+    ensures { OnOk result (out.new.items
+        ≡ out.old.items ++ told_lines files.now base.now name.now rules.now places.now (told audit (request_of request.entry.now) rules.now)) }
+{
+    let told = told_rules(alloc, audit, rules, request)?;
+    push_groups(alloc, files, base, name, rules, places, &told, out)
+}
+
+// Puts the lines of the rules behind the answer to a request behind a text.
+fn push_rules(
+    alloc: Global,
+    files: &Files,
+    base: &[u8],
+    name: &[u8],
+    audit: bool,
+    rules: &[Rule],
+    places: &[Option<Place>],
+    request: &Request<'_>,
+    nearest: bool,
+    out: &mut Vec<u8>,
+) -> Result<(), AllocError>
+    ensures { OnOk result (out.new.items
+        ≡ out.old.items ++ why_lines files.now base.now name.now audit rules.now places.now (request_of request.entry.now) nearest) }
+{
+    push_applying(alloc, files, base, name, audit, rules, places, request, out)?;
+    push_near(
+        alloc, files, base, name, rules, places, request, nearest, out,
+    )
+}
+
+// The rules of the profile at an index, or of its child or hat.
+fn rules_in(profiles: &[Profile], index: usize, child: Option<usize>) -> &[Rule]
+    ensures { result.now ≡ rules_in profiles.now index child }
+{
+    let Some(profile) = profiles.get(index) else {
+        return &[];
+    };
+    match child {
+        None => profile.rules.as_slice(),
+        Some(child) => match profile.children.as_slice().get(child) {
+            None => &[],
+            Some(child) => child.rules.as_slice(),
+        },
+    }
+}
+
+// Whether its flag audits each of them.
+fn audits_in(profiles: &[Profile], index: usize, child: Option<usize>) -> bool
+    ensures { result ≡ audits_in profiles.now index child }
+{
+    let Some(profile) = profiles.get(index) else {
+        return false;
+    };
+    match child {
+        None => profile.audit,
+        Some(child) => match profile.children.as_slice().get(child) {
+            None => false,
+            Some(child) => child.audit,
+        },
+    }
+}
+
+// Where they stand.
+fn stands_in(places: &[ProfilePlaces], index: usize, child: Option<usize>) -> &[Option<Place>]
+    ensures { result.now ≡ stands_in places.now index child }
+{
+    let Some(own) = places.get(index) else {
+        return &[];
+    };
+    match child {
+        None => own.rules.as_slice(),
+        Some(child) => match own.children.as_slice().get(child) {
+            None => &[],
+            Some(places) => places.as_slice(),
+        },
+    }
+}
+
+// Puts the lines of the rules behind the answer to a request behind a text, of the profiles that a file spells.
+fn push_read(
+    alloc: Global,
+    files: &Files,
+    base: &[u8],
+    name: &[u8],
+    profiles: &[Profile],
+    index: usize,
+    child: Option<usize>,
+    request: &Request<'_>,
+    nearest: bool,
+    out: &mut Vec<u8>,
+) -> Result<(), AllocError>
+    requires { file_profiles files.now name.now ≡ Ok profiles.now }
+    ensures { OnOk result ((lines : List ℕ) × (out.new.items ≡ out.old.items ++ lines)
+        × TellWhy files.now base.now name.now index child (request_of request.entry.now) nearest lines) }
+{
+    let places = rule_places(alloc, files, name)?;
+    let rules = rules_in(profiles, index, child);
+    let audit = audits_in(profiles, index, child);
+    let stands = stands_in(&places, index, child);
+    push_rules(
+        alloc, files, base, name, audit, rules, stands, request, nearest, out,
+    )?;
+    Ok(())
+}
+
+/// Puts the rules behind the answer to a request behind a text, as the profile at an index among those of a file decides, or its child or hat at a
+/// place: those that deny, that allow and that audit what is asked for, each group below its words, and, where `nearest` says so, those that are
+/// near. A rule that is in two groups is told in both. Each has a line of its own: `base` with the file's name, the line and the column where it
+/// is written, and the rule as `show` tells it. Rules on capabilities and sockets have no line and column. A profile, child or hat that isn't
+/// there has no rules.
+///
+/// # Errors
+///
+/// As `aa_profile::read_file` refuses the file, or `Memory`, without a place, where memory ran out. A beginning may have been put then.
+pub fn push_why(
+    alloc: Global,
+    files: &Files,
+    base: &[u8],
+    name: &[u8],
+    index: usize,
+    child: Option<usize>,
+    request: &Request<'_>,
+    nearest: bool,
+    out: &mut Vec<u8>,
+) -> Result<(), ProfileError>
+    ensures told { OnOk result ((lines : List ℕ) × (out.new.items ≡ out.old.items ++ lines)
+        × TellWhy files.now base.now name.now index child (request_of request.entry.now) nearest lines) }
+    ensures refused { IfErr result (λ error. error ≢ plain Memory → file_profiles files.now name.now ≡ Err error) }
+{
+    let profiles = read_file(alloc, files, name)?;
+    push_read(
+        alloc, files, base, name, &profiles, index, child, request, nearest, out,
+    )?;
+    Ok(())
+}
+
+/// The same as who asks by a full name decides, that of a profile of the file, or of a child or hat of it. It says whether the file has such a one;
+/// where it hasn't, nothing is put.
+///
+/// # Errors
+///
+/// As `push_why`.
+pub fn push_why_of(
+    alloc: Global,
+    files: &Files,
+    base: &[u8],
+    name: &[u8],
+    who: &[u8],
+    request: &Request<'_>,
+    nearest: bool,
+    out: &mut Vec<u8>,
+) -> Result<bool, ProfileError>
+    ensures told { IfOk result (λ found. found ≡ true → (index : ℕ) × (child : Option ℕ) × (lines : List ℕ)
+        × IsAsker files.now name.now who.now index child × (out.new.items ≡ out.old.items ++ lines)
+        × TellWhy files.now base.now name.now index child (request_of request.entry.now) nearest lines) }
+    ensures absent { IfOk result (λ found. found ≡ false → HasNoAsker files.now name.now who.now × (out.new.items ≡ out.old.items)) }
+    ensures refused { IfErr result (λ error. error ≢ plain Memory → file_profiles files.now name.now ≡ Err error) }
+{
+    let profiles = read_file(alloc, files, name)?;
+    let Some((index, child)) = asker_in(&profiles, who) else {
+        return Ok(false);
+    };
+    push_read(
+        alloc, files, base, name, &profiles, index, child, request, nearest, out,
+    )?;
+    Ok(true)
+}
