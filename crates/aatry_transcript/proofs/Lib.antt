@@ -1,0 +1,2 @@
+mod CompareLemmas
+mod LineLemmas

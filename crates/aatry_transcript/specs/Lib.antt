@@ -1,0 +1,3 @@
+pub mod Differences
+pub mod Replies
+pub mod Transcripts

@@ -1,0 +1,47 @@
+-- What a transcript says: commands, and behind each the lines that are wanted as its reply.
+use Rattle.std.specs.Prelude.{ℕ, Bool, ◌||◌, not, List, [], ◌∷◌, ◌++◌, codes, drop, flat_map, map, take}
+use Rattle.std.specs.Borrow.{Bor}
+use Rattle.std.specs.List.{filter, list_all, prefix_len}
+use Rattle.aa_bytes.specs.Bytes.{hash, line_feed}
+use Rattle.aa_bytes.specs.Texts.{begins_with, begins_with_byte}
+use Rattle.aa_set_lines.specs.Words.{is_command_blank}
+
+-- the lines behind references
+abbrev pub texts : List (Bor (List ℕ)) → List (List ℕ)
+texts lines = map (λ line. line.now) lines
+
+-- a line that holds a command
+abbrev pub is_command : List ℕ → Bool
+is_command line = begins_with (codes "> ") line
+
+-- the command that it holds: what stands behind the sign and its blank
+abbrev pub command_in : List ℕ → List ℕ
+command_in line = drop 2 line
+
+-- blanks alone: there is no command, and no reply has such a line
+abbrev pub is_blank : List ℕ → Bool
+is_blank text = list_all is_command_blank text
+
+-- a line for the reader alone: a comment, or blanks
+abbrev pub is_note : List ℕ → Bool
+is_note line = begins_with_byte hash line || is_blank line
+
+-- each other line is wanted as part of a reply
+abbrev pub is_wanted : List ℕ → Bool
+is_wanted line = not (is_command line || is_note line)
+
+-- the lines that are wanted of these
+abbrev pub wanted_in : List (List ℕ) → List (List ℕ)
+wanted_in lines = filter is_wanted lines
+
+-- the lines before the next command
+abbrev pub before_command : List (List ℕ) → List (List ℕ)
+before_command lines = take (prefix_len (λ line. not (is_command line)) lines) lines
+
+-- a line as the run is given it: its command, ended by a line feed
+abbrev pub given_line : List ℕ → List ℕ
+given_line line = command_in line ++ line_feed ∷ []
+
+-- what the run is given: the commands of these lines, each ended by a line feed
+abbrev pub input_of : List (List ℕ) → List ℕ
+input_of lines = flat_map given_line (filter is_command lines)
