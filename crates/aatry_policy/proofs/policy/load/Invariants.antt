@@ -1,0 +1,14 @@
+use Rattle.std.proofs.Common.{◌≡◌, ◌++◌, false, length, map, string_bytes}
+use Rattle.aa_set.specs.Manager.{new_manager}
+use Rattle.aatry_policy.specs.Policies.{loaded, outcomes}
+use Rattle.aatry_policy.proofs.policy.load.Given as goal
+
+-- the files so far, and those that are left, make what all make
+abbrev pub invariant-loop-rest : goal.invariant-loop-rest
+invariant-loop-rest l = record {
+  set : loaded l.files l.manager (map string_bytes l.rest) ≡ loaded l.files (new_manager false) (map string_bytes l.names);
+  outcomes : l.outcomes.items ++ outcomes l.files l.manager (map string_bytes l.rest) ≡ outcomes l.files (new_manager false) (map string_bytes l.names);
+}
+
+abbrev pub decreases-loop-rest : goal.decreases-loop-rest
+decreases-loop-rest l = length l.rest

@@ -1,0 +1,14 @@
+use Rattle.std.proofs.Common.{◌≡◌, ◌++◌, length}
+use Rattle.aa_decide_verdict.specs.Slots.{filled}
+use Rattle.aa_profile_access.specs.SeenRequests.{request_of}
+use Rattle.aatry_who.specs.Who.{who_lines}
+use Rattle.aatry_who.proofs.who.push_slots.Given as goal
+
+-- the text so far, with the lines of what is left, is all
+abbrev pub invariant-loop-rest : goal.invariant-loop-rest
+invariant-loop-rest l =
+    let request = request_of l.request in
+    l.text.items ++ who_lines request (filled l.rest) ≡ l.initial.text.items ++ who_lines request (filled l.slots)
+
+abbrev pub decreases-loop-rest : goal.decreases-loop-rest
+decreases-loop-rest l = length l.rest

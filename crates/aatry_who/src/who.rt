@@ -1,0 +1,160 @@
+//! Which profiles, children and hats would let a request through.
+
+ghost use Rattle.std.specs.Prelude.{◌≡◌, ◌∷◌, [], ◌++◌, IfOk, OnOk};
+ghost use Rattle.aa_decide_verdict.specs.Confinement.{found};
+ghost use Rattle.aa_profile_access.specs.SeenRequests.{request_of};
+ghost use Rattle.aa_decide_verdict.specs.Slots.{filled};
+ghost use Rattle.aa_set_answers.specs.Answers.{confined_answer};
+ghost use Rattle.aa_set_listing.specs.Children.{lines_of_children};
+ghost use Rattle.aatry_who.specs.Who.{answer_line, answer_of, child_line, entry_lines, lets_through, line_of, who_lines};
+
+use aa_decide::{Answer, Confinement, Entry, Request, Steps};
+use aa_profile_data::Child;
+use aa_set_changes::PolicySet;
+use aa_set_listing::full_name;
+use aatry_report::push_shown;
+use std::alloc::{AllocError, Global};
+
+// Whether an answer lets the request through.
+fn lets_through(answer: Answer) -> bool
+    ensures { result ≡ lets_through answer }
+{
+    match answer {
+        Answer::Allow | Answer::Complain => true,
+        Answer::Deny | Answer::Refuse => false,
+    }
+}
+
+// Puts the line of who gives an answer behind a text, if the answer lets the request through.
+fn push_answer(text: &mut Vec<u8>, name: &[u8], answer: Answer) -> Result<(), AllocError>
+    ensures { OnOk result (text.new.items ≡ text.old.items ++ answer_line name.now answer) }
+{
+    if lets_through(answer) {
+        push_shown(text, name)?;
+        text.extend_from_slice(b": ")?;
+        text.extend_from_slice(answer.word().as_bytes())?;
+        text.push(b'\n')?;
+    }
+    Ok(())
+}
+
+// The answer of what confines a task; none where nothing does.
+fn answer_by(
+    alloc: Global,
+    request: &Request<'_>,
+    confinement: Confinement<'_>,
+) -> Result<Option<Answer>, AllocError>
+    ensures { IfOk result (λ answer. answer ≡ answer_of (confined_answer (found confinement.entry) (request_of request.entry.now))) }
+{
+    match confinement {
+        Confinement::Unconfined => Ok(None),
+        Confinement::By { ready, child, mode } => {
+            let verdict = ready.decide(alloc, child, mode, request, &mut Steps::new())?;
+            Ok(Some(verdict.answer))
+        }
+    }
+}
+
+// Puts the line of a profile, or of its child or hat at a place, behind a text, if it would let a request through.
+fn push_line(
+    text: &mut Vec<u8>,
+    alloc: Global,
+    request: &Request<'_>,
+    entry: &Entry,
+    child: Option<usize>,
+) -> Result<(), AllocError>
+    ensures { OnOk result (text.new.items ≡ text.old.items ++ line_of (request_of request.entry.now) entry.now child) }
+{
+    if let Some(answer) = answer_by(alloc, request, entry.confinement(child))? {
+        let name = full_name(alloc, entry.profile(), child)?;
+        push_answer(text, &name, answer)?;
+    }
+    Ok(())
+}
+
+// Puts the lines of these children and hats of a profile behind a text.
+fn push_children(
+    text: &mut Vec<u8>,
+    alloc: Global,
+    request: &Request<'_>,
+    entry: &Entry,
+    children: &[Child],
+) -> Result<(), AllocError>
+    ensures { OnOk result (text.new.items ≡ text.old.items
+        ++ lines_of_children (child_line (request_of request.entry.now) entry.now) children.now) }
+{
+    for (place, _) in children.iter().enumerate() {
+        push_line(text, alloc, request, entry, Some(place))?;
+    }
+    Ok(())
+}
+
+// Puts the lines of a profile, and of its children and hats, behind a text.
+fn push_entry(
+    text: &mut Vec<u8>,
+    alloc: Global,
+    request: &Request<'_>,
+    entry: &Entry,
+) -> Result<(), AllocError>
+    ensures { OnOk result (text.new.items ≡ text.old.items ++ entry_lines (request_of request.entry.now) entry.now) }
+{
+    push_line(text, alloc, request, entry, None)?;
+    push_children(
+        text,
+        alloc,
+        request,
+        entry,
+        entry.profile().children.as_slice(),
+    )
+}
+
+// Puts the lines of what a slot holds behind a text.
+fn push_slot(
+    text: &mut Vec<u8>,
+    alloc: Global,
+    request: &Request<'_>,
+    slot: &Option<Entry>,
+) -> Result<(), AllocError>
+    ensures { OnOk result (text.new.items ≡ text.old.items ++ who_lines (request_of request.entry.now) (filled (slot.now ∷ []))) }
+{
+    match slot {
+        None => Ok(()),
+        Some(entry) => push_entry(text, alloc, request, entry),
+    }
+}
+
+// Puts the lines of what slots hold behind a text.
+fn push_slots(
+    text: &mut Vec<u8>,
+    alloc: Global,
+    request: &Request<'_>,
+    slots: &[Option<Entry>],
+) -> Result<(), AllocError>
+    ensures { OnOk result (text.new.items ≡ text.old.items ++ who_lines (request_of request.entry.now) (filled slots.now)) }
+{
+    let mut rest = slots;
+    while let [slot, behind @ ..] = rest {
+        push_slot(text, alloc, request, slot)?;
+        rest = behind;
+    }
+    Ok(())
+}
+
+/// The lines of the profiles, children and hats of a policy set that would let a request through: a line for each, with its full name and the word of its
+/// answer, `allow` or, in complain mode, `complain`. They stand in the order of the set, children and hats behind their profile. Disabled profiles
+/// confine nobody and have no line.
+///
+/// # Errors
+///
+/// Where memory runs out.
+pub fn who_lines(
+    alloc: Global,
+    set: &PolicySet<'_>,
+    request: &Request<'_>,
+) -> Result<Vec<u8>, AllocError>
+    ensures { IfOk result (λ lines. lines.items ≡ who_lines (request_of request.entry.now) set.now) }
+{
+    let mut text = Vec::new(alloc);
+    push_slots(&mut text, alloc, request, set.slots().as_slice())?;
+    Ok(text)
+}
