@@ -1,0 +1,4 @@
+pub mod Answers
+pub mod Differences
+pub mod Summary
+pub mod code

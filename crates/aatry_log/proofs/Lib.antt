@@ -1,0 +1,4 @@
+mod MaskLemmas
+mod PairLemmas
+mod QuoteLemmas
+mod WrittenLemmas

@@ -1,0 +1,6 @@
+pub mod Gathering
+pub mod SeenTallies
+pub mod Sources
+pub mod Tallies
+pub mod Texts
+pub mod code

@@ -1,0 +1,2 @@
+-- What is about the code: the entries under which tallies are kept.
+pub mod Entries

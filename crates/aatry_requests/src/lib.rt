@@ -1,0 +1,12 @@
+//! The requests of a kernel's log, or of a file of questions, each with how often it came.
+#![tactic(auto)]
+
+mod requests;
+mod sources;
+mod tallies;
+mod texts;
+
+pub use requests::{Requests, gather};
+pub use sources::Source;
+pub use tallies::{Tallies, Tally};
+pub use texts::push_question;

@@ -1,0 +1,99 @@
+//! The requests of a log, or of a file of questions.
+
+ghost use Rattle.std.specs.Prelude.{◌≡◌, false, IfOk, OnOk};
+ghost use Rattle.std.specs.List.{list_any};
+ghost use Rattle.aa_set_lines.specs.Lines.{is_line_feed, lines};
+ghost use Rattle.aatry_log.specs.Lines.{seen_line};
+ghost use Rattle.aatry_requests.specs.Gathering.{gathered, nothing, seen_requests, with_lines, with_told};
+ghost use Rattle.aatry_requests.specs.Sources.{told_in};
+
+use crate::sources::{Source, told_in};
+use crate::tallies::Tallies;
+use aa_set_lines::first_line;
+use aatry_log::LogLine;
+use std::alloc::{AllocError, Global};
+
+/// The requests of a log, or of a file of questions.
+#[derive(Drop)]
+pub struct Requests<'a> {
+    /// The questions, each once, in the order in which they first came.
+    pub tallies: Tallies<'a>,
+    /// How many lines there were.
+    pub lines: u64,
+    /// How many of them ask a question.
+    pub asked: u64,
+    /// How many tell of a request of a kind that no question asks.
+    pub others: u64,
+    /// How many can't be read.
+    pub unreadable: u64,
+}
+
+impl<'a> Requests<'a> {
+    // None so far.
+    fn new(alloc: Global) -> Requests<'a>
+        ensures { seen_requests result ≡ nothing }
+    {
+        Requests {
+            tallies: Tallies::new(alloc),
+            lines: 0,
+            asked: 0,
+            others: 0,
+            unreadable: 0,
+        }
+    }
+
+    // One more line, that tells of this.
+    fn note(&mut self, alloc: Global, told: LogLine<'a>) -> Result<(), AllocError>
+        ensures { OnOk result (seen_requests self.new ≡ with_told (seen_requests self.old) (seen_line told.entry)) }
+    {
+        self.lines = self.lines.saturating_add(1);
+        match told {
+            LogLine::Asks(question) => {
+                self.asked = self.asked.saturating_add(1);
+                self.tallies.count(alloc, question)?;
+            }
+            LogLine::OtherRequest => self.others = self.others.saturating_add(1),
+            LogLine::NoRequest => {}
+            LogLine::Unreadable => self.unreadable = self.unreadable.saturating_add(1),
+        }
+        Ok(())
+    }
+
+    // One more line of a source.
+    fn take(&mut self, alloc: Global, source: Source, line: &'a [u8]) -> Result<(), AllocError>
+        ensures { OnOk result (seen_requests self.new ≡ with_told (seen_requests self.old) (told_in source line.now)) }
+    {
+        let told = told_in(alloc, source, line)?;
+        self.note(alloc, told)
+    }
+
+    // What no line feed ends: the last line, or nothing.
+    fn take_last(&mut self, alloc: Global, source: Source, rest: &'a [u8]) -> Result<(), AllocError>
+        requires { list_any is_line_feed rest.now ≡ false }
+        ensures { OnOk result (seen_requests self.new ≡ with_lines source (seen_requests self.old) (lines rest.now)) }
+    {
+        if rest.is_empty() {
+            return Ok(());
+        }
+        self.take(alloc, source, rest)
+    }
+}
+
+/// The requests of a text's lines. Questions borrow their names from the text, but those that it has in hexadecimal; each is kept once, with the
+/// bytes that it is told by.
+///
+/// # Errors
+///
+/// Where memory runs out.
+pub fn gather(alloc: Global, source: Source, text: &[u8]) -> Result<Requests<'_>, AllocError>
+    ensures { IfOk result (λ requests. seen_requests requests ≡ gathered source text.now) }
+{
+    let mut requests = Requests::new(alloc);
+    let mut rest = text;
+    while let Some((line, behind)) = first_line(rest) {
+        requests.take(alloc, source, line)?;
+        rest = behind;
+    }
+    requests.take_last(alloc, source, rest)?;
+    Ok(requests)
+}

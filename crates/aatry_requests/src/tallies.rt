@@ -1,0 +1,93 @@
+//! Questions, and how often each came.
+
+ghost use Rattle.std.specs.Prelude.{◌≡◌, [], OnOk, length, option_map, slice_get};
+ghost use Rattle.aatry_log.specs.Questions.{seen_logged};
+ghost use Rattle.aatry_requests.specs.Tallies.{counted_with};
+ghost use Rattle.aatry_requests.specs.SeenTallies.{seen_tally};
+ghost use Rattle.aatry_requests.specs.code.Entries.{times_under};
+
+use crate::texts::push_question;
+use aatry_log::LoggedQuestion;
+use indexmap::IndexMap;
+use std::alloc::{AllocError, Global};
+use std::marker::Model;
+
+/// A question, and how often it came.
+#[derive(Drop)]
+pub struct Tally<'a> {
+    /// The question.
+    pub question: LoggedQuestion<'a>,
+    /// How often it came, as far as the number goes.
+    pub times: u64,
+}
+
+/// Questions in the order in which they first came, each once.
+#[derive(Drop)]
+pub struct Tallies<'a> {
+    by_text: IndexMap<Vec<u8>, Tally<'a>>,
+}
+
+impl<'a> Model for Tallies<'a> {
+    ghost use Rattle.std.specs.Prelude.{List};
+    ghost use Rattle.aatry_requests.specs.Tallies.{Tally as SeenTally};
+    ghost use Rattle.aatry_requests.specs.SeenTallies.{AreUnderTexts, seen_entries};
+
+    ghost Value = { List SeenTally };
+
+    ghost view = { λ t. seen_entries t.by_text.entries };
+
+    ghost invariant = { λ t. AreUnderTexts t.by_text.entries };
+}
+
+// How often the question of a text came, with once more.
+fn times_with(by_text: &IndexMap<Vec<u8>, Tally<'_>>, text: &[u8]) -> u64
+    ensures { result ≡ times_under text.now by_text.now.entries }
+{
+    match by_text.get(text) {
+        Some(tally) => tally.times.saturating_add(1),
+        None => 1,
+    }
+}
+
+impl<'a> Tallies<'a> {
+    /// No questions. It takes no memory.
+    pub fn new(alloc: Global) -> Tallies<'a>
+        ensures { result ≡ [] }
+    {
+        Tallies {
+            by_text: IndexMap::new(alloc),
+        }
+    }
+
+    /// Counts a question that came.
+    ///
+    /// # Errors
+    ///
+    /// Where memory runs out.
+    pub fn count(&mut self, alloc: Global, question: LoggedQuestion<'a>) -> Result<(), AllocError>
+        ensures { OnOk result (self.new ≡ counted_with (seen_logged question.entry) self.old) }
+    {
+        let mut text = Vec::new(alloc);
+        push_question(&mut text, &question.question())?;
+        let times = times_with(&self.by_text, &text);
+        self.by_text.insert(text, Tally { question, times })?;
+        Ok(())
+    }
+
+    /// How many questions there are. It takes no memory.
+    pub fn len(&self) -> usize
+        ensures { result ≡ length self.now }
+    {
+        self.by_text.len()
+    }
+
+    /// The tally at a place, from 0, if there are as many. It takes no memory.
+    pub fn get(&self, place: usize) -> Option<&Tally<'a>>
+        ensures { option_map (λ tally. seen_tally tally.now) result ≡ slice_get self.now place }
+    {
+        match self.by_text.get_index(place) {
+            Some((_, tally)) => Some(tally),
+            None => None,
+        }
+    }
+}

@@ -1,0 +1,85 @@
+//! How questions are told.
+
+ghost use Rattle.std.specs.Prelude.{◌≡◌, ◌++◌, OnOk, codes, option_map};
+ghost use Rattle.aa_profile_access.specs.Access.{letters_of};
+ghost use Rattle.aa_profile_tables.specs.Names.{name_or_none};
+ghost use Rattle.aa_quoting.specs.Texts.{written_text};
+ghost use Rattle.aa_set_commands.specs.Question.{seen_question};
+ghost use Rattle.aatry_requests.specs.Texts.{owned_text, question_text};
+
+use aa_profile_access::Perms;
+use aa_profile_tables::{capability_name, domain_name, kind_name};
+use aa_quoting::push_text;
+use aa_set_commands::Question;
+use std::alloc::AllocError;
+
+// Puts a word and the name of who asks behind a text.
+fn push_asker(out: &mut Vec<u8>, word: &[u8], who: &[u8]) -> Result<(), AllocError>
+    ensures { OnOk result (out.new.items ≡ out.old.items ++ word.now ++ written_text who.now) }
+{
+    out.extend_from_slice(word)?;
+    push_text(out, who)
+}
+
+// Puts whether a file is owned, and its path, behind a text.
+fn push_file(out: &mut Vec<u8>, owned: bool, path: &[u8]) -> Result<(), AllocError>
+    ensures { OnOk result (out.new.items ≡ out.old.items ++ owned_text owned ++ written_text path.now) }
+{
+    let word = if owned { b" owner " } else { b" other " };
+    out.extend_from_slice(word)?;
+    push_text(out, path)
+}
+
+// Puts the letters that a file is asked for behind a text.
+fn push_needs(out: &mut Vec<u8>, needs: Perms) -> Result<(), AllocError>
+    ensures { OnOk result (out.new.items ≡ out.old.items ++ codes " " ++ letters_of needs.0) }
+{
+    out.push(b' ')?;
+    needs.push_letters(out)
+}
+
+// Puts a name of a table behind a text.
+fn push_name(out: &mut Vec<u8>, name: Option<&str>) -> Result<(), AllocError>
+    ensures { OnOk result (out.new.items ≡ out.old.items ++ codes " " ++ name_or_none (option_map (λ name. name.now) name.entry)) }
+{
+    out.push(b' ')?;
+    if let Some(name) = name {
+        out.extend_from_slice(name.as_bytes())?;
+    }
+    Ok(())
+}
+
+/// Puts a question behind a text, in `ask`'s words, with names between quotes or in hexadecimal.
+///
+/// # Errors
+///
+/// Where memory runs out. A part of it may have been put then.
+pub fn push_question(out: &mut Vec<u8>, question: &Question<'_>) -> Result<(), AllocError>
+    ensures { OnOk result (out.new.items ≡ out.old.items ++ question_text (seen_question question.entry.now)) }
+{
+    match question {
+        Question::File {
+            who,
+            needs,
+            owned,
+            path,
+        } => {
+            push_asker(out, b"file ", who)?;
+            push_needs(out, *needs)?;
+            push_file(out, *owned, path)
+        }
+        Question::Exec { who, owned, path } => {
+            push_asker(out, b"exec ", who)?;
+            push_file(out, *owned, path)
+        }
+        Question::Cap { who, number } => {
+            push_asker(out, b"cap ", who)?;
+            push_name(out, capability_name(*number))
+        }
+        Question::Net { who, domain, kind } => {
+            push_asker(out, b"net ", who)?;
+            push_name(out, domain_name(*domain))?;
+            push_name(out, kind_name(*kind))
+        }
+    }
+}
