@@ -1,0 +1,5 @@
+pub mod Asking
+pub mod Comparing
+pub mod LeftOut
+pub mod Questions
+pub mod Rules

@@ -1,0 +1,12 @@
+//! Questions to the policy of a folder: the answer with the rules behind it, and who would be let through.
+#![tactic(auto)]
+
+mod asking;
+mod comparing;
+mod left_out;
+mod question;
+mod rules;
+
+pub use asking::{Answered, who, why};
+pub use comparing::{Compared, Folder, diff};
+pub use question::QuestionFault;
