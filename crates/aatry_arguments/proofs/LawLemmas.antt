@@ -9,7 +9,7 @@ use Rattle.aatry_arguments.specs.Asked.{ForThis}
 use Rattle.aatry_arguments.specs.CheckWords.{CheckAsked, Open, asked_behind, below, check_with, with_names}
 
 -- `--` is an option
-dashes_option : is_option (codes "--") ≡ true
+pub dashes_option : is_option (codes "--") ≡ true
 unfolding chars
 dashes_option = refl
 

@@ -1,5 +1,15 @@
+mod AskedLemmas
 mod CheckLemmas
+mod DiffLawLemmas
+mod DiffLemmas
+mod DiffOptionLemmas
+mod DiffOutcomeLemmas
+mod DiffRowLemmas
+mod DiffWalkLemmas
+mod DiffWordLemmas
+mod KindLemmas
 mod LawLemmas
+mod LineLemmas
 mod OptionLemmas
 mod OutcomeLemmas
 mod WalkLemmas

@@ -39,8 +39,8 @@ pub bad_folder : AreBad (kind.InvalidValue ∷ [])
 bad_folder = inr (inr refl)
 
 -- the kinds of a word that settles what is asked for
-abbrev pub Stops : Asked CheckAsked → Kinds → Type 0
-Stops (ForThis check) kinds = ⊥
+abbrev pub Stops : {A : Type 0} → Asked A → Kinds → Type 0
+Stops (ForThis thing) kinds = ⊥
 Stops ForHelp kinds = kinds ≡ kind.DisplayHelp ∷ []
 Stops ForVersion kinds = ⊥
 Stops Nothing kinds = AreBad kinds

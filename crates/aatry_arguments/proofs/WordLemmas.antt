@@ -19,13 +19,13 @@ use Rattle.aatry_arguments.proofs.WalkLemmas.{IsTaken, no_letters, no_letters_fa
 use Rattle.aatry_arguments.proofs.OptionLemmas.{AreBad, LettersTo, Stops, asked_by_long, first_alone, all_letters, letters_folder, long_fault_of, long_folder, long_kinds, long_stops, run_of}
 
 -- what settles what is asked for has one kind
-stops_one : (a : Asked CheckAsked) (kinds : Kinds) → Stops a kinds → (k : ErrorKind) × (kinds ≡ k ∷ [])
-stops_one (ForThis check) kinds h = absurd h
+pub stops_one : {A : Type 0} (a : Asked A) (kinds : Kinds) → Stops a kinds → (k : ErrorKind) × (kinds ≡ k ∷ [])
+stops_one (ForThis thing) kinds h = absurd h
 stops_one ForHelp kinds h = (kind.DisplayHelp, h)
 stops_one ForVersion kinds h = absurd h
-stops_one Nothing kinds (inl h) = (kind.UnknownArgument, h)
-stops_one Nothing kinds (inr (inl h)) = (kind.TooManyValues, h)
-stops_one Nothing kinds (inr (inr h)) = (kind.InvalidValue, h)
+stops_one {A = CheckAsked} Nothing kinds (inl h) = (kind.UnknownArgument, h)
+stops_one {A = CheckAsked} Nothing kinds (inr (inl h)) = (kind.TooManyValues, h)
+stops_one {A = CheckAsked} Nothing kinds (inr (inr h)) = (kind.InvalidValue, h)
 
 -- ---- a word that is at fault
 
@@ -229,7 +229,7 @@ open_long rows d ds = (λ h. absurd (letter (d ∷ ds) h), λ _ _. fault)
     fault : AreBad (turn_fault the_shape [] (state_open false rows) (45 ∷ 45 ∷ d ∷ ds))
     fault =
         let bad = long_folder (d ∷ ds) in
-        let one = stops_one Nothing (long_fault_of (kind.InvalidValue ∷ []) (name_and_value (d ∷ ds)).0 (name_and_value (d ∷ ds)).1) bad in
+        let one = stops_one {A = CheckAsked} Nothing (long_fault_of (kind.InvalidValue ∷ []) (name_and_value (d ∷ ds)).0 (name_and_value (d ∷ ds)).1) bad in
         let is = long_kinds (held_open rows) (kind.InvalidValue ∷ []) (name_and_value (d ∷ ds)).0 (name_and_value (d ∷ ds)).1 (settle_open rows) in
         let turn = folder_long_turn rows (45 ∷ 45 ∷ d ∷ ds) (name_and_value (d ∷ ds)).0 (name_and_value (d ∷ ds)).1 one.0 refl refl (is ∙ one.1) in
         subst AreBad (one.1 ∙ sym turn) bad
@@ -249,7 +249,7 @@ open_short rows c cs other =
         fault : AreBad (turn_fault the_shape [] (state_open false rows) (45 ∷ c ∷ cs))
         fault =
             let bad = letters_folder (c ∷ cs) x rows e in
-            let one = stops_one Nothing (flags_fault the_shape.rules true (length (c ∷ cs)) (c ∷ cs) 0 (held_open rows)) bad in
+            let one = stops_one {A = CheckAsked} Nothing (flags_fault the_shape.rules true (length (c ∷ cs)) (c ∷ cs) 0 (held_open rows)) bad in
             subst AreBad (one.1 ∙ sym (folder_short_turn rows (45 ∷ c ∷ cs) (c ∷ cs) one.0 dashes long short one.1)) bad
 
 pub met_open : (rows : List Row) (word : Text) → IsMetOpen rows word

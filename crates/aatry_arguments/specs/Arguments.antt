@@ -2,11 +2,18 @@
 use Rattle.std.specs.Prelude.{ℕ, Bool, ◌||◌, if◌then◌else◌, List, [], ◌∷◌, codes}
 use Rattle.std.specs.Str.{bytes_eq}
 use Rattle.aatry_arguments.specs.Asked.{Asked, ForHelp, ForVersion, Nothing, asked_as}
+use Rattle.aatry_arguments.specs.AskingWords.{AskingAsked, asked_who, asked_why}
 use Rattle.aatry_arguments.specs.CheckWords.{CheckAsked, asked_check}
+use Rattle.aatry_arguments.specs.DiffWords.{ComparisonAsked, asked_diff}
+use Rattle.aatry_arguments.specs.TestWords.{TestAsked, asked_test}
 
 -- a command that is asked for
 pub data CommandAsked : Type 0 where
   ForCheck : CheckAsked → CommandAsked
+  ForTest : TestAsked → CommandAsked
+  ForWho : AskingAsked → CommandAsked
+  ForWhy : AskingAsked → CommandAsked
+  ForDiff : ComparisonAsked → CommandAsked
 
 -- a word that asks for help in the place of a command
 abbrev pub is_help_word : List ℕ → Bool
@@ -20,6 +27,10 @@ is_version_word word = bytes_eq word (codes "-V") || bytes_eq word (codes "--ver
 abbrev pub asked_by_first : List ℕ → List (List ℕ) → Asked CommandAsked
 asked_by_first first words =
     if bytes_eq first (codes "check") then asked_as ForCheck (asked_check words)
+    else if bytes_eq first (codes "test") then asked_as ForTest (asked_test words)
+    else if bytes_eq first (codes "who") then asked_as ForWho (asked_who words)
+    else if bytes_eq first (codes "why") then asked_as ForWhy (asked_why words)
+    else if bytes_eq first (codes "diff") then asked_as ForDiff (asked_diff words)
     else if is_help_word first then ForHelp
     else if is_version_word first then ForVersion
     else Nothing

@@ -4,9 +4,17 @@ use Rattle.clap.specs.declared.error.kind.ErrorKind.{ErrorKind}
 use Rattle.clap.specs.declared.error.kind.ErrorKind.TheVariants as kind
 use Rattle.aaset_arguments.specs.Texts.{texts}
 use Rattle.aatry_arguments.specs.Asked.{Asked, ForThis, ForHelp, ForVersion, Nothing}
+use Rattle.aatry_arguments.specs.AskingWords.{AskingAsked, asking_with}
 use Rattle.aatry_arguments.specs.CheckWords.{CheckAsked, check_with}
-use Rattle.aatry_arguments.specs.Arguments.{CommandAsked, ForCheck}
+use Rattle.aatry_arguments.specs.Arguments.{CommandAsked, ForCheck, ForDiff, ForTest, ForWho, ForWhy}
+use Rattle.aatry_arguments.specs.DiffWords.{ComparisonAsked, LogAt, QuestionsAt, SourceAsked, comparison_with}
+use Rattle.aatry_arguments.specs.TestWords.{TestAsked, test_with}
+use Rattle.aatry_arguments.specs.declared.arguments.Asking.{Asking}
 use Rattle.aatry_arguments.specs.declared.arguments.Check.{Check}
+use Rattle.aatry_arguments.specs.declared.arguments.Comparison.{Comparison}
+use Rattle.aatry_arguments.specs.declared.arguments.RequestSource.{RequestSource}
+use Rattle.aatry_arguments.specs.declared.arguments.RequestSource.TheVariants.{Log, Questions}
+use Rattle.aatry_arguments.specs.declared.arguments.Test.{Test}
 use Rattle.aatry_arguments.specs.declared.arguments.Command.{Command}
 use Rattle.aatry_arguments.specs.declared.arguments.Command.TheVariants as command
 use Rattle.aatry_arguments.specs.declared.arguments.ArgumentFault.{ArgumentFault}
@@ -16,9 +24,30 @@ use Rattle.aatry_arguments.specs.declared.arguments.ArgumentFault.TheVariants.{H
 abbrev pub meant_check : Check → CheckAsked
 meant_check check = check_with (string_bytes check.base) (texts check.names)
 
+-- the test that is meant
+abbrev pub meant_test : Test → TestAsked
+meant_test test = test_with (string_bytes test.base) (texts test.paths)
+
+-- the asking that is meant
+abbrev pub meant_asking : Asking → AskingAsked
+meant_asking asking = asking_with (string_bytes asking.base) (texts asking.words)
+
+-- the source of requests that is meant
+abbrev pub meant_source : RequestSource → SourceAsked
+meant_source (Log path) = LogAt (string_bytes path)
+meant_source (Questions path) = QuestionsAt (string_bytes path)
+
+-- the comparison that is meant
+abbrev pub meant_comparison : Comparison → ComparisonAsked
+meant_comparison comparison = comparison_with (string_bytes comparison.old) (string_bytes comparison.new) (meant_source comparison.source)
+
 -- the command that is meant
 abbrev pub meant_command : Command → CommandAsked
 meant_command (command.Check check) = ForCheck (meant_check check)
+meant_command (command.Test test) = ForTest (meant_test test)
+meant_command (command.Who asking) = ForWho (meant_asking asking)
+meant_command (command.Why asking) = ForWhy (meant_asking asking)
+meant_command (command.Diff comparison) = ForDiff (meant_comparison comparison)
 
 -- What is asked for is given, help and the version are given where they are asked for, and all else is refused. Memory may run out at any time.
 abbrev pub IsGivenFor : {A B : Type 0} → (B → A) → Asked A → Result B ArgumentFault → Type 0
@@ -34,6 +63,11 @@ abbrev pub IsHelp : ArgumentFault → Type 0
 IsHelp (Help text) = Unit {0}
 IsHelp Memory = Unit {0}
 IsHelp fault = ⊥
+
+-- what a fault in words that are read as those behind `check` is to the command that they stand behind: help is on that command
+abbrev pub IsPassedOn : ArgumentFault → ArgumentFault → Type 0
+IsPassedOn (Help other) fault = IsHelp fault
+IsPassedOn fault passed = passed ≡ fault
 
 -- the version is given, if memory allows
 abbrev pub IsVersion : ArgumentFault → Type 0

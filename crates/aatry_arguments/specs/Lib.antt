@@ -1,5 +1,9 @@
 pub mod Arguments
 pub mod Asked
+pub mod AskingWords
 pub mod CheckLine
 pub mod CheckWords
+pub mod DiffLine
+pub mod DiffWords
 pub mod Given
+pub mod TestWords

@@ -5,6 +5,14 @@
 pub enum Command {
     /// Files of a folder of policy are to be checked.
     Check(Check),
+    /// Transcripts are to be tested over a folder of policy.
+    Test(Test),
+    /// Who would be let is asked of a folder of policy: the words are ACCESS, OWNED and PATH of a request for a file.
+    Who(Asking),
+    /// Why a question is answered as it is, is asked of a folder of policy.
+    Why(Asking),
+    /// Two folders of policy are to be compared by what they answer.
+    Diff(Comparison),
 }
 
 /// Which files are to be checked.
@@ -14,6 +22,44 @@ pub struct Check {
     pub base: String,
     /// The files of the folder to check, in this order. Where there is none, all files at its top are meant.
     pub names: Vec<String>,
+}
+
+/// Which transcripts are to be tested.
+#[derive(Debug, Drop)]
+pub struct Test {
+    /// The folder of policy.
+    pub base: String,
+    /// The paths of the transcripts, in this order: one at least.
+    pub paths: Vec<String>,
+}
+
+/// What is asked of a folder of policy.
+#[derive(Debug, Drop)]
+pub struct Asking {
+    /// The folder of policy.
+    pub base: String,
+    /// The words of the question, in this order: three behind `who`, one at least behind `why`. They may make no question.
+    pub words: Vec<String>,
+}
+
+/// Which folders of policy are to be compared, and by which requests.
+#[derive(Debug, Drop)]
+pub struct Comparison {
+    /// The old folder of policy.
+    pub old: String,
+    /// The new folder of policy.
+    pub new: String,
+    /// Where the requests are told of.
+    pub source: RequestSource,
+}
+
+/// Where requests are told of.
+#[derive(Debug, Drop)]
+pub enum RequestSource {
+    /// In a log, by its path.
+    Log(String),
+    /// In a file of questions, by its path.
+    Questions(String),
 }
 
 /// Why the arguments give no command.

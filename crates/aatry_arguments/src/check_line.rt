@@ -60,8 +60,12 @@ fn bare_command<'a>(alloc: Global) -> Command<'a>
         .after_help(MORE_HELP)
 }
 
-// The command line with one more argument.
-fn with_argument<'a>(command: Command<'a>, argument: Arg<'a>) -> Result<Command<'a>, AllocError>
+/// The command line with one more argument.
+///
+/// # Errors
+///
+/// Where memory ran out.
+pub fn with_argument<'a>(command: Command<'a>, argument: Arg<'a>) -> Result<Command<'a>, AllocError>
     requires { argument.global ≡ false }
     ensures { IfOk result (λ more. app_of more ≡ with_rule (app_of command.entry) (rule_of argument.entry)) }
 {

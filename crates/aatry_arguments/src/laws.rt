@@ -1,11 +1,16 @@
-//! What holds of checks, as laws over the definitions that `command_of` is proved to follow.
+//! What holds of the words behind commands, as laws over the definitions that `command_of` is proved to follow.
 
-ghost use Rattle.std.specs.Prelude.{◌≡◌, ℕ, false, true, List, [], ◌∷◌, codes};
+ghost use Rattle.std.specs.Prelude.{◌≡◌, ◌≢◌, ◌++◌, ℕ, false, true, List, [], ◌∷◌, length, codes};
 ghost use Rattle.std.specs.List.{list_all};
 ghost use Rattle.aaset_arguments.specs.Arguments.{is_name, is_option};
-ghost use Rattle.aatry_arguments.specs.Arguments.{ForCheck, asked};
-ghost use Rattle.aatry_arguments.specs.Asked.{ForThis};
+ghost use Rattle.aatry_arguments.specs.Arguments.{ForCheck, ForDiff, ForTest, ForWho, ForWhy, asked, asked_by_first};
+ghost use Rattle.aatry_arguments.specs.Asked.{ForThis, Nothing};
+ghost use Rattle.aatry_arguments.specs.AskingWords.{asking_with};
 ghost use Rattle.aatry_arguments.specs.CheckWords.{CheckAsked, Open, asked_behind, below, check_with, with_names};
+ghost use Rattle.aatry_arguments.specs.DiffWords as diff;
+ghost use Rattle.aatry_arguments.specs.DiffWords.{DiffGiven, LogAt, OfLog, OfQuestions, QuestionsAt};
+ghost use Rattle.aatry_arguments.specs.DiffWords.{comparison_with, given_behind, with_folders, with_path};
+ghost use Rattle.aatry_arguments.specs.TestWords.{test_with};
 
 /// `check` alone asks for all files at the top of /etc/apparmor.d. Words behind it that are no options are its NAMEs, all of them and in their
 /// order, and so are all words behind `--`. Behind `-b` and a folder each word asks for what it would ask for without them, of that folder; so of
@@ -26,4 +31,82 @@ pub fn what_checks_have()
         → asked_behind (Open check) (codes "-b" ∷ first ∷ codes "-b" ∷ last ∷ words) ≡ asked_behind (Open (below last check)) words }
     ensures both { asked (codes "check" ∷ codes "x" ∷ codes "-b/srv" ∷ codes "y" ∷ [])
         ≡ ForThis (ForCheck (check_with (codes "/srv") (codes "x" ∷ codes "y" ∷ []))) }
+{}
+
+/// `test` alone asks for nothing that there is, and so does any `test` whose words would ask of `check` to check all files at the top of a folder.
+/// Words that would ask of `check` for some files ask of `test` for the transcripts of these paths, over the same folder.
+pub fn what_tests_have()
+    ensures alone { asked (codes "test" ∷ []) ≡ Nothing }
+    ensures none { (words : List (List ℕ)) (base : List ℕ)
+        → asked_by_first (codes "check") words ≡ ForThis (ForCheck (check_with base []))
+        → asked_by_first (codes "test") words ≡ Nothing }
+    ensures some { (words : List (List ℕ)) (base name : List ℕ) (names : List (List ℕ))
+        → asked_by_first (codes "check") words ≡ ForThis (ForCheck (check_with base (name ∷ names)))
+        → asked_by_first (codes "test") words ≡ ForThis (ForTest (test_with base (name ∷ names))) }
+{}
+
+/// `who` and `why` alone ask for nothing that there is. Words that would ask of `check` for three files ask of `who` about a request of these three
+/// words, over the same folder, and for any other number of files they ask for nothing. Words that would ask of `check` for some files ask of `why`
+/// the question of these words, and for all files at the top of a folder they ask for nothing.
+pub fn what_askings_have()
+    ensures who_alone { asked (codes "who" ∷ []) ≡ Nothing }
+    ensures who { (words : List (List ℕ)) (base access owned path : List ℕ)
+        → asked_by_first (codes "check") words ≡ ForThis (ForCheck (check_with base (access ∷ owned ∷ path ∷ [])))
+        → asked_by_first (codes "who") words ≡ ForThis (ForWho (asking_with base (access ∷ owned ∷ path ∷ []))) }
+    ensures who_other { (words : List (List ℕ)) (base : List ℕ) (names : List (List ℕ))
+        → asked_by_first (codes "check") words ≡ ForThis (ForCheck (check_with base names))
+        → length names ≢ 3
+        → asked_by_first (codes "who") words ≡ Nothing }
+    ensures why_alone { asked (codes "why" ∷ []) ≡ Nothing }
+    ensures why_none { (words : List (List ℕ)) (base : List ℕ)
+        → asked_by_first (codes "check") words ≡ ForThis (ForCheck (check_with base []))
+        → asked_by_first (codes "why") words ≡ Nothing }
+    ensures why { (words : List (List ℕ)) (base word : List ℕ) (more : List (List ℕ))
+        → asked_by_first (codes "check") words ≡ ForThis (ForCheck (check_with base (word ∷ more)))
+        → asked_by_first (codes "why") words ≡ ForThis (ForWhy (asking_with base (word ∷ more))) }
+{}
+
+/// `diff` alone asks for nothing that there is. Two words that are no options, and a path behind `--log` or behind `--questions`, ask for the
+/// comparison of these folders by that log or file of questions, and paths behind both ask for nothing. Such an option gives its path wherever it
+/// stands, also behind a `=` in its word, and of two paths the last counts. Words that are no options are folders, all of them and in their order,
+/// and so are all words behind `--`.
+pub fn what_comparisons_have()
+    ensures alone { asked (codes "diff" ∷ []) ≡ Nothing }
+    ensures by_log { (old new path : List ℕ)
+        → is_option old ≡ false
+        → is_option new ≡ false
+        → is_option path ≡ false
+        → asked (codes "diff" ∷ old ∷ new ∷ codes "--log" ∷ path ∷ []) ≡ ForThis (ForDiff (comparison_with old new (LogAt path))) }
+    ensures by_questions { (old new path : List ℕ)
+        → is_option old ≡ false
+        → is_option new ≡ false
+        → is_option path ≡ false
+        → asked (codes "diff" ∷ old ∷ new ∷ codes "--questions" ∷ path ∷ []) ≡ ForThis (ForDiff (comparison_with old new (QuestionsAt path))) }
+    ensures by_both { (old new log questions : List ℕ)
+        → is_option old ≡ false
+        → is_option new ≡ false
+        → is_option log ≡ false
+        → is_option questions ≡ false
+        → asked (codes "diff" ∷ old ∷ new ∷ codes "--log" ∷ log ∷ codes "--questions" ∷ questions ∷ []) ≡ Nothing }
+    ensures log { (words : List (List ℕ)) (path : List ℕ) (given : DiffGiven)
+        → is_option path ≡ false
+        → given_behind (diff.Open given) (codes "--log" ∷ path ∷ words) ≡ given_behind (diff.Open (with_path OfLog path given)) words }
+    ensures log_in_word { (words : List (List ℕ)) (path : List ℕ) (given : DiffGiven)
+        → given_behind (diff.Open given) ((codes "--log=" ++ path) ∷ words) ≡ given_behind (diff.Open (with_path OfLog path given)) words }
+    ensures questions { (words : List (List ℕ)) (path : List ℕ) (given : DiffGiven)
+        → is_option path ≡ false
+        → given_behind (diff.Open given) (codes "--questions" ∷ path ∷ words) ≡ given_behind (diff.Open (with_path OfQuestions path given)) words }
+    ensures questions_in_word { (words : List (List ℕ)) (path : List ℕ) (given : DiffGiven)
+        → given_behind (diff.Open given) ((codes "--questions=" ++ path) ∷ words)
+        ≡ given_behind (diff.Open (with_path OfQuestions path given)) words }
+    ensures last { (words : List (List ℕ)) (first last : List ℕ) (given : DiffGiven)
+        → is_option first ≡ false
+        → is_option last ≡ false
+        → given_behind (diff.Open given) (codes "--log" ∷ first ∷ codes "--log" ∷ last ∷ words)
+        ≡ given_behind (diff.Open (with_path OfLog last given)) words }
+    ensures plain { (words : List (List ℕ)) (given : DiffGiven)
+        → list_all is_name words ≡ true
+        → given_behind (diff.Open given) words ≡ ForThis (with_folders words given) }
+    ensures dashes { (words : List (List ℕ)) (given : DiffGiven)
+        → given_behind (diff.Open given) (codes "--" ∷ words) ≡ ForThis (with_folders words given) }
 {}

@@ -2,11 +2,16 @@
 #![tactic(auto)]
 
 mod arguments;
+mod asking_words;
 mod check_line;
 mod check_words;
+mod diff_line;
+mod diff_words;
+mod faults;
 mod laws;
 mod reading;
+mod test_words;
 
-pub use arguments::{ArgumentFault, Check, Command};
-pub use laws::what_checks_have;
+pub use arguments::{ArgumentFault, Asking, Check, Command, Comparison, RequestSource, Test};
+pub use laws::{what_askings_have, what_checks_have, what_comparisons_have, what_tests_have};
 pub use reading::command_of;

@@ -1,10 +1,14 @@
 //! Reading of the arguments: which command is meant, and its words.
 ghost use Rattle.std.specs.Prelude.{drop, map, string_bytes};
 ghost use Rattle.aatry_arguments.specs.Arguments.{asked, asked_by_first};
-ghost use Rattle.aatry_arguments.specs.Given.{IsHelp, IsVersion, IsGivenFor, meant_command};
+ghost use Rattle.aatry_arguments.specs.Given.{IsVersion, IsGivenFor, meant_command};
 
 use crate::arguments::{ArgumentFault, Command};
+use crate::asking_words::{who_of, why_of};
 use crate::check_words::check_of;
+use crate::diff_words::diff_of;
+use crate::faults::help_with;
+use crate::test_words::test_of;
 use aaset_arguments::VERSION;
 use std::alloc::Global;
 
@@ -16,21 +20,15 @@ Usage: aatry COMMAND [ARGUMENT]..
 
 Commands:
   check  Tells of each file of a folder of policy whether it is taken, or what is wrong with it
+  test   Runs transcripts of commands over a folder of policy, and tells each reply that differs
+  who    Tells which profiles, children and hats would let a request for a file through
+  why    Tells the answer to a question, and the rules behind it
+  diff   Tells which requests two folders of policy answer otherwise
 
 Options:
   -h, --help     Prints help, and behind a COMMAND help on it
   -V, --version  Prints the version
 ";
-
-// Help on the program.
-fn help(alloc: Global) -> ArgumentFault
-    ensures { IsHelp result }
-{
-    match String::from_str(alloc, HELP) {
-        Ok(text) => ArgumentFault::Help(text),
-        Err(_) => ArgumentFault::Memory,
-    }
-}
 
 // The line that tells the version.
 fn version(alloc: Global) -> ArgumentFault
@@ -51,7 +49,23 @@ fn command_by(alloc: Global, first: &str, words: &[String]) -> Result<Command, A
             Ok(check) => Ok(Command::Check(check)),
             Err(fault) => Err(fault),
         },
-        "-h" | "--help" => Err(help(alloc)),
+        "test" => match test_of(alloc, words) {
+            Ok(test) => Ok(Command::Test(test)),
+            Err(fault) => Err(fault),
+        },
+        "who" => match who_of(alloc, words) {
+            Ok(asking) => Ok(Command::Who(asking)),
+            Err(fault) => Err(fault),
+        },
+        "why" => match why_of(alloc, words) {
+            Ok(asking) => Ok(Command::Why(asking)),
+            Err(fault) => Err(fault),
+        },
+        "diff" => match diff_of(alloc, words) {
+            Ok(comparison) => Ok(Command::Diff(comparison)),
+            Err(fault) => Err(fault),
+        },
+        "-h" | "--help" => Err(help_with(alloc, HELP)),
         "-V" | "--version" => Err(version(alloc)),
         _ => Err(ArgumentFault::Bad),
     }
@@ -59,24 +73,28 @@ fn command_by(alloc: Global, first: &str, words: &[String]) -> Result<Command, A
 
 /// The command that is asked for by the words that the program was started with.
 ///
-/// The first word is the program's own name, whatever it is, and the second is the command's name. Behind `check` a word is a NAME, unless it is
-/// an option: a hyphen and more behind it. Behind the word `--` each one is a NAME. The option `-b` gives the folder of policy: behind it in its
-/// word, without one `=` between, or else as the next word, which then is no option and no `--`. It may stand before, between and behind the
-/// NAMEs, and of two folders the last counts.
+/// The first word is the program's own name, whatever it is, and the second is the command's name. Behind `check` a word is a NAME, behind `test`
+/// a FILE, behind `who` and `why` a word of the question, and behind `diff` a folder, unless it is an option: a hyphen and more behind it. Behind
+/// the word `--` none is an option.
+///
+/// `-b` takes the path of the folder of policy, and behind `diff`, which has no `-b`, `--log` and `--questions` take the path of a file. The path
+/// stands behind the option in its word, without one `=` between behind `-b` and with it behind the others, or else it is the next word, which then
+/// is no option and no `--`. Such an option may stand before, between and behind the other words, and where it is given again, the last counts.
 ///
 /// # Errors
 ///
-/// - `Help` where there is no second word, or it is `--help` or `-h`. Behind `check`, where the first option that is no `-b` is one of these, with or
-///   without other letters behind `-h`.
+/// - `Help` where there is no second word, or it is `--help` or `-h`. Behind a command, where the first option that takes no path is one of these,
+///   with or without other letters behind `-h`.
 /// - `Version` where the second word is `--version` or `-V`.
-/// - `Bad` where the second word is any other. Behind `check`, where the first option that is no `-b` is any other, or where `-b` comes before it
-///   without a folder.
+/// - `Bad` where the second word is any other. Behind a command, where the first option that takes no path is any other, or where one that takes a
+///   path comes before it without one. Behind `test`, where there is no FILE. Behind `who`, where the words of the question aren't three, and behind
+///   `why`, where there is none. Behind `diff`, where the folders aren't two, or not exactly one of `--log` and `--questions` is given.
 /// - `Memory` where memory ran out.
 pub fn command_of(alloc: Global, words: &[String]) -> Result<Command, ArgumentFault>
     ensures { IsGivenFor meant_command (asked (drop 1 (map string_bytes words.now))) result }
 {
     match words {
         [_, first, behind @ ..] => command_by(alloc, first.as_str(), behind),
-        _ => Err(help(alloc)),
+        _ => Err(help_with(alloc, HELP)),
     }
 }

@@ -1,1 +1,2 @@
 mod ProgramLemmas
+mod TestingLemmas

@@ -1,24 +1,21 @@
 -- What is done is what the words ask for.
 use Rattle.std.proofs.Common.{ℕ, List, Option, Result, Ok, Err, IfOk, inl, inr, string_bytes, subst}
-use Rattle.aatry_arguments.specs.Arguments.{CommandAsked, ForCheck}
+use Rattle.aatry_arguments.specs.Arguments.{CommandAsked}
 use Rattle.aatry_arguments.specs.Asked.{Asked, ForThis, ForHelp, ForVersion, Nothing}
-use Rattle.aatry_arguments.specs.CheckWords.{CheckAsked}
 use Rattle.aatry_arguments.specs.Given.{IsGivenFor, meant_command}
 use Rattle.aatry_arguments.specs.declared.arguments.ArgumentFault.{ArgumentFault}
 use Rattle.aatry_arguments.specs.declared.arguments.ArgumentFault.TheVariants.{Help, Version, Bad, Memory}
 use Rattle.aatry_arguments.specs.declared.arguments.Command.{Command}
-use Rattle.aatry_program.specs.Checking.{IsChecked}
-use Rattle.aatry_program.specs.Program.{IsCheckShown, IsDone, IsFaultShown, IsOutcomeShown, Output}
+use Rattle.aatry_program.specs.Program.{IsCommandDone, IsDone, IsFaultShown, IsOutcomeShown, Output}
 use Rattle.aatry_program.specs.declared.checking.Report.{Report}
 use Rattle.aatry_program.specs.declared.fault.Fault.{Fault}
 use Rattle.aatry_program.specs.declared.fault.Fault.TheVariants as fault
 
--- a check that came to what was asked for is shown as that
-pub check_shown : (members_at : List ℕ → Option (List (List ℕ))) (bytes_at : List ℕ → Option (List ℕ)) (check : CheckAsked) (output : Output) (status : ℕ)
-    (outcome : Result Report Fault) → IfOk outcome (λ report. IsChecked members_at bytes_at check.base check.names report.text.items report.checked.refused)
-    → IsOutcomeShown outcome output status → IsCheckShown members_at bytes_at check output status
-check_shown members_at bytes_at check output status (Ok report) checked shown = inl (report.text.items, report.checked.refused, checked, shown)
-check_shown members_at bytes_at check output status (Err fault) checked shown = inr (fault, shown)
+-- a command that came to something is done, if that is shown
+pub command_done : (Tells : List ℕ → ℕ → Type 0) (output : Output) (status : ℕ) (outcome : Result Report Fault)
+    → IfOk outcome (λ report. Tells report.text.items report.failed) → IsOutcomeShown outcome output status → IsCommandDone Tells output status
+command_done Tells output status (Ok report) told shown = inl (report.text.items, report.failed, told, shown)
+command_done Tells output status (Err fault) told shown = inr (fault, shown)
 
 -- the command that is given is the one that is asked for
 pub done_by_command : (members_at : List ℕ → Option (List (List ℕ))) (bytes_at : List ℕ → Option (List ℕ)) (asked : Asked CommandAsked) (command : Command) (output : Output)
@@ -32,10 +29,10 @@ done_by_command members_at bytes_at Nothing command output status given done = a
 -- where no command is given, a text is shown that was asked for, or the status tells why
 pub done_by_fault : (members_at : List ℕ → Option (List (List ℕ))) (bytes_at : List ℕ → Option (List ℕ)) (asked : Asked CommandAsked) (told : ArgumentFault) (output : Output)
     (status : ℕ) → IsGivenFor meant_command asked (Err told) → IsFaultShown told output status → IsDone members_at bytes_at asked output status
-done_by_fault members_at bytes_at (ForThis (ForCheck check)) (Help text) output status given shown = absurd given
-done_by_fault members_at bytes_at (ForThis (ForCheck check)) (Version text) output status given shown = absurd given
-done_by_fault members_at bytes_at (ForThis (ForCheck check)) Bad output status given shown = absurd given
-done_by_fault members_at bytes_at (ForThis (ForCheck check)) Memory output status given shown = inr (fault.NoMemory, shown)
+done_by_fault members_at bytes_at (ForThis command) (Help text) output status given shown = absurd given
+done_by_fault members_at bytes_at (ForThis command) (Version text) output status given shown = absurd given
+done_by_fault members_at bytes_at (ForThis command) Bad output status given shown = absurd given
+done_by_fault members_at bytes_at (ForThis command) Memory output status given shown = inr (fault.NoMemory, shown)
 done_by_fault members_at bytes_at ForHelp (Help text) output status given shown = inl (string_bytes text, shown)
 done_by_fault members_at bytes_at ForHelp (Version text) output status given shown = absurd given
 done_by_fault members_at bytes_at ForHelp Bad output status given shown = absurd given

@@ -2,10 +2,12 @@
 use Rattle.std.specs.Prelude.{ℕ, List, [], codes, string_bytes}
 use Rattle.aaset_gather.specs.declared.gathering.GatherFault.{GatherFault}
 use Rattle.aaset_gather.specs.declared.gathering.GatherFault.TheVariants as files
+use Rattle.aatry_asking.specs.declared.question.QuestionFault.{QuestionFault}
+use Rattle.aatry_asking.specs.declared.question.QuestionFault.TheVariants as question
 use Rattle.aatry_folder.specs.declared.below.FolderFault.{FolderFault}
 use Rattle.aatry_folder.specs.declared.below.FolderFault.TheVariants as folder
 use Rattle.aatry_program.specs.declared.fault.Fault.{Fault}
-use Rattle.aatry_program.specs.declared.fault.Fault.TheVariants.{BadArguments, Unreadable, TooMany, NoMemory, Write}
+use Rattle.aatry_program.specs.declared.fault.Fault.TheVariants.{BadArguments, BadQuestion, Unreadable, TooMany, NoMemory, Write}
 
 abbrev pub fault_of_folder : FolderFault → Fault
 fault_of_folder (folder.Unreadable name) = Unreadable name
@@ -16,9 +18,14 @@ abbrev pub fault_of_files : GatherFault → Fault
 fault_of_files (files.Untaken name) = Unreadable name
 fault_of_files files.Memory = NoMemory
 
+abbrev pub fault_of_question : QuestionFault → Fault
+fault_of_question question.Bad = BadQuestion
+fault_of_question question.Memory = NoMemory
+
 -- the words that tell a fault
 abbrev pub words_of : Fault → List ℕ
 words_of BadArguments = codes "aatry: bad arguments: see aatry --help"
+words_of BadQuestion = codes "aatry: bad question: see aatry why --help, aatry who --help"
 words_of (Unreadable _) = codes "aatry: cannot read "
 words_of TooMany = codes "aatry: more than 65,536 files and folders"
 words_of NoMemory = codes "aatry: no memory"
@@ -32,6 +39,7 @@ name_of _ = []
 -- the exit status of a fault: 2 where what was asked for can't be had, and 3 where a stream or memory failed
 abbrev pub status_of : Fault → ℕ
 status_of BadArguments = 2
+status_of BadQuestion = 2
 status_of (Unreadable _) = 2
 status_of TooMany = 2
 status_of NoMemory = 3

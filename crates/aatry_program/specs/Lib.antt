@@ -1,3 +1,6 @@
+pub mod Asking
 pub mod Checking
+pub mod Comparing
 pub mod Fault
 pub mod Program
+pub mod Testing

@@ -1,13 +1,15 @@
 -- What is seen of the program: its standard output and its exit status.
 use Rattle.std.specs.Prelude.{◌≡◌, ◌==◌, ◌⊎◌, ℕ, Bool, true, List, Option, Result, Ok, Err, if◌then◌else◌, string_bytes}
 use Rattle.std.specs.Io.KnownBytes.{Appends}
-use Rattle.aatry_arguments.specs.Arguments.{CommandAsked, ForCheck}
+use Rattle.aatry_arguments.specs.Arguments.{CommandAsked, ForCheck, ForDiff, ForTest, ForWho, ForWhy}
 use Rattle.aatry_arguments.specs.Asked.{Asked, ForThis, ForHelp, ForVersion, Nothing}
-use Rattle.aatry_arguments.specs.CheckWords.{CheckAsked}
 use Rattle.aatry_arguments.specs.declared.arguments.ArgumentFault.{ArgumentFault}
 use Rattle.aatry_arguments.specs.declared.arguments.ArgumentFault.TheVariants.{Help, Version, Bad, Memory}
+use Rattle.aatry_program.specs.Asking.{IsWhoToldBelow, IsWhyToldBelow}
 use Rattle.aatry_program.specs.Checking.{IsChecked}
+use Rattle.aatry_program.specs.Comparing.{IsComparedBelow}
 use Rattle.aatry_program.specs.Fault.{status_of}
+use Rattle.aatry_program.specs.Testing.{IsTestedBelow}
 use Rattle.aatry_program.specs.declared.checking.Report.{Report}
 use Rattle.aatry_program.specs.declared.fault.Fault.{Fault}
 
@@ -21,13 +23,13 @@ pub record Output : Type 0 where
 abbrev pub IsShown : List ℕ → ℕ → Output → ℕ → Type 0
 IsShown text fine output status = (Appends output.before output.after text × (status ≡ fine)) ⊎ ((output.failed ≡ true) × (status ≡ 3))
 
--- the status of a check of which so many files were refused
-abbrev pub check_status : ℕ → ℕ
-check_status refused = if refused == 0 then 0 else 1
+-- the status of a command, by how much of it failed
+abbrev pub failure_status : ℕ → ℕ
+failure_status failed = if failed == 0 then 0 else 1
 
--- what a check came to is shown, or why there was none is told by the status
+-- what a command came to is shown, or why it came to nothing is told by the status
 abbrev pub IsOutcomeShown : Result Report Fault → Output → ℕ → Type 0
-IsOutcomeShown (Ok report) output status = IsShown report.text.items (check_status report.checked.refused) output status
+IsOutcomeShown (Ok report) output status = IsShown report.text.items (failure_status report.failed) output status
 IsOutcomeShown (Err fault) output status = status ≡ status_of fault
 
 -- what was asked for in the place of a command is shown, or the status tells why there is none
@@ -37,16 +39,24 @@ IsFaultShown (Version text) output status = IsShown (string_bytes text) 0 output
 IsFaultShown Bad output status = status ≡ 2
 IsFaultShown Memory output status = status ≡ 3
 
--- The folder of policy was checked as is asked for and what was found is shown, the status telling whether some file was refused; or some fault kept the
--- program from it, and the status is that of the fault.
-abbrev pub IsCheckShown : (List ℕ → Option (List (List ℕ))) → (List ℕ → Option (List ℕ)) → CheckAsked → Output → ℕ → Type 0
-IsCheckShown members_at bytes_at check output status =
-    ((text : List ℕ) × (refused : ℕ) × IsChecked members_at bytes_at check.base check.names text refused × IsShown text (check_status refused) output status)
+-- a text tells what a command came to, and so much of it failed
+abbrev pub IsOutcomeOf : (List ℕ → Option (List (List ℕ))) → (List ℕ → Option (List ℕ)) → CommandAsked → List ℕ → ℕ → Type 0
+IsOutcomeOf members_at bytes_at (ForCheck check) text failed = IsChecked members_at bytes_at check.base check.names text failed
+IsOutcomeOf members_at bytes_at (ForTest test) text failed = IsTestedBelow members_at bytes_at test.base test.paths text failed
+IsOutcomeOf members_at bytes_at (ForWho asking) text failed = IsWhoToldBelow members_at bytes_at asking.base asking.words text failed
+IsOutcomeOf members_at bytes_at (ForWhy asking) text failed = IsWhyToldBelow members_at bytes_at asking.base asking.words text failed
+IsOutcomeOf members_at bytes_at (ForDiff comparison) text failed = IsComparedBelow members_at bytes_at comparison text failed
+
+-- What a command came to is shown, the status telling whether some of it failed; or some fault kept the program from it, and the status is that of the
+-- fault.
+abbrev pub IsCommandDone : (List ℕ → ℕ → Type 0) → Output → ℕ → Type 0
+IsCommandDone Tells output status =
+    ((text : List ℕ) × (failed : ℕ) × Tells text failed × IsShown text (failure_status failed) output status)
     ⊎ ((fault : Fault) × (status ≡ status_of fault))
 
--- What is asked for is done: a check, or help or the version is shown, if memory allows; all else has the status 2.
+-- What is asked for is done: a command, or help or the version is shown, if memory allows; all else has the status 2.
 abbrev pub IsDone : (List ℕ → Option (List (List ℕ))) → (List ℕ → Option (List ℕ)) → Asked CommandAsked → Output → ℕ → Type 0
-IsDone members_at bytes_at (ForThis (ForCheck check)) output status = IsCheckShown members_at bytes_at check output status
+IsDone members_at bytes_at (ForThis command) output status = IsCommandDone (IsOutcomeOf members_at bytes_at command) output status
 IsDone members_at bytes_at ForHelp output status = ((text : List ℕ) × IsShown text 0 output status) ⊎ (status ≡ 3)
 IsDone members_at bytes_at ForVersion output status = ((text : List ℕ) × IsShown text 0 output status) ⊎ (status ≡ 3)
 IsDone members_at bytes_at Nothing output status = (status ≡ 2) ⊎ (status ≡ 3)

@@ -10,17 +10,17 @@ use aa_bytes::has_byte;
 use aa_text_files::Files;
 use aaset_gather::{FileSystem, gather};
 use aatry_arguments::Check;
-use aatry_check::{Checked, check};
+use aatry_check::check;
 use aatry_folder::{Folders, names_below};
 use std::alloc::{AllocError, Global};
 
-/// What a check of a folder of policy came to.
+/// What a command came to.
 #[derive(Drop)]
 pub struct Report {
-    /// What is told of each file.
+    /// What is told of it.
     pub text: Vec<u8>,
-    /// How many files were taken and refused.
-    pub checked: Checked,
+    /// How much of it failed: files that were refused, transcripts whose replies differ, or a question without an answer.
+    pub failed: usize,
 }
 
 // Whether a file stands at the top of the folder.
@@ -40,8 +40,8 @@ fn push_top(alloc: Global, names: &mut Vec<String>, name: &str) -> Result<(), Al
     Ok(())
 }
 
-// The names of the files at the top of the folder.
-fn top_names(alloc: Global, names: &[String]) -> Result<Vec<String>, AllocError>
+/// The names of the files at the top of the folder.
+pub fn top_names(alloc: Global, names: &[String]) -> Result<Vec<String>, AllocError>
     ensures { IfOk result (λ top. texts_of top ≡ top_names (map string_bytes names.now)) }
 {
     let mut top = Vec::new(alloc);
@@ -70,11 +70,14 @@ fn report_on(
     names: &[String],
 ) -> Result<Report, AllocError>
     ensures told { IfOk result (λ report. TellsEach files.now base.now (map string_bytes names.now) report.text.items) }
-    ensures counted { IfOk result (λ report. report.checked.refused ≡ refused_count files.now (map string_bytes names.now)) }
+    ensures counted { IfOk result (λ report. report.failed ≡ refused_count files.now (map string_bytes names.now)) }
 {
     let mut text = Vec::new(alloc);
     let checked = check(alloc, files, base, names, &mut text)?;
-    Ok(Report { text, checked })
+    Ok(Report {
+        text,
+        failed: checked.refused,
+    })
 }
 
 /// Checks the files that are asked of a folder of policy, or all at its top where none is named: finds all files and folders below it, as
@@ -93,7 +96,7 @@ pub fn check_folder<F: Folders, D: FileSystem>(
     asked: Check,
 ) -> Result<Report, Fault>
     ensures { IfOk result (λ report. IsChecked (F.members_at folders.now) (D.bytes_at disk.now) (string_bytes asked.base) (texts_of asked.names)
-        report.text.items report.checked.refused) }
+        report.text.items report.failed) }
 {
     let Check { base, names: given } = asked;
     let names = names_below(folders, alloc, base.as_str())?;

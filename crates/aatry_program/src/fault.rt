@@ -1,10 +1,11 @@
 //! What keeps the program from doing what it is asked for.
 
 ghost use Rattle.std.specs.Prelude.{◌≡◌};
-ghost use Rattle.aatry_program.specs.Fault.{fault_of_files, fault_of_folder, name_of, status_of, words_of};
+ghost use Rattle.aatry_program.specs.Fault.{fault_of_files, fault_of_folder, fault_of_question, name_of, status_of, words_of};
 ghost use Rattle.aatry_program.specs.declared.fault.Fault.TheVariants as fault;
 
 use aaset_gather::GatherFault;
+use aatry_asking::QuestionFault;
 use aatry_folder::FolderFault;
 use std::alloc::AllocError;
 
@@ -13,7 +14,9 @@ use std::alloc::AllocError;
 pub enum Fault {
     /// The arguments ask for something that there isn't.
     BadArguments,
-    /// The first file or folder that can't be read, by its name below the folder of policy, and that folder by its path.
+    /// The words behind a command ask no question.
+    BadQuestion,
+    /// The first file or folder that can't be read, by its name below the folder of policy, and that folder or a transcript by its path.
     Unreadable(String),
     /// More than 65,536 files and folders lie below the folder of policy.
     TooMany,
@@ -46,6 +49,17 @@ impl From<GatherFault> for Fault {
     }
 }
 
+impl From<QuestionFault> for Fault {
+    ghost from_gives = { λ given fault. fault ≡ fault_of_question given };
+
+    fn from(fault: QuestionFault) -> Fault {
+        match fault {
+            QuestionFault::Bad => Fault::BadQuestion,
+            QuestionFault::Memory => Fault::NoMemory,
+        }
+    }
+}
+
 impl From<AllocError> for Fault {
     ghost from_gives = { λ _ told. told ≡ fault.NoMemory };
 
@@ -60,6 +74,7 @@ pub fn words_of(fault: &Fault) -> &'static str
 {
     match fault {
         Fault::BadArguments => "aatry: bad arguments: see aatry --help",
+        Fault::BadQuestion => "aatry: bad question: see aatry why --help, aatry who --help",
         Fault::Unreadable(_) => "aatry: cannot read ",
         Fault::TooMany => "aatry: more than 65,536 files and folders",
         Fault::NoMemory => "aatry: no memory",
@@ -82,7 +97,7 @@ pub fn status_of(fault: &Fault) -> u8
     ensures { result ≡ status_of fault.now }
 {
     match fault {
-        Fault::BadArguments | Fault::Unreadable(_) | Fault::TooMany => 2,
+        Fault::BadArguments | Fault::BadQuestion | Fault::Unreadable(_) | Fault::TooMany => 2,
         Fault::NoMemory | Fault::Write => 3,
     }
 }

@@ -1,17 +1,20 @@
 //! What the program does, from the words of its start to its exit status.
 
-ghost use Rattle.std.specs.Prelude.{◌≡◌, drop, map, string_bytes};
-ghost use Rattle.aatry_arguments.specs.Arguments.{ForCheck, asked};
+ghost use Rattle.std.specs.Prelude.{◌≡◌, IfOk, drop, map, string_bytes};
+ghost use Rattle.aatry_arguments.specs.Arguments.{asked};
 ghost use Rattle.aatry_arguments.specs.Asked.{ForThis};
-ghost use Rattle.aatry_arguments.specs.Given.{meant_check, meant_command};
-ghost use Rattle.aatry_program.specs.Program.{IsDone, IsFaultShown, IsOutcomeShown, IsShown, check_status, output_of};
+ghost use Rattle.aatry_arguments.specs.Given.{meant_command};
+ghost use Rattle.aatry_program.specs.Program.{IsDone, IsFaultShown, IsOutcomeOf, IsOutcomeShown, IsShown, failure_status, output_of};
 
+use crate::asking::{who_folder, why_folder};
 use crate::checking::{Report, check_folder};
+use crate::comparing::diff_folders;
 use crate::fault::Fault;
+use crate::testing::test_folder;
 use crate::writing::{report, write};
 use aa_set_lines::Sink;
 use aaset_gather::FileSystem;
-use aatry_arguments::{ArgumentFault, Check, Command, command_of};
+use aatry_arguments::{ArgumentFault, Command, command_of};
 use aatry_folder::Folders;
 use std::alloc::Global;
 
@@ -31,14 +34,14 @@ fn show<W: Sink, E: Sink>(
     }
 }
 
-// The exit status of a check of which so many files were refused.
-fn check_status(refused: usize) -> u8
-    ensures { result ≡ check_status refused }
+// The exit status of a command, by how much of it failed.
+fn failure_status(failed: usize) -> u8
+    ensures { result ≡ failure_status failed }
 {
-    if refused == 0 { 0 } else { 1 }
+    if failed == 0 { 0 } else { 1 }
 }
 
-// Shows what a check of a folder came to, or reports why there was none.
+// Shows what a command came to, or reports why it came to nothing.
 fn show_outcome<W: Sink, E: Sink>(
     alloc: Global,
     outcome: Result<Report, Fault>,
@@ -49,19 +52,29 @@ fn show_outcome<W: Sink, E: Sink>(
 {
     match outcome {
         Ok(found) => {
-            let fine = check_status(found.checked.refused);
+            let fine = failure_status(found.failed);
             show(alloc, found.text.as_slice(), fine, output, errors)
         }
         Err(fault) => report(alloc, errors, &fault),
     }
 }
 
-// The check that a command asks for: no other command is there yet.
-fn check_of(command: Command) -> Check
-    ensures { meant_command command ≡ ForCheck (meant_check result) }
+// What a command comes to.
+fn outcome_of<F: Folders, D: FileSystem>(
+    alloc: Global,
+    command: Command,
+    folders: &F,
+    disk: &D,
+) -> Result<Report, Fault>
+    ensures { IfOk result (λ report. IsOutcomeOf (F.members_at folders.now) (D.bytes_at disk.now) (meant_command command)
+        report.text.items report.failed) }
 {
     match command {
-        Command::Check(check) => check,
+        Command::Check(check) => check_folder(alloc, folders, disk, check),
+        Command::Test(test) => test_folder(alloc, folders, disk, test),
+        Command::Who(asking) => who_folder(alloc, folders, disk, asking),
+        Command::Why(asking) => why_folder(alloc, folders, disk, asking),
+        Command::Diff(comparison) => diff_folders(alloc, folders, disk, comparison),
     }
 }
 
@@ -77,8 +90,7 @@ fn perform<F: Folders, D: FileSystem, W: Sink, E: Sink>(
     ensures { IsDone (F.members_at folders.now) (D.bytes_at disk.now) (ForThis (meant_command command))
         (output_of (W.written output.old) (W.written output.new) (W.failed output.new)) result }
 {
-    let check = check_of(command);
-    let outcome = check_folder(alloc, folders, disk, check);
+    let outcome = outcome_of(alloc, command, folders, disk);
     show_outcome(alloc, outcome, output, errors)
 }
 
@@ -101,9 +113,10 @@ fn show_fault<W: Sink, E: Sink>(
 }
 
 /// Does what the words of the program's start ask for, and gives the exit status. The first word is the program's own name. What is told stands on
-/// `output`; a fault is reported on `errors`, on a line of its own. The status is 0 where each file that was checked was taken, or a text was
-/// asked for and shown, 1 where some file was refused, 2 where the arguments are no good or the folder of policy can't be read, and 3 where
-/// a stream or memory failed.
+/// `output`; a fault is reported on `errors`, on a line of its own. The status is 0 where each file that was checked was taken, each
+/// transcript that was tested passed, a question has an answer, somebody would be let through, nothing is answered otherwise, or a text was asked for
+/// and shown; 1 where one of these isn't so; 2 where the arguments or a question are no good, or a folder of policy or another file can't be read; and
+/// 3 where a stream or memory failed.
 pub fn start<F: Folders, D: FileSystem, W: Sink, E: Sink>(
     alloc: Global,
     words: &[String],

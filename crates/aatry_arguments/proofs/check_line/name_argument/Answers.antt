@@ -1,18 +1,15 @@
 use Rattle.std.proofs.Common.{◌≡◌, ap, ap₂, ◌∙◌}
-use Rattle.std.specs.Prelude.{Option, Some, None, IsSomeAnd}
+use Rattle.std.specs.Prelude.{Some}
 use Rattle.clap.specs.Lexer.{usize_max}
 use Rattle.clap.specs.Words.{Rule, rule_of}
 use Rattle.clap.specs.declared.builder.ArgAction.TheVariants.{Append}
+use Rattle.aatry_arguments.proofs.LineLemmas.{some_that}
 use Rattle.aatry_arguments.proofs.check_line.name_argument.Goals as goal
-
-some-that : {X : Type 0} (found : Option X) (x : X) → IsSomeAnd found (λ y. y ≡ x) → found ≡ Some x
-some-that None x h = absurd h
-some-that (Some y) x h = ap (λ z. Some z) h
 
 -- What each builder says of its own setting, one after the other, is the argument.
 pub returns-clause-rule : goal.returns-clause-rule
 returns-clause-rule c =
-    let range = some-that c.num_args.result.num_vals (record { start_inclusive = 1; end_inclusive = usize_max }) c.num_args.ensures.1 in
+    let range = some_that c.num_args.result.num_vals (record { start_inclusive = 1; end_inclusive = usize_max }) c.num_args.ensures.1 in
     let numbered : rule_of c.num_args.result ≡ record (rule_of c.new.result) { range = c.num_args.result.num_vals } = ap rule_of c.num_args.ensures.0 in
     let acted : rule_of c.action.result ≡ record (rule_of c.num_args.result) { action = Some Append } = ap rule_of c.action.ensures in
     let helped : rule_of c.help.result ≡ rule_of c.action.result = ap rule_of c.help.ensures in

@@ -11,7 +11,9 @@ use Rattle.aatry_arguments.specs.Asked.{Asked}
 use Rattle.aatry_arguments.specs.CheckLine.{check_line}
 use Rattle.aatry_arguments.specs.CheckWords.{CheckAsked, asked_check, check_with}
 use Rattle.aatry_arguments.specs.Given.{IsGivenFor, meant_check}
-use Rattle.aatry_arguments.proofs.OutcomeLemmas.{answered, is_simple_app, is_simple_line, kind_for, matched, memory_ran_out, names_or}
+use Rattle.aatry_arguments.proofs.OutcomeLemmas.{is_simple_app, is_simple_line, kind_for, matched, names_or}
+use Rattle.aatry_arguments.proofs.AskedLemmas.{memory_given}
+use Rattle.aatry_arguments.proofs.KindLemmas.{answered}
 use Rattle.aatry_arguments.proofs.check_words.check_of.Goals as goal
 
 pub returns-in-Err-try_get_matches_from : goal.returns-in-Err-try_get_matches_from
@@ -23,7 +25,7 @@ returns-in-Err-try_get_matches_from c =
     let fits : length words ≤ usize_max = omega arith in
     let kind = kind_for words fits (kind_of c.in-Err-try_get_matches_from.error)
     (subst (λ (app : App). HasKind (fault_of app words) c.in-Err-try_get_matches_from.error) line kinds) in
-    answered (asked_check words) (kind_of c.in-Err-try_get_matches_from.error) c.fault.result kind c.fault.ensures
+    answered meant_check (asked_check words) (kind_of c.in-Err-try_get_matches_from.error) c.fault.result kind c.fault.ensures
 
 pub returns-in-Ok-check_with_names : goal.returns-in-Ok-check_with_names
 returns-in-Ok-check_with_names c =
@@ -48,4 +50,4 @@ returns-in-Ok-check_with_names c =
     check_is base names = rw (base, names) refl
 
 pub returns : goal.returns
-returns c = memory_ran_out (asked_check (map string_bytes c.args.words.now))
+returns c = memory_given meant_check (asked_check (map string_bytes c.args.words.now))

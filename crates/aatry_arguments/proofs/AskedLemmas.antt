@@ -1,0 +1,64 @@
+-- What words ask for that are read as those behind `check`.
+use Rattle.std.proofs.Common.{◌≡◌, Err, refl, sym, subst}
+use Rattle.aatry_arguments.specs.Arguments.{CommandAsked, ForCheck}
+use Rattle.aatry_arguments.specs.Asked.{Asked, ForThis, ForHelp, ForVersion, Nothing, asked_as, asked_then}
+use Rattle.aatry_arguments.specs.CheckWords.{CheckAsked}
+use Rattle.aatry_arguments.specs.Given.{IsGivenFor, IsHelp, IsPassedOn}
+use Rattle.aatry_arguments.specs.declared.arguments.ArgumentFault.{ArgumentFault}
+use Rattle.aatry_arguments.specs.declared.arguments.ArgumentFault.TheVariants.{Help, Version, Bad, Memory}
+
+-- memory may run out whatever is asked for
+pub memory_given : {A B : Type 0} (meant : B → A) (asked : Asked A) → IsGivenFor meant asked (Err Memory)
+memory_given meant (ForThis thing) = tt
+memory_given meant ForHelp = tt
+memory_given meant ForVersion = tt
+memory_given meant Nothing = tt
+
+-- help may be given where it is asked for
+pub help_given : {A B : Type 0} (meant : B → A) (fault : ArgumentFault) → IsHelp fault → IsGivenFor meant ForHelp (Err fault)
+help_given meant (Help text) help = tt
+help_given meant (Version text) help = absurd help
+help_given meant Bad help = absurd help
+help_given meant Memory help = tt
+
+-- a fault that may be given where something is asked for, may be passed on where more is made of it
+pub fault_given : {A B C D : Type 0} (first : D → C) (meant : B → A) (made : C → Asked A) (asked : Asked C) (fault passed : ArgumentFault)
+    → IsGivenFor first asked (Err fault) → IsPassedOn fault passed → IsGivenFor meant (asked_then made asked) (Err passed)
+fault_given first meant made (ForThis thing) (Help other) passed given is = absurd given
+fault_given first meant made (ForThis thing) (Version text) passed given is = absurd given
+fault_given first meant made (ForThis thing) Bad passed given is = absurd given
+fault_given first meant made (ForThis thing) Memory passed given is = subst (λ p. IsGivenFor meant (asked_then made (ForThis thing)) (Err p)) (sym is) (memory_given meant (made thing))
+fault_given first meant made ForHelp (Help other) passed given is = help_given meant passed is
+fault_given first meant made ForHelp (Version text) passed given is = absurd given
+fault_given first meant made ForHelp Bad passed given is = absurd given
+fault_given first meant made ForHelp Memory passed given is = subst (λ p. IsGivenFor meant (asked_then made ForHelp) (Err p)) (sym is) tt
+fault_given first meant made ForVersion (Help other) passed given is = absurd given
+fault_given first meant made ForVersion (Version text) passed given is = subst (λ p. IsGivenFor meant (asked_then made ForVersion) (Err p)) (sym is) tt
+fault_given first meant made ForVersion Bad passed given is = absurd given
+fault_given first meant made ForVersion Memory passed given is = subst (λ p. IsGivenFor meant (asked_then made ForVersion) (Err p)) (sym is) tt
+fault_given first meant made Nothing (Help other) passed given is = absurd given
+fault_given first meant made Nothing (Version text) passed given is = absurd given
+fault_given first meant made Nothing Bad passed given is = subst (λ p. IsGivenFor meant (asked_then made Nothing) (Err p)) (sym is) tt
+fault_given first meant made Nothing Memory passed given is = subst (λ p. IsGivenFor meant (asked_then made Nothing) (Err p)) (sym is) tt
+
+-- a fault passes as it is
+pub passes : (fault : ArgumentFault) → IsPassedOn fault fault
+passes (Help text) = tt
+passes (Version text) = refl
+passes Bad = refl
+passes Memory = refl
+
+-- where a check is asked for, what would be asked of another command is known
+pub asked_of_check : {A : Type 0} (command : A → CommandAsked) (made : CheckAsked → Asked A) (asked : Asked CheckAsked) (check : CheckAsked)
+    → asked_as ForCheck asked ≡ ForThis (ForCheck check) → asked_as command (asked_then made asked) ≡ asked_as command (made check)
+asked_of_check command made (ForThis asked) check same = rw (same_check same) refl
+  where
+    checked : Asked CommandAsked → CheckAsked
+    checked (ForThis (ForCheck asked)) = asked
+    checked other = check
+
+    same_check : {a b : CheckAsked} → ForThis (ForCheck a) ≡ ForThis (ForCheck b) → a ≡ b
+    same_check same = cc
+asked_of_check command made ForHelp check same = cc
+asked_of_check command made ForVersion check same = cc
+asked_of_check command made Nothing check same = cc

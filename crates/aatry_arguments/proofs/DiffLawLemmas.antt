@@ -1,0 +1,83 @@
+-- What holds of comparisons.
+use Rattle.std.proofs.Common.{◌≡◌, ◌∙◌, ◌++◌, ℕ, Bool, true, false, List, [], ◌∷◌, append-nil, append_assoc, refl, sym, ap, codes}
+use Rattle.std.specs.List.{list_all}
+use Rattle.std.specs.Str.{bytes_eq, chars}
+use Rattle.std.proofs.lemmas.Slice.Eq.{bytes_eq-Decides}
+use Rattle.aaset_arguments.specs.Arguments.{is_name, is_option}
+use Rattle.aatry_arguments.specs.Arguments.{ForDiff, asked}
+use Rattle.aatry_arguments.specs.Asked.{Asked, ForThis, Nothing, asked_as, asked_then}
+use Rattle.aatry_arguments.specs.DiffWords.{DiffGiven, LogAt, OfLog, OfQuestions, Open, QuestionsAt, asked_of, bare_given, comparison_with, given_behind, with_folders, with_path}
+use Rattle.aatry_arguments.proofs.LawLemmas.{dashes_option}
+
+-- a word that is no option is one more folder
+folder_word : (words : List (List ℕ)) (word : List ℕ) (given : DiffGiven) → is_option word ≡ false
+    → given_behind (Open given) (word ∷ words) ≡ given_behind (Open (with_folders (word ∷ []) given)) words
+folder_word words word given o = by (bytes_eq word (codes "--")) refl
+  where
+    by : (d : Bool) → bytes_eq word (codes "--") ≡ d → given_behind (Open given) (word ∷ words) ≡ given_behind (Open (with_folders (word ∷ []) given)) words
+    by true d =
+        let same = (bytes_eq-Decides word (codes "--")).0 d in
+        let bad : false ≡ true = sym o ∙ ap is_option same ∙ dashes_option in
+        cc
+    by false d = rw (d, o) refl
+
+pub plain_words : (words : List (List ℕ)) (given : DiffGiven) → list_all is_name words ≡ true → given_behind (Open given) words ≡ ForThis (with_folders words given)
+plain_words [] given h = ap (λ ns. ForThis (record given { folders = ns })) (sym (append-nil given.folders))
+plain_words (word ∷ words) given h = by (is_option word) refl (plain_words words (with_folders (word ∷ []) given))
+  where
+    by : (o : Bool) → is_option word ≡ o
+        → (list_all is_name words ≡ true → given_behind (Open (with_folders (word ∷ []) given)) words ≡ ForThis (with_folders words (with_folders (word ∷ []) given)))
+        → given_behind (Open given) (word ∷ words) ≡ ForThis (with_folders (word ∷ words) given)
+    by true o more = absurd (let bad : false ≡ true = rw o at h in cc)
+    by false o more = folder_word words word given o ∙ more (rw o at h) ∙ ap (λ ns. ForThis (record given { folders = ns })) (append_assoc given.folders (word ∷ []) words)
+
+pub log_word : (words : List (List ℕ)) (path : List ℕ) (given : DiffGiven) → is_option path ≡ false
+    → given_behind (Open given) (codes "--log" ∷ path ∷ words) ≡ given_behind (Open (with_path OfLog path given)) words
+unfolding chars
+log_word words path given o = rw o refl
+
+pub questions_word : (words : List (List ℕ)) (path : List ℕ) (given : DiffGiven) → is_option path ≡ false
+    → given_behind (Open given) (codes "--questions" ∷ path ∷ words) ≡ given_behind (Open (with_path OfQuestions path given)) words
+unfolding chars
+questions_word words path given o = rw o refl
+
+pub log_in_word : (words : List (List ℕ)) (path : List ℕ) (given : DiffGiven)
+    → given_behind (Open given) ((codes "--log=" ++ path) ∷ words) ≡ given_behind (Open (with_path OfLog path given)) words
+unfolding chars
+log_in_word words path given = refl
+
+pub questions_in_word : (words : List (List ℕ)) (path : List ℕ) (given : DiffGiven)
+    → given_behind (Open given) ((codes "--questions=" ++ path) ∷ words) ≡ given_behind (Open (with_path OfQuestions path given)) words
+unfolding chars
+questions_in_word words path given = refl
+
+pub last_word : (words : List (List ℕ)) (first last : List ℕ) (given : DiffGiven) → is_option first ≡ false → is_option last ≡ false
+    → given_behind (Open given) (codes "--log" ∷ first ∷ codes "--log" ∷ last ∷ words) ≡ given_behind (Open (with_path OfLog last given)) words
+last_word words first last given f l = log_word (codes "--log" ∷ last ∷ words) first given f ∙ log_word words last (with_path OfLog first given) l
+
+-- what is asked for by words behind two folders
+behind_folders : (words : List (List ℕ)) (old new : List ℕ) (given : Asked DiffGiven) → is_option old ≡ false → is_option new ≡ false
+    → given_behind (Open (with_folders (old ∷ new ∷ []) bare_given)) words ≡ given
+    → asked (codes "diff" ∷ old ∷ new ∷ words) ≡ asked_as ForDiff (asked_then asked_of given)
+behind_folders words old new given o n h =
+    ap (λ (a : Asked DiffGiven). asked_as ForDiff (asked_then asked_of a))
+    (folder_word (new ∷ words) old bare_given o ∙ folder_word words new (with_folders (old ∷ []) bare_given) n ∙ h)
+
+pub compared_by_log : (old new path : List ℕ) → is_option old ≡ false → is_option new ≡ false → is_option path ≡ false
+    → asked (codes "diff" ∷ old ∷ new ∷ codes "--log" ∷ path ∷ []) ≡ ForThis (ForDiff (comparison_with old new (LogAt path)))
+compared_by_log old new path o n p =
+    behind_folders (codes "--log" ∷ path ∷ []) old new (ForThis (with_path OfLog path (with_folders (old ∷ new ∷ []) bare_given))) o n
+    (log_word [] path (with_folders (old ∷ new ∷ []) bare_given) p)
+
+pub compared_by_questions : (old new path : List ℕ) → is_option old ≡ false → is_option new ≡ false → is_option path ≡ false
+    → asked (codes "diff" ∷ old ∷ new ∷ codes "--questions" ∷ path ∷ []) ≡ ForThis (ForDiff (comparison_with old new (QuestionsAt path)))
+compared_by_questions old new path o n p =
+    behind_folders (codes "--questions" ∷ path ∷ []) old new (ForThis (with_path OfQuestions path (with_folders (old ∷ new ∷ []) bare_given))) o n
+    (questions_word [] path (with_folders (old ∷ new ∷ []) bare_given) p)
+
+pub compared_by_both : (old new log questions : List ℕ) → is_option old ≡ false → is_option new ≡ false → is_option log ≡ false → is_option questions ≡ false
+    → asked (codes "diff" ∷ old ∷ new ∷ codes "--log" ∷ log ∷ codes "--questions" ∷ questions ∷ []) ≡ Nothing
+compared_by_both old new log questions o n l q =
+    let given = with_folders (old ∷ new ∷ []) bare_given in
+    behind_folders (codes "--log" ∷ log ∷ codes "--questions" ∷ questions ∷ []) old new (ForThis (with_path OfQuestions questions (with_path OfLog log given))) o n
+    (log_word (codes "--questions" ∷ questions ∷ []) log given l ∙ questions_word [] questions (with_path OfLog log given) q)

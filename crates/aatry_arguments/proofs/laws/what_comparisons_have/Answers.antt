@@ -1,0 +1,36 @@
+use Rattle.std.proofs.Common.{refl}
+use Rattle.aatry_arguments.proofs.DiffLawLemmas.{compared_by_both, compared_by_log, compared_by_questions, last_word, log_in_word, log_word, plain_words, questions_in_word, questions_word}
+use Rattle.aatry_arguments.proofs.laws.what_comparisons_have.Goals as goal
+
+pub returns-clause-alone : goal.returns-clause-alone
+returns-clause-alone c = refl
+
+pub returns-clause-by_log : goal.returns-clause-by_log
+returns-clause-by_log c old new path o n p = compared_by_log old new path o n p
+
+pub returns-clause-by_questions : goal.returns-clause-by_questions
+returns-clause-by_questions c old new path o n p = compared_by_questions old new path o n p
+
+pub returns-clause-by_both : goal.returns-clause-by_both
+returns-clause-by_both c old new log questions o n l q = compared_by_both old new log questions o n l q
+
+pub returns-clause-log : goal.returns-clause-log
+returns-clause-log c words path given p = log_word words path given p
+
+pub returns-clause-log_in_word : goal.returns-clause-log_in_word
+returns-clause-log_in_word c words path given = log_in_word words path given
+
+pub returns-clause-questions : goal.returns-clause-questions
+returns-clause-questions c words path given p = questions_word words path given p
+
+pub returns-clause-questions_in_word : goal.returns-clause-questions_in_word
+returns-clause-questions_in_word c words path given = questions_in_word words path given
+
+pub returns-clause-last : goal.returns-clause-last
+returns-clause-last c words first last given f l = last_word words first last given f l
+
+pub returns-clause-plain : goal.returns-clause-plain
+returns-clause-plain c words given h = plain_words words given h
+
+pub returns-clause-dashes : goal.returns-clause-dashes
+returns-clause-dashes c words given = refl

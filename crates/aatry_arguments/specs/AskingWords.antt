@@ -1,0 +1,30 @@
+-- What the words behind `who` and `why` ask for.
+use Rattle.std.specs.Prelude.{ℕ, ◌==◌, if◌then◌else◌, List, length}
+use Rattle.aa_bytes.specs.Texts.{is_empty}
+use Rattle.aatry_arguments.specs.Asked.{Asked, ForThis, Nothing, asked_then}
+use Rattle.aatry_arguments.specs.CheckWords.{CheckAsked, asked_check}
+
+-- a question that is asked of a folder of policy, and its words; which words make a question is decided elsewhere
+pub record AskingAsked : Type 0 where
+  pub base : List ℕ
+  pub words : List (List ℕ)
+
+-- the asking of a question, by its two parts
+abbrev pub asking_with : List ℕ → List (List ℕ) → AskingAsked
+asking_with base words = record { base = base; words = words }
+
+-- what would be a check asks who would be let, where it has three names: they are the access, who owns the file, and its path
+abbrev pub who_of : CheckAsked → Asked AskingAsked
+who_of check = if length check.names == 3 then ForThis (asking_with check.base check.names) else Nothing
+
+-- what would be a check asks why, where it has a name: they are the words of the question
+abbrev pub why_of : CheckAsked → Asked AskingAsked
+why_of check = if is_empty check.names then Nothing else ForThis (asking_with check.base check.names)
+
+-- the words behind `who` are read as those behind `check`
+abbrev pub asked_who : List (List ℕ) → Asked AskingAsked
+asked_who words = asked_then who_of (asked_check words)
+
+-- and so are those behind `why`
+abbrev pub asked_why : List (List ℕ) → Asked AskingAsked
+asked_why words = asked_then why_of (asked_check words)

@@ -1,0 +1,121 @@
+//! Reading of the words behind `who` and `why`: as those behind `check` are read.
+ghost use Rattle.std.specs.Prelude.{map, string_bytes};
+ghost use Rattle.aatry_arguments.specs.AskingWords.{asked_who, asked_why, who_of, why_of};
+ghost use Rattle.aatry_arguments.specs.Given.{IsGivenFor, meant_asking, meant_check};
+
+use crate::arguments::{ArgumentFault, Asking, Check};
+use crate::check_words::check_of;
+use crate::faults::passed_on;
+use std::alloc::Global;
+
+// What help says of `who`.
+const WHO_HELP: &str = "\
+Tells which profiles, children and hats would let a request for a file through
+
+Usage: aatry who [OPTIONS] ACCESS OWNED PATH
+
+Arguments:
+  ACCESS  One or more of the letters r w a l k m, none twice
+  OWNED   owner where the task owns the file, other where it doesn't
+  PATH    The file, by its whole path
+
+Options:
+  -b <DIR>    The folder of policy, /etc/apparmor.d unless it is given
+  -h, --help  Prints help
+
+All files below DIR are read, as check reads them; those at its top that are refused are told
+first, and left out. Of each profile, child and hat that would let the request through a line is
+told:
+  NAME: allow     It lets it through
+  NAME: complain  Its rules don't, and it is in complain mode
+
+Exit status:
+  0  Some profile, child or hat would let the request through, or help was asked for
+  1  None would
+  2  The arguments or the question are bad, or DIR, or a file or folder below it, can't be read
+  3  Writing failed, or memory ran out
+";
+
+// What help says of `why`.
+const WHY_HELP: &str = "\
+Tells the answer to a question, and the rules behind it
+
+Usage: aatry why [OPTIONS] WORD..
+
+Arguments:
+  WORD..  The words of a question, as behind ask of aaset:
+            file WHO ACCESS OWNED PATH
+            exec WHO OWNED PATH
+            cap WHO NAME
+            net WHO DOMAIN TYPE
+
+Options:
+  -b <DIR>    The folder of policy, /etc/apparmor.d unless it is given
+  -h, --help  Prints help
+
+All files below DIR are read, as check reads them; those at its top that are refused are told
+first, and left out. WHO is a profile, child or hat, or unconfined.
+The answer is told, with its audit line if there is one, as ask of aaset tells it. Below stand the
+rules behind it, under one of these, each with FILE:LINE:COLUMN: where it is written. Of rules on
+capabilities and sockets no line and column is told.
+  denied by      They deny the request, or a part of it
+  allowed by     They allow it, or a part of it
+  audited by     They ask for the audit line
+  nearest rules  They are on the path, but allow other access to it, or allow it the owner alone
+
+Exit status:
+  0  The question was answered, or help was asked for
+  1  WHO isn't there
+  2  The arguments or the question are bad, or DIR, or a file or folder below it, can't be read
+  3  Writing failed, or memory ran out
+";
+
+// What would be a check, as the question who would be let.
+fn who_by(check: Check) -> Result<Asking, ArgumentFault>
+    ensures { IsGivenFor meant_asking (who_of (meant_check check)) result }
+{
+    let Check { base, names: words } = check;
+    if words.len() != 3 {
+        return Err(ArgumentFault::Bad);
+    }
+    Ok(Asking { base, words })
+}
+
+// What would be a check, as the question why.
+fn why_by(check: Check) -> Result<Asking, ArgumentFault>
+    ensures { IsGivenFor meant_asking (why_of (meant_check check)) result }
+{
+    let Check { base, names: words } = check;
+    if words.is_empty() {
+        return Err(ArgumentFault::Bad);
+    }
+    Ok(Asking { base, words })
+}
+
+/// What words behind `who` ask.
+///
+/// # Errors
+///
+/// Those of `check_of`, and `Bad` where the words of the question aren't three.
+pub fn who_of(alloc: Global, words: &[String]) -> Result<Asking, ArgumentFault>
+    ensures { IsGivenFor meant_asking (asked_who (map string_bytes words.now)) result }
+{
+    match check_of(alloc, words) {
+        Ok(check) => who_by(check),
+        Err(fault) => Err(passed_on(alloc, fault, WHO_HELP)),
+    }
+}
+
+/// What words behind `why` ask.
+///
+/// # Errors
+///
+/// Those of `check_of`, and `Bad` where the question has no word.
+pub fn why_of(alloc: Global, words: &[String]) -> Result<Asking, ArgumentFault>
+    ensures { IsGivenFor meant_asking (asked_why (map string_bytes words.now)) result }
+{
+    match check_of(alloc, words) {
+        Ok(check) => why_by(check),
+        Err(fault) => Err(passed_on(alloc, fault, WHY_HELP)),
+    }
+}

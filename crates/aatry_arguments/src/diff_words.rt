@@ -1,0 +1,148 @@
+//! Reading of the words behind `diff`, by `clap`.
+ghost use Rattle.std.specs.Prelude.{◌≡◌, IfOk, map, option_map, string_bytes};
+ghost use Rattle.clap.specs.Words.{kind_of};
+ghost use Rattle.aaset_arguments.specs.Texts.{words_of};
+ghost use Rattle.aatry_arguments.specs.DiffWords.{asked_diff, asked_of, comparison_of, comparison_with, given_with, source_of};
+ghost use Rattle.aatry_arguments.specs.Given.{IsFaultFor, IsGivenFor, meant_comparison, meant_source};
+
+use crate::arguments::{ArgumentFault, Comparison, RequestSource};
+use crate::diff_line::diff_command;
+use crate::faults::help_with;
+use clap::Error;
+use clap::error::ErrorKind;
+use std::alloc::{AllocError, Global};
+
+// What help says of `diff`.
+const HELP: &str = "\
+Tells which requests two folders of policy answer otherwise
+
+Usage: aatry diff OLD NEW --log FILE
+       aatry diff OLD NEW --questions FILE
+
+Arguments:
+  OLD  A folder of policy
+  NEW  The folder of policy that is to take its place
+
+Options:
+  --log <FILE>        A log that tells of requests, as audit.log or syslog
+  --questions <FILE>  A file of questions, each a line of the words behind ask of aaset
+  -h, --help          Prints help
+
+One FILE has to be given. Where an option is given again, the last counts.
+
+All files below OLD and NEW are read, as check reads them; those at their tops that are refused are
+told first, and left out. Of each question that FILE tells of and that they answer otherwise this is
+told:
+  QUESTION: ANSWER OF OLD -> ANSWER OF NEW (HOW OFTEN IT CAME)
+The last line counts the lines, requests and questions of FILE, and what is answered otherwise.
+
+Exit status:
+  0  All questions are answered alike, or help was asked for
+  1  Some question is answered otherwise
+  2  The arguments are bad, or FILE, OLD or NEW, or what lies below these, can't be read
+  3  Writing failed, or memory ran out
+";
+
+// What a parse that gave no matches means for the program.
+fn fault(alloc: Global, error: &Error) -> ArgumentFault
+    ensures { IsFaultFor (kind_of error.now) result }
+{
+    match error.kind() {
+        ErrorKind::DisplayHelp => help_with(alloc, HELP),
+        ErrorKind::OutOfMemory => ArgumentFault::Memory,
+        _ => ArgumentFault::Bad,
+    }
+}
+
+// Where requests are told of; nowhere unless exactly one of a log and a file of questions is given.
+fn source_by(
+    alloc: Global,
+    log: Option<&str>,
+    questions: Option<&str>,
+) -> Result<Option<RequestSource>, AllocError>
+    ensures { IfOk result (λ source. option_map meant_source source
+        ≡ source_of (option_map (λ path. path.now) log.entry) (option_map (λ path. path.now) questions.entry)) }
+{
+    match (log, questions) {
+        (Some(path), None) => Ok(Some(RequestSource::Log(String::from_str(alloc, path)?))),
+        (None, Some(path)) => Ok(Some(RequestSource::Questions(String::from_str(alloc, path)?))),
+        _ => Ok(None),
+    }
+}
+
+// The comparison of these folders by this source.
+fn compared(
+    alloc: Global,
+    old: &str,
+    new: &str,
+    source: RequestSource,
+) -> Result<Comparison, AllocError>
+    ensures { IfOk result (λ comparison. meant_comparison comparison ≡ comparison_with old.now new.now (meant_source source)) }
+{
+    Ok(Comparison {
+        old: String::from_str(alloc, old)?,
+        new: String::from_str(alloc, new)?,
+        source,
+    })
+}
+
+// The comparison of what words give, if they give one.
+fn comparison_by(
+    alloc: Global,
+    log: Option<&str>,
+    questions: Option<&str>,
+    folders: &[&str],
+) -> Result<Option<Comparison>, AllocError>
+    ensures { IfOk result (λ comparison. option_map meant_comparison comparison ≡ comparison_of (given_with
+        (option_map (λ path. path.now) log.entry) (option_map (λ path. path.now) questions.entry) (words_of folders.now))) }
+{
+    match folders {
+        [old, new] => match source_by(alloc, log, questions)? {
+            Some(source) => Ok(Some(compared(alloc, old, new, source)?)),
+            None => Ok(None),
+        },
+        _ => Ok(None),
+    }
+}
+
+// The same, where none is a fault.
+fn comparison_or_fault(
+    alloc: Global,
+    log: Option<&str>,
+    questions: Option<&str>,
+    folders: &[&str],
+) -> Result<Comparison, ArgumentFault>
+    ensures { IsGivenFor meant_comparison (asked_of (given_with
+        (option_map (λ path. path.now) log.entry) (option_map (λ path. path.now) questions.entry) (words_of folders.now))) result }
+{
+    match comparison_by(alloc, log, questions, folders) {
+        Ok(Some(comparison)) => Ok(comparison),
+        Ok(None) => Err(ArgumentFault::Bad),
+        Err(_) => Err(ArgumentFault::Memory),
+    }
+}
+
+/// The comparison that words behind `diff` ask for.
+///
+/// # Errors
+///
+/// - `Help` where the first option that is no `--log` and no `--questions` is `--help` or `-h`, with or without other letters behind `-h`.
+/// - `Bad` where it is any other, or where one of those ahead of it has no path. Where there is none, and one of those has no path, the folders
+///   aren't two, or not exactly one of a log and a file of questions is given.
+/// - `Memory` where memory ran out.
+pub fn diff_of(alloc: Global, words: &[String]) -> Result<Comparison, ArgumentFault>
+    ensures { IsGivenFor meant_comparison (asked_diff (map string_bytes words.now)) result }
+{
+    let command = match diff_command(alloc) {
+        Ok(command) => command,
+        Err(_) => return Err(ArgumentFault::Memory),
+    };
+    let matches = match command.try_get_matches_from(words) {
+        Ok(matches) => matches,
+        Err(error) => return Err(fault(alloc, &error)),
+    };
+    let log = matches.get_str("LOG");
+    let questions = matches.get_str("QUESTIONS");
+    let folders = matches.get_strs("FOLDER").unwrap_or(&[]);
+    comparison_or_fault(alloc, log, questions, folders)
+}
