@@ -12,12 +12,29 @@ _aatry() {
     COMPREPLY=()
     if [ "$word" = = ]; then word=; fi
     if [ "$COMP_CWORD" -eq 1 ]; then
-        mapfile -t COMPREPLY < <(compgen -W 'check -h --help -V --version' -- "$word")
+        mapfile -t COMPREPLY < <(compgen -W 'check test who why diff -h --help -V --version' -- "$word")
         return
     fi
-    if [ "${COMP_WORDS[1]}" != check ]; then return; fi
+    case ${COMP_WORDS[1]} in
+    check | test | who | why) ;;
+    diff)
+        # A folder, or the file of an option.
+        case ${COMP_WORDS[COMP_CWORD - 1]} in
+        --log | --questions) mapfile -t COMPREPLY < <(compgen -f -- "$word") ;;
+        *)
+            if [[ $word == -* ]]; then
+                mapfile -t COMPREPLY < <(compgen -W '--log --questions -h --help --' -- "$word")
+            else
+                mapfile -t COMPREPLY < <(compgen -d -- "$word")
+            fi
+            ;;
+        esac
+        return
+        ;;
+    *) return ;;
+    esac
 
-    # The words before, from the left: behind `--` each one is a NAME, the last -b counts, and its folder stands in its word or is the
+    # The words before, from the left: behind `--` each one is a NAME or a FILE, the last -b counts, and its folder stands in its word or is the
     # next one. Bash takes a `=` for a word of its own.
     for ((at = 2; at < COMP_CWORD; at++)); do
         before=${COMP_WORDS[at]}
@@ -38,6 +55,18 @@ _aatry() {
         mapfile -t COMPREPLY < <(compgen -d -- "$word")
     elif [ -n "$options" ] && [[ $word == -* ]]; then
         mapfile -t COMPREPLY < <(compgen -W '-b -h --help --' -- "$word")
+    elif [ "${COMP_WORDS[1]}" = who ] || [ "${COMP_WORDS[1]}" = why ]; then
+        # Words of a question: its first ones, and behind them paths.
+        if [ "${COMP_WORDS[1]}" = why ] && [ "$COMP_CWORD" -eq 2 ]; then
+            mapfile -t COMPREPLY < <(compgen -W 'file exec cap net -b' -- "$word")
+        elif [[ $word == /* ]]; then
+            mapfile -t COMPREPLY < <(compgen -f -- "$word")
+        else
+            mapfile -t COMPREPLY < <(compgen -W 'owner other' -- "$word")
+        fi
+    elif [ "${COMP_WORDS[1]}" = test ]; then
+        # A transcript, by its own path.
+        mapfile -t COMPREPLY < <(compgen -f -- "$word")
     elif [[ $word != */* ]]; then
         # The files at the top of the folder, without those that are passed over.
         while IFS= read -r found; do
