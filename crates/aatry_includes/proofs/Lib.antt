@@ -1,0 +1,2 @@
+pub mod MissingLemmas
+pub mod StandingLemmas
