@@ -8,7 +8,7 @@ ghost use Rattle.aa_profile_data.specs.declared.profile.Mode.{Mode};
 ghost use Rattle.aa_profile_data.specs.declared.profile.Rule.{Rule};
 ghost use Rattle.aa_decide_verdict.specs.Verdict.{allowed, applies, denied, verdict};
 ghost use Rattle.aatry_why.specs.Laws.{AreAllWith, but, is_told_to_allow, is_told_to_deny, places_of};
-ghost use Rattle.aatry_why.specs.Told.{is_near, near, told};
+ghost use Rattle.aatry_why.specs.Told.{is_near, near, places_where, told};
 
 /// The rules that are told are exactly those that apply, and those that are told to be near are exactly those that are, in rising order.
 pub fn what_is_told()
@@ -28,4 +28,10 @@ pub fn what_told_rules_decide()
         → denied request (but (is_told_to_deny request) rules) ≡ 0 }
     ensures nothing_is_allowed_without_those_that_allow { (request : Request) (rules : List Rule)
         → allowed request (but (is_told_to_allow request) rules) ≡ 0 }
+{}
+
+/// The places of those of some rules that pass a test are exactly the places of the rules that do, in rising order.
+pub fn where_rules_stand()
+    ensures they_are_all { (test : Rule → Bool) (rules : List Rule) → AreAllWith test rules (places_where test 0 rules) }
+    ensures they_rise { (test : Rule → Bool) (rules : List Rule) → IsStrictlyIncreasing (places_where test 0 rules) }
 {}

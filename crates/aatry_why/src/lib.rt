@@ -5,5 +5,6 @@ mod cover;
 mod laws;
 mod told;
 
-pub use laws::{what_is_told, what_told_rules_decide};
+pub use cover::covers;
+pub use laws::{what_is_told, what_told_rules_decide, where_rules_stand};
 pub use told::{ToldRule, near_rules, told_rules};

@@ -1,0 +1,2 @@
+mod AttachmentLemmas
+mod LeadingLemmas

@@ -1,0 +1,3 @@
+pub mod AttachmentLines
+pub mod Candidates
+pub mod Leading

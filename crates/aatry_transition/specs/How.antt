@@ -1,0 +1,54 @@
+-- What is told of how the answer to the start of a program came about, behind the rules that decide.
+use Rattle.std.specs.Prelude.{ℕ, Bool, List, [], ◌++◌, Option, None, Some}
+use Rattle.aa_decide.specs.Exec.{Asker}
+use Rattle.aa_decide_exec_rules.specs.Choices.{choice}
+use Rattle.aa_decide_verdict.specs.Confinement.{By, Confinement, Unconfined, in_state}
+use Rattle.aa_decide_verdict.specs.Entries.{Loaded}
+use Rattle.aa_decide_verdict.specs.Ready.{audits, rules_at}
+use Rattle.aa_profile_access.specs.ExecWords.{row}
+use Rattle.aa_profile_access.specs.declared.exec_word.Destination.{Destination}
+use Rattle.aa_profile_access.specs.declared.exec_word.Destination.TheVariants as to
+use Rattle.aa_profile_data.specs.declared.profile.Transition.{Transition}
+use Rattle.aa_set_answers.specs.Askers.{asker}
+use Rattle.aatry_exec.specs.AttachmentLines.{attachment_lines}
+use Rattle.aatry_exec.specs.Candidates.{Candidate, child_candidates, profile_candidates}
+use Rattle.aatry_exec.specs.Leading.{lead_of}
+use Rattle.aatry_transition.specs.Transitions.{transition_lines}
+
+-- the children and hats of who asks; a child or a hat has none
+abbrev pub own_children : Asker → List Candidate
+own_children asker = elim asker.child [ None ↦ child_candidates asker.entry | Some place ↦ [] ]
+
+-- those among which the path's attachment decides where a destination leads: without a target, the profiles, or the children of who asks
+abbrev pub asked_candidates : Option (List ℕ) → List Loaded → Asker → Destination → List Candidate
+asked_candidates (Some name) entries asker destination = []
+asked_candidates None entries asker to.Profile = profile_candidates entries
+asked_candidates None entries asker to.Child = own_children asker
+asked_candidates None entries asker to.Inherit = []
+asked_candidates None entries asker to.Unconfined = []
+
+-- the lines of a transition, if there is one, and of the attachment, where it decides where that leads
+abbrev pub led_lines : List ℕ → List Loaded → Asker → Option Transition → List ℕ
+led_lines path entries asker None = []
+led_lines path entries asker (Some transition) =
+    transition_lines path entries asker transition
+    ++ attachment_lines path (asked_candidates transition.target entries asker (row transition.word).destination)
+
+-- by what confines who asks: where nothing does, the path's attachment decides alone, and else what the rules say together
+abbrev pub confined_lines : Bool → List ℕ → List Loaded → Asker → Confinement → List ℕ
+confined_lines owned path entries asker Unconfined = attachment_lines path (profile_candidates entries)
+confined_lines owned path entries asker (By profile child mode) =
+    led_lines path entries asker (lead_of (choice (audits profile child) owned path (rules_at profile child)))
+
+-- what confines who asks
+abbrev pub confinement_of : Asker → Confinement
+confinement_of asker = in_state asker.entry.profile asker.entry.state asker.child
+
+-- by who asks
+abbrev pub asked_lines : List Loaded → Option Asker → Bool → List ℕ → List ℕ
+asked_lines entries None owned path = attachment_lines path (profile_candidates entries)
+asked_lines entries (Some asker) owned path = confined_lines owned path entries asker (confinement_of asker)
+
+-- the lines of how the answer came about to who asks by this full name, or as the word `unconfined`; of one that isn't there, nothing
+abbrev pub how_lines : List Loaded → List ℕ → Bool → List ℕ → List ℕ
+how_lines entries who owned path = elim (asker entries who) [ None ↦ [] | Some asker ↦ asked_lines entries asker owned path ]

@@ -1,0 +1,3 @@
+pub mod How
+pub mod SeenLeads
+pub mod Transitions

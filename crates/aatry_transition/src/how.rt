@@ -1,0 +1,166 @@
+//! What is told of how the answer to the start of a program came about, behind the rules that decide.
+
+ghost use Rattle.std.specs.Prelude.{◌≡◌, ◌++◌, IfOk, OnOk};
+ghost use Rattle.std.specs.Option.{option_map};
+ghost use Rattle.aa_decide.specs.SeenExec.{seen_asker};
+ghost use Rattle.aa_decide_exec_rules.specs.Choices.{choice};
+ghost use Rattle.aa_decide_verdict.specs.Ready.{audits, rules_at};
+ghost use Rattle.aa_decide_verdict.specs.Slots.{filled};
+ghost use Rattle.aatry_exec.specs.AttachmentLines.{attachment_lines};
+ghost use Rattle.aatry_exec.specs.Candidates.{profile_candidates, seen_candidates};
+ghost use Rattle.aatry_transition.specs.How.{asked_candidates, asked_lines, confined_lines, confinement_of, how_lines, led_lines, own_children};
+ghost use Rattle.aatry_exec.specs.Leading.{lead_of};
+
+use crate::transition::push_transition;
+use aa_decide::{Asker, Confinement, IndexedSlots, Ready};
+use aa_profile_access::Destination;
+use aa_profile_data::Transition;
+use aa_set_answers::find_asker;
+use aa_shared_bytes::SharedBytes;
+use aatry_exec::{
+    Candidate, child_candidates, first_transition, leading_rules, profile_candidates,
+    push_attachment, which_rules_lead,
+};
+use std::alloc::{AllocError, Global};
+
+// The children and hats of who asks.
+fn own_children<'a>(alloc: Global, asker: Asker<'a>) -> Result<Vec<Candidate<'a>>, AllocError>
+    ensures { IfOk result (λ candidates. seen_candidates candidates.items ≡ own_children (seen_asker asker.entry)) }
+{
+    match asker.child {
+        None => child_candidates(alloc, asker.entry),
+        Some(_) => Ok(Vec::new(alloc)),
+    }
+}
+
+// Those among which the path's attachment decides where a destination leads.
+fn asked_candidates<'a>(
+    alloc: Global,
+    slots: &IndexedSlots<'a>,
+    asker: Asker<'a>,
+    target: &Option<SharedBytes>,
+    destination: Destination,
+) -> Result<Vec<Candidate<'a>>, AllocError>
+    ensures { IfOk result (λ candidates.
+        seen_candidates candidates.items ≡ asked_candidates target.now (filled slots.now) (seen_asker asker.entry) destination) }
+{
+    match (target, destination) {
+        (None, Destination::Profile) => profile_candidates(alloc, slots.as_slice()),
+        (None, Destination::Child) => own_children(alloc, asker),
+        _ => Ok(Vec::new(alloc)),
+    }
+}
+
+// Puts the lines of the attachment among all profiles behind a text.
+fn push_profiles(
+    alloc: Global,
+    slots: &IndexedSlots<'_>,
+    path: &[u8],
+    out: &mut Vec<u8>,
+) -> Result<(), AllocError>
+    ensures { OnOk result (out.new.items ≡ out.old.items ++ attachment_lines path.now (profile_candidates (filled slots.now))) }
+{
+    let candidates = profile_candidates(alloc, slots.as_slice())?;
+    push_attachment(alloc, path, &candidates, out)
+}
+
+// Puts the lines of a transition behind a text, if there is one, and of the attachment, where it decides where that leads.
+fn push_led(
+    alloc: Global,
+    slots: &IndexedSlots<'_>,
+    asker: Asker<'_>,
+    path: &[u8],
+    transition: Option<&Transition>,
+    out: &mut Vec<u8>,
+) -> Result<(), AllocError>
+    ensures { OnOk result (out.new.items ≡ out.old.items
+        ++ led_lines path.now (filled slots.now) (seen_asker asker.entry) (option_map (λ transition. transition.now) transition.entry)) }
+{
+    let Some(transition) = transition else {
+        return Ok(());
+    };
+    let destination = transition.word.destination();
+    let candidates = asked_candidates(alloc, slots, asker, &transition.target, destination)?;
+    push_transition(alloc, slots, asker, path, transition, out)?;
+    push_attachment(alloc, path, &candidates, out)
+}
+
+// Where the rules of a profile, or of its child or hat at a place, lead together, if they lead somewhere.
+fn lead_at<'a>(
+    alloc: Global,
+    ready: &'a Ready,
+    child: Option<usize>,
+    owned: bool,
+    path: &[u8],
+) -> Result<Option<&'a Transition>, AllocError>
+    ensures { IfOk result (λ transition. option_map (λ transition. transition.now) transition
+        ≡ lead_of (choice (audits ready.now child) owned path.now (rules_at ready.now child))) }
+{
+    which_rules_lead();
+    let rules = ready.rules_at(child);
+    let places = leading_rules(alloc, owned, path, rules)?;
+    Ok(first_transition(rules, &places))
+}
+
+// Puts the lines behind a text for who asks by a loaded profile.
+fn push_asked_by(
+    alloc: Global,
+    slots: &IndexedSlots<'_>,
+    asker: Asker<'_>,
+    owned: bool,
+    path: &[u8],
+    out: &mut Vec<u8>,
+) -> Result<(), AllocError>
+    ensures { OnOk result (out.new.items ≡ out.old.items
+        ++ confined_lines owned path.now (filled slots.now) (seen_asker asker.entry) (confinement_of (seen_asker asker.entry))) }
+{
+    match asker.entry.confinement(asker.child) {
+        Confinement::Unconfined => push_profiles(alloc, slots, path, out),
+        Confinement::By { ready, child, .. } => {
+            let transition = lead_at(alloc, ready, child, owned, path)?;
+            push_led(alloc, slots, asker, path, transition, out)
+        }
+    }
+}
+
+// Puts them there for who asks, or for no one in particular.
+fn push_asked(
+    alloc: Global,
+    slots: &IndexedSlots<'_>,
+    asker: Option<Asker<'_>>,
+    owned: bool,
+    path: &[u8],
+    out: &mut Vec<u8>,
+) -> Result<(), AllocError>
+    ensures { OnOk result (out.new.items ≡ out.old.items
+        ++ asked_lines (filled slots.now) (option_map seen_asker asker.entry) owned path.now) }
+{
+    match asker {
+        None => push_profiles(alloc, slots, path, out),
+        Some(asker) => push_asked_by(alloc, slots, asker, owned, path, out),
+    }
+}
+
+/// Puts lines behind a text that tell how the answer came about to who asks to start the program of a path, by a full name or as the word
+/// `unconfined`: below `transition` where the rules lead, and below `attachment` which profiles or children the path may be attached to, where that
+/// decides. Where no rule leads, or one denies, and where no one of the name is loaded, nothing is put. `owned` says whether the task's user owns
+/// the file. What is told is said of the filled slots in their order.
+///
+/// # Errors
+///
+/// Where memory runs out. A beginning may have been put then.
+pub fn push_how(
+    alloc: Global,
+    slots: &IndexedSlots<'_>,
+    who: &[u8],
+    owned: bool,
+    path: &[u8],
+    out: &mut Vec<u8>,
+) -> Result<(), AllocError>
+    ensures { OnOk result (out.new.items ≡ out.old.items ++ how_lines (filled slots.now) who.now owned path.now) }
+{
+    match find_asker(slots, who) {
+        None => Ok(()),
+        Some(asker) => push_asked(alloc, slots, asker, owned, path, out),
+    }
+}

@@ -1,0 +1,8 @@
+//! How the answer to the start of a program came about: where the rules lead, and what the program's path may be attached to.
+#![tactic(auto)]
+
+mod how;
+mod leads;
+mod transition;
+
+pub use how::push_how;
