@@ -13,9 +13,13 @@ use Rattle.aa_set_listing.specs.States.{written_state}
 abbrev pub head_line : Loaded → Option ℕ → Bool → List ℕ
 head_line loaded child audit = codes "profile " ++ written_state loaded child ++ text_if audit (codes " audit") ++ line_feed ∷ []
 
+-- an attachment
+abbrev pub attachment_text : List ℕ → List ℕ
+attachment_text pattern = codes "attach " ++ written_text pattern
+
 -- the line of an attachment
 abbrev pub attachment_line : List ℕ → List ℕ
-attachment_line pattern = codes "  attach " ++ written_text pattern ++ line_feed ∷ []
+attachment_line pattern = codes "  " ++ attachment_text pattern ++ line_feed ∷ []
 
 -- the lines of the attachments, and of the rules
 abbrev pub body_lines : List (List ℕ) → List Rule → List ℕ

@@ -10,4 +10,5 @@ mod states;
 pub use list::list_lines;
 pub use names::full_name;
 pub use rule_lines::push_rule;
-pub use show::show_lines;
+pub use show::{push_attachment, show_lines};
+pub use states::mode_word;

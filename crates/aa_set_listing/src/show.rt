@@ -4,7 +4,8 @@ ghost use Rattle.std.specs.Prelude.{◌≡◌, ◌++◌, IfOk, OnOk, Some, flat_
 ghost use Rattle.std.specs.Option.{option_copied};
 ghost use Rattle.aa_set_listing.specs.Children.{lines_of_children};
 ghost use Rattle.aa_set_listing.specs.RuleLines.{rule_line};
-ghost use Rattle.aa_set_listing.specs.Show.{attachment_line, body_lines, child_line, child_word, head_line, own_lines, show_lines};
+ghost use Rattle.aa_set_listing.specs.Show.{attachment_line, attachment_text, body_lines, child_line, child_word};
+ghost use Rattle.aa_set_listing.specs.Show.{head_line, own_lines, show_lines};
 
 use crate::rule_lines::{push_if, push_rule_line};
 use crate::states::push_state;
@@ -31,12 +32,24 @@ fn push_head(
     Ok(())
 }
 
+/// Puts an attachment behind a text, as `show` tells it.
+///
+/// # Errors
+///
+/// Where memory runs out. A beginning may have been put then.
+pub fn push_attachment(text: &mut Vec<u8>, pattern: &Pattern) -> Result<(), AllocError>
+    ensures { OnOk result (text.new.items ≡ text.old.items ++ attachment_text pattern.now) }
+{
+    text.extend_from_slice(b"attach ")?;
+    push_text(text, pattern.text())
+}
+
 // Puts the line of an attachment behind a text.
-fn push_attachment(text: &mut Vec<u8>, pattern: &Pattern) -> Result<(), AllocError>
+fn push_attachment_line(text: &mut Vec<u8>, pattern: &Pattern) -> Result<(), AllocError>
     ensures { OnOk result (text.new.items ≡ text.old.items ++ attachment_line pattern.now) }
 {
-    text.extend_from_slice(b"  attach ")?;
-    push_text(text, pattern.text())?;
+    text.extend_from_slice(b"  ")?;
+    push_attachment(text, pattern)?;
     text.push(b'\n')?;
     Ok(())
 }
@@ -46,7 +59,7 @@ fn push_attachments(text: &mut Vec<u8>, patterns: &[Pattern]) -> Result<(), Allo
     ensures { OnOk result (text.new.items ≡ text.old.items ++ flat_map attachment_line patterns.now) }
 {
     for pattern in patterns {
-        push_attachment(text, pattern)?;
+        push_attachment_line(text, pattern)?;
     }
     Ok(())
 }

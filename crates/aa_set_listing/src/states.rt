@@ -9,8 +9,8 @@ use aa_profile_data::Mode;
 use aa_quoting::push_text;
 use std::alloc::{AllocError, Global};
 
-// The word of a mode.
-fn mode_word(mode: Mode) -> &'static str
+/// The word of a mode.
+pub fn mode_word(mode: Mode) -> &'static str
     ensures { result.now ≡ mode_word mode }
 {
     match mode {

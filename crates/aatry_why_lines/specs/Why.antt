@@ -2,13 +2,15 @@
 use Rattle.std.specs.Prelude.{◌≡◌, ℕ, Bool, false, if◌then◌else◌, List, [], ◌++◌, codes, Option, None, Some, Ok, slice_get}
 use Rattle.aa_decide_verdict.specs.Ready.{audits, rules_at}
 use Rattle.aa_profile.specs.FileReading.{file_profiles}
-use Rattle.aa_profile_access.specs.Request.{Request}
+use Rattle.aa_profile_access.specs.Access.{EXEC, has}
+use Rattle.aa_profile_access.specs.Request.{ForFile, Request}
 use Rattle.aa_profile_data.specs.declared.profile.Profile.{Profile}
 use Rattle.aa_profile_data.specs.declared.profile.Rule.{Rule}
 use Rattle.aa_profile_places.specs.RulePlaces.{file_places}
 use Rattle.aa_profile_places.specs.declared.places.ProfilePlaces.{ProfilePlaces}
 use Rattle.aa_text_files.specs.Files.{File}
 use Rattle.aa_text_files.specs.declared.text_error.Place.{Place}
+use Rattle.aatry_exec.specs.Leading.{leading_places}
 use Rattle.aatry_why.specs.Told.{near, told}
 use Rattle.aatry_why.specs.declared.told.ToldRule.{ToldRule}
 use Rattle.aatry_why_lines.specs.Groups.{heading, places_in}
@@ -25,6 +27,15 @@ abbrev pub near_lines : List File → List ℕ → List ℕ → List Rule → Li
 near_lines files base name rules places request nearest =
     if nearest then group_lines files base name rules places (codes "nearest rules") (near request rules) else []
 
+-- the places of the rules that decide where a program runs, where its start is asked for; of any other request there are none
+abbrev pub deciding : Request → List Rule → List ℕ
+deciding (ForFile letters owned path) rules = if has letters EXEC then leading_places owned path rules else []
+deciding _ rules = []
+
+-- the lines of the rules that decide where a program runs
+abbrev pub deciding_lines : List File → List ℕ → List ℕ → List Rule → List (Option Place) → Request → List ℕ
+deciding_lines files base name rules places request = group_lines files base name rules places (codes "decided by") (deciding request rules)
+
 -- the lines of these rules by what they do: those that deny, that allow, and that audit
 abbrev pub told_lines : List File → List ℕ → List ℕ → List Rule → List (Option Place) → List ToldRule → List ℕ
 told_lines files base name rules places told =
@@ -32,10 +43,11 @@ told_lines files base name rules places told =
     ++ lines_of files base name rules places told Allowing
     ++ lines_of files base name rules places told Auditing
 
--- the lines of the rules behind the answer to a request: those that apply, and the nearest ones
+-- the lines of the rules behind the answer to a request: those that apply, those that decide where a program runs, and the nearest ones
 abbrev pub why_lines : List File → List ℕ → List ℕ → Bool → List Rule → List (Option Place) → Request → Bool → List ℕ
 why_lines files base name flag rules places request nearest =
-    told_lines files base name rules places (told flag request rules) ++ near_lines files base name rules places request nearest
+    told_lines files base name rules places (told flag request rules)
+    ++ deciding_lines files base name rules places request ++ near_lines files base name rules places request nearest
 
 -- the rules of the profile at an index, or of its child or hat; one that isn't there has none
 abbrev pub rules_in : List Profile → ℕ → Option ℕ → List Rule

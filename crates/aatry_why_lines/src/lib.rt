@@ -6,4 +6,5 @@ mod groups;
 mod lines;
 mod why;
 
+pub use lines::push_where;
 pub use why::{push_why, push_why_of};

@@ -19,8 +19,13 @@ fn path_below(alloc: Global, base: &[u8], name: &[u8]) -> Result<Vec<u8>, AllocE
     Ok(path)
 }
 
-// Puts where a rule stands behind a text.
-fn push_where(
+/// Puts where a rule stands behind a text: `base` with the name of the file, the line and the column where it is written. One without a place
+/// stands in the profile's file, that of the name.
+///
+/// # Errors
+///
+/// Where memory runs out. A beginning may have been put then.
+pub fn push_where(
     alloc: Global,
     files: &Files,
     base: &[u8],

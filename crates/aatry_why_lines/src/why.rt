@@ -6,17 +6,20 @@ ghost use Rattle.aa_profile_access.specs.SeenRequests.{request_of};
 ghost use Rattle.aa_profile_errors.specs.ProfileError.{plain};
 ghost use Rattle.aa_profile_errors.specs.declared.profile_error.ProfileRefusal.TheVariants.{Memory};
 ghost use Rattle.aatry_why_lines.specs.Askers.{HasNoAsker, IsAsker};
-ghost use Rattle.aatry_why_lines.specs.Why.{TellWhy, audits_in, lines_of, near_lines, rules_in, stands_in, told_lines, why_lines};
+ghost use Rattle.aatry_why_lines.specs.Why.{TellWhy, audits_in, deciding, deciding_lines, lines_of};
+ghost use Rattle.aatry_why_lines.specs.Why.{near_lines, rules_in, stands_in, told_lines, why_lines};
 ghost use Rattle.aatry_why.specs.Told.{told};
 
 use crate::asker::asker_in;
 use crate::groups::{Group, heading, places_in};
 use crate::lines::push_group;
 use aa_profile::{Profile, ProfileError, Rule, read_file};
-use aa_profile_access::Request;
+use aa_profile_access::{Perms, Request};
 use aa_profile_places::{Place, ProfilePlaces, rule_places};
 use aa_text_files::Files;
+use aatry_exec::leading_rules;
 use aatry_why::{ToldRule, near_rules, told_rules};
+use bitflags::Flags;
 use std::alloc::{AllocError, Global};
 
 // Puts the lines of the rules of a group behind a text.
@@ -42,6 +45,50 @@ fn push_told_group(
         rules,
         places,
         heading(group),
+        &indexes,
+        out,
+    )
+}
+
+// The places of the rules that decide where a program runs, where its start is asked for.
+fn deciding(alloc: Global, request: &Request<'_>, rules: &[Rule]) -> Result<Vec<usize>, AllocError>
+    ensures { IfOk result (λ places. places.items ≡ deciding (request_of request.entry.now) rules.now) }
+{
+    match request {
+        Request::File { needs, owned, path } => {
+            if needs.contains(Perms::EXEC) {
+                leading_rules(alloc, *owned, path, rules)
+            } else {
+                Ok(Vec::new(alloc))
+            }
+        }
+        _ => Ok(Vec::new(alloc)),
+    }
+}
+
+// Puts the lines of the rules that decide where a program runs behind a text.
+fn push_deciding(
+    alloc: Global,
+    files: &Files,
+    base: &[u8],
+    name: &[u8],
+    rules: &[Rule],
+    places: &[Option<Place>],
+    request: &Request<'_>,
+    out: &mut Vec<u8>,
+) -> Result<(), AllocError>
+    ensures { OnOk result (out.new.items
+        ≡ out.old.items ++ deciding_lines files.now base.now name.now rules.now places.now (request_of request.entry.now)) }
+{
+    let indexes = deciding(alloc, request, rules)?;
+    push_group(
+        alloc,
+        files,
+        base,
+        name,
+        rules,
+        places,
+        "decided by",
         &indexes,
         out,
     )
@@ -163,6 +210,7 @@ fn push_rules(
         ≡ out.old.items ++ why_lines files.now base.now name.now audit rules.now places.now (request_of request.entry.now) nearest) }
 {
     push_applying(alloc, files, base, name, audit, rules, places, request, out)?;
+    push_deciding(alloc, files, base, name, rules, places, request, out)?;
     push_near(
         alloc, files, base, name, rules, places, request, nearest, out,
     )
@@ -244,10 +292,10 @@ fn push_read(
 }
 
 /// Puts the rules behind the answer to a request behind a text, as the profile at an index among those of a file decides, or its child or hat at a
-/// place: those that deny, that allow and that audit what is asked for, each group below its words, and, where `nearest` says so, those that are
-/// near. A rule that is in two groups is told in both. Each has a line of its own: `base` with the file's name, the line and the column where it
-/// is written, and the rule as `show` tells it. Rules on capabilities and sockets have no line and column. A profile, child or hat that isn't
-/// there has no rules.
+/// place: those that deny, that allow and that audit what is asked for, those that decide where a program runs, where its start is asked for, each
+/// group below its words, and, where `nearest` says so, those that are near. A rule that is in two groups is told in both. Each has a line of its
+/// own: `base` with the file's name, the line and the column where it is written, and the rule as `show` tells it. Rules on capabilities and
+/// sockets have no line and column. A profile, child or hat that isn't there has no rules.
 ///
 /// # Errors
 ///

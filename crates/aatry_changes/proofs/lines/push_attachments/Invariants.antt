@@ -1,0 +1,10 @@
+use Rattle.std.proofs.Common.{◌≡◌, ◌++◌, length}
+use Rattle.aatry_changes.specs.Lines.{attachment_lines}
+use Rattle.aatry_changes.proofs.lines.push_attachments.Given as goal
+
+-- the lines so far, with those of what is left, are all
+abbrev pub invariant-loop-rest : goal.invariant-loop-rest
+invariant-loop-rest l = l.lines.items ++ attachment_lines l.rest ≡ l.initial.lines.items ++ attachment_lines l.patterns
+
+abbrev pub decreases-loop-rest : goal.decreases-loop-rest
+decreases-loop-rest l = length l.rest

@@ -1,0 +1,74 @@
+//! The rules behind a question that two folders answer otherwise.
+
+ghost use Rattle.std.specs.Prelude.{◌≡◌, ◌++◌, IfOk, OnOk, option_map};
+ghost use Rattle.aa_profile_access.specs.SeenRequests.{request_of};
+ghost use Rattle.aatry_changes.specs.Causes.{cause_lines, causes_of, covering_of};
+ghost use Rattle.aatry_changes.specs.Folders.{seen_folder};
+ghost use Rattle.aatry_profiles.specs.SeenProfiles.{seen_part};
+
+use crate::differing::push_differing;
+use crate::folders::FolderParts;
+use crate::lines::{Line, covering_lines};
+use aa_profile_access::Request;
+use aatry_profiles::{Part, part_of};
+use std::alloc::{AllocError, Global};
+
+// The lines of the rules of a part that cover something of what is asked for; none where there is no part.
+fn covering_of(
+    alloc: Global,
+    part: Option<&Part<'_>>,
+    request: &Request<'_>,
+) -> Result<Vec<Line>, AllocError>
+    ensures { IfOk result (λ lines. lines.items
+        ≡ covering_of (request_of request.entry.now) (option_map (λ part. seen_part part.now) part.entry)) }
+{
+    match part {
+        None => Ok(Vec::new(alloc)),
+        Some(part) => covering_lines(alloc, request, part.rules, part.places),
+    }
+}
+
+// Puts those of a part's lines behind a text that others lack; none where there is no part.
+fn push_causes_of(
+    alloc: Global,
+    folder: &FolderParts<'_>,
+    part: Option<&Part<'_>>,
+    sign: &str,
+    others: &[Line],
+    lines: &[Line],
+    out: &mut Vec<u8>,
+) -> Result<(), AllocError>
+    ensures { OnOk result (out.new.items ≡ out.old.items
+        ++ causes_of (seen_folder folder.now) (option_map (λ part. seen_part part.now) part.entry) sign.now others.now lines.now) }
+{
+    match part {
+        None => Ok(()),
+        Some(part) => push_differing(alloc, folder, part.file, sign, others, lines, out),
+    }
+}
+
+/// Puts the rules behind a text that make a difference between two folders to what is asked, of who has a full name: those of the old part that cover
+/// something of what is asked for and that the new one lacks, behind `  - `, and those of the new one that the old one lacks, behind `  + `, each
+/// with the place where it is written. Where a folder has nobody of the name, it has no such rule.
+///
+/// # Errors
+///
+/// Where memory runs out. A beginning may have been put then.
+pub fn push_causes(
+    alloc: Global,
+    old: &FolderParts<'_>,
+    new: &FolderParts<'_>,
+    who: &[u8],
+    request: &Request<'_>,
+    out: &mut Vec<u8>,
+) -> Result<(), AllocError>
+    ensures { OnOk result (out.new.items
+        ≡ out.old.items ++ cause_lines (seen_folder old.now) (seen_folder new.now) who.now (request_of request.entry.now)) }
+{
+    let part = part_of(old.parts, who);
+    let other = part_of(new.parts, who);
+    let before = covering_of(alloc, part, request)?;
+    let after = covering_of(alloc, other, request)?;
+    push_causes_of(alloc, old, part, "  - ", &after, &before, out)?;
+    push_causes_of(alloc, new, other, "  + ", &before, &after, out)
+}

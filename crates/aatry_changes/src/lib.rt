@@ -1,0 +1,14 @@
+//! What a change of policy changes: profiles, children and hats that are new, gone or changed, and the rules that make a difference.
+#![tactic(auto)]
+
+mod causes;
+mod changes;
+mod differing;
+mod folders;
+mod laws;
+mod lines;
+
+pub use causes::push_causes;
+pub use changes::push_changes;
+pub use folders::FolderParts;
+pub use laws::when_nothing_is_told;

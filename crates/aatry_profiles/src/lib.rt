@@ -1,0 +1,8 @@
+//! The profiles of the files of a folder, with the places of their rules, and the parts that they have.
+#![tactic(auto)]
+
+mod parts;
+mod reading;
+
+pub use parts::{Part, part_of, parts_of};
+pub use reading::{FileProfiles, read_profiles};
