@@ -14,4 +14,5 @@ pub use aa_set_commands::{Question, Refusal, RefusalKind};
 pub use aa_set_lines::{Failed, FromRead, Sink, Source, ToWrite, comes_to_end};
 pub use laws::{pieces_change_no_reply, the_way_back, what_faults_leave, where_marks_lead};
 pub use manager::Manager;
+pub use reply::{Reply, reply_to};
 pub use session::{RunFault, Summary, run, run_with};

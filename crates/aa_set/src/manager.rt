@@ -1,6 +1,6 @@
 //! The manager: a policy set with its history.
 
-ghost use Rattle.std.specs.Prelude.{◌≡◌, Ok, Err, IfOk, IfErr, OnOk, OnErr, false, true, sum};
+ghost use Rattle.std.specs.Prelude.{◌≡◌, Ok, Err, IfOk, IfErr, OnOk, OnErr, false, length, true, sum};
 ghost use Rattle.aa_set_answers.specs.Answers.{asks_absent, reply_lines, shown, shows_absent};
 ghost use Rattle.aa_set_changes.specs.Changes.{is_disabled, is_loaded};
 ghost use Rattle.aa_set_commands.specs.Command.{Add, Remove, Replace};
@@ -76,6 +76,13 @@ impl Manager {
         ensures { result ≡ self.now.machine.now }
     {
         PolicySet::of(self.journal.state())
+    }
+
+    /// How many changes can be undone. It takes no memory.
+    pub fn depth(&self) -> usize
+        ensures { result ≡ length self.now.machine.earlier }
+    {
+        self.journal.depth()
     }
 
     /// How many parts all changes have together, of those that can be undone and of those that can be redone: one for a

@@ -5,3 +5,4 @@ mod checked;
 mod refusal;
 
 pub use checked::{Checked, check};
+pub use refusal::push_placed;

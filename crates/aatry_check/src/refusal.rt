@@ -41,8 +41,12 @@ fn push_included(
     Ok(())
 }
 
-// Puts what is told of a fault at a place behind a text.
-fn push_placed(
+/// Puts what is told of a fault at a place behind a text, in these words. `base` is the folder that `files` were taken from, without a `/` at its end.
+///
+/// # Errors
+///
+/// Where memory runs out. A beginning may have been put then.
+pub fn push_placed(
     alloc: Global,
     files: &Files,
     base: &[u8],

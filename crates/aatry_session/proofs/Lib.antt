@@ -1,0 +1,4 @@
+pub mod LawLemmas
+pub mod ObeyLemmas
+pub mod StepLemmas
+pub mod TurnLemmas

@@ -1,0 +1,62 @@
+-- The history of a session: the texts of its changes, those that are done, oldest first, and then those that are undone, the next to redo first.
+use Rattle.std.specs.Prelude.{ℕ, ◌+◌, List, [], ◌∷◌, ◌++◌, Option, None, Some, Result, Ok}
+use Rattle.std.specs.Prelude.{codes, drop, flat_map, if◌then◌else◌, nat_lt, reverse, take}
+use Rattle.std.specs.Fmt.{decimal}
+use Rattle.aa_bytes.specs.Bytes.{line_feed}
+use Rattle.aa_set.specs.declared.reply.Reply.{Reply}
+use Rattle.aa_set.specs.declared.reply.Reply.TheVariants.{Done}
+use Rattle.aa_set_commands.specs.Command.{Command, Make, PolicyChange, Add, Replace, Remove, Enforce, Complain, Disable}
+use Rattle.aa_set_commands.specs.declared.refusal.Refusal.{Refusal}
+use Rattle.aatry_report.specs.Shown.{shown}
+
+-- the change that a command makes, if it is one that changes the policy set
+abbrev pub change_in : Result (Option Command) Refusal → Option PolicyChange
+change_in (Ok (Some (Make change))) = Some change
+change_in _ = None
+
+-- the text of a change: the words of its command
+abbrev pub change_text : PolicyChange → List ℕ
+change_text (Add file) = codes "add " ++ shown file
+change_text (Replace file) = codes "replace " ++ shown file
+change_text (Remove file) = codes "remove " ++ shown file
+change_text (Enforce name) = codes "enforce " ++ shown name
+change_text (Complain name) = codes "complain " ++ shown name
+change_text (Disable name) = codes "disable " ++ shown name
+
+-- The texts after a change, where so many changes were done before it: if it was accepted its text stands behind theirs, and those that could be redone
+-- are dropped.
+abbrev pub texts_after : ℕ → List ℕ → Reply → List (List ℕ) → List (List ℕ)
+texts_after done text Done texts = take done texts ++ text ∷ []
+texts_after done text _ texts = texts
+
+-- what stands between the number of a change and its text, where so many stand before it and so many are done
+abbrev pub mark_of : ℕ → ℕ → List ℕ
+mark_of before done = if nat_lt before done then codes " " else codes " undone: "
+
+-- a line of the history
+abbrev pub history_line : ℕ → List ℕ → List ℕ → List ℕ
+history_line number mark text = decimal number ++ mark ++ text ++ line_feed ∷ []
+
+-- the lines of these changes, where so many stand before them and so many are done: each with its number, from 1
+abbrev pub history_lines : ℕ → ℕ → List (List ℕ) → List ℕ
+history_lines before done [] = []
+history_lines before done (text ∷ texts) = history_line (before + 1) (mark_of before done) text ++ history_lines (before + 1) done texts
+
+-- a line that tells a change
+abbrev pub move_line : List ℕ → List ℕ → List ℕ
+move_line words text = words ++ text ++ line_feed ∷ []
+
+abbrev pub ok_line : List ℕ
+ok_line = codes "ok" ++ line_feed ∷ []
+
+-- the texts of the changes between two numbers of changes done
+abbrev pub between : ℕ → ℕ → List (List ℕ) → List (List ℕ)
+between low high texts = drop low (take high texts)
+
+-- What is told of an accepted command, from how many changes done it led to how many: the changes that it undid, the last one first, or those that it
+-- redid, the first one first, or `ok`.
+abbrev pub moves_text : ℕ → ℕ → List (List ℕ) → List ℕ
+moves_text from to texts =
+    if nat_lt to from
+    then flat_map (move_line (codes "undone: ")) (reverse (between to from texts))
+    else if nat_lt from to then flat_map (move_line (codes "redone: ")) (between from to texts) else ok_line

@@ -1,0 +1,34 @@
+-- What is told of a line that is refused.
+use Rattle.std.specs.Prelude.{ℕ, List, [], codes, Option, None, Some}
+use Rattle.aa_set_commands.specs.Refusal.{number_of}
+use Rattle.aa_set_commands.specs.declared.refusal.Refusal.{Refusal}
+use Rattle.aa_set_commands.specs.declared.refusal.RefusalKind.{RefusalKind}
+use Rattle.aa_set_commands.specs.declared.refusal.RefusalKind.TheVariants.{File, Exists, Absent, Disabled, NothingToUndo, NothingToRedo, BadCommand, LineTooLong, BadRequest, NoMark, Memory}
+use Rattle.aa_text_files.specs.Files.{File as NamedFile, bytes_at, name_at}
+use Rattle.aa_text_files.specs.declared.text_error.Place.{Place}
+use Rattle.aatry_check.specs.Checks.{path_below}
+use Rattle.aatry_report.specs.Faults.{fault_lines}
+
+-- what is wrong, in words: that of a file in these
+abbrev pub words_for : RefusalKind → List ℕ → List ℕ
+words_for (File refusal) words = words
+words_for Exists words = codes "a profile of one of the file's names is there"
+words_for Absent words = codes "no profile, child or hat of this name is there"
+words_for Disabled words = codes "the profile is disabled"
+words_for NothingToUndo words = codes "fewer changes can be undone"
+words_for NothingToRedo words = codes "fewer changes can be redone"
+words_for BadCommand words = codes "this is no command: `help` tells which there are"
+words_for LineTooLong words = codes "the line has more than 65,536 bytes"
+words_for BadRequest words = codes "no question can have these words, or no mark this name"
+words_for NoMark words = codes "no mark has this name"
+words_for Memory words = codes "memory ran out"
+
+-- what is told of a refusal of this number, in these words: at its place in a file, if it has one
+abbrev pub refusal_in_words : List ℕ → List NamedFile → List ℕ → ℕ → Option Place → List ℕ
+refusal_in_words words files base number None = fault_lines words (codes "refused") number None []
+refusal_in_words words files base number (Some place) =
+    fault_lines words (path_below base (name_at files place.file)) number (Some place.at) (bytes_at files place.file)
+
+-- what is told of a refusal, that of a file in these words
+abbrev pub refusal_told : List NamedFile → List ℕ → List ℕ → Refusal → List ℕ
+refusal_told files base words refusal = refusal_in_words (words_for refusal.refusal words) files base (number_of refusal.refusal) refusal.place

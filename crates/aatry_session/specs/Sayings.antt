@@ -1,0 +1,68 @@
+-- What the lines of a session say: some are for the session itself, all others for the machine over commands (docs/commands.md).
+use Rattle.std.specs.Prelude.{ℕ, ◌&&◌, nat_le, if◌then◌else◌, List, [], ◌∷◌, length, Option, None, Some, Result, Ok, Err, codes}
+use Rattle.std.specs.Str.{bytes_eq}
+use Rattle.aa_set_commands.specs.Question.{IsWellFormed, Question, question_of, seen_question}
+use Rattle.aa_set_commands.specs.declared.refusal.Refusal.{Refusal}
+use Rattle.aa_set_lines.specs.Limits.{longest_line}
+use Rattle.aa_set_lines.specs.Words.{words_of}
+use Rattle.aatry_session.specs.declared.sayings.Saying.{Saying as CodeSaying}
+use Rattle.aatry_session.specs.declared.sayings.Saying.TheVariants as said
+
+-- what a line says: something to the machine, or to tell the commands or the history, to end the session, to read the files anew, to tell the rules behind
+-- the answer to a question, or the same with words that are none
+pub data Saying : Type 0 where
+  Command : Saying
+  Help : Saying
+  History : Saying
+  Quit : Saying
+  Reload : Saying
+  Why : (question : Question) → Saying
+  NoQuestion : (refusal : Refusal) → Saying
+
+-- what a line says, in the code
+abbrev pub seen_saying : CodeSaying → Saying
+seen_saying said.Command = Command
+seen_saying said.Help = Help
+seen_saying said.History = History
+seen_saying said.Quit = Quit
+seen_saying said.Reload = Reload
+seen_saying (said.Why question) = Why (seen_question question)
+seen_saying (said.NoQuestion refusal) = NoQuestion refusal
+
+-- what is asked is well-formed
+abbrev pub IsAskable : CodeSaying → Type 0
+IsAskable (said.Why question) = IsWellFormed question
+IsAskable _ = Unit {0}
+
+-- the most words of a question
+abbrev pub most_asked : ℕ
+most_asked = 5
+
+abbrev pub word_saying : List ℕ → Saying
+word_saying word =
+    if bytes_eq word (codes "help") then Help else
+    if bytes_eq word (codes "history") then History else
+    if bytes_eq word (codes "quit") then Quit else
+    if bytes_eq word (codes "reload") then Reload else Command
+
+abbrev pub why_saying : Result Question Refusal → Saying
+why_saying (Ok question) = Why question
+why_saying (Err refusal) = NoQuestion refusal
+
+-- what a first word and others behind it say: more than a question has are for the machine, which refuses them
+abbrev pub words_saying : List ℕ → List (List ℕ) → Saying
+words_saying first rest =
+    if bytes_eq first (codes "why") && nat_le (length rest) most_asked then why_saying (question_of rest) else Command
+
+abbrev pub saying_of : List (List ℕ) → Saying
+saying_of [] = Command
+saying_of (word ∷ []) = word_saying word
+saying_of (first ∷ second ∷ rest) = words_saying first (second ∷ rest)
+
+abbrev pub line_saying : Option (List (List ℕ)) → Saying
+line_saying None = Command
+line_saying (Some words) = saying_of words
+
+-- what a line says: one that is too long nothing to the session
+abbrev pub saying_in : List ℕ → Saying
+saying_in line = if nat_le (length line) longest_line then line_saying (words_of line) else Command

@@ -1,0 +1,2 @@
+-- What is about the code: the turns that it gives.
+pub mod Seen

@@ -1,0 +1,26 @@
+//! The commands of a session, told.
+
+ghost use Rattle.std.specs.Prelude.{◌≡◌, ◌++◌, OnOk};
+ghost use Rattle.aatry_session.specs.Help.{help_text};
+
+use std::alloc::AllocError;
+
+const HELP: &str = "\
+add FILE, replace FILE, remove FILE: load the profiles of a file, or take them out
+enforce NAME, complain NAME, disable NAME: set the mode of a profile
+undo [N], redo [N]: go changes back or forward
+mark NAME, back NAME: mark the policy set, and go to it
+ask, why: file NAME ACCESS OWNED PATH, exec NAME OWNED PATH, cap NAME CAPABILITY, or net NAME DOMAIN TYPE
+list, show NAME: tell what is loaded
+history: tell the changes
+reload: read the files anew
+help, quit
+";
+
+/// Puts the commands of a session behind a text.
+pub fn push_help(out: &mut Vec<u8>) -> Result<(), AllocError>
+    ensures { OnOk result (out.new.items ≡ out.old.items ++ help_text) }
+{
+    out.extend_from_slice(HELP.as_bytes())?;
+    Ok(())
+}

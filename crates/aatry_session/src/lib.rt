@@ -1,0 +1,14 @@
+//! A session of people at a terminal: the machine over commands, told in words, with the history of its changes.
+#![tactic(auto)]
+
+mod help;
+mod history;
+mod laws;
+mod moves;
+mod obeying;
+mod refusals;
+mod sayings;
+mod session;
+
+pub use laws::the_history_is_in_step;
+pub use session::{Session, Turn};

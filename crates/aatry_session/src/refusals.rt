@@ -1,0 +1,82 @@
+//! What is told of a line that is refused.
+
+ghost use Rattle.std.specs.Prelude.{◌≡◌, ◌++◌, ℕ, List, [], OnOk};
+ghost use Rattle.aa_set_commands.specs.Refusal.{number_of};
+ghost use Rattle.aatry_session.specs.Refusals.{refusal_in_words, refusal_told, words_for};
+
+use aa_set_commands::{Refusal, RefusalKind};
+use aa_text_files::{Files, Place};
+use aatry_check::push_placed;
+use aatry_report::{push_fault, words_of};
+use std::alloc::{AllocError, Global};
+
+// What is wrong, in words; none where it is a file, which has words of its own.
+fn own_words(kind: RefusalKind) -> &'static str
+    ensures { result.now ≡ words_for kind [] }
+{
+    match kind {
+        RefusalKind::File(_) => "",
+        RefusalKind::Exists => "a profile of one of the file's names is there",
+        RefusalKind::Absent => "no profile, child or hat of this name is there",
+        RefusalKind::Disabled => "the profile is disabled",
+        RefusalKind::NothingToUndo => "fewer changes can be undone",
+        RefusalKind::NothingToRedo => "fewer changes can be redone",
+        RefusalKind::BadCommand => "this is no command: `help` tells which there are",
+        RefusalKind::LineTooLong => "the line has more than 65,536 bytes",
+        RefusalKind::BadRequest => "no question can have these words, or no mark this name",
+        RefusalKind::NoMark => "no mark has this name",
+        RefusalKind::Memory => "memory ran out",
+    }
+}
+
+// Puts what is told of a refusal behind a text, in these words.
+fn push_in_words(
+    alloc: Global,
+    files: &Files,
+    base: &[u8],
+    words: &str,
+    number: u8,
+    place: Option<Place>,
+    out: &mut Vec<u8>,
+) -> Result<(), AllocError>
+    ensures { OnOk result (out.new.items ≡ out.old.items ++ refusal_in_words words.now files.now base.now number place) }
+{
+    match place {
+        None => push_fault(out, b"refused", words, number),
+        Some(place) => push_placed(alloc, files, base, words, number, place, out),
+    }
+}
+
+/// Puts what is told of a refusal behind a text: where it has a place in a file, as a check of that file tells it.
+pub fn push_refusal(
+    alloc: Global,
+    files: &Files,
+    base: &[u8],
+    refusal: Refusal,
+    out: &mut Vec<u8>,
+) -> Result<(), AllocError>
+    ensures { OnOk result ((words : List ℕ) × (out.new.items ≡ out.old.items ++ refusal_told files.now base.now words refusal)) }
+{
+    let number = refusal.number();
+    let RefusalKind::File(fault) = refusal.refusal else {
+        return push_in_words(
+            alloc,
+            files,
+            base,
+            own_words(refusal.refusal),
+            number,
+            refusal.place,
+            out,
+        );
+    };
+    let words = words_of(alloc, fault)?;
+    push_in_words(
+        alloc,
+        files,
+        base,
+        words.as_str(),
+        number,
+        refusal.place,
+        out,
+    )
+}

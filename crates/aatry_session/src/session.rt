@@ -1,0 +1,133 @@
+//! A session: a manager, and the texts of its changes.
+
+ghost use Rattle.std.specs.Prelude.{◌≡◌, Bool, ℕ, List, IfOk};
+ghost use Rattle.aatry_session.specs.Help.{help_text};
+ghost use Rattle.aatry_session.specs.History.{history_lines};
+ghost use Rattle.aatry_session.specs.Turns.{Told, begun, depth, turn_outcome};
+ghost use Rattle.aatry_session.specs.code.Seen.{IsAskable, seen_turn};
+
+use crate::help::push_help;
+use crate::history::push_history;
+use crate::obeying::obey;
+use crate::refusals::push_refusal;
+use crate::sayings::{Saying, saying_in};
+use aa_bytes::Sequence;
+use aa_set::{Manager, Question};
+use aa_text_files::Files;
+use std::alloc::{AllocError, Global};
+use std::marker::Model;
+
+/// What a line of a session is answered.
+#[derive(Debug, Drop)]
+pub enum Turn<'a> {
+    /// This is told of it: lines, each with its line feed, or nothing for a blank one.
+    Told(Sequence<u8>),
+    /// The session ends.
+    Quit,
+    /// The files are to be read anew. The policy set and its history stay, until a change loads a file.
+    Reload,
+    /// The rules behind the answer to this question are to be told.
+    Why(Question<'a>),
+}
+
+/// A policy set with its history, and the texts of the changes that made it.
+///
+/// Contracts see the manager and these texts: those of the changes that are done, oldest first, and then those of the changes that are undone, the
+/// next to redo first.
+#[derive(Drop)]
+pub struct Session {
+    manager: Manager,
+    texts: Vec<Sequence<u8>>,
+}
+
+impl Model for Session {
+    ghost use Rattle.aatry_session.specs.Turns.{Kept};
+
+    ghost Value = { Kept };
+
+    ghost view = { λ s. record { managed = s.manager; texts = s.texts.items } };
+}
+
+impl Session {
+    /// A session of the empty policy set, which no change has made yet. With `force_complain` each profile is loaded in complain mode. It takes no memory.
+    pub fn new(alloc: Global, force_complain: bool) -> Session
+        ensures { result ≡ begun force_complain }
+    {
+        Session {
+            manager: Manager::new(alloc, force_complain),
+            texts: Vec::new(alloc),
+        }
+    }
+
+    /// The manager of the policy set.
+    pub fn manager(&self) -> &Manager
+        ensures { result.now ≡ self.now.managed }
+    {
+        &self.manager
+    }
+
+    /// Answers a line, which has no line feed at its end: a command of the machine (`docs/commands.md`) is obeyed as the machine obeys it, and told in
+    /// words; the session's own commands are `help`, `history`, `quit`, `reload` and `why`. `files` are those that changes load, taken from the folder
+    /// `base`, which has no `/` at its end.
+    ///
+    /// # Errors
+    ///
+    /// Where memory runs out for what is told, or for the text of a change. In the second case the change isn't made.
+    pub fn answer<'a>(
+        &mut self,
+        alloc: Global,
+        files: &Files,
+        base: &str,
+        line: &'a [u8],
+    ) -> Result<Turn<'a>, AllocError>
+        ensures told { IfOk result (λ turn. (flag : Bool) × (words : List ℕ)
+            × (record { answer = seen_turn turn; kept = self.new } ≡ turn_outcome files.now base.now words self.old line.now flag)) }
+        ensures askable { IfOk result IsAskable }
+    {
+        match saying_in(line) {
+            Saying::Command => {
+                let mut out = Vec::new(alloc);
+                obey(
+                    alloc,
+                    files,
+                    base.as_bytes(),
+                    &mut self.manager,
+                    &mut self.texts,
+                    line,
+                    &mut out,
+                )?;
+                Ok(Turn::Told(Sequence::from_vec(out)))
+            }
+            Saying::Help => help(alloc),
+            Saying::History => self.history(alloc),
+            Saying::Quit => Ok(Turn::Quit),
+            Saying::Reload => Ok(Turn::Reload),
+            Saying::Why(question) => Ok(Turn::Why(question)),
+            Saying::NoQuestion(refusal) => {
+                let mut out = Vec::new(alloc);
+                push_refusal(alloc, files, base.as_bytes(), refusal, &mut out)?;
+                Ok(Turn::Told(Sequence::from_vec(out)))
+            }
+        }
+    }
+
+    // The history, told.
+    fn history<'a>(&self, alloc: Global) -> Result<Turn<'a>, AllocError>
+        ensures told { IfOk result (λ turn. seen_turn turn ≡ Told (history_lines 0 (depth self.now.managed) self.now.texts)) }
+        ensures askable { IfOk result IsAskable }
+    {
+        let mut out = Vec::new(alloc);
+        push_history(&mut out, self.manager.depth(), &self.texts)?;
+        Ok(Turn::Told(Sequence::from_vec(out)))
+    }
+}
+
+// The commands, told.
+fn help<'a>(alloc: Global) -> Result<Turn<'a>, AllocError>
+    ensures told { IfOk result (λ turn. seen_turn turn ≡ Told help_text) }
+    ensures askable { IfOk result IsAskable }
+{
+    let mut out = Vec::new(alloc);
+    push_help(&mut out)?;
+    Ok(Turn::Told(Sequence::from_vec(out)))
+}
