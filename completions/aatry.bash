@@ -12,11 +12,11 @@ _aatry() {
     COMPREPLY=()
     if [ "$word" = = ]; then word=; fi
     if [ "$COMP_CWORD" -eq 1 ]; then
-        mapfile -t COMPREPLY < <(compgen -W 'check test who why diff -h --help -V --version' -- "$word")
+        mapfile -t COMPREPLY < <(compgen -W 'check why who diff session test -h --help -V --version' -- "$word")
         return
     fi
     case ${COMP_WORDS[1]} in
-    check | test | who | why) ;;
+    check | why | who | session | test) ;;
     diff)
         # A folder, or the file of an option.
         case ${COMP_WORDS[COMP_CWORD - 1]} in
@@ -64,6 +64,9 @@ _aatry() {
         else
             mapfile -t COMPREPLY < <(compgen -W 'owner other' -- "$word")
         fi
+    elif [ "${COMP_WORDS[1]}" = session ]; then
+        # No word but options.
+        COMPREPLY=()
     elif [ "${COMP_WORDS[1]}" = test ]; then
         # A transcript, by its own path.
         mapfile -t COMPREPLY < <(compgen -f -- "$word")

@@ -1,9 +1,10 @@
 //! Helps with AppArmor policy at a terminal: the real words, folders, files and streams, handed to `start`.
 #![tactic(auto)]
 
-use aa_set_lines::ToWrite;
+use aa_set_lines::{FromRead, ToWrite};
 use aaset_gather::RuntimeFiles;
 use aatry_folder::RuntimeFolders;
+use std::io::IsTerminal;
 use std::process::ExitCode;
 use std::rt::Env;
 use std::{env, io};
@@ -16,13 +17,22 @@ fn words_of_start<R: Env + AllocGlobal>(rt: &R) -> Vec<String> {
     }
 }
 
+// What a session writes before it reads a line; nothing where no terminal is there to see it.
+fn prompt(is_terminal: bool) -> &'static [u8] {
+    if is_terminal { b"aatry> " } else { b"" }
+}
+
 fn main(rt: HostRuntime) -> ExitCode {
     let words = words_of_start(&rt);
+    let reader = rt.reader();
+    let prompt = prompt(reader.is_terminal());
     let status = aatry_program::start(
         rt.alloc(),
         &words,
         &RuntimeFolders::new(&rt),
         &RuntimeFiles::new(&rt),
+        prompt,
+        &mut FromRead::new(reader),
         &mut ToWrite::new(io::writer(&rt)),
         &mut ToWrite::new(rt.stderr()),
     );

@@ -1,5 +1,5 @@
 -- What holds of comparisons.
-use Rattle.std.proofs.Common.{◌≡◌, ◌∙◌, ◌++◌, ℕ, Bool, true, false, List, [], ◌∷◌, append-nil, append_assoc, refl, sym, ap, codes}
+use Rattle.std.proofs.Common.{◌≡◌, ◌∙◌, ◌++◌, ℕ, Bool, true, false, List, [], ◌∷◌, None, Some, append-nil, append_assoc, refl, sym, ap, codes}
 use Rattle.std.specs.List.{list_all}
 use Rattle.std.specs.Str.{bytes_eq, chars}
 use Rattle.std.proofs.lemmas.Slice.Eq.{bytes_eq-Decides}
@@ -63,14 +63,18 @@ behind_folders words old new given o n h =
     ap (λ (a : Asked DiffGiven). asked_as ForDiff (asked_then asked_of a))
     (folder_word (new ∷ words) old bare_given o ∙ folder_word words new (with_folders (old ∷ []) bare_given) n ∙ h)
 
+pub compared_by_none : (old new : List ℕ) → is_option old ≡ false → is_option new ≡ false
+    → asked (codes "diff" ∷ old ∷ new ∷ []) ≡ ForThis (ForDiff (comparison_with old new None))
+compared_by_none old new o n = behind_folders [] old new (ForThis (with_folders (old ∷ new ∷ []) bare_given)) o n refl
+
 pub compared_by_log : (old new path : List ℕ) → is_option old ≡ false → is_option new ≡ false → is_option path ≡ false
-    → asked (codes "diff" ∷ old ∷ new ∷ codes "--log" ∷ path ∷ []) ≡ ForThis (ForDiff (comparison_with old new (LogAt path)))
+    → asked (codes "diff" ∷ old ∷ new ∷ codes "--log" ∷ path ∷ []) ≡ ForThis (ForDiff (comparison_with old new (Some (LogAt path))))
 compared_by_log old new path o n p =
     behind_folders (codes "--log" ∷ path ∷ []) old new (ForThis (with_path OfLog path (with_folders (old ∷ new ∷ []) bare_given))) o n
     (log_word [] path (with_folders (old ∷ new ∷ []) bare_given) p)
 
 pub compared_by_questions : (old new path : List ℕ) → is_option old ≡ false → is_option new ≡ false → is_option path ≡ false
-    → asked (codes "diff" ∷ old ∷ new ∷ codes "--questions" ∷ path ∷ []) ≡ ForThis (ForDiff (comparison_with old new (QuestionsAt path)))
+    → asked (codes "diff" ∷ old ∷ new ∷ codes "--questions" ∷ path ∷ []) ≡ ForThis (ForDiff (comparison_with old new (Some (QuestionsAt path))))
 compared_by_questions old new path o n p =
     behind_folders (codes "--questions" ∷ path ∷ []) old new (ForThis (with_path OfQuestions path (with_folders (old ∷ new ∷ []) bare_given))) o n
     (questions_word [] path (with_folders (old ∷ new ∷ []) bare_given) p)

@@ -5,6 +5,7 @@ use Rattle.aatry_arguments.specs.Asked.{Asked, ForHelp, ForVersion, Nothing, ask
 use Rattle.aatry_arguments.specs.AskingWords.{AskingAsked, asked_who, asked_why}
 use Rattle.aatry_arguments.specs.CheckWords.{CheckAsked, asked_check}
 use Rattle.aatry_arguments.specs.DiffWords.{ComparisonAsked, asked_diff}
+use Rattle.aatry_arguments.specs.SessionWords.{SessionAsked, asked_session}
 use Rattle.aatry_arguments.specs.TestWords.{TestAsked, asked_test}
 
 -- a command that is asked for
@@ -14,6 +15,7 @@ pub data CommandAsked : Type 0 where
   ForWho : AskingAsked → CommandAsked
   ForWhy : AskingAsked → CommandAsked
   ForDiff : ComparisonAsked → CommandAsked
+  ForSession : SessionAsked → CommandAsked
 
 -- a word that asks for help in the place of a command
 abbrev pub is_help_word : List ℕ → Bool
@@ -31,6 +33,7 @@ asked_by_first first words =
     else if bytes_eq first (codes "who") then asked_as ForWho (asked_who words)
     else if bytes_eq first (codes "why") then asked_as ForWhy (asked_why words)
     else if bytes_eq first (codes "diff") then asked_as ForDiff (asked_diff words)
+    else if bytes_eq first (codes "session") then asked_as ForSession (asked_session words)
     else if is_help_word first then ForHelp
     else if is_version_word first then ForVersion
     else Nothing

@@ -11,14 +11,14 @@ pub data SourceAsked : Type 0 where
   LogAt : List ℕ → SourceAsked
   QuestionsAt : List ℕ → SourceAsked
 
--- a comparison that is asked for: the old and the new folder of policy, and where the requests are told of
+-- a comparison that is asked for: the old and the new folder of policy, and where the requests are told of, if these are compared by any
 pub record ComparisonAsked : Type 0 where
   pub old : List ℕ
   pub new : List ℕ
-  pub source : SourceAsked
+  pub source : Option SourceAsked
 
 -- a comparison, by its three parts
-abbrev pub comparison_with : List ℕ → List ℕ → SourceAsked → ComparisonAsked
+abbrev pub comparison_with : List ℕ → List ℕ → Option SourceAsked → ComparisonAsked
 comparison_with old new source = record { old = old; new = new; source = source }
 
 -- what words give: the path of the last `--log` and of the last `--questions`, where there is one, and the folders
@@ -101,14 +101,15 @@ given_behind (Open given) (word ∷ words) =
     if bytes_eq word (codes "--") then ForThis (with_folders words given)
     else given_behind (asked_by_word word given) words
 
--- where requests are told of: exactly one of a log and a file of questions
-abbrev pub source_of : Option (List ℕ) → Option (List ℕ) → Option SourceAsked
-source_of (Some log) None = Some (LogAt log)
-source_of None (Some questions) = Some (QuestionsAt questions)
-source_of log questions = None
+-- where requests are told of, if anywhere; both a log and a file of questions can't be given
+abbrev pub source_of : Option (List ℕ) → Option (List ℕ) → Option (Option SourceAsked)
+source_of None None = Some None
+source_of (Some log) None = Some (Some (LogAt log))
+source_of None (Some questions) = Some (Some (QuestionsAt questions))
+source_of (Some log) (Some questions) = None
 
--- two folders are compared by what a source tells of
-abbrev pub compared : List (List ℕ) → Option SourceAsked → Option ComparisonAsked
+-- two folders are compared, and by what a source tells of, if there is one
+abbrev pub compared : List (List ℕ) → Option (Option SourceAsked) → Option ComparisonAsked
 compared (old ∷ new ∷ []) (Some source) = Some (comparison_with old new source)
 compared folders source = None
 

@@ -1,19 +1,21 @@
 -- What the program makes of the words of its arguments.
-use Rattle.std.specs.Prelude.{◌≡◌, Result, Ok, Err, string_bytes}
+use Rattle.std.specs.Prelude.{◌≡◌, Result, Ok, Err, option_map, string_bytes}
 use Rattle.clap.specs.declared.error.kind.ErrorKind.{ErrorKind}
 use Rattle.clap.specs.declared.error.kind.ErrorKind.TheVariants as kind
 use Rattle.aaset_arguments.specs.Texts.{texts}
 use Rattle.aatry_arguments.specs.Asked.{Asked, ForThis, ForHelp, ForVersion, Nothing}
 use Rattle.aatry_arguments.specs.AskingWords.{AskingAsked, asking_with}
 use Rattle.aatry_arguments.specs.CheckWords.{CheckAsked, check_with}
-use Rattle.aatry_arguments.specs.Arguments.{CommandAsked, ForCheck, ForDiff, ForTest, ForWho, ForWhy}
+use Rattle.aatry_arguments.specs.Arguments.{CommandAsked, ForCheck, ForDiff, ForSession, ForTest, ForWho, ForWhy}
 use Rattle.aatry_arguments.specs.DiffWords.{ComparisonAsked, LogAt, QuestionsAt, SourceAsked, comparison_with}
+use Rattle.aatry_arguments.specs.SessionWords.{SessionAsked, session_with}
 use Rattle.aatry_arguments.specs.TestWords.{TestAsked, test_with}
 use Rattle.aatry_arguments.specs.declared.arguments.Asking.{Asking}
 use Rattle.aatry_arguments.specs.declared.arguments.Check.{Check}
 use Rattle.aatry_arguments.specs.declared.arguments.Comparison.{Comparison}
 use Rattle.aatry_arguments.specs.declared.arguments.RequestSource.{RequestSource}
 use Rattle.aatry_arguments.specs.declared.arguments.RequestSource.TheVariants.{Log, Questions}
+use Rattle.aatry_arguments.specs.declared.arguments.Session.{Session}
 use Rattle.aatry_arguments.specs.declared.arguments.Test.{Test}
 use Rattle.aatry_arguments.specs.declared.arguments.Command.{Command}
 use Rattle.aatry_arguments.specs.declared.arguments.Command.TheVariants as command
@@ -39,7 +41,11 @@ meant_source (Questions path) = QuestionsAt (string_bytes path)
 
 -- the comparison that is meant
 abbrev pub meant_comparison : Comparison → ComparisonAsked
-meant_comparison comparison = comparison_with (string_bytes comparison.old) (string_bytes comparison.new) (meant_source comparison.source)
+meant_comparison comparison = comparison_with (string_bytes comparison.old) (string_bytes comparison.new) (option_map meant_source comparison.source)
+
+-- the session that is meant
+abbrev pub meant_session : Session → SessionAsked
+meant_session session = session_with (string_bytes session.base)
 
 -- the command that is meant
 abbrev pub meant_command : Command → CommandAsked
@@ -48,6 +54,7 @@ meant_command (command.Test test) = ForTest (meant_test test)
 meant_command (command.Who asking) = ForWho (meant_asking asking)
 meant_command (command.Why asking) = ForWhy (meant_asking asking)
 meant_command (command.Diff comparison) = ForDiff (meant_comparison comparison)
+meant_command (command.Session session) = ForSession (meant_session session)
 
 -- What is asked for is given, help and the version are given where they are asked for, and all else is refused. Memory may run out at any time.
 abbrev pub IsGivenFor : {A B : Type 0} → (B → A) → Asked A → Result B ArgumentFault → Type 0

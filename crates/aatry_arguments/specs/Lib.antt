@@ -6,4 +6,5 @@ pub mod CheckWords
 pub mod DiffLine
 pub mod DiffWords
 pub mod Given
+pub mod SessionWords
 pub mod TestWords

@@ -11,8 +11,10 @@ pub enum Command {
     Who(Asking),
     /// Why a question is answered as it is, is asked of a folder of policy.
     Why(Asking),
-    /// Two folders of policy are to be compared by what they answer.
+    /// Two folders of policy are to be compared.
     Diff(Comparison),
+    /// Commands are to be taken over a folder of policy, as they come.
+    Session(Session),
 }
 
 /// Which files are to be checked.
@@ -42,15 +44,15 @@ pub struct Asking {
     pub words: Vec<String>,
 }
 
-/// Which folders of policy are to be compared, and by which requests.
+/// Which folders of policy are to be compared, and by which requests beside their profiles.
 #[derive(Debug, Drop)]
 pub struct Comparison {
     /// The old folder of policy.
     pub old: String,
     /// The new folder of policy.
     pub new: String,
-    /// Where the requests are told of.
-    pub source: RequestSource,
+    /// Where the requests are told of, if they are to be compared by any.
+    pub source: Option<RequestSource>,
 }
 
 /// Where requests are told of.
@@ -60,6 +62,13 @@ pub enum RequestSource {
     Log(String),
     /// In a file of questions, by its path.
     Questions(String),
+}
+
+/// Over which folder of policy commands are to be taken.
+#[derive(Debug, Drop)]
+pub struct Session {
+    /// The folder of policy.
+    pub base: String,
 }
 
 /// Why the arguments give no command.

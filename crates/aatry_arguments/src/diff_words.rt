@@ -14,9 +14,10 @@ use std::alloc::{AllocError, Global};
 
 // What help says of `diff`.
 const HELP: &str = "\
-Tells which requests two folders of policy answer otherwise
+Tells which profiles of two folders of policy differ, and which requests they answer otherwise
 
-Usage: aatry diff OLD NEW --log FILE
+Usage: aatry diff OLD NEW
+       aatry diff OLD NEW --log FILE
        aatry diff OLD NEW --questions FILE
 
 Arguments:
@@ -28,17 +29,22 @@ Options:
   --questions <FILE>  A file of questions, each a line of the words behind ask of aaset
   -h, --help          Prints help
 
-One FILE has to be given. Where an option is given again, the last counts.
+One FILE can be given. Where an option is given again, the last counts.
 
 All files below OLD and NEW are read, as check reads them; those at their tops that are refused are
-told first, and left out. Of each question that FILE tells of and that they answer otherwise this is
-told:
+told first, and left out. Of each profile, child and hat that differs one of these is told:
+  gone: NAME     OLD has it alone
+  changed: NAME  Both have it. Below stand the lines of OLD alone, behind -, and of NEW, behind +,
+                 each with FILE:LINE:COLUMN: where it is written
+  new: NAME      NEW has it alone
+Of each question that FILE tells of and that they answer otherwise this is told, and below it the
+rules that OLD or NEW alone answers by:
   QUESTION: ANSWER OF OLD -> ANSWER OF NEW (HOW OFTEN IT CAME)
 The last line counts the lines, requests and questions of FILE, and what is answered otherwise.
 
 Exit status:
-  0  All questions are answered alike, or help was asked for
-  1  Some question is answered otherwise
+  0  Nothing differs, or help was asked for
+  1  Some profile differs, or some question is answered otherwise
   2  The arguments are bad, or FILE, OLD or NEW, or what lies below these, can't be read
   3  Writing failed, or memory ran out
 ";
@@ -54,19 +60,22 @@ fn fault(alloc: Global, error: &Error) -> ArgumentFault
     }
 }
 
-// Where requests are told of; nowhere unless exactly one of a log and a file of questions is given.
+// Where requests are told of, if anywhere; none where both a log and a file of questions are given.
 fn source_by(
     alloc: Global,
     log: Option<&str>,
     questions: Option<&str>,
-) -> Result<Option<RequestSource>, AllocError>
-    ensures { IfOk result (λ source. option_map meant_source source
+) -> Result<Option<Option<RequestSource>>, AllocError>
+    ensures { IfOk result (λ source. option_map (option_map meant_source) source
         ≡ source_of (option_map (λ path. path.now) log.entry) (option_map (λ path. path.now) questions.entry)) }
 {
     match (log, questions) {
-        (Some(path), None) => Ok(Some(RequestSource::Log(String::from_str(alloc, path)?))),
-        (None, Some(path)) => Ok(Some(RequestSource::Questions(String::from_str(alloc, path)?))),
-        _ => Ok(None),
+        (None, None) => Ok(Some(None)),
+        (Some(path), None) => Ok(Some(Some(RequestSource::Log(String::from_str(alloc, path)?)))),
+        (None, Some(path)) => Ok(Some(Some(RequestSource::Questions(String::from_str(
+            alloc, path,
+        )?)))),
+        (Some(_), Some(_)) => Ok(None),
     }
 }
 
@@ -75,9 +84,9 @@ fn compared(
     alloc: Global,
     old: &str,
     new: &str,
-    source: RequestSource,
+    source: Option<RequestSource>,
 ) -> Result<Comparison, AllocError>
-    ensures { IfOk result (λ comparison. meant_comparison comparison ≡ comparison_with old.now new.now (meant_source source)) }
+    ensures { IfOk result (λ comparison. meant_comparison comparison ≡ comparison_with old.now new.now (option_map meant_source source)) }
 {
     Ok(Comparison {
         old: String::from_str(alloc, old)?,
@@ -128,7 +137,7 @@ fn comparison_or_fault(
 ///
 /// - `Help` where the first option that is no `--log` and no `--questions` is `--help` or `-h`, with or without other letters behind `-h`.
 /// - `Bad` where it is any other, or where one of those ahead of it has no path. Where there is none, and one of those has no path, the folders
-///   aren't two, or not exactly one of a log and a file of questions is given.
+///   aren't two, or both a log and a file of questions are given.
 /// - `Memory` where memory ran out.
 pub fn diff_of(alloc: Global, words: &[String]) -> Result<Comparison, ArgumentFault>
     ensures { IsGivenFor meant_comparison (asked_diff (map string_bytes words.now)) result }

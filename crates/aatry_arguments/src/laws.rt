@@ -1,15 +1,16 @@
 //! What holds of the words behind commands, as laws over the definitions that `command_of` is proved to follow.
 
-ghost use Rattle.std.specs.Prelude.{◌≡◌, ◌≢◌, ◌++◌, ℕ, false, true, List, [], ◌∷◌, length, codes};
+ghost use Rattle.std.specs.Prelude.{◌≡◌, ◌≢◌, ◌++◌, ℕ, None, Some, false, true, List, [], ◌∷◌, length, codes};
 ghost use Rattle.std.specs.List.{list_all};
 ghost use Rattle.aaset_arguments.specs.Arguments.{is_name, is_option};
-ghost use Rattle.aatry_arguments.specs.Arguments.{ForCheck, ForDiff, ForTest, ForWho, ForWhy, asked, asked_by_first};
+ghost use Rattle.aatry_arguments.specs.Arguments.{ForCheck, ForDiff, ForSession, ForTest, ForWho, ForWhy, asked, asked_by_first};
 ghost use Rattle.aatry_arguments.specs.Asked.{ForThis, Nothing};
 ghost use Rattle.aatry_arguments.specs.AskingWords.{asking_with};
 ghost use Rattle.aatry_arguments.specs.CheckWords.{CheckAsked, Open, asked_behind, below, check_with, with_names};
 ghost use Rattle.aatry_arguments.specs.DiffWords as diff;
 ghost use Rattle.aatry_arguments.specs.DiffWords.{DiffGiven, LogAt, OfLog, OfQuestions, QuestionsAt};
 ghost use Rattle.aatry_arguments.specs.DiffWords.{comparison_with, given_behind, with_folders, with_path};
+ghost use Rattle.aatry_arguments.specs.SessionWords.{session_with};
 ghost use Rattle.aatry_arguments.specs.TestWords.{test_with};
 
 /// `check` alone asks for all files at the top of /etc/apparmor.d. Words behind it that are no options are its NAMEs, all of them and in their
@@ -66,22 +67,38 @@ pub fn what_askings_have()
         → asked_by_first (codes "why") words ≡ ForThis (ForWhy (asking_with base (word ∷ more))) }
 {}
 
-/// `diff` alone asks for nothing that there is. Two words that are no options, and a path behind `--log` or behind `--questions`, ask for the
-/// comparison of these folders by that log or file of questions, and paths behind both ask for nothing. Such an option gives its path wherever it
-/// stands, also behind a `=` in its word, and of two paths the last counts. Words that are no options are folders, all of them and in their order,
-/// and so are all words behind `--`.
+/// `session` alone asks for a session over /etc/apparmor.d. Words that would ask of `check` to check all files at the top of a folder ask of `session`
+/// for one over it, and for some files they ask for nothing.
+pub fn what_sessions_have()
+    ensures alone { asked (codes "session" ∷ []) ≡ ForThis (ForSession (session_with (codes "/etc/apparmor.d"))) }
+    ensures over { (words : List (List ℕ)) (base : List ℕ)
+        → asked_by_first (codes "check") words ≡ ForThis (ForCheck (check_with base []))
+        → asked_by_first (codes "session") words ≡ ForThis (ForSession (session_with base)) }
+    ensures some { (words : List (List ℕ)) (base name : List ℕ) (names : List (List ℕ))
+        → asked_by_first (codes "check") words ≡ ForThis (ForCheck (check_with base (name ∷ names)))
+        → asked_by_first (codes "session") words ≡ Nothing }
+{}
+
+/// `diff` alone asks for nothing that there is. Two words that are no options ask for the comparison of these folders, with a path behind `--log` or
+/// behind `--questions` by that log or file of questions too, and paths behind both ask for nothing. Such an option gives its path wherever it stands,
+/// also behind a `=` in its word, and of two paths the last counts. Words that are no options are folders, all of them and in their order, and so are
+/// all words behind `--`.
 pub fn what_comparisons_have()
     ensures alone { asked (codes "diff" ∷ []) ≡ Nothing }
+    ensures by_none { (old new : List ℕ)
+        → is_option old ≡ false
+        → is_option new ≡ false
+        → asked (codes "diff" ∷ old ∷ new ∷ []) ≡ ForThis (ForDiff (comparison_with old new None)) }
     ensures by_log { (old new path : List ℕ)
         → is_option old ≡ false
         → is_option new ≡ false
         → is_option path ≡ false
-        → asked (codes "diff" ∷ old ∷ new ∷ codes "--log" ∷ path ∷ []) ≡ ForThis (ForDiff (comparison_with old new (LogAt path))) }
+        → asked (codes "diff" ∷ old ∷ new ∷ codes "--log" ∷ path ∷ []) ≡ ForThis (ForDiff (comparison_with old new (Some (LogAt path)))) }
     ensures by_questions { (old new path : List ℕ)
         → is_option old ≡ false
         → is_option new ≡ false
         → is_option path ≡ false
-        → asked (codes "diff" ∷ old ∷ new ∷ codes "--questions" ∷ path ∷ []) ≡ ForThis (ForDiff (comparison_with old new (QuestionsAt path))) }
+        → asked (codes "diff" ∷ old ∷ new ∷ codes "--questions" ∷ path ∷ []) ≡ ForThis (ForDiff (comparison_with old new (Some (QuestionsAt path)))) }
     ensures by_both { (old new log questions : List ℕ)
         → is_option old ≡ false
         → is_option new ≡ false

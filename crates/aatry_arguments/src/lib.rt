@@ -10,8 +10,13 @@ mod diff_words;
 mod faults;
 mod laws;
 mod reading;
+mod session_words;
 mod test_words;
 
-pub use arguments::{ArgumentFault, Asking, Check, Command, Comparison, RequestSource, Test};
-pub use laws::{what_askings_have, what_checks_have, what_comparisons_have, what_tests_have};
+pub use arguments::{
+    ArgumentFault, Asking, Check, Command, Comparison, RequestSource, Session, Test,
+};
+pub use laws::{
+    what_askings_have, what_checks_have, what_comparisons_have, what_sessions_have, what_tests_have,
+};
 pub use reading::command_of;

@@ -3,3 +3,4 @@ pub mod Comparing
 pub mod LeftOut
 pub mod Questions
 pub mod Rules
+pub mod code

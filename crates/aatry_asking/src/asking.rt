@@ -1,20 +1,25 @@
 //! Questions to the policy of a folder.
 
-ghost use Rattle.std.specs.Prelude.{◌≡◌, ◌++◌, ℕ, List, false, is_ok, IfErr, IfOk, map, string_bytes};
+ghost use Rattle.std.specs.Prelude.{◌≡◌, ◌++◌, ℕ, List, false, is_ok, IfErr, IfOk, OnOk, map, string_bytes};
 ghost use Rattle.aa_set.specs.Manager.{new_manager};
-ghost use Rattle.aa_set_answers.specs.Answers.{reply_lines};
+ghost use Rattle.aa_set_answers.specs.Answers.{reply_lines, who_asks};
 ghost use Rattle.aa_set_commands.specs.Question.{IsWellFormed, question_of, seen_question};
-ghost use Rattle.aatry_asking.specs.Asking.{IsAnswered, IsWhoTold, IsWhyTold, is_let};
+ghost use Rattle.aatry_asking.specs.Asking.{IsAnswered, IsWhoTold, IsWhyTold, how_of, is_let, none_refused};
 ghost use Rattle.aatry_asking.specs.Questions.{letting_words};
 ghost use Rattle.aatry_asking.specs.declared.question.QuestionFault.TheVariants as fault;
+ghost use Rattle.aatry_asking.specs.Rules.{TellsRules, file_of};
 ghost use Rattle.aatry_policy.specs.Policies.{loaded, outcomes};
+ghost use Rattle.aatry_requests.specs.Questions.{rule_request};
 
 use crate::left_out::{push_left_out, push_refused};
-use crate::question::{QuestionFault, letting_question, question_by, rule_request, who_asks};
+use crate::question::{QuestionFault, letting_question, question_by};
 use crate::rules::{push_rules, wants_nearest};
-use aa_set_commands::{Question, RefusalKind};
+use aa_set::Manager;
+use aa_set_commands::{Question, Refusal, RefusalKind};
 use aa_text_files::Files;
-use aatry_policy::{Policy, load};
+use aatry_policy::load;
+use aatry_requests::{rule_request, who_asks};
+use aatry_transition::push_how;
 use aatry_who::who_lines;
 use std::alloc::{AllocError, Global};
 
@@ -27,36 +32,71 @@ pub struct Answered {
     pub found: bool,
 }
 
+// Puts behind a text how the answer to the start of a program came about; of any other question, nothing.
+fn push_how_of(
+    alloc: Global,
+    manager: &Manager,
+    question: &Question<'_>,
+    out: &mut Vec<u8>,
+) -> Result<(), AllocError>
+    ensures { OnOk result (out.new.items ≡ out.old.items ++ how_of manager.now.machine.now (seen_question question.entry.now)) }
+{
+    match question {
+        Question::Exec { who, owned, path } => {
+            push_how(alloc, &manager.policy_set().slots(), who, *owned, path, out)
+        }
+        _ => Ok(()),
+    }
+}
+
+// Puts the rules behind an answer behind a text, and how it came about.
+fn push_reasons(
+    alloc: Global,
+    files: &Files,
+    base: &[u8],
+    names: &[String],
+    outcomes: &[Option<Refusal>],
+    manager: &Manager,
+    question: &Question<'_>,
+    nearest: bool,
+    out: &mut Vec<u8>,
+) -> Result<(), AllocError>
+    ensures { OnOk result ((rules : List ℕ)
+        × (out.new.items ≡ out.old.items ++ rules ++ how_of manager.now.machine.now (seen_question question.entry.now))
+        × TellsRules files.now base.now (who_asks (seen_question question.entry.now)) (rule_request (seen_question question.entry.now)) nearest
+        (file_of files.now (who_asks (seen_question question.entry.now)) (map string_bytes names.now) outcomes.now) rules) }
+{
+    let who = who_asks(question);
+    let request = rule_request(question);
+    push_rules(
+        alloc, files, base, names, outcomes, who, &request, nearest, out,
+    )?;
+    push_how_of(alloc, manager, question, out)
+}
+
 // Puts the answer to a question behind a text, and the rules behind it, and says whether there is an answer.
 fn push_answer(
     alloc: Global,
     files: &Files,
     base: &[u8],
     names: &[String],
-    policy: &Policy,
+    outcomes: &[Option<Refusal>],
+    manager: &Manager,
     question: &Question<'_>,
     out: &mut Vec<u8>,
 ) -> Result<bool, AllocError>
     requires { IsWellFormed question.now }
     ensures { IfOk result (λ found. (lines : List ℕ) × (out.new.items ≡ out.old.items ++ lines)
-        × IsAnswered files.now base.now (map string_bytes names.now) policy.now.outcomes.items (seen_question question.entry.now)
-        (reply_lines policy.now.manager.machine.now (seen_question question.entry.now)) lines found) }
+        × IsAnswered files.now base.now (map string_bytes names.now) outcomes.now (seen_question question.entry.now)
+        (how_of manager.now.machine.now (seen_question question.entry.now))
+        (reply_lines manager.now.machine.now (seen_question question.entry.now)) lines found) }
 {
-    match policy.manager.ask(question) {
+    match manager.ask(question) {
         Ok(reply) => {
             out.extend_from_slice(&reply)?;
-            let request = rule_request(question);
             let nearest = wants_nearest(&reply);
-            push_rules(
-                alloc,
-                files,
-                base,
-                names,
-                &policy.outcomes,
-                who_asks(question),
-                &request,
-                nearest,
-                out,
+            push_reasons(
+                alloc, files, base, names, outcomes, manager, question, nearest, out,
             )?;
             Ok(true)
         }
@@ -70,10 +110,48 @@ fn push_answer(
     }
 }
 
-/// What the policy of a folder answers to a question, and the rules behind the answer. The policy set is that of the files of these names, each added in
-/// its turn; a line tells each of them that is left out. Then come the lines that `ask` would be answered, and behind them the rules, each with the
-/// place where it is written (`aatry_why_lines`); where something isn't allowed, the nearest rules too. Where nobody of the name is loaded, a line
-/// tells the refusal. `base` is the folder that `files` were taken from, without a `/` at its end.
+// That no file is refused, for each of these.
+fn none_refused(alloc: Global, names: &[String]) -> Result<Vec<Option<Refusal>>, AllocError>
+    ensures { IfOk result (λ outcomes. outcomes.items ≡ none_refused (map string_bytes names.now)) }
+{
+    let mut outcomes = Vec::with_capacity(alloc, names.len())?;
+    for _name in names {
+        outcomes.push(None)?;
+    }
+    Ok(outcomes)
+}
+
+/// Puts the answer of a policy set to a question behind a text, and the rules behind it as `why` tells them: those of the first of some files that has who
+/// asks. These may be others than those that made the policy set. Says whether there is an answer. The caller sees to it that the question is
+/// well-formed, as one of `Question::read` is. `base` is the folder that `files` were taken from, without a `/` at its end.
+///
+/// # Errors
+///
+/// Where memory runs out. A beginning may have been put then.
+pub fn push_answer_of(
+    alloc: Global,
+    files: &Files,
+    base: &[u8],
+    names: &[String],
+    manager: &Manager,
+    question: &Question<'_>,
+    out: &mut Vec<u8>,
+) -> Result<bool, AllocError>
+    requires { IsWellFormed question.now }
+    ensures { IfOk result (λ found. (lines : List ℕ) × (out.new.items ≡ out.old.items ++ lines)
+        × IsAnswered files.now base.now (map string_bytes names.now) (none_refused (map string_bytes names.now)) (seen_question question.entry.now)
+        (how_of manager.now.machine.now (seen_question question.entry.now))
+        (reply_lines manager.now.machine.now (seen_question question.entry.now)) lines found) }
+{
+    let outcomes = none_refused(alloc, names)?;
+    push_answer(alloc, files, base, names, &outcomes, manager, question, out)
+}
+
+/// What the policy of a folder answers to a question, and the rules behind the answer. The policy set is that of the files of these names, each
+/// added in its turn; a line tells each of them that is left out. Then come the lines that `ask` would be answered, and behind them the rules, each
+/// with the place where it is written (`aatry_why_lines`); where something isn't allowed, the nearest rules too; and of the start of a program
+/// where its transition leads and what its path may be attached to (`aatry_transition`). Where nobody of the name is loaded, a line tells the
+/// refusal. `base` is the folder that `files` were taken from, without a `/` at its end.
 ///
 /// # Errors
 ///
@@ -99,7 +177,8 @@ pub fn why(
         files,
         base.as_bytes(),
         names,
-        &policy,
+        &policy.outcomes,
+        &policy.manager,
         &question,
         &mut text,
     )?;

@@ -7,6 +7,6 @@ mod left_out;
 mod question;
 mod rules;
 
-pub use asking::{Answered, who, why};
+pub use asking::{Answered, push_answer_of, who, why};
 pub use comparing::{Compared, Folder, diff};
 pub use question::QuestionFault;

@@ -1,13 +1,10 @@
 //! The questions that words ask.
 
 ghost use Rattle.std.specs.Prelude.{◌≡◌, ◌++◌, ◌∷◌, [], false, is_ok, Ok, IfErr, IfOk, OnOk, codes, map, string_bytes};
-ghost use Rattle.aa_profile_access.specs.SeenRequests.{request_of};
 ghost use Rattle.aa_set_commands.specs.Question.{IsWellFormed, question_of, seen_question};
-ghost use Rattle.aa_set_answers.specs.Answers.{who_asks};
-ghost use Rattle.aatry_asking.specs.Questions.{letting_words, rule_request};
+ghost use Rattle.aatry_asking.specs.Questions.{letting_words};
 ghost use Rattle.aatry_asking.specs.declared.question.QuestionFault.TheVariants as fault;
 
-use aa_profile_access::{Perms, Request};
 use aa_set_commands::Question;
 use std::alloc::{AllocError, Global};
 
@@ -92,44 +89,4 @@ pub fn letting_question<'a>(
     let mut all = Vec::new(alloc);
     push_letting_words(words, &mut all)?;
     read(&all)
-}
-
-/// What a question asks of rules: of the start of a program, whether it may be started at all.
-pub fn rule_request<'a>(question: &Question<'a>) -> Request<'a>
-    ensures { request_of result ≡ rule_request (seen_question question.entry.now) }
-{
-    match question {
-        Question::File {
-            needs,
-            owned,
-            path,
-            ..
-        } => Request::File {
-            needs: *needs,
-            owned: *owned,
-            path,
-        },
-        Question::Exec { owned, path, .. } => Request::File {
-            needs: Perms::EXEC,
-            owned: *owned,
-            path,
-        },
-        Question::Cap { number, .. } => Request::Cap(*number),
-        Question::Net { domain, kind, .. } => Request::Net {
-            domain: *domain,
-            kind: *kind,
-        },
-    }
-}
-
-/// Who asks.
-pub fn who_asks<'a>(question: &Question<'a>) -> &'a [u8]
-    ensures { result.now ≡ who_asks (seen_question question.entry.now) }
-{
-    match question {
-        Question::File { who, .. } => who,
-        Question::Exec { who, .. } => who,
-        Question::Cap { who, .. } => who,
-        Question::Net { who, .. } => who,
-    }
 }

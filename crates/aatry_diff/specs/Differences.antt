@@ -5,6 +5,10 @@ use Rattle.std.specs.Str.{bytes_eq}
 use Rattle.aa_bytes.specs.Bytes.{line_feed}
 use Rattle.aa_decide_verdict.specs.Entries.{Loaded}
 use Rattle.aa_set_commands.specs.Question.{Question}
+use Rattle.aa_set_answers.specs.Answers.{who_asks}
+use Rattle.aatry_changes.specs.Causes.{cause_lines}
+use Rattle.aatry_diff.specs.Folders.{BothFolders}
+use Rattle.aatry_requests.specs.Questions.{rule_request}
 use Rattle.aatry_requests.specs.Tallies.{Tally}
 use Rattle.aatry_requests.specs.Texts.{question_text}
 use Rattle.aatry_diff.specs.Answers.{answer}
@@ -26,10 +30,15 @@ abbrev pub line_of : Question → List ℕ → List ℕ → ℕ → List ℕ
 line_of question before after times =
     question_text question ++ codes ": " ++ before ++ codes " -> " ++ after ++ times_text times ++ line_feed ∷ []
 
--- the line that tells of a question that is answered otherwise
-abbrev pub difference_line : List Loaded → List Loaded → Tally → List ℕ
-difference_line old new tally = line_of tally.question (answer old tally.question) (answer new tally.question) tally.times
+-- the rules that lead to one of the answers alone: those that apply to what a question asks in one folder, and aren't written in the other
+abbrev pub causes : BothFolders → Question → List ℕ
+causes folders question = cause_lines folders.old folders.new (who_asks question) (rule_request question)
 
--- the lines that tell of all of these
-abbrev pub difference_lines : List Loaded → List Loaded → List Tally → List ℕ
-difference_lines old new tallies = flat_map (difference_line old new) (differing old new tallies)
+-- what is told of a question that is answered otherwise: its line, and below it the rules that lead to one of the answers alone
+abbrev pub difference_text : BothFolders → List Loaded → List Loaded → Tally → List ℕ
+difference_text folders old new tally =
+    line_of tally.question (answer old tally.question) (answer new tally.question) tally.times ++ causes folders tally.question
+
+-- what is told of all of these
+abbrev pub difference_lines : BothFolders → List Loaded → List Loaded → List Tally → List ℕ
+difference_lines folders old new tallies = flat_map (difference_text folders old new) (differing old new tallies)

@@ -1,4 +1,5 @@
 pub mod Answers
 pub mod Differences
+pub mod Folders
 pub mod Summary
 pub mod code

@@ -3,8 +3,10 @@
 
 mod answers;
 mod differences;
+mod folders;
 mod numbers;
 mod summary;
 
 pub use differences::push_differences;
+pub use folders::BothFolders;
 pub use summary::push_summary;

@@ -1,2 +1,3 @@
 mod ProgramLemmas
 mod TestingLemmas
+mod SessionLemmas

@@ -1,12 +1,13 @@
 -- What is done is what the words ask for.
-use Rattle.std.proofs.Common.{ℕ, List, Option, Result, Ok, Err, IfOk, inl, inr, string_bytes, subst}
-use Rattle.aatry_arguments.specs.Arguments.{CommandAsked}
+use Rattle.std.proofs.Common.{◌≡◌, ℕ, List, Option, Result, Ok, Err, IfOk, inl, inr, string_bytes, subst}
+use Rattle.aatry_arguments.specs.Arguments.{CommandAsked, ForCheck, ForDiff, ForSession, ForTest, ForWho, ForWhy}
 use Rattle.aatry_arguments.specs.Asked.{Asked, ForThis, ForHelp, ForVersion, Nothing}
 use Rattle.aatry_arguments.specs.Given.{IsGivenFor, meant_command}
 use Rattle.aatry_arguments.specs.declared.arguments.ArgumentFault.{ArgumentFault}
 use Rattle.aatry_arguments.specs.declared.arguments.ArgumentFault.TheVariants.{Help, Version, Bad, Memory}
 use Rattle.aatry_arguments.specs.declared.arguments.Command.{Command}
-use Rattle.aatry_program.specs.Program.{IsCommandDone, IsDone, IsFaultShown, IsOutcomeShown, Output}
+use Rattle.aatry_program.specs.Fault.{status_of}
+use Rattle.aatry_program.specs.Program.{Input, IsCommandDone, IsDone, IsDoneBy, IsFaultShown, IsOutcomeShown, Output}
 use Rattle.aatry_program.specs.declared.checking.Report.{Report}
 use Rattle.aatry_program.specs.declared.fault.Fault.{Fault}
 use Rattle.aatry_program.specs.declared.fault.Fault.TheVariants as fault
@@ -18,30 +19,40 @@ command_done Tells output status (Ok report) told shown = inl (report.text.items
 command_done Tells output status (Err fault) told shown = inr (fault, shown)
 
 -- the command that is given is the one that is asked for
-pub done_by_command : (members_at : List ℕ → Option (List (List ℕ))) (bytes_at : List ℕ → Option (List ℕ)) (asked : Asked CommandAsked) (command : Command) (output : Output)
-    (status : ℕ) → IsGivenFor meant_command asked (Ok command) → IsDone members_at bytes_at (ForThis (meant_command command)) output status
-    → IsDone members_at bytes_at asked output status
-done_by_command members_at bytes_at (ForThis asked) command output status given done = subst (λ a. IsDone members_at bytes_at (ForThis a) output status) given done
-done_by_command members_at bytes_at ForHelp command output status given done = absurd given
-done_by_command members_at bytes_at ForVersion command output status given done = absurd given
-done_by_command members_at bytes_at Nothing command output status given done = absurd given
+pub done_by_command : (members_at : List ℕ → Option (List (List ℕ))) (bytes_at : List ℕ → Option (List ℕ)) (input : Input) (asked : Asked CommandAsked) (command : Command) (output : Output)
+    (status : ℕ) → IsGivenFor meant_command asked (Ok command) → IsDoneBy members_at bytes_at input (meant_command command) output status
+    → IsDone members_at bytes_at input asked output status
+done_by_command members_at bytes_at input (ForThis asked) command output status given done = subst (λ a. IsDoneBy members_at bytes_at input a output status) given done
+done_by_command members_at bytes_at input ForHelp command output status given done = absurd given
+done_by_command members_at bytes_at input ForVersion command output status given done = absurd given
+done_by_command members_at bytes_at input Nothing command output status given done = absurd given
+
+-- a fault may keep the program from any command
+fault_done : (members_at : List ℕ → Option (List (List ℕ))) (bytes_at : List ℕ → Option (List ℕ)) (input : Input) (command : CommandAsked) (output : Output)
+    (status : ℕ) (told : Fault) → status ≡ status_of told → IsDoneBy members_at bytes_at input command output status
+fault_done members_at bytes_at input (ForCheck check) output status told is = inr (told, is)
+fault_done members_at bytes_at input (ForTest test) output status told is = inr (told, is)
+fault_done members_at bytes_at input (ForWho asking) output status told is = inr (told, is)
+fault_done members_at bytes_at input (ForWhy asking) output status told is = inr (told, is)
+fault_done members_at bytes_at input (ForDiff comparison) output status told is = inr (told, is)
+fault_done members_at bytes_at input (ForSession session) output status told is = inr (told, is)
 
 -- where no command is given, a text is shown that was asked for, or the status tells why
-pub done_by_fault : (members_at : List ℕ → Option (List (List ℕ))) (bytes_at : List ℕ → Option (List ℕ)) (asked : Asked CommandAsked) (told : ArgumentFault) (output : Output)
-    (status : ℕ) → IsGivenFor meant_command asked (Err told) → IsFaultShown told output status → IsDone members_at bytes_at asked output status
-done_by_fault members_at bytes_at (ForThis command) (Help text) output status given shown = absurd given
-done_by_fault members_at bytes_at (ForThis command) (Version text) output status given shown = absurd given
-done_by_fault members_at bytes_at (ForThis command) Bad output status given shown = absurd given
-done_by_fault members_at bytes_at (ForThis command) Memory output status given shown = inr (fault.NoMemory, shown)
-done_by_fault members_at bytes_at ForHelp (Help text) output status given shown = inl (string_bytes text, shown)
-done_by_fault members_at bytes_at ForHelp (Version text) output status given shown = absurd given
-done_by_fault members_at bytes_at ForHelp Bad output status given shown = absurd given
-done_by_fault members_at bytes_at ForHelp Memory output status given shown = inr shown
-done_by_fault members_at bytes_at ForVersion (Help text) output status given shown = absurd given
-done_by_fault members_at bytes_at ForVersion (Version text) output status given shown = inl (string_bytes text, shown)
-done_by_fault members_at bytes_at ForVersion Bad output status given shown = absurd given
-done_by_fault members_at bytes_at ForVersion Memory output status given shown = inr shown
-done_by_fault members_at bytes_at Nothing (Help text) output status given shown = absurd given
-done_by_fault members_at bytes_at Nothing (Version text) output status given shown = absurd given
-done_by_fault members_at bytes_at Nothing Bad output status given shown = inl shown
-done_by_fault members_at bytes_at Nothing Memory output status given shown = inr shown
+pub done_by_fault : (members_at : List ℕ → Option (List (List ℕ))) (bytes_at : List ℕ → Option (List ℕ)) (input : Input) (asked : Asked CommandAsked) (told : ArgumentFault) (output : Output)
+    (status : ℕ) → IsGivenFor meant_command asked (Err told) → IsFaultShown told output status → IsDone members_at bytes_at input asked output status
+done_by_fault members_at bytes_at input (ForThis command) (Help text) output status given shown = absurd given
+done_by_fault members_at bytes_at input (ForThis command) (Version text) output status given shown = absurd given
+done_by_fault members_at bytes_at input (ForThis command) Bad output status given shown = absurd given
+done_by_fault members_at bytes_at input (ForThis command) Memory output status given shown = fault_done members_at bytes_at input command output status fault.NoMemory shown
+done_by_fault members_at bytes_at input ForHelp (Help text) output status given shown = inl (string_bytes text, shown)
+done_by_fault members_at bytes_at input ForHelp (Version text) output status given shown = absurd given
+done_by_fault members_at bytes_at input ForHelp Bad output status given shown = absurd given
+done_by_fault members_at bytes_at input ForHelp Memory output status given shown = inr shown
+done_by_fault members_at bytes_at input ForVersion (Help text) output status given shown = absurd given
+done_by_fault members_at bytes_at input ForVersion (Version text) output status given shown = inl (string_bytes text, shown)
+done_by_fault members_at bytes_at input ForVersion Bad output status given shown = absurd given
+done_by_fault members_at bytes_at input ForVersion Memory output status given shown = inr shown
+done_by_fault members_at bytes_at input Nothing (Help text) output status given shown = absurd given
+done_by_fault members_at bytes_at input Nothing (Version text) output status given shown = absurd given
+done_by_fault members_at bytes_at input Nothing Bad output status given shown = inl shown
+done_by_fault members_at bytes_at input Nothing Memory output status given shown = inr shown

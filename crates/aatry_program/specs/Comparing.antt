@@ -1,12 +1,12 @@
 -- What a comparison of two folders of policy comes to.
-use Rattle.std.specs.Prelude.{◌≡◌, ℕ, List, [], ◌∷◌, Option, length}
+use Rattle.std.specs.Prelude.{◌≡◌, ℕ, List, [], ◌∷◌, Option, None, Some}
 use Rattle.aa_text_files.specs.Files.{File}
 use Rattle.aaset_gather.specs.Gathering.{names_of}
 use Rattle.aatry_arguments.specs.DiffWords.{ComparisonAsked, LogAt, QuestionsAt, SourceAsked}
-use Rattle.aatry_asking.specs.Comparing.{Folder, diff_text, differing_in}
+use Rattle.aatry_asking.specs.Comparing.{Folder, are_alike, diff_text}
 use Rattle.aatry_program.specs.Checking.{AreBelow, top_names}
-use Rattle.aatry_program.specs.Testing.{IsFileAt}
-use Rattle.aatry_requests.specs.Gathering.{gathered}
+use Rattle.aatry_program.specs.Testing.{IsFileAt, failed_by}
+use Rattle.aatry_requests.specs.Gathering.{Gathered, gathered}
 use Rattle.aatry_requests.specs.declared.sources.Source.{Source}
 use Rattle.aatry_requests.specs.declared.sources.Source.TheVariants.{Log, Questions}
 
@@ -28,14 +28,20 @@ folder_with base files names = record { files = files; base = base; names = name
 abbrev pub folder_at : List ℕ → List File → Folder
 folder_at base files = folder_with base files (top_names (names_of files))
 
--- The two folders, each with all that lies below it, were asked what the file of requests tells of, and the text tells what they answer otherwise. So
--- much failed as differs.
+-- What a source of requests tells of is gathered from the file at its path; where there is no source, nothing is.
+abbrev pub IsGathered : (List ℕ → Option (List ℕ)) → Option SourceAsked → Option Gathered → Type 0
+IsGathered bytes_at None requests = requests ≡ None
+IsGathered bytes_at (Some source) requests =
+    (bytes : List ℕ) × IsFileAt bytes_at (path_of source) ((path_of source, bytes) ∷ []) × (requests ≡ Some (gathered (form_of source) bytes))
+
+-- The two folders, each with all that lies below it, were compared, by what the file of requests tells of too, if there is one, and the text tells how
+-- they differ. One failed where something differs.
 pub record IsComparedBelow (members_at : List ℕ → Option (List (List ℕ))) (bytes_at : List ℕ → Option (List ℕ)) (asked : ComparisonAsked) (text : List ℕ) (failed : ℕ) : Type 0 where
   pub old_files : List File
   pub new_files : List File
   pub old_below : AreBelow members_at bytes_at asked.old old_files
   pub new_below : AreBelow members_at bytes_at asked.new new_files
-  pub bytes : List ℕ
-  pub requests : IsFileAt bytes_at (path_of asked.source) ((path_of asked.source, bytes) ∷ [])
-  pub told : text ≡ diff_text (folder_at asked.old old_files) (folder_at asked.new new_files) (gathered (form_of asked.source) bytes)
-  pub counted : failed ≡ length (differing_in (folder_at asked.old old_files) (folder_at asked.new new_files) (gathered (form_of asked.source) bytes))
+  pub requests : Option Gathered
+  pub gathered : IsGathered bytes_at asked.source requests
+  pub told : text ≡ diff_text (folder_at asked.old old_files) (folder_at asked.new new_files) requests
+  pub counted : failed ≡ failed_by (are_alike (folder_at asked.old old_files) (folder_at asked.new new_files) requests)

@@ -1,5 +1,6 @@
 -- What keeps the program from doing what it is asked for: what is told of it, and the exit status.
-use Rattle.std.specs.Prelude.{ℕ, List, [], codes, string_bytes}
+use Rattle.std.specs.Prelude.{ℕ, List, [], ◌∷◌, ◌++◌, codes, string_bytes}
+use Rattle.aa_bytes.specs.Bytes.{line_feed}
 use Rattle.aaset_gather.specs.declared.gathering.GatherFault.{GatherFault}
 use Rattle.aaset_gather.specs.declared.gathering.GatherFault.TheVariants as files
 use Rattle.aatry_asking.specs.declared.question.QuestionFault.{QuestionFault}
@@ -7,7 +8,8 @@ use Rattle.aatry_asking.specs.declared.question.QuestionFault.TheVariants as que
 use Rattle.aatry_folder.specs.declared.below.FolderFault.{FolderFault}
 use Rattle.aatry_folder.specs.declared.below.FolderFault.TheVariants as folder
 use Rattle.aatry_program.specs.declared.fault.Fault.{Fault}
-use Rattle.aatry_program.specs.declared.fault.Fault.TheVariants.{BadArguments, BadQuestion, Unreadable, TooMany, NoMemory, Write}
+use Rattle.aatry_program.specs.declared.fault.Fault.TheVariants.{BadArguments, BadQuestion, Unreadable, TooMany, NoMemory, Read, Write}
+use Rattle.aatry_report.specs.Shown.{shown}
 
 abbrev pub fault_of_folder : FolderFault → Fault
 fault_of_folder (folder.Unreadable name) = Unreadable name
@@ -29,6 +31,7 @@ words_of BadQuestion = codes "aatry: bad question: see aatry why --help, aatry w
 words_of (Unreadable _) = codes "aatry: cannot read "
 words_of TooMany = codes "aatry: more than 65,536 files and folders"
 words_of NoMemory = codes "aatry: no memory"
+words_of Read = codes "aatry: read fault"
 words_of Write = codes "aatry: write fault"
 
 -- the name that stands behind them
@@ -43,4 +46,9 @@ status_of BadQuestion = 2
 status_of (Unreadable _) = 2
 status_of TooMany = 2
 status_of NoMemory = 3
+status_of Read = 3
 status_of Write = 3
+
+-- the line that tells a fault
+abbrev pub told_line : Fault → List ℕ
+told_line fault = words_of fault ++ shown (name_of fault) ++ line_feed ∷ []

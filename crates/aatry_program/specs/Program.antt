@@ -1,7 +1,7 @@
 -- What is seen of the program: its standard output and its exit status.
 use Rattle.std.specs.Prelude.{◌≡◌, ◌==◌, ◌⊎◌, ℕ, Bool, true, List, Option, Result, Ok, Err, if◌then◌else◌, string_bytes}
 use Rattle.std.specs.Io.KnownBytes.{Appends}
-use Rattle.aatry_arguments.specs.Arguments.{CommandAsked, ForCheck, ForDiff, ForTest, ForWho, ForWhy}
+use Rattle.aatry_arguments.specs.Arguments.{CommandAsked, ForCheck, ForDiff, ForSession, ForTest, ForWho, ForWhy}
 use Rattle.aatry_arguments.specs.Asked.{Asked, ForThis, ForHelp, ForVersion, Nothing}
 use Rattle.aatry_arguments.specs.declared.arguments.ArgumentFault.{ArgumentFault}
 use Rattle.aatry_arguments.specs.declared.arguments.ArgumentFault.TheVariants.{Help, Version, Bad, Memory}
@@ -9,6 +9,7 @@ use Rattle.aatry_program.specs.Asking.{IsWhoToldBelow, IsWhyToldBelow}
 use Rattle.aatry_program.specs.Checking.{IsChecked}
 use Rattle.aatry_program.specs.Comparing.{IsComparedBelow}
 use Rattle.aatry_program.specs.Fault.{status_of}
+use Rattle.aatry_program.specs.Session.{IsSession}
 use Rattle.aatry_program.specs.Testing.{IsTestedBelow}
 use Rattle.aatry_program.specs.declared.checking.Report.{Report}
 use Rattle.aatry_program.specs.declared.fault.Fault.{Fault}
@@ -18,6 +19,11 @@ pub record Output : Type 0 where
   pub before : Option (List ℕ)
   pub after : Option (List ℕ)
   pub failed : Bool
+
+-- standard input: what is left of it, where that is known, and the prompt that is written before a line of it is read
+pub record Input : Type 0 where
+  pub left : Option (List ℕ)
+  pub prompt : List ℕ
 
 -- a text stands on standard output, and the status is the one that goes with it; or standard output failed, and the status tells that
 abbrev pub IsShown : List ℕ → ℕ → Output → ℕ → Type 0
@@ -39,13 +45,14 @@ IsFaultShown (Version text) output status = IsShown (string_bytes text) 0 output
 IsFaultShown Bad output status = status ≡ 2
 IsFaultShown Memory output status = status ≡ 3
 
--- a text tells what a command came to, and so much of it failed
+-- a text tells what a command came to, and so much of it failed; a session comes to no text
 abbrev pub IsOutcomeOf : (List ℕ → Option (List (List ℕ))) → (List ℕ → Option (List ℕ)) → CommandAsked → List ℕ → ℕ → Type 0
 IsOutcomeOf members_at bytes_at (ForCheck check) text failed = IsChecked members_at bytes_at check.base check.names text failed
 IsOutcomeOf members_at bytes_at (ForTest test) text failed = IsTestedBelow members_at bytes_at test.base test.paths text failed
 IsOutcomeOf members_at bytes_at (ForWho asking) text failed = IsWhoToldBelow members_at bytes_at asking.base asking.words text failed
 IsOutcomeOf members_at bytes_at (ForWhy asking) text failed = IsWhyToldBelow members_at bytes_at asking.base asking.words text failed
 IsOutcomeOf members_at bytes_at (ForDiff comparison) text failed = IsComparedBelow members_at bytes_at comparison text failed
+IsOutcomeOf members_at bytes_at (ForSession session) text failed = ⊥
 
 -- What a command came to is shown, the status telling whether some of it failed; or some fault kept the program from it, and the status is that of the
 -- fault.
@@ -54,13 +61,28 @@ IsCommandDone Tells output status =
     ((text : List ℕ) × (failed : ℕ) × Tells text failed × IsShown text (failure_status failed) output status)
     ⊎ ((fault : Fault) × (status ≡ status_of fault))
 
+-- A session over a folder was had to its end, and the status is 0; or some fault ended it, and the status is that of the fault.
+abbrev pub IsSessionDone : (List ℕ → Option (List (List ℕ))) → (List ℕ → Option (List ℕ)) → List ℕ → Input → Output → ℕ → Type 0
+IsSessionDone members_at bytes_at base input output status =
+    (IsSession members_at bytes_at base input.prompt input.left output.before output.after × (status ≡ 0))
+    ⊎ ((fault : Fault) × (status ≡ status_of fault))
+
+-- a command is done: a session is had, and what any other comes to is shown
+abbrev pub IsDoneBy : (List ℕ → Option (List (List ℕ))) → (List ℕ → Option (List ℕ)) → Input → CommandAsked → Output → ℕ → Type 0
+IsDoneBy members_at bytes_at input (ForSession session) output status = IsSessionDone members_at bytes_at session.base input output status
+IsDoneBy members_at bytes_at input command output status = IsCommandDone (IsOutcomeOf members_at bytes_at command) output status
+
 -- What is asked for is done: a command, or help or the version is shown, if memory allows; all else has the status 2.
-abbrev pub IsDone : (List ℕ → Option (List (List ℕ))) → (List ℕ → Option (List ℕ)) → Asked CommandAsked → Output → ℕ → Type 0
-IsDone members_at bytes_at (ForThis command) output status = IsCommandDone (IsOutcomeOf members_at bytes_at command) output status
-IsDone members_at bytes_at ForHelp output status = ((text : List ℕ) × IsShown text 0 output status) ⊎ (status ≡ 3)
-IsDone members_at bytes_at ForVersion output status = ((text : List ℕ) × IsShown text 0 output status) ⊎ (status ≡ 3)
-IsDone members_at bytes_at Nothing output status = (status ≡ 2) ⊎ (status ≡ 3)
+abbrev pub IsDone : (List ℕ → Option (List (List ℕ))) → (List ℕ → Option (List ℕ)) → Input → Asked CommandAsked → Output → ℕ → Type 0
+IsDone members_at bytes_at input (ForThis command) output status = IsDoneBy members_at bytes_at input command output status
+IsDone members_at bytes_at input ForHelp output status = ((text : List ℕ) × IsShown text 0 output status) ⊎ (status ≡ 3)
+IsDone members_at bytes_at input ForVersion output status = ((text : List ℕ) × IsShown text 0 output status) ⊎ (status ≡ 3)
+IsDone members_at bytes_at input Nothing output status = (status ≡ 2) ⊎ (status ≡ 3)
 
 -- the output of a stream, by what was written to it before and after, and whether it failed
 abbrev pub output_of : Option (List ℕ) → Option (List ℕ) → Bool → Output
 output_of before after failed = record { before = before; after = after; failed = failed }
+
+-- the input of a stream, by what is left of it, and the prompt
+abbrev pub input_of : Option (List ℕ) → List ℕ → Input
+input_of left prompt = record { left = left; prompt = prompt }

@@ -1,16 +1,19 @@
-//! Two folders of policy, compared by what they answer.
+//! Two folders of policy, compared.
 
-ghost use Rattle.std.specs.Prelude.{◌≡◌, length, IfOk, string_bytes};
+ghost use Rattle.std.specs.Prelude.{◌≡◌, IfOk, option_map, string_bytes};
 ghost use Rattle.aaset_gather.specs.Gathering.{texts_of};
 ghost use Rattle.aatry_arguments.specs.Given.{meant_comparison, meant_source};
-ghost use Rattle.aatry_asking.specs.Comparing.{diff_text, differing_in};
-ghost use Rattle.aatry_program.specs.Comparing.{IsComparedBelow, folder_with, form_of, path_of};
-ghost use Rattle.aatry_requests.specs.Gathering.{gathered};
+ghost use Rattle.aatry_asking.specs.Comparing.{are_alike, diff_text};
+ghost use Rattle.aatry_asking.specs.code.Requests.{seen_source};
+ghost use Rattle.aatry_program.specs.Comparing.{IsComparedBelow, IsGathered, folder_with, form_of, path_of};
+ghost use Rattle.aatry_program.specs.Testing.{failed_by};
+ghost use Rattle.aatry_program.specs.code.Requests.{gathered_of};
 
 use crate::asking::{Policy, policy_below};
 use crate::checking::Report;
 use crate::fault::Fault;
-use crate::testing::file_at;
+use crate::testing::{failed_by, file_at};
+use aa_text_files::Files;
 use aaset_gather::FileSystem;
 use aatry_arguments::{Comparison, RequestSource};
 use aatry_asking::{Compared, Folder, diff};
@@ -38,20 +41,47 @@ fn path_of(source: RequestSource) -> String
     }
 }
 
-// What two folders answer otherwise, as the program reports it.
+// The file at the path of a source of requests, with the form of the source; nothing where there is none.
+fn requests_at<D: FileSystem>(
+    alloc: Global,
+    disk: &D,
+    source: Option<RequestSource>,
+) -> Result<Option<(Source, Files)>, Fault>
+    ensures { IfOk result (λ found. IsGathered (D.bytes_at disk.now) (option_map meant_source source) (gathered_of found)) }
+{
+    match source {
+        None => Ok(None),
+        Some(source) => {
+            let form = form_of(&source);
+            let file = file_at(alloc, disk, path_of(source))?;
+            Ok(Some((form, file)))
+        }
+    }
+}
+
+// The form and the bytes of a source of requests, if there is one.
+fn source_of(found: &Option<(Source, Files)>) -> Option<(Source, &[u8])>
+    ensures { seen_source result ≡ gathered_of found.now }
+{
+    match found {
+        None => None,
+        Some((form, file)) => Some((*form, file.bytes_at(0))),
+    }
+}
+
+// How two folders differ, as the program reports it.
 fn compare(
     alloc: Global,
     old: &Policy,
     old_base: &str,
     new: &Policy,
     new_base: &str,
-    form: Source,
-    text: &[u8],
+    source: Option<(Source, &[u8])>,
 ) -> Result<Report, AllocError>
     ensures told { IfOk result (λ report. report.text.items ≡ diff_text (folder_with old_base.now old.now.files (texts_of old.now.top))
-        (folder_with new_base.now new.now.files (texts_of new.now.top)) (gathered form text.now)) }
-    ensures count { IfOk result (λ report. report.failed ≡ length (differing_in (folder_with old_base.now old.now.files (texts_of old.now.top))
-        (folder_with new_base.now new.now.files (texts_of new.now.top)) (gathered form text.now))) }
+        (folder_with new_base.now new.now.files (texts_of new.now.top)) (seen_source source.entry)) }
+    ensures count { IfOk result (λ report. report.failed ≡ failed_by (are_alike (folder_with old_base.now old.now.files (texts_of old.now.top))
+        (folder_with new_base.now new.now.files (texts_of new.now.top)) (seen_source source.entry))) }
 {
     let before = Folder {
         files: &old.files,
@@ -63,15 +93,15 @@ fn compare(
         base: new_base,
         names: &new.top,
     };
-    let Compared { text, differing } = diff(alloc, &before, &after, form, text)?;
+    let Compared { text, alike } = diff(alloc, &before, &after, source)?;
     Ok(Report {
         text,
-        failed: differing,
+        failed: failed_by(alike),
     })
 }
 
-/// Compares two folders of policy by what they answer to the requests of a log, or to the questions of a file: finds and reads all files below each as
-/// `check_folder` does, and tells what `aatry_asking::diff` tells, over the files at their tops. So much failed as is answered otherwise.
+/// Compares two folders of policy, and by the requests of a log or the questions of a file too, where one is given: finds and reads all files below each
+/// as `check_folder` does, and tells what `aatry_asking::diff` tells, over the files at their tops. One failed where something differs.
 ///
 /// # Errors
 ///
@@ -88,17 +118,15 @@ pub fn diff_folders<F: Folders, D: FileSystem>(
         report.text.items report.failed) }
 {
     let Comparison { old, new, source } = asked;
-    let form = form_of(&source);
     let before = policy_below(alloc, folders, disk, old.as_str())?;
     let after = policy_below(alloc, folders, disk, new.as_str())?;
-    let requests = file_at(alloc, disk, path_of(source))?;
+    let found = requests_at(alloc, disk, source)?;
     Ok(compare(
         alloc,
         &before,
         old.as_str(),
         &after,
         new.as_str(),
-        form,
-        requests.bytes_at(0),
+        source_of(&found),
     )?)
 }

@@ -1,12 +1,13 @@
 //! What keeps the program from doing what it is asked for.
 
-ghost use Rattle.std.specs.Prelude.{◌≡◌};
-ghost use Rattle.aatry_program.specs.Fault.{fault_of_files, fault_of_folder, fault_of_question, name_of, status_of, words_of};
+ghost use Rattle.std.specs.Prelude.{◌≡◌, ◌++◌, OnOk};
+ghost use Rattle.aatry_program.specs.Fault.{fault_of_files, fault_of_folder, fault_of_question, name_of, status_of, told_line, words_of};
 ghost use Rattle.aatry_program.specs.declared.fault.Fault.TheVariants as fault;
 
 use aaset_gather::GatherFault;
 use aatry_asking::QuestionFault;
 use aatry_folder::FolderFault;
+use aatry_report::push_shown;
 use std::alloc::AllocError;
 
 /// What keeps the program from doing what it is asked for.
@@ -22,6 +23,8 @@ pub enum Fault {
     TooMany,
     /// Memory ran out.
     NoMemory,
+    /// Standard input failed, or didn't end.
+    Read,
     /// Standard output failed.
     Write,
 }
@@ -78,6 +81,7 @@ pub fn words_of(fault: &Fault) -> &'static str
         Fault::Unreadable(_) => "aatry: cannot read ",
         Fault::TooMany => "aatry: more than 65,536 files and folders",
         Fault::NoMemory => "aatry: no memory",
+        Fault::Read => "aatry: read fault",
         Fault::Write => "aatry: write fault",
     }
 }
@@ -92,12 +96,22 @@ pub fn name_of(fault: &Fault) -> &str
     }
 }
 
+// Puts the line that tells a fault behind a text.
+pub fn push_told(fault: &Fault, out: &mut Vec<u8>) -> Result<(), AllocError>
+    ensures { OnOk result (out.new.items ≡ out.old.items ++ told_line fault.now) }
+{
+    out.extend_from_slice(words_of(fault).as_bytes())?;
+    push_shown(out, name_of(fault).as_bytes())?;
+    out.push(b'\n')?;
+    Ok(())
+}
+
 // The exit status of a fault.
 pub fn status_of(fault: &Fault) -> u8
     ensures { result ≡ status_of fault.now }
 {
     match fault {
         Fault::BadArguments | Fault::BadQuestion | Fault::Unreadable(_) | Fault::TooMany => 2,
-        Fault::NoMemory | Fault::Write => 3,
+        Fault::NoMemory | Fault::Read | Fault::Write => 3,
     }
 }

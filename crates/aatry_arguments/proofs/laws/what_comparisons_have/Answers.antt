@@ -1,9 +1,12 @@
 use Rattle.std.proofs.Common.{refl}
-use Rattle.aatry_arguments.proofs.DiffLawLemmas.{compared_by_both, compared_by_log, compared_by_questions, last_word, log_in_word, log_word, plain_words, questions_in_word, questions_word}
+use Rattle.aatry_arguments.proofs.DiffLawLemmas.{compared_by_both, compared_by_log, compared_by_none, compared_by_questions, last_word, log_in_word, log_word, plain_words, questions_in_word, questions_word}
 use Rattle.aatry_arguments.proofs.laws.what_comparisons_have.Goals as goal
 
 pub returns-clause-alone : goal.returns-clause-alone
 returns-clause-alone c = refl
+
+pub returns-clause-by_none : goal.returns-clause-by_none
+returns-clause-by_none c old new o n = compared_by_none old new o n
 
 pub returns-clause-by_log : goal.returns-clause-by_log
 returns-clause-by_log c old new path o n p = compared_by_log old new path o n p

@@ -1,7 +1,7 @@
 use Rattle.aatry_arguments.specs.Given.{meant_command}
 use Rattle.aatry_program.proofs.ProgramLemmas.{command_done}
 use Rattle.aatry_program.specs.Program.{IsOutcomeOf, output_of}
-use Rattle.aatry_program.proofs.program.perform.Goals as goal
+use Rattle.aatry_program.proofs.program.show_command.Goals as goal
 
 pub returns : goal.returns
 returns g c =

@@ -1,0 +1,12 @@
+//! Two folders of policy that are compared.
+
+use aatry_changes::FolderParts;
+
+/// Two folders of policy that are compared, by their profiles, children and hats.
+#[derive(Clone, Copy)]
+pub struct BothFolders<'a> {
+    /// The old one.
+    pub old: FolderParts<'a>,
+    /// The one that is to take its place.
+    pub new: FolderParts<'a>,
+}

@@ -1,0 +1,345 @@
+//! A session over a folder of policy: lines of an input, answered as they come.
+
+ghost use Rattle.std.specs.Prelude.{◌≡◌, ◌≤◌, ◌+◌, ◌*◌, ◌^◌, ◌++◌, [], ℕ, List, Bool, true, false, IfOk, OnOk, map, string_bytes};
+ghost use Rattle.aaset_gather.specs.Gathering.{names_of, texts_of};
+ghost use Rattle.aa_set_lines.specs.WordLaws.{in_quotes};
+ghost use Rattle.aatry_line_input.specs.Inputs.{GivesLine, most_reads};
+ghost use Rattle.aatry_program.specs.Checking.{AreBelow, top_names};
+ghost use Rattle.aatry_program.specs.Fault.{told_line};
+ghost use Rattle.aatry_program.specs.Session.{IsLastStep, IsReadAnew, IsRun, IsSession, IsStep, IsTold, IsTurn, LoadsEach, LoadsOne};
+ghost use Rattle.aatry_program.specs.Session.{add_line, goes_on, loading_text};
+ghost use Rattle.aatry_program.specs.code.Sessions.{AreAtTop, seen_table, standing};
+ghost use Rattle.aatry_session.specs.Turns.{Told, begun, turn_outcome};
+ghost use Rattle.aatry_session.specs.code.Seen.{IsAskable, seen_turn};
+ghost use Rattle.std.specs.Io.KnownBytes.{Appends};
+
+use crate::asking::{Policy, policy_below};
+use crate::fault::{Fault, push_told};
+use crate::writing::write;
+use aa_set_lines::{LineBuffer, Sink, Source};
+use aa_text_files::Files;
+use aaset_gather::FileSystem;
+use aatry_asking::push_answer_of;
+use aatry_folder::Folders;
+use aatry_line_input::LineInput;
+use aatry_session::{Session, Turn};
+use std::alloc::{AllocError, Global};
+
+// How many lines are answered at most.
+const MOST_LINES: u32 = 1_073_741_824;
+
+// What is told of a file that is taken, as it is loaded.
+const TAKEN: &[u8] = b"ok\n";
+
+// A session over a folder, and all that lies below that, as it was read last.
+#[derive(Drop)]
+struct Table {
+    policy: Policy,
+    session: Session,
+}
+
+// Puts the line behind a text that adds the profiles of a file.
+fn push_add_line(name: &str, out: &mut Vec<u8>) -> Result<(), AllocError>
+    ensures { OnOk result (out.new.items ≡ out.old.items ++ add_line name.now) }
+{
+    out.extend_from_slice(b"add \"")?;
+    out.extend_from_slice(name.as_bytes())?;
+    out.push(b'"')?;
+    Ok(())
+}
+
+// Puts what is told of a file behind a text, as it is loaded: that it is refused, and nothing of one that is taken.
+fn push_loading(turn: &Turn<'_>, out: &mut Vec<u8>) -> Result<(), AllocError>
+    ensures { OnOk result (out.new.items ≡ out.old.items ++ loading_text (seen_turn turn.now)) }
+{
+    match turn {
+        Turn::Told(text) if text.as_slice() != TAKEN => out.extend_from_slice(text.as_slice()),
+        _ => Ok(()),
+    }
+}
+
+// Adds the profiles of a file, as a line of the session would, and puts behind a text why it is refused, if it is.
+fn load_file(
+    alloc: Global,
+    files: &Files,
+    base: &str,
+    session: &mut Session,
+    name: &str,
+    out: &mut Vec<u8>,
+) -> Result<(), AllocError>
+    ensures { OnOk result ((text : List ℕ) × (out.new.items ≡ out.old.items ++ text)
+        × LoadsOne files.now base.now session.old name.now session.new text) }
+{
+    let mut line = Vec::new(alloc);
+    push_add_line(name, &mut line)?;
+    let turn = session.answer(alloc, files, base, line.as_slice())?;
+    push_loading(&turn, out)
+}
+
+// The same of each file of these names.
+fn load_each(
+    alloc: Global,
+    files: &Files,
+    base: &str,
+    session: &mut Session,
+    names: &[String],
+    out: &mut Vec<u8>,
+) -> Result<(), AllocError>
+    ensures { OnOk result ((text : List ℕ) × (out.new.items ≡ out.old.items ++ text)
+        × LoadsEach files.now base.now session.old (map string_bytes names.now) session.new text) }
+{
+    for name in names {
+        load_file(alloc, files, base, session, name.as_str(), out)?;
+    }
+    Ok(())
+}
+
+// Reads all below the folder again, and puts behind a text that it is so. Where something can't be read, that is told, and what was read before stays.
+fn reload<F: Folders, D: FileSystem>(
+    alloc: Global,
+    folders: &F,
+    disk: &D,
+    base: &str,
+    policy: &mut Policy,
+    out: &mut Vec<u8>,
+) -> Result<(), AllocError>
+    requires { AreAtTop policy.old }
+    ensures read { OnOk result ((text : List ℕ) × (out.new.items ≡ out.old.items ++ text)
+        × IsReadAnew (F.members_at folders.now) (D.bytes_at disk.now) base.now policy.old.files policy.new.files text) }
+    ensures top { AreAtTop policy.new }
+{
+    match policy_below(alloc, folders, disk, base) {
+        Ok(read) => {
+            *policy = read;
+            out.extend_from_slice(TAKEN)
+        }
+        Err(fault) => push_told(&fault, out),
+    }
+}
+
+// Puts what is told of an answer behind a text, and says whether the session goes on. What is to be read again is read.
+fn tell<F: Folders, D: FileSystem>(
+    alloc: Global,
+    folders: &F,
+    disk: &D,
+    base: &str,
+    policy: &mut Policy,
+    session: &Session,
+    turn: Turn<'_>,
+    out: &mut Vec<u8>,
+) -> Result<bool, AllocError>
+    requires top { AreAtTop policy.old }
+    requires askable { IsAskable turn }
+    ensures told { IfOk result (λ _. (text : List ℕ) × (out.new.items ≡ out.old.items ++ text)
+        × IsTold (F.members_at folders.now) (D.bytes_at disk.now) base.now (record { files = policy.old.files; kept = session.now }) (seen_turn turn.entry)
+        policy.new.files text) }
+    ensures goes { IfOk result (λ goes. goes ≡ goes_on (seen_turn turn.entry)) }
+    ensures top { AreAtTop policy.new }
+{
+    match turn {
+        Turn::Told(text) => {
+            out.extend_from_slice(text.as_slice())?;
+            Ok(true)
+        }
+        Turn::Quit => Ok(false),
+        Turn::Reload => {
+            reload(alloc, folders, disk, base, policy, out)?;
+            Ok(true)
+        }
+        Turn::Why(question) => {
+            push_answer_of(
+                alloc,
+                &policy.files,
+                base.as_bytes(),
+                &policy.top,
+                session.manager(),
+                &question,
+                out,
+            )?;
+            Ok(true)
+        }
+    }
+}
+
+// Answers a line of the session: puts what is told of it behind a text, and says whether the session goes on.
+fn answer_line<F: Folders, D: FileSystem>(
+    alloc: Global,
+    folders: &F,
+    disk: &D,
+    base: &str,
+    table: &mut Table,
+    line: &[u8],
+    out: &mut Vec<u8>,
+) -> Result<bool, AllocError>
+    requires { AreAtTop table.old.policy }
+    ensures turn { IfOk result (λ goes. (text : List ℕ) × (out.new.items ≡ out.old.items ++ text)
+        × IsTurn (F.members_at folders.now) (D.bytes_at disk.now) base.now (seen_table table.old) line.now (seen_table table.new) text goes) }
+    ensures top { AreAtTop table.new.policy }
+{
+    let turn = table
+        .session
+        .answer(alloc, &table.policy.files, base, line)?;
+    tell(
+        alloc,
+        folders,
+        disk,
+        base,
+        &mut table.policy,
+        &table.session,
+        turn,
+        out,
+    )
+}
+
+// Writes a text.
+fn show<W: Sink>(alloc: Global, writer: &mut W, text: &[u8]) -> Result<(), Fault>
+    ensures { OnOk result (Appends (W.written writer.old) (W.written writer.new) text.now) }
+{
+    match write(alloc, writer, text) {
+        Ok(()) => Ok(()),
+        Err(_) => Err(Fault::Write),
+    }
+}
+
+// Reads the next line, and says whether there is one.
+fn next_line<S: Source>(
+    reader: &mut S,
+    input: &mut LineInput,
+    line: &mut LineBuffer,
+) -> Result<bool, Fault>
+    requires { S.reads reader.old ≤ 2 ^ 63 }
+    ensures given { IfOk result (GivesLine (S.left reader.old) (S.left reader.new) input.old input.new line.new) }
+    ensures bound { S.reads reader.new ≤ S.reads reader.old + most_reads }
+{
+    match input.next(reader, line) {
+        Ok(is_line) => Ok(is_line),
+        Err(_) => Err(Fault::Read),
+    }
+}
+
+// Prompts, answers the next line and writes what is told of it, and says whether the session goes on.
+fn step<F: Folders, D: FileSystem, S: Source, W: Sink>(
+    alloc: Global,
+    folders: &F,
+    disk: &D,
+    base: &str,
+    prompt: &[u8],
+    table: &mut Table,
+    reader: &mut S,
+    input: &mut LineInput,
+    line: &mut LineBuffer,
+    writer: &mut W,
+) -> Result<bool, Fault>
+    requires reads { S.reads reader.old ≤ 2 ^ 63 }
+    requires top { AreAtTop table.old.policy }
+    ensures on { IfOk result (λ goes. goes ≡ true → (taken : List ℕ)
+        × IsStep (F.members_at folders.now) (D.bytes_at disk.now) base.now prompt.now
+        (standing (S.left reader.old) input.old (W.written writer.old) table.old) taken
+        (standing (S.left reader.new) input.new (W.written writer.new) table.new) true) }
+    ensures off { IfOk result (λ goes. goes ≡ false
+        → IsLastStep (F.members_at folders.now) (D.bytes_at disk.now) base.now prompt.now
+        (standing (S.left reader.old) input.old (W.written writer.old) table.old)
+        (standing (S.left reader.new) input.new (W.written writer.new) table.new)) }
+    ensures top { AreAtTop table.new.policy }
+    ensures bound { S.reads reader.new ≤ S.reads reader.old + most_reads }
+{
+    show(alloc, writer, prompt)?;
+    if !next_line(reader, input, line)? {
+        return Ok(false);
+    }
+    let mut text = Vec::new(alloc);
+    let goes = answer_line(
+        alloc,
+        folders,
+        disk,
+        base,
+        table,
+        line.as_slice(),
+        &mut text,
+    )?;
+    show(alloc, writer, &text)?;
+    Ok(goes)
+}
+
+// Answers the lines of an input one behind the other, to the session's end.
+fn run<F: Folders, D: FileSystem, S: Source, W: Sink>(
+    alloc: Global,
+    folders: &F,
+    disk: &D,
+    base: &str,
+    prompt: &[u8],
+    table: &mut Table,
+    reader: &mut S,
+    input: &mut LineInput,
+    line: &mut LineBuffer,
+    writer: &mut W,
+) -> Result<(), Fault>
+    requires reads { S.reads reader.old ≤ 2 ^ 62 }
+    requires top { AreAtTop table.old.policy }
+    ensures { OnOk result (IsRun (F.members_at folders.now) (D.bytes_at disk.now) base.now prompt.now
+        (standing (S.left reader.old) input.old (W.written writer.old) table.old)
+        (standing (S.left reader.new) input.new (W.written writer.new) table.new)) }
+{
+    for _count in 0..MOST_LINES {
+        let goes = step(
+            alloc, folders, disk, base, prompt, table, reader, input, line, writer,
+        )?;
+        if !goes {
+            return Ok(());
+        }
+    }
+    Err(Fault::Read)
+}
+
+// Begins a session over a folder: the files at its top are added, each in its turn, and those that are refused are told behind a text.
+fn begin<F: Folders, D: FileSystem>(
+    alloc: Global,
+    folders: &F,
+    disk: &D,
+    base: &str,
+    out: &mut Vec<u8>,
+) -> Result<Table, Fault>
+    ensures below { IfOk result (λ table. AreBelow (F.members_at folders.now) (D.bytes_at disk.now) base.now table.policy.files) }
+    ensures top { IfOk result (λ table. AreAtTop table.policy) }
+    ensures loaded { IfOk result (λ table. (text : List ℕ) × (out.new.items ≡ out.old.items ++ text)
+        × LoadsEach table.policy.files base.now (begun false) (top_names (names_of table.policy.files)) table.session text) }
+{
+    let policy = policy_below(alloc, folders, disk, base)?;
+    let mut session = Session::new(alloc, false);
+    load_each(alloc, &policy.files, base, &mut session, &policy.top, out)?;
+    Ok(Table { policy, session })
+}
+
+/// Has a session over a folder of policy: finds and reads all files below it as `check_folder` does, adds the profiles of those at its top, each file in
+/// its turn, and tells those that are refused. Then each line of the input is answered as `aatry_session::Session::answer` answers it, until a line ends
+/// the session, or the input does. `prompt` is written before each line is read. `reload` reads all below the folder again, and `why` is answered with
+/// the rules, as the files have them that were read last.
+///
+/// # Errors
+///
+/// - `Unreadable` with the first folder or file that can't be read, `TooMany` where there are more than 65,536: nothing was read of the input then.
+/// - `Read` where a read of the input failed, a line took more than 2,147,483,648 reads, or 1,073,741,824 lines didn't end the session.
+/// - `Write` where a write failed.
+/// - `NoMemory` where memory ran out.
+pub fn session_over<F: Folders, D: FileSystem, S: Source, W: Sink>(
+    alloc: Global,
+    folders: &F,
+    disk: &D,
+    base: &str,
+    prompt: &[u8],
+    reader: &mut S,
+    writer: &mut W,
+) -> Result<(), Fault>
+    requires { S.reads reader.old ≤ 2 ^ 62 }
+    ensures { OnOk result (IsSession (F.members_at folders.now) (D.bytes_at disk.now) base.now prompt.now
+        (S.left reader.old) (W.written writer.old) (W.written writer.new)) }
+{
+    let mut text = Vec::new(alloc);
+    let mut table = begin(alloc, folders, disk, base, &mut text)?;
+    let mut input = LineInput::new(alloc)?;
+    let mut line = LineBuffer::new(alloc)?;
+    show(alloc, writer, &text)?;
+    run(
+        alloc, folders, disk, base, prompt, &mut table, reader, &mut input, &mut line, writer,
+    )
+}

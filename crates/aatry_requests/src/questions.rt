@@ -1,0 +1,50 @@
+//! Questions by who asks, and by what they ask of rules.
+
+ghost use Rattle.std.specs.Prelude.{◌≡◌};
+ghost use Rattle.aa_profile_access.specs.SeenRequests.{request_of};
+ghost use Rattle.aa_set_answers.specs.Answers.{who_asks};
+ghost use Rattle.aa_set_commands.specs.Question.{seen_question};
+ghost use Rattle.aatry_requests.specs.Questions.{rule_request};
+
+use aa_profile_access::{Perms, Request};
+use aa_set_commands::Question;
+
+/// What a question asks of rules: of the start of a program, whether it may be started at all.
+pub fn rule_request<'a>(question: &Question<'a>) -> Request<'a>
+    ensures { request_of result ≡ rule_request (seen_question question.entry.now) }
+{
+    match question {
+        Question::File {
+            needs,
+            owned,
+            path,
+            ..
+        } => Request::File {
+            needs: *needs,
+            owned: *owned,
+            path,
+        },
+        Question::Exec { owned, path, .. } => Request::File {
+            needs: Perms::EXEC,
+            owned: *owned,
+            path,
+        },
+        Question::Cap { number, .. } => Request::Cap(*number),
+        Question::Net { domain, kind, .. } => Request::Net {
+            domain: *domain,
+            kind: *kind,
+        },
+    }
+}
+
+/// Who asks.
+pub fn who_asks<'a>(question: &Question<'a>) -> &'a [u8]
+    ensures { result.now ≡ who_asks (seen_question question.entry.now) }
+{
+    match question {
+        Question::File { who, .. } => who,
+        Question::Exec { who, .. } => who,
+        Question::Cap { who, .. } => who,
+        Question::Net { who, .. } => who,
+    }
+}
