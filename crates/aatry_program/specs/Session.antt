@@ -2,6 +2,7 @@
 use Rattle.std.specs.Prelude.{◌≡◌, ◌⊎◌, ℕ, Bool, true, false, if◌then◌else◌, List, [], ◌∷◌, ◌++◌, Option, codes}
 use Rattle.std.specs.Io.KnownBytes.{Appends}
 use Rattle.std.specs.Str.{bytes_eq}
+use Rattle.aa_bytes.specs.Bytes.{line_feed}
 use Rattle.aa_set_answers.specs.Answers.{reply_lines}
 use Rattle.aa_set_lines.specs.WordLaws.{in_quotes}
 use Rattle.aa_text_files.specs.Files.{File}
@@ -11,6 +12,7 @@ use Rattle.aatry_line_input.specs.Inputs.{GivesLine}
 use Rattle.aatry_program.specs.Checking.{AreBelow, top_names}
 use Rattle.aatry_program.specs.Fault.{told_line}
 use Rattle.aatry_program.specs.declared.fault.Fault.{Fault}
+use Rattle.aatry_report.specs.Shown.{shown}
 use Rattle.aatry_session.specs.History.{ok_line}
 use Rattle.aatry_session.specs.Turns.{Answer, Kept, Told, Ended, Anew, Asked, begun, turn_outcome}
 
@@ -23,17 +25,21 @@ pub record State : Type 0 where
 abbrev pub add_line : List ℕ → List ℕ
 add_line name = codes "add " ++ in_quotes name
 
--- what is told of a file as it is loaded: that it is refused, and nothing of one that is taken
-abbrev pub loading_text : Answer → List ℕ
-loading_text (Told text) = if bytes_eq text ok_line then [] else text
-loading_text answer = []
+-- the line of a file that is left out
+abbrev pub left_out_line : List ℕ → List ℕ
+left_out_line name = codes "left out: " ++ shown name ++ line_feed ∷ []
 
--- The profiles of a file were added, as a line of the session would add them, and the text tells whether it is refused.
+-- what is told of a file as it is loaded: that it is left out, and why; and nothing of one that is taken
+abbrev pub loading_text : List ℕ → Answer → List ℕ
+loading_text name (Told text) = if bytes_eq text ok_line then [] else left_out_line name ++ text
+loading_text name answer = []
+
+-- The profiles of a file were added, as a line of the session would add them, and the text tells whether it is left out.
 abbrev pub LoadsOne : List File → List ℕ → Kept → List ℕ → Kept → List ℕ → Type 0
 LoadsOne files base before name after text =
     (answer : Answer) × (flag : Bool) × (words : List ℕ)
     × (record { answer = answer; kept = after } ≡ turn_outcome files base words before (add_line name) flag)
-    × (text ≡ loading_text answer)
+    × (text ≡ loading_text name answer)
 
 -- The same of each of these files in its turn.
 abbrev pub LoadsEach : List File → List ℕ → Kept → List (List ℕ) → Kept → List ℕ → Type 0

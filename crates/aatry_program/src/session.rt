@@ -7,7 +7,7 @@ ghost use Rattle.aatry_line_input.specs.Inputs.{GivesLine, most_reads};
 ghost use Rattle.aatry_program.specs.Checking.{AreBelow, top_names};
 ghost use Rattle.aatry_program.specs.Fault.{told_line};
 ghost use Rattle.aatry_program.specs.Session.{IsLastStep, IsReadAnew, IsRun, IsSession, IsStep, IsTold, IsTurn, LoadsEach, LoadsOne};
-ghost use Rattle.aatry_program.specs.Session.{add_line, goes_on, loading_text};
+ghost use Rattle.aatry_program.specs.Session.{add_line, goes_on, left_out_line, loading_text};
 ghost use Rattle.aatry_program.specs.code.Sessions.{AreAtTop, seen_table, standing};
 ghost use Rattle.aatry_session.specs.Turns.{Told, begun, turn_outcome};
 ghost use Rattle.aatry_session.specs.code.Seen.{IsAskable, seen_turn};
@@ -22,6 +22,7 @@ use aaset_gather::FileSystem;
 use aatry_asking::push_answer_of;
 use aatry_folder::Folders;
 use aatry_line_input::LineInput;
+use aatry_report::push_shown;
 use aatry_session::{Session, Turn};
 use std::alloc::{AllocError, Global};
 
@@ -48,17 +49,30 @@ fn push_add_line(name: &str, out: &mut Vec<u8>) -> Result<(), AllocError>
     Ok(())
 }
 
-// Puts what is told of a file behind a text, as it is loaded: that it is refused, and nothing of one that is taken.
-fn push_loading(turn: &Turn<'_>, out: &mut Vec<u8>) -> Result<(), AllocError>
-    ensures { OnOk result (out.new.items ≡ out.old.items ++ loading_text (seen_turn turn.now)) }
+// Puts the line of a file that is left out behind a text.
+fn push_left_out(name: &str, out: &mut Vec<u8>) -> Result<(), AllocError>
+    ensures { OnOk result (out.new.items ≡ out.old.items ++ left_out_line name.now) }
+{
+    out.extend_from_slice(b"left out: ")?;
+    push_shown(out, name.as_bytes())?;
+    out.push(b'\n')?;
+    Ok(())
+}
+
+// Puts what is told of a file behind a text, as it is loaded: that it is left out, and why; and nothing of one that is taken.
+fn push_loading(name: &str, turn: &Turn<'_>, out: &mut Vec<u8>) -> Result<(), AllocError>
+    ensures { OnOk result (out.new.items ≡ out.old.items ++ loading_text name.now (seen_turn turn.now)) }
 {
     match turn {
-        Turn::Told(text) if text.as_slice() != TAKEN => out.extend_from_slice(text.as_slice()),
+        Turn::Told(text) if text.as_slice() != TAKEN => {
+            push_left_out(name, out)?;
+            out.extend_from_slice(text.as_slice())
+        }
         _ => Ok(()),
     }
 }
 
-// Adds the profiles of a file, as a line of the session would, and puts behind a text why it is refused, if it is.
+// Adds the profiles of a file, as a line of the session would, and puts behind a text why it is left out, if it is.
 fn load_file(
     alloc: Global,
     files: &Files,
@@ -73,7 +87,7 @@ fn load_file(
     let mut line = Vec::new(alloc);
     push_add_line(name, &mut line)?;
     let turn = session.answer(alloc, files, base, line.as_slice())?;
-    push_loading(&turn, out)
+    push_loading(name, &turn, out)
 }
 
 // The same of each file of these names.
