@@ -7,7 +7,7 @@ use Rattle.std.specs.List.{filter}
 use Rattle.std.specs.Map.{lookup}
 use Rattle.std.specs.Str.{bytes_eq}
 use Rattle.aa_history.specs.Machine.{AreUpTo, up_to, with_number}
-use Rattle.aa_history.specs.code.Entries.{entries}
+use Rattle.aa_history.specs.SeenMarks.{seen_marks}
 use Rattle.aa_history.specs.declared.marks.Mark.{Mark}
 
 -- where no mark is above a number, none is dropped
@@ -53,12 +53,12 @@ pub found_within : (most : ℕ) (test : List ℕ → Bool) (marks : List (List �
 found_within most test marks number h e = subst (λ found. IfSome found (λ number. number ≤ most)) e (lookup-within most test marks h)
 
 -- the marks in memory of which those above a number were dropped
-pub entries-filter : (number : ℕ) (marks : List Mark) → entries (filter (λ mark. leb mark.number number) marks) ≡ up_to number (entries marks)
-entries-filter number [] = refl
-entries-filter number (mark ∷ marks) = by (entries-filter number marks) (leb mark.number number)
+pub seen_marks-filter : (number : ℕ) (marks : List Mark) → seen_marks (filter (λ mark. leb mark.number number) marks) ≡ up_to number (seen_marks marks)
+seen_marks-filter number [] = refl
+seen_marks-filter number (mark ∷ marks) = by (seen_marks-filter number marks) (leb mark.number number)
   where
-    by : entries (filter (λ mark. leb mark.number number) marks) ≡ up_to number (entries marks) → (test : Bool) → entries (cond test (mark ∷ filter (λ mark. leb mark.number number) marks) (filter (λ mark. leb mark.number number) marks))
-        ≡ cond test ((mark.name.items, mark.number) ∷ up_to number (entries marks)) (up_to number (entries marks))
+    by : seen_marks (filter (λ mark. leb mark.number number) marks) ≡ up_to number (seen_marks marks) → (test : Bool) → seen_marks (cond test (mark ∷ filter (λ mark. leb mark.number number) marks) (filter (λ mark. leb mark.number number) marks))
+        ≡ cond test ((mark.name.items, mark.number) ∷ up_to number (seen_marks marks)) (up_to number (seen_marks marks))
     by same true = ap (λ rest. (mark.name.items, mark.number) ∷ rest) same
     by same false = same
 
@@ -82,15 +82,15 @@ set_between xs place x h =
 -- the name's number was set where the name was found
 pub set_found : (marks : List Mark) (place : ℕ) (mark new : Mark) (name : List ℕ) → place < length marks → mark ≡ slice_index_or marks place mark
     → bytes_eq mark.name.items name ≡ true → new.name.items ≡ mark.name.items
-    → entries (slice_set marks place new) ≡ entries (take place marks) ++ with_number name new.number (entries (drop place marks))
+    → seen_marks (slice_set marks place new) ≡ seen_marks (take place marks) ++ with_number name new.number (seen_marks (drop place marks))
 set_found marks place mark new name h value found same =
-    let rest : List (List ℕ × ℕ) = entries (drop (place + 1) marks) in
+    let rest : List (List ℕ × ℕ) = seen_marks (drop (place + 1) marks) in
     let is : mark.name.items ≡ name = (bytes_eq-Decides mark.name.items name).0 found in
     let split : drop place marks ≡ mark ∷ drop (place + 1) marks = drop_more marks place mark h ∙ ap (λ first. first ∷ drop (place + 1) marks) (sym value) in
-    ap entries (set_between marks place new h)
+    ap seen_marks (set_between marks place new h)
     ∙ map-append (λ (mark : Mark). (mark.name.items, mark.number)) (take place marks) (new ∷ drop (place + 1) marks)
-    ∙ ap (λ back. entries (take place marks) ++ back) (
+    ∙ ap (λ back. seen_marks (take place marks) ++ back) (
     ap (λ (name : List ℕ). (name, new.number) ∷ rest) (same ∙ is)
-    ∙ sym (ap (λ marks. with_number name new.number (entries marks)) split
+    ∙ sym (ap (λ marks. with_number name new.number (seen_marks marks)) split
     ∙ ap (λ test. cond test ((name, new.number) ∷ rest) ((mark.name.items, mark.number) ∷ with_number name new.number rest)) found)
     )

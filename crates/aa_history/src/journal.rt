@@ -4,9 +4,10 @@ ghost use Rattle.std.specs.Prelude.{◌≡◌, ◌+◌, ◌<◌, ◌≤◌, [], 
 ghost use Rattle.std.specs.Prelude.{IfErr, OnOk, OnErr, None, vec_capacity};
 ghost use Rattle.aa_history.specs.Machine.{all_sets, begun, can_go_back, can_go_on, committed, gone_back, gone_on};
 ghost use Rattle.aa_history.specs.Machine.{gone_to_mark, gone_to_number, is_marked, marked, with_mark};
+ghost use Rattle.aa_history.specs.SeenMarks.{seen_marks};
 
 use crate::change::Change;
-use crate::marks::Marks;
+use crate::marks::{Mark, Marks};
 use crate::tend::Tend;
 use std::alloc::{AllocError, Global};
 use std::marker::Model;
@@ -225,6 +226,13 @@ impl<S: Drop, C: Change<S>> Journal<S, C> {
         ensures new_name { OnErr result (marked name.items self.old.machine ≡ None) }
     {
         self.marks.set(name, self.done)
+    }
+
+    /// The marks, in the order in which their names were first given. It takes no memory.
+    pub fn marks(&self) -> &[Mark]
+        ensures { seen_marks result.now ≡ self.now.machine.marks }
+    {
+        self.marks.as_slice()
     }
 
     /// How many changes had been made to the state that is marked by a name, where one is. It takes no memory.

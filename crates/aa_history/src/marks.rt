@@ -4,15 +4,18 @@ ghost use Rattle.std.specs.Prelude.{◌≡◌, [], OnOk, OnErr, IfErr, None};
 ghost use Rattle.std.specs.Map.{lookup};
 ghost use Rattle.std.specs.Str.{bytes_eq};
 ghost use Rattle.aa_history.specs.Machine.{up_to, with_number};
+ghost use Rattle.aa_history.specs.SeenMarks.{seen_marks};
 
 use std::alloc::{AllocError, Global};
 use std::marker::Model;
 
-// A name, and how many sets are earlier than the one that it marks.
+/// A mark of a set. Contracts see many of them by `seen_marks`.
 #[derive(Drop)]
-struct Mark {
-    name: Vec<u8>,
-    number: usize,
+pub struct Mark {
+    /// The name that marks the set.
+    pub name: Vec<u8>,
+    /// How many sets are earlier than the marked one.
+    pub number: usize,
 }
 
 /// Names, each with a number: how many sets are earlier than the one that it marks.
@@ -28,13 +31,13 @@ pub(crate) struct Marks {
 impl Model for Marks {
     ghost use Rattle.std.specs.Prelude.{ℕ, List};
     ghost use Rattle.aa_history.specs.Machine.{AreUpTo};
-    ghost use Rattle.aa_history.specs.code.Entries.{entries};
+    ghost use Rattle.aa_history.specs.SeenMarks.{seen_marks};
 
     ghost Value = { List (List ℕ × ℕ) };
 
-    ghost view = { λ m. entries m.marks.items };
+    ghost view = { λ m. seen_marks m.marks.items };
 
-    ghost invariant = { λ m. AreUpTo m.greatest (entries m.marks.items) };
+    ghost invariant = { λ m. AreUpTo m.greatest (seen_marks m.marks.items) };
 }
 
 impl Marks {
@@ -46,6 +49,13 @@ impl Marks {
             marks: Vec::new(alloc),
             greatest: 0,
         }
+    }
+
+    /// All of them, in their order.
+    pub(crate) fn as_slice(&self) -> &[Mark]
+        ensures { seen_marks result.now ≡ self.now }
+    {
+        &self.marks
     }
 
     /// The number that a name has. It takes no memory.
@@ -82,11 +92,9 @@ impl Marks {
     }
 }
 
-ghost use Rattle.aa_history.specs.code.Entries.{entries};
-
 // The number that a name has among marks.
 fn number_among(marks: &[Mark], name: &[u8]) -> Option<usize>
-    ensures { result ≡ lookup (λ other. bytes_eq other name.now) (entries marks.now) }
+    ensures { result ≡ lookup (λ other. bytes_eq other name.now) (seen_marks marks.now) }
 {
     let mut rest = marks;
     while let [mark, behind @ ..] = rest {
@@ -104,10 +112,10 @@ fn set_among(
     name: Vec<u8>,
     number: usize,
 ) -> Result<(), (Vec<u8>, AllocError)>
-    ensures ok { OnOk result (entries marks.new.items ≡ with_number name.items number (entries marks.old.items)) }
+    ensures ok { OnOk result (seen_marks marks.new.items ≡ with_number name.items number (seen_marks marks.old.items)) }
     ensures handed_back { IfErr result (λ refused. refused.0 ≡ name) }
     ensures unchanged { OnErr result (marks.new.items ≡ marks.old.items) }
-    ensures new_name { OnErr result (lookup (λ other. bytes_eq other name.items) (entries marks.old.items) ≡ None) }
+    ensures new_name { OnErr result (lookup (λ other. bytes_eq other name.items) (seen_marks marks.old.items) ≡ None) }
 {
     for place in 0..marks.len() {
         let mark = &mut marks[place];
@@ -124,7 +132,7 @@ fn set_among(
 
 // Drops the marks whose numbers are above this one.
 fn keep_among(marks: &mut Vec<Mark>, number: usize)
-    ensures { entries marks.new.items ≡ up_to number (entries marks.old.items) }
+    ensures { seen_marks marks.new.items ≡ up_to number (seen_marks marks.old.items) }
 {
     marks.retain(|mark| mark.number <= number);
 }

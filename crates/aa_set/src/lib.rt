@@ -7,6 +7,7 @@ mod reply;
 mod session;
 mod writing;
 
+pub use aa_history::Mark;
 pub use aa_profile::{GrammarRefusal, ProfileRefusal};
 pub use aa_profile_access::Perms;
 pub use aa_set_changes::PolicySet;

@@ -1,6 +1,7 @@
 //! The manager: a policy set with its history.
 
 ghost use Rattle.std.specs.Prelude.{◌≡◌, Ok, Err, IfOk, IfErr, OnOk, OnErr, false, length, true, sum};
+ghost use Rattle.aa_history.specs.SeenMarks.{seen_marks};
 ghost use Rattle.aa_set_answers.specs.Answers.{asks_absent, reply_lines, shown, shows_absent};
 ghost use Rattle.aa_set_changes.specs.Changes.{is_disabled, is_loaded};
 ghost use Rattle.aa_set_commands.specs.Command.{Add, Remove, Replace};
@@ -14,7 +15,9 @@ ghost use Rattle.aa_profile_data.specs.declared.profile.Mode.TheVariants.{Compla
 
 use aa_bytes::Sequence;
 use aa_decide::{Asker, Entry, Request};
-use aa_history::{Journal, what_machines_keep, what_marked_sets_stand_for, what_sets_stand_for};
+use aa_history::{
+    Journal, Mark, what_machines_keep, what_marked_sets_stand_for, what_sets_stand_for,
+};
 use aa_profile::read_file;
 use aa_profile_data::Mode;
 use aa_set_answers::{access_lines, exec_lines, find_asker, shown_lines};
@@ -83,6 +86,13 @@ impl Manager {
         ensures { result ≡ length self.now.machine.earlier }
     {
         self.journal.depth()
+    }
+
+    /// The marks, in the order in which their names were first given. It takes no memory.
+    pub fn marks(&self) -> &[Mark]
+        ensures { seen_marks result.now ≡ self.now.machine.marks }
+    {
+        self.journal.marks()
     }
 
     /// How many parts all changes have together, of those that can be undone and of those that can be redone: one for a
