@@ -10,7 +10,7 @@ ghost use Rattle.aatry_program.specs.Session.{IsLastStep, IsReadAnew, IsRun, IsS
 ghost use Rattle.aatry_program.specs.Session.{add_line, goes_on, left_out_line, loading_text};
 ghost use Rattle.aatry_program.specs.code.Sessions.{AreAtTop, seen_table, standing};
 ghost use Rattle.aatry_session.specs.Turns.{Told, begun, turn_outcome};
-ghost use Rattle.aatry_session.specs.code.Seen.{IsAskable, seen_turn};
+ghost use Rattle.aatry_session.specs.SeenTurns.{IsAskable, seen_turn};
 ghost use Rattle.std.specs.Io.KnownBytes.{Appends};
 
 use crate::asking::{Policy, policy_below};

@@ -1,6 +1,7 @@
--- The history of a session: the texts of its changes, those that are done, oldest first, and then those that are undone, the next to redo first.
+-- The history of a session: the texts of its changes, those that are done, oldest first, and then those that are undone, the next to redo first; and the
+-- marks, each a name and how many changes led to the marked set.
 use Rattle.std.specs.Prelude.{ℕ, ◌+◌, List, [], ◌∷◌, ◌++◌, Option, None, Some, Result, Ok}
-use Rattle.std.specs.Prelude.{codes, drop, flat_map, if◌then◌else◌, nat_lt, reverse, take}
+use Rattle.std.specs.Prelude.{codes, drop, flat_map, if◌then◌else◌, nat_eq, nat_lt, reverse, take}
 use Rattle.std.specs.Fmt.{decimal}
 use Rattle.aa_bytes.specs.Bytes.{line_feed}
 use Rattle.aa_set.specs.declared.reply.Reply.{Reply}
@@ -30,17 +31,31 @@ texts_after done text Done texts = take done texts ++ text ∷ []
 texts_after done text _ texts = texts
 
 -- what stands between the number of a change and its text, where so many stand before it and so many are done
-abbrev pub mark_of : ℕ → ℕ → List ℕ
-mark_of before done = if nat_lt before done then codes " " else codes " undone: "
+abbrev pub behind_number : ℕ → ℕ → List ℕ
+behind_number before done = if nat_lt before done then codes " " else codes " undone: "
 
--- a line of the history
-abbrev pub history_line : ℕ → List ℕ → List ℕ → List ℕ
-history_line number mark text = decimal number ++ mark ++ text ++ line_feed ∷ []
+-- a line of the history: a change, with its number
+abbrev pub change_line : ℕ → ℕ → List ℕ → List ℕ
+change_line before done text = decimal (before + 1) ++ behind_number before done ++ text ++ line_feed ∷ []
 
--- the lines of these changes, where so many stand before them and so many are done: each with its number, from 1
-abbrev pub history_lines : ℕ → ℕ → List (List ℕ) → List ℕ
-history_lines before done [] = []
-history_lines before done (text ∷ texts) = history_line (before + 1) (mark_of before done) text ++ history_lines (before + 1) done texts
+-- a line of the history: a mark, by its name
+abbrev pub mark_line : List ℕ → List ℕ
+mark_line name = codes "  mark " ++ shown name ++ line_feed ∷ []
+
+-- the line of a mark, if it marks the set that so many changes led to
+abbrev pub line_of_mark_at : ℕ → List ℕ × ℕ → List ℕ
+line_of_mark_at number mark = if nat_eq mark.1 number then mark_line mark.0 else []
+
+-- the lines of the marks of that set, in the marks' order
+abbrev pub mark_lines : ℕ → List (List ℕ × ℕ) → List ℕ
+mark_lines number marks = flat_map (line_of_mark_at number) marks
+
+-- The lines of these changes, where so many stand before them and so many are done: each with its number, from 1, and behind each the marks of the set
+-- that it led to. Ahead of them the marks of the set before them.
+abbrev pub history_lines : ℕ → ℕ → List (List ℕ × ℕ) → List (List ℕ) → List ℕ
+history_lines before done marks [] = mark_lines before marks
+history_lines before done marks (text ∷ texts) =
+    mark_lines before marks ++ change_line before done text ++ history_lines (before + 1) done marks texts
 
 -- a line that tells a change
 abbrev pub move_line : List ℕ → List ℕ → List ℕ

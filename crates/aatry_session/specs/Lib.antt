@@ -3,5 +3,5 @@ pub mod History
 pub mod Laws
 pub mod Refusals
 pub mod Sayings
+pub mod SeenTurns
 pub mod Turns
-pub mod code

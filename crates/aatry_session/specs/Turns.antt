@@ -85,7 +85,7 @@ said_outcome files base words kept line flag Command =
     let change = change_in (command_in line) in
     record { answer = Told (told_of files base words kept change line flag); kept = kept_after files kept change line flag }
 said_outcome files base words kept line flag Help = record { answer = Told help_text; kept = kept }
-said_outcome files base words kept line flag History = record { answer = Told (history_lines 0 (depth kept.managed) kept.texts); kept = kept }
+said_outcome files base words kept line flag History = record { answer = Told (history_lines 0 (depth kept.managed) kept.managed.machine.marks kept.texts); kept = kept }
 said_outcome files base words kept line flag Quit = record { answer = Ended; kept = kept }
 said_outcome files base words kept line flag Reload = record { answer = Anew; kept = kept }
 said_outcome files base words kept line flag (Why question) = record { answer = Asked question; kept = kept }

@@ -12,7 +12,7 @@ undo [N], redo [N]: go changes back or forward
 mark NAME, back NAME: mark the policy set, and go to it
 ask, why: file NAME ACCESS OWNED PATH, exec NAME OWNED PATH, cap NAME CAPABILITY, or net NAME DOMAIN TYPE
 list, show NAME: tell what is loaded
-history: tell the changes
+history: tell the changes, and the marks
 reload: read the files anew
 help, quit
 ";

@@ -1,14 +1,16 @@
 //! The texts of a session's changes, and the history that they make.
 
-ghost use Rattle.std.specs.Prelude.{◌≡◌, ◌<◌, ◌++◌, ◌∷◌, [], OnOk, length, take, vec_capacity};
+ghost use Rattle.std.specs.Prelude.{◌≡◌, ◌+◌, ◌<◌, ◌^◌, ◌++◌, ◌∷◌, [], OnOk, length, take, vec_capacity};
 ghost use Rattle.std.specs.Option.{option_map};
+ghost use Rattle.aa_history.specs.SeenMarks.{seen_marks};
 ghost use Rattle.aa_set.specs.Laws.{command_in};
 ghost use Rattle.aa_set_commands.specs.Command.{seen_change};
 ghost use Rattle.aatry_report.specs.Shown.{shown};
-ghost use Rattle.aatry_session.specs.History.{change_in, change_text, history_line, history_lines, mark_of, texts_after};
+ghost use Rattle.aatry_session.specs.History.{behind_number, change_in, change_line, change_text, history_lines, mark_line, mark_lines};
+ghost use Rattle.aatry_session.specs.History.{texts_after};
 
 use aa_bytes::Sequence;
-use aa_set::Reply;
+use aa_set::{Mark, Reply};
 use aa_set_commands::{Command, PolicyChange, read};
 use aatry_report::push_shown;
 use itoa::Buffer;
@@ -69,43 +71,71 @@ fn put(texts: &mut Vec<Sequence<u8>>, done: usize, text: Sequence<u8>)
 }
 
 // What stands between the number of a change and its text.
-fn mark_of(before: usize, done: usize) -> &'static str
-    ensures { result.now ≡ mark_of before done }
+fn behind_number(before: usize, done: usize) -> &'static str
+    ensures { result.now ≡ behind_number before done }
 {
     if before < done { " " } else { " undone: " }
 }
 
-// Puts a line of the history behind a text.
-fn push_history_line(
+// Puts the line of a change behind a text.
+fn push_change_line(
     out: &mut Vec<u8>,
-    number: usize,
-    mark: &str,
+    before: usize,
+    done: usize,
     text: &[u8],
 ) -> Result<(), AllocError>
-    ensures { OnOk result (out.new.items ≡ out.old.items ++ history_line number mark.now text.now) }
+    requires { before + 1 < 2 ^ 64 }
+    ensures { OnOk result (out.new.items ≡ out.old.items ++ change_line before done text.now) }
 {
     let mut digits = Buffer::new();
-    out.extend_from_slice(digits.format(number).as_bytes())?;
-    out.extend_from_slice(mark.as_bytes())?;
+    out.extend_from_slice(digits.format(before + 1).as_bytes())?;
+    out.extend_from_slice(behind_number(before, done).as_bytes())?;
     out.extend_from_slice(text)?;
     out.push(b'\n')?;
     Ok(())
 }
 
-/// Puts the history behind a text: a line for each change, the first `done` of which are done, the others undone.
+// Puts the line of a mark behind a text.
+fn push_mark_line(out: &mut Vec<u8>, name: &[u8]) -> Result<(), AllocError>
+    ensures { OnOk result (out.new.items ≡ out.old.items ++ mark_line name.now) }
+{
+    out.extend_from_slice(b"  mark ")?;
+    push_shown(out, name)?;
+    out.push(b'\n')?;
+    Ok(())
+}
+
+// Puts the lines of those marks behind a text that mark the set which so many changes led to.
+fn push_mark_lines(out: &mut Vec<u8>, number: usize, marks: &[Mark]) -> Result<(), AllocError>
+    ensures { OnOk result (out.new.items ≡ out.old.items ++ mark_lines number (seen_marks marks.now)) }
+{
+    let mut rest = marks;
+    while let [mark, behind @ ..] = rest {
+        if mark.number == number {
+            push_mark_line(out, &mark.name)?;
+        }
+        rest = behind;
+    }
+    Ok(())
+}
+
+/// Puts the history behind a text: a line for each change, the first `done` of which are done, the others undone, and behind it one for each mark of the
+/// policy set that it led to.
 pub fn push_history(
     out: &mut Vec<u8>,
     done: usize,
+    marks: &[Mark],
     texts: &[Sequence<u8>],
 ) -> Result<(), AllocError>
-    ensures { OnOk result (out.new.items ≡ out.old.items ++ history_lines 0 done texts.now) }
+    ensures { OnOk result (out.new.items ≡ out.old.items ++ history_lines 0 done (seen_marks marks.now) texts.now) }
 {
     let mut before = 0;
     let mut rest = texts;
     while let [text, behind @ ..] = rest {
-        push_history_line(out, before + 1, mark_of(before, done), text.as_slice())?;
+        push_mark_lines(out, before, marks)?;
+        push_change_line(out, before, done, text.as_slice())?;
         before += 1;
         rest = behind;
     }
-    Ok(())
+    push_mark_lines(out, before, marks)
 }

@@ -4,7 +4,7 @@ ghost use Rattle.std.specs.Prelude.{◌≡◌, Bool, ℕ, List, IfOk};
 ghost use Rattle.aatry_session.specs.Help.{help_text};
 ghost use Rattle.aatry_session.specs.History.{history_lines};
 ghost use Rattle.aatry_session.specs.Turns.{Told, begun, depth, turn_outcome};
-ghost use Rattle.aatry_session.specs.code.Seen.{IsAskable, seen_turn};
+ghost use Rattle.aatry_session.specs.SeenTurns.{IsAskable, seen_turn};
 
 use crate::help::push_help;
 use crate::history::push_history;
@@ -113,11 +113,16 @@ impl Session {
 
     // The history, told.
     fn history<'a>(&self, alloc: Global) -> Result<Turn<'a>, AllocError>
-        ensures told { IfOk result (λ turn. seen_turn turn ≡ Told (history_lines 0 (depth self.now.managed) self.now.texts)) }
+        ensures told { IfOk result (λ turn. seen_turn turn ≡ Told (history_lines 0 (depth self.now.managed) self.now.managed.machine.marks self.now.texts)) }
         ensures askable { IfOk result IsAskable }
     {
         let mut out = Vec::new(alloc);
-        push_history(&mut out, self.manager.depth(), &self.texts)?;
+        push_history(
+            &mut out,
+            self.manager.depth(),
+            self.manager.marks(),
+            &self.texts,
+        )?;
         Ok(Turn::Told(Sequence::from_vec(out)))
     }
 }

@@ -1,12 +1,14 @@
 use Rattle.std.proofs.Common.{◌≡◌, ◌+◌, ◌++◌, length}
+use Rattle.aa_history.specs.SeenMarks.{seen_marks}
 use Rattle.aatry_session.specs.History.{history_lines}
 use Rattle.aatry_session.proofs.history.push_history.Given as goal
 
--- the text so far, with the lines of the changes that are left, is all
+-- the text so far, with the lines of what is left, is all
 abbrev pub invariant-loop-rest : goal.invariant-loop-rest
 invariant-loop-rest l = record {
   counted : l.before + length l.rest ≡ length l.texts;
-  told : l.out.items ++ history_lines l.before l.done l.rest ≡ l.initial.out.items ++ history_lines 0 l.done l.texts;
+  told : l.out.items ++ history_lines l.before l.done (seen_marks l.marks) l.rest
+      ≡ l.initial.out.items ++ history_lines 0 l.done (seen_marks l.marks) l.texts;
 }
 
 abbrev pub decreases-loop-rest : goal.decreases-loop-rest

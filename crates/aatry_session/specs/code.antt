@@ -1,2 +1,0 @@
--- What is about the code: the turns that it gives.
-pub mod Seen
