@@ -8,9 +8,11 @@ use Rattle.aatry_arguments.specs.AskingWords.{AskingAsked, asking_with}
 use Rattle.aatry_arguments.specs.CheckWords.{CheckAsked, check_with}
 use Rattle.aatry_arguments.specs.Arguments.{CommandAsked, ForCheck, ForDiff, ForSession, ForTest, ForWho, ForWhy}
 use Rattle.aatry_arguments.specs.DiffWords.{ComparisonAsked, LogAt, QuestionsAt, SourceAsked, comparison_with}
+use Rattle.aatry_arguments.specs.Forms.{CallAsked, call_with}
 use Rattle.aatry_arguments.specs.SessionWords.{SessionAsked, session_with}
 use Rattle.aatry_arguments.specs.TestWords.{TestAsked, test_with}
 use Rattle.aatry_arguments.specs.declared.arguments.Asking.{Asking}
+use Rattle.aatry_arguments.specs.declared.arguments.Call.{Call}
 use Rattle.aatry_arguments.specs.declared.arguments.Check.{Check}
 use Rattle.aatry_arguments.specs.declared.arguments.Comparison.{Comparison}
 use Rattle.aatry_arguments.specs.declared.arguments.RequestSource.{RequestSource}
@@ -55,6 +57,10 @@ meant_command (command.Who asking) = ForWho (meant_asking asking)
 meant_command (command.Why asking) = ForWhy (meant_asking asking)
 meant_command (command.Diff comparison) = ForDiff (meant_comparison comparison)
 meant_command (command.Session session) = ForSession (meant_session session)
+
+-- the call that is meant
+abbrev pub meant_call : Call → CallAsked
+meant_call call = call_with call.form (meant_command call.command)
 
 -- What is asked for is given, help and the version are given where they are asked for, and all else is refused. Memory may run out at any time.
 abbrev pub IsGivenFor : {A B : Type 0} → (B → A) → Asked A → Result B ArgumentFault → Type 0

@@ -5,6 +5,7 @@ pub mod CheckLine
 pub mod CheckWords
 pub mod DiffLine
 pub mod DiffWords
+pub mod Forms
 pub mod Given
 pub mod SessionWords
 pub mod TestWords

@@ -1,5 +1,16 @@
 //! What the arguments ask for, and why they may ask for no command.
 
+use aatry_record::Form;
+
+/// A command, and the form in which it tells what it finds.
+#[derive(Debug, Drop)]
+pub struct Call {
+    /// The form: lines, unless records are asked for.
+    pub form: Form,
+    /// The command.
+    pub command: Command,
+}
+
 /// A command, with what its arguments say.
 #[derive(Debug, Drop)]
 pub enum Command {

@@ -21,6 +21,7 @@ Arguments:
 
 Options:
   -b <DIR>    The folder of policy, /etc/apparmor.d unless it is given
+  --json      Tells in records of JSON, one a line
   -h, --help  Prints help
 
 All files below DIR are read, as check reads them; those at its top that are refused are told
@@ -51,6 +52,7 @@ Arguments:
 
 Options:
   -b <DIR>    The folder of policy, /etc/apparmor.d unless it is given
+  --json      Tells in records of JSON, one a line
   -h, --help  Prints help
 
 All files below DIR are read, as check reads them; those at its top that are refused are told

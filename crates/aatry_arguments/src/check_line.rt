@@ -17,7 +17,8 @@ Of each file one of these is told:
   FILE: taken: PROFILE..           The file is taken, with these profiles
   FILE:LINE:COLUMN: what is wrong  It is refused. The line follows, with a caret below it
 
-Rules of kinds that decide nothing here, as mount or dbus, are read and counted.
+Rules of kinds that decide nothing here, as mount or dbus, are read and counted. With --json, which
+stands ahead of any --, each file is told as a record of JSON, on a line of its own.
 
 Exit status:
   0  Each file was taken, or help was asked for

@@ -27,6 +27,7 @@ Arguments:
 Options:
   --log <FILE>        A log that tells of requests, as audit.log or syslog
   --questions <FILE>  A file of questions, each a line of the words behind ask of aaset
+  --json              Tells in records of JSON, one a line
   -h, --help          Prints help
 
 One FILE can be given. Where an option is given again, the last counts.

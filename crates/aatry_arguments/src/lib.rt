@@ -1,4 +1,4 @@
-//! What the words of `aatry`'s arguments ask for: one of its commands, help, the version, or nothing that there is.
+//! What the words of `aatry`'s arguments ask for: one of its commands, in a form, help, the version, or nothing that there is.
 #![tactic(auto)]
 
 mod arguments;
@@ -8,15 +8,16 @@ mod check_words;
 mod diff_line;
 mod diff_words;
 mod faults;
+mod forms;
 mod laws;
 mod reading;
 mod session_words;
 mod test_words;
 
 pub use arguments::{
-    ArgumentFault, Asking, Check, Command, Comparison, RequestSource, Session, Test,
+    ArgumentFault, Asking, Call, Check, Command, Comparison, RequestSource, Session, Test,
 };
+pub use forms::call_of;
 pub use laws::{
     what_askings_have, what_checks_have, what_comparisons_have, what_sessions_have, what_tests_have,
 };
-pub use reading::command_of;

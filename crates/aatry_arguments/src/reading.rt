@@ -1,5 +1,5 @@
 //! Reading of the arguments: which command is meant, and its words.
-ghost use Rattle.std.specs.Prelude.{drop, map, string_bytes};
+ghost use Rattle.std.specs.Prelude.{map, string_bytes};
 ghost use Rattle.aatry_arguments.specs.Arguments.{asked, asked_by_first};
 ghost use Rattle.aatry_arguments.specs.Given.{IsVersion, IsGivenFor, meant_command};
 
@@ -28,6 +28,7 @@ Commands:
   test     Runs transcripts of commands over a folder of policy, and tells each reply that differs
 
 Options:
+  --json         Behind check, why, who and diff: tells in records of JSON, one a line
   -h, --help     Prints help, and behind a COMMAND help on it
   -V, --version  Prints the version
 ";
@@ -77,31 +78,12 @@ fn command_by(alloc: Global, first: &str, words: &[String]) -> Result<Command, A
     }
 }
 
-/// The command that is asked for by the words that the program was started with.
-///
-/// The first word is the program's own name, whatever it is, and the second is the command's name. Behind `check` a word is a NAME, behind `test`
-/// a FILE, behind `who` and `why` a word of the question, and behind `diff` a folder, unless it is an option: a hyphen and more behind it. Behind
-/// `session` there is none but options. Behind the word `--` none is an option.
-///
-/// `-b` takes the path of the folder of policy, and behind `diff`, which has no `-b`, `--log` and `--questions` take the path of a file. The path
-/// stands behind the option in its word, without one `=` between behind `-b` and with it behind the others, or else it is the next word, which then
-/// is no option and no `--`. Such an option may stand before, between and behind the other words, and where it is given again, the last counts.
-///
-/// # Errors
-///
-/// - `Help` where there is no second word, or it is `--help` or `-h`. Behind a command, where the first option that takes no path is one of these,
-///   with or without other letters behind `-h`.
-/// - `Version` where the second word is `--version` or `-V`.
-/// - `Bad` where the second word is any other. Behind a command, where the first option that takes no path is any other, or where one that takes a
-///   path comes before it without one. Behind `test`, where there is no FILE. Behind `who`, where the words of the question aren't three, and behind
-///   `why`, where there is none. Behind `diff`, where the folders aren't two, or both `--log` and `--questions` are given. Behind `session`, where
-///   there is a word that is no option.
-/// - `Memory` where memory ran out.
-pub fn command_of(alloc: Global, words: &[String]) -> Result<Command, ArgumentFault>
-    ensures { IsGivenFor meant_command (asked (drop 1 (map string_bytes words.now))) result }
+/// The command that is asked for by the words behind the program's own name.
+pub fn command_behind(alloc: Global, words: &[String]) -> Result<Command, ArgumentFault>
+    ensures { IsGivenFor meant_command (asked (map string_bytes words.now)) result }
 {
     match words {
-        [_, first, behind @ ..] => command_by(alloc, first.as_str(), behind),
-        _ => Err(help_with(alloc, HELP)),
+        [first, behind @ ..] => command_by(alloc, first.as_str(), behind),
+        [] => Err(help_with(alloc, HELP)),
     }
 }

@@ -1,65 +1,86 @@
 -- What is told of questions to the policy of a folder (docs/aatry.md).
-use Rattle.std.specs.Prelude.{◌≡◌, ℕ, Bool, true, false, not, List, [], ◌++◌, map, Option, None, Result, Ok, Err}
+use Rattle.std.specs.Prelude.{◌≡◌, ℕ, Bool, true, false, not, List, [], ◌∷◌, ◌++◌, codes, map, Option, None, Result, Ok, Err}
+use Rattle.std.specs.List.{after_first, before_first}
+use Rattle.serde_json.specs.Data.{Members}
+use Rattle.aa_bytes.specs.Bytes.{line_feed}
 use Rattle.aa_bytes.specs.Texts.{is_empty}
 use Rattle.aa_decide_verdict.specs.Entries.{Loaded}
-use Rattle.aa_set.specs.Manager.{new_manager}
 use Rattle.aa_set_answers.specs.Answers.{reply_lines, who_asks}
 use Rattle.aa_set_commands.specs.Question.{OfAccess, OfExec, Question, question_of}
+use Rattle.aa_set_commands.specs.Refusal.{name_of, number_of}
 use Rattle.aa_set_commands.specs.declared.refusal.Refusal.{Refusal}
+use Rattle.aa_set_lines.specs.Lines.{is_line_feed}
 use Rattle.aa_text_files.specs.Files.{File}
-use Rattle.aatry_asking.specs.LeftOut.{left_out_lines, refused_line}
 use Rattle.aatry_asking.specs.Questions.{letting_words}
 use Rattle.aatry_asking.specs.Rules.{TellsRules, file_of, wants_nearest}
-use Rattle.aatry_policy.specs.Policies.{loaded, outcomes}
+use Rattle.aatry_policy.specs.Folders.{Folder, left_out_in, outcomes_in, policy_in}
+use Rattle.aatry_policy.specs.LeftOut.{refusal_text}
+use Rattle.aatry_record.specs.Records.{record_line, record_of, with_number, with_text}
+use Rattle.aatry_record.specs.declared.form.Form.{Form}
+use Rattle.aatry_record.specs.declared.form.Form.TheVariants.{Lines, Records}
 use Rattle.aatry_requests.specs.Questions.{rule_request}
 use Rattle.aatry_transition.specs.How.{how_lines}
 use Rattle.aatry_who.specs.Who.{who_lines}
-
--- the policy set of the files of these names, each added in its turn
-abbrev pub policy_of : List File → List (List ℕ) → List Loaded
-policy_of files names = (loaded files (new_manager false) names).machine.now
-
--- why each of them is left out, if it is
-abbrev pub outcomes_of : List File → List (List ℕ) → List (Option Refusal)
-outcomes_of files names = outcomes files (new_manager false) names
-
--- the lines of those that are left out
-abbrev pub left_out_of : List File → List ℕ → List (List ℕ) → List ℕ
-left_out_of files base names = left_out_lines base names (outcomes_of files names)
 
 -- of files of which none is left out, there is no refusal
 abbrev pub none_refused : List (List ℕ) → List (Option Refusal)
 none_refused names = map (λ name. None) names
 
 -- how the answer to the start of a program came about, behind the rules that decide; of any other question nothing is told
-abbrev pub how_of : List Loaded → Question → List ℕ
-how_of entries (OfAccess who request) = []
-how_of entries (OfExec who owned path) = how_lines entries who owned path
+abbrev pub how_of : Form → List Loaded → Question → List ℕ
+how_of form entries (OfAccess who request) = []
+how_of form entries (OfExec who owned path) = how_lines form entries who owned path
 
--- Lines tell the reply to a question, behind it the rules that led to it, and how; or why the question is refused.
+-- the first line of a reply, which is the answer, and the one behind it, which logs it, if there is one
+abbrev pub answer_line : List ℕ → List ℕ
+answer_line reply = before_first is_line_feed reply
+
+abbrev pub audit_line : List ℕ → List ℕ
+audit_line reply = before_first is_line_feed (after_first is_line_feed reply)
+
+-- a record of a reply
+abbrev pub reply_record : List ℕ → Members
+reply_record reply = with_text (codes "audit") (audit_line reply) (with_text (codes "answer") (answer_line reply) (record_of (codes "answer")))
+
+-- what is told of a reply
+abbrev pub reply_text : Form → List ℕ → List ℕ
+reply_text Lines reply = reply
+reply_text Records reply = record_line (reply_record reply)
+
+-- a record of a question that is refused
+abbrev pub refused_record : Refusal → Members
+refused_record refusal =
+    with_text (codes "refusal") (name_of refusal.refusal) (with_number (codes "number") (number_of refusal.refusal) (record_of (codes "refused")))
+
+-- what is told of a question that is refused
+abbrev pub refused_text : Form → Refusal → List ℕ
+refused_text Lines refusal = codes "refused " ++ refusal_text refusal ++ line_feed ∷ []
+refused_text Records refusal = record_line (refused_record refusal)
+
+-- A text tells the reply to a question, behind it the rules that led to it, and how; or why the question is refused.
 abbrev pub IsAnswered :
-    List File → List ℕ → List (List ℕ) → List (Option Refusal) → Question → List ℕ → Result (List ℕ) Refusal → List ℕ → Bool → Type 0
-IsAnswered files base names outcomes question how (Ok reply) lines found =
-    (rules : List ℕ) × (lines ≡ reply ++ rules ++ how)
-    × TellsRules files base (who_asks question) (rule_request question) (wants_nearest reply) (file_of files (who_asks question) names outcomes) rules
+    Form → List File → List ℕ → List (List ℕ) → List (Option Refusal) → Question → List ℕ → Result (List ℕ) Refusal → List ℕ → Bool → Type 0
+IsAnswered form files base names outcomes question how (Ok reply) text found =
+    (rules : List ℕ) × (text ≡ reply_text form reply ++ rules ++ how)
+    × TellsRules form files base (who_asks question) (rule_request question) (wants_nearest reply) (file_of files (who_asks question) names outcomes) rules
     × (found ≡ true)
-IsAnswered files base names outcomes question how (Err refusal) lines found = (lines ≡ refused_line refusal) × (found ≡ false)
+IsAnswered form files base names outcomes question how (Err refusal) text found = (text ≡ refused_text form refusal) × (found ≡ false)
 
--- The words ask a question of the policy set, and a text tells the files that are left out and what is answered.
-abbrev pub IsWhyTold : List File → List ℕ → List (List ℕ) → List (List ℕ) → List ℕ → Bool → Type 0
-IsWhyTold files base names words text found =
+-- The words ask a question of the policy set of a folder, and a text tells the files that are left out and what is answered.
+abbrev pub IsWhyTold : Form → Folder → List (List ℕ) → List ℕ → Bool → Type 0
+IsWhyTold form folder words text found =
     (question : Question) × (question_of words ≡ Ok question)
-    × (lines : List ℕ) × (text ≡ left_out_of files base names ++ lines)
-    × IsAnswered files base names (outcomes_of files names) question (how_of (policy_of files names) question)
-    (reply_lines (policy_of files names) question) lines found
+    × (own : List ℕ) × (text ≡ left_out_in form folder ++ own)
+    × IsAnswered form folder.files folder.base folder.names (outcomes_in folder) question (how_of form (policy_in folder) question)
+    (reply_lines (policy_in folder) question) own found
 
 -- somebody is told
 abbrev pub is_let : List ℕ → Bool
-is_let lines = not (is_empty lines)
+is_let text = not (is_empty text)
 
 -- The words ask for a file, and a text tells the files that are left out and who would be let through.
-abbrev pub IsWhoTold : List File → List ℕ → List (List ℕ) → List (List ℕ) → List ℕ → Bool → Type 0
-IsWhoTold files base names words text found =
+abbrev pub IsWhoTold : Form → Folder → List (List ℕ) → List ℕ → Bool → Type 0
+IsWhoTold form folder words text found =
     (question : Question) × (question_of (letting_words words) ≡ Ok question)
-    × (text ≡ left_out_of files base names ++ who_lines (rule_request question) (policy_of files names))
-    × (found ≡ is_let (who_lines (rule_request question) (policy_of files names)))
+    × (text ≡ left_out_in form folder ++ who_lines form (rule_request question) (policy_in folder))
+    × (found ≡ is_let (who_lines form (rule_request question) (policy_in folder)))

@@ -5,6 +5,7 @@ use Rattle.aa_profile.specs.FileReading.{file_profiles}
 use Rattle.aa_profile_access.specs.Request.{Request}
 use Rattle.aa_set_commands.specs.declared.refusal.Refusal.{Refusal}
 use Rattle.aa_text_files.specs.Files.{File}
+use Rattle.aatry_record.specs.declared.form.Form.{Form}
 use Rattle.aatry_why_lines.specs.Askers.{IsAsker, asker_in}
 use Rattle.aatry_why_lines.specs.Why.{TellWhy}
 
@@ -22,12 +23,12 @@ file_of files who (name ∷ names) (outcome ∷ outcomes) =
     if is_none outcome && has_asker files who name then Some name else file_of files who names outcomes
 file_of files who _ _ = None
 
--- lines tell the rules behind the answer, as a file has them of who asks
-abbrev pub HasRules : List File → List ℕ → List ℕ → List ℕ → Request → Bool → List ℕ → Type 0
-HasRules files base name who request nearest lines =
-    (index : ℕ) × (child : Option ℕ) × IsAsker files name who index child × TellWhy files base name index child request nearest lines
+-- a text tells the rules behind the answer, as a file has them of who asks
+abbrev pub HasRules : Form → List File → List ℕ → List ℕ → List ℕ → Request → Bool → List ℕ → Type 0
+HasRules form files base name who request nearest text =
+    (index : ℕ) × (child : Option ℕ) × IsAsker files name who index child × TellWhy form files base name index child request nearest text
 
--- the same of the file that has who asks, if one has; else there is no line
-abbrev pub TellsRules : List File → List ℕ → List ℕ → Request → Bool → Option (List ℕ) → List ℕ → Type 0
-TellsRules files base who request nearest None lines = lines ≡ []
-TellsRules files base who request nearest (Some name) lines = HasRules files base name who request nearest lines
+-- the same of the file that has who asks, if one has; else nothing is told
+abbrev pub TellsRules : Form → List File → List ℕ → List ℕ → Request → Bool → Option (List ℕ) → List ℕ → Type 0
+TellsRules form files base who request nearest None text = text ≡ []
+TellsRules form files base who request nearest (Some name) text = HasRules form files base name who request nearest text

@@ -1,23 +1,23 @@
 //! Questions to the policy of a folder.
 
 ghost use Rattle.std.specs.Prelude.{◌≡◌, ◌++◌, ℕ, List, false, is_ok, IfErr, IfOk, OnOk, map, string_bytes};
-ghost use Rattle.aa_set.specs.Manager.{new_manager};
 ghost use Rattle.aa_set_answers.specs.Answers.{reply_lines, who_asks};
 ghost use Rattle.aa_set_commands.specs.Question.{IsWellFormed, question_of, seen_question};
 ghost use Rattle.aatry_asking.specs.Asking.{IsAnswered, IsWhoTold, IsWhyTold, how_of, is_let, none_refused};
 ghost use Rattle.aatry_asking.specs.Questions.{letting_words};
 ghost use Rattle.aatry_asking.specs.declared.question.QuestionFault.TheVariants as fault;
 ghost use Rattle.aatry_asking.specs.Rules.{TellsRules, file_of};
-ghost use Rattle.aatry_policy.specs.Policies.{loaded, outcomes};
+ghost use Rattle.aatry_policy.specs.Folders.{seen_folder};
 ghost use Rattle.aatry_requests.specs.Questions.{rule_request};
 
-use crate::left_out::{push_left_out, push_refused};
 use crate::question::{QuestionFault, letting_question, question_by};
+use crate::replies::{push_refused, push_reply};
 use crate::rules::{push_rules, wants_nearest};
 use aa_set::Manager;
 use aa_set_commands::{Question, Refusal, RefusalKind};
 use aa_text_files::Files;
-use aatry_policy::load;
+use aatry_policy::{Folder, load_folder};
+use aatry_record::Form;
 use aatry_requests::{rule_request, who_asks};
 use aatry_transition::push_how;
 use aatry_who::who_lines;
@@ -26,7 +26,7 @@ use std::alloc::{AllocError, Global};
 /// What a question came to.
 #[derive(Debug, Drop)]
 pub struct Answered {
-    /// What is told, each line with its line feed.
+    /// What is told, each line or record with its line feed.
     pub text: Vec<u8>,
     /// Whether the question has an answer, or whether there is somebody whom it is about.
     pub found: bool,
@@ -35,15 +35,24 @@ pub struct Answered {
 // Puts behind a text how the answer to the start of a program came about; of any other question, nothing.
 fn push_how_of(
     alloc: Global,
+    form: Form,
     manager: &Manager,
     question: &Question<'_>,
     out: &mut Vec<u8>,
 ) -> Result<(), AllocError>
-    ensures { OnOk result (out.new.items ≡ out.old.items ++ how_of manager.now.machine.now (seen_question question.entry.now)) }
+    ensures { OnOk result (out.new.items ≡ out.old.items ++ how_of form manager.now.machine.now (seen_question question.entry.now)) }
 {
     match question {
         Question::Exec { who, owned, path } => {
-            push_how(alloc, &manager.policy_set().slots(), who, *owned, path, out)
+            push_how(
+                alloc,
+                form,
+                &manager.policy_set().slots(),
+                who,
+                *owned,
+                path,
+                out,
+            )
         }
         _ => Ok(()),
     }
@@ -52,6 +61,7 @@ fn push_how_of(
 // Puts the rules behind an answer behind a text, and how it came about.
 fn push_reasons(
     alloc: Global,
+    form: Form,
     files: &Files,
     base: &[u8],
     names: &[String],
@@ -62,21 +72,22 @@ fn push_reasons(
     out: &mut Vec<u8>,
 ) -> Result<(), AllocError>
     ensures { OnOk result ((rules : List ℕ)
-        × (out.new.items ≡ out.old.items ++ rules ++ how_of manager.now.machine.now (seen_question question.entry.now))
-        × TellsRules files.now base.now (who_asks (seen_question question.entry.now)) (rule_request (seen_question question.entry.now)) nearest
+        × (out.new.items ≡ out.old.items ++ rules ++ how_of form manager.now.machine.now (seen_question question.entry.now))
+        × TellsRules form files.now base.now (who_asks (seen_question question.entry.now)) (rule_request (seen_question question.entry.now)) nearest
         (file_of files.now (who_asks (seen_question question.entry.now)) (map string_bytes names.now) outcomes.now) rules) }
 {
     let who = who_asks(question);
     let request = rule_request(question);
     push_rules(
-        alloc, files, base, names, outcomes, who, &request, nearest, out,
+        alloc, form, files, base, names, outcomes, who, &request, nearest, out,
     )?;
-    push_how_of(alloc, manager, question, out)
+    push_how_of(alloc, form, manager, question, out)
 }
 
 // Puts the answer to a question behind a text, and the rules behind it, and says whether there is an answer.
 fn push_answer(
     alloc: Global,
+    form: Form,
     files: &Files,
     base: &[u8],
     names: &[String],
@@ -87,16 +98,16 @@ fn push_answer(
 ) -> Result<bool, AllocError>
     requires { IsWellFormed question.now }
     ensures { IfOk result (λ found. (lines : List ℕ) × (out.new.items ≡ out.old.items ++ lines)
-        × IsAnswered files.now base.now (map string_bytes names.now) outcomes.now (seen_question question.entry.now)
-        (how_of manager.now.machine.now (seen_question question.entry.now))
+        × IsAnswered form files.now base.now (map string_bytes names.now) outcomes.now (seen_question question.entry.now)
+        (how_of form manager.now.machine.now (seen_question question.entry.now))
         (reply_lines manager.now.machine.now (seen_question question.entry.now)) lines found) }
 {
     match manager.ask(question) {
         Ok(reply) => {
-            out.extend_from_slice(&reply)?;
+            push_reply(alloc, form, &reply, out)?;
             let nearest = wants_nearest(&reply);
             push_reasons(
-                alloc, files, base, names, outcomes, manager, question, nearest, out,
+                alloc, form, files, base, names, outcomes, manager, question, nearest, out,
             )?;
             Ok(true)
         }
@@ -104,7 +115,7 @@ fn push_answer(
             if refusal.refusal == RefusalKind::Memory {
                 return Err(AllocError);
             }
-            push_refused(out, refusal)?;
+            push_refused(alloc, form, refusal, out)?;
             Ok(false)
         }
     }
@@ -130,6 +141,7 @@ fn none_refused(alloc: Global, names: &[String]) -> Result<Vec<Option<Refusal>>,
 /// Where memory runs out. A beginning may have been put then.
 pub fn push_answer_of(
     alloc: Global,
+    form: Form,
     files: &Files,
     base: &[u8],
     names: &[String],
@@ -139,19 +151,23 @@ pub fn push_answer_of(
 ) -> Result<bool, AllocError>
     requires { IsWellFormed question.now }
     ensures { IfOk result (λ found. (lines : List ℕ) × (out.new.items ≡ out.old.items ++ lines)
-        × IsAnswered files.now base.now (map string_bytes names.now) (none_refused (map string_bytes names.now)) (seen_question question.entry.now)
-        (how_of manager.now.machine.now (seen_question question.entry.now))
+        × IsAnswered form files.now base.now (map string_bytes names.now) (none_refused (map string_bytes names.now)) (seen_question question.entry.now)
+        (how_of form manager.now.machine.now (seen_question question.entry.now))
         (reply_lines manager.now.machine.now (seen_question question.entry.now)) lines found) }
 {
     let outcomes = none_refused(alloc, names)?;
-    push_answer(alloc, files, base, names, &outcomes, manager, question, out)
+    push_answer(
+        alloc, form, files, base, names, &outcomes, manager, question, out,
+    )
 }
 
-/// What the policy of a folder answers to a question, and the rules behind the answer. The policy set is that of the files of these names, each
-/// added in its turn; a line tells each of them that is left out. Then come the lines that `ask` would be answered, and behind them the rules, each
-/// with the place where it is written (`aatry_why_lines`); where something isn't allowed, the nearest rules too; and of the start of a program
-/// where its transition leads and what its path may be attached to (`aatry_transition`). Where nobody of the name is loaded, a line tells the
-/// refusal. `base` is the folder that `files` were taken from, without a `/` at its end.
+/// What the policy of a folder answers to a question, and the rules behind the answer, told in a form. First come the files that are left out
+/// (`aatry_policy::load_folder`). Then comes what `ask` would be answered, and behind it the rules, each with the place where it is written
+/// (`aatry_why_lines`); where something isn't allowed, the nearest rules too; and of the start of a program where its transition leads and what its
+/// path may be attached to (`aatry_transition`). Where nobody of the name is loaded, the refusal is told.
+///
+/// As records, the reply is one of the kind `answer`, with the texts `answer` and `audit`, the line that logs it, which is empty where none does; and a
+/// refusal is one of the kind `refused`, with `number` and `refusal`.
 ///
 /// # Errors
 ///
@@ -159,24 +175,22 @@ pub fn push_answer_of(
 /// - `Memory` where memory ran out.
 pub fn why(
     alloc: Global,
-    files: &Files,
-    base: &str,
-    names: &[String],
+    form: Form,
+    folder: &Folder<'_>,
     words: &[String],
 ) -> Result<Answered, QuestionFault>
-    ensures told { IfOk result (λ answered. IsWhyTold files.now base.now (map string_bytes names.now) (map string_bytes words.now)
-        answered.text.items answered.found) }
+    ensures told { IfOk result (λ answered. IsWhyTold form (seen_folder folder.now) (map string_bytes words.now) answered.text.items answered.found) }
     ensures bad { IfErr result (λ told. told ≡ fault.Bad → is_ok (question_of (map string_bytes words.now)) ≡ false) }
 {
     let question = question_by(alloc, words)?;
-    let policy = load(alloc, files, names)?;
     let mut text = Vec::new(alloc);
-    push_left_out(&mut text, base.as_bytes(), names, &policy.outcomes)?;
+    let policy = load_folder(alloc, form, folder, &mut text)?;
     let found = push_answer(
         alloc,
-        files,
-        base.as_bytes(),
-        names,
+        form,
+        folder.files,
+        folder.base,
+        folder.names,
         &policy.outcomes,
         &policy.manager,
         &question,
@@ -185,15 +199,15 @@ pub fn why(
     Ok(Answered { text, found })
 }
 
-// Whether lines tell somebody.
-fn is_let(lines: &[u8]) -> bool
-    ensures { result ≡ is_let lines.now }
+// Whether a text tells somebody.
+fn is_let(text: &[u8]) -> bool
+    ensures { result ≡ is_let text.now }
 {
-    !lines.is_empty()
+    !text.is_empty()
 }
 
 /// Which profiles, children and hats of a folder would let a request for a file through, by its access, its owner's word and its path, as
-/// `aatry_who::who_lines` tells them. The policy set is made as `why` makes it, and a line tells each file that is left out.
+/// `aatry_who::who_lines` tells them in a form. First come the files that are left out (`aatry_policy::load_folder`).
 ///
 /// # Errors
 ///
@@ -201,27 +215,25 @@ fn is_let(lines: &[u8]) -> bool
 /// - `Memory` where memory ran out.
 pub fn who(
     alloc: Global,
-    files: &Files,
-    base: &str,
-    names: &[String],
+    form: Form,
+    folder: &Folder<'_>,
     words: &[String],
 ) -> Result<Answered, QuestionFault>
-    ensures told { IfOk result (λ answered. IsWhoTold files.now base.now (map string_bytes names.now) (map string_bytes words.now)
-        answered.text.items answered.found) }
+    ensures told { IfOk result (λ answered. IsWhoTold form (seen_folder folder.now) (map string_bytes words.now) answered.text.items answered.found) }
     ensures bad { IfErr result (λ told. told ≡ fault.Bad → is_ok (question_of (letting_words (map string_bytes words.now))) ≡ false) }
 {
     let question = letting_question(alloc, words)?;
-    let policy = load(alloc, files, names)?;
     let mut text = Vec::new(alloc);
-    push_left_out(&mut text, base.as_bytes(), names, &policy.outcomes)?;
-    let lines = who_lines(
+    let policy = load_folder(alloc, form, folder, &mut text)?;
+    let own = who_lines(
         alloc,
+        form,
         &policy.manager.policy_set(),
         &rule_request(&question),
     )?;
-    text.extend_from_slice(&lines)?;
+    text.extend_from_slice(&own)?;
     Ok(Answered {
         text,
-        found: is_let(&lines),
+        found: is_let(&own),
     })
 }

@@ -2,11 +2,9 @@
 #![tactic(auto)]
 
 mod asking;
-mod comparing;
-mod left_out;
 mod question;
+mod replies;
 mod rules;
 
 pub use asking::{Answered, push_answer_of, who, why};
-pub use comparing::{Compared, Folder, diff};
 pub use question::QuestionFault;

@@ -1,6 +1,6 @@
 //! The questions that words ask.
 
-ghost use Rattle.std.specs.Prelude.{◌≡◌, ◌++◌, ◌∷◌, [], false, is_ok, Ok, IfErr, IfOk, OnOk, codes, map, string_bytes};
+ghost use Rattle.std.specs.Prelude.{◌≡◌, ◌++◌, false, is_ok, Ok, IfErr, IfOk, OnOk, map, string_bytes};
 ghost use Rattle.aa_set_commands.specs.Question.{IsWellFormed, question_of, seen_question};
 ghost use Rattle.aatry_asking.specs.Questions.{letting_words};
 ghost use Rattle.aatry_asking.specs.declared.question.QuestionFault.TheVariants as fault;

@@ -9,6 +9,7 @@ use aa_profile_access::Request;
 use aa_profile_errors::ProfileRefusal;
 use aa_set_commands::Refusal;
 use aa_text_files::Files;
+use aatry_record::Form;
 use aatry_why_lines::push_why_of;
 use std::alloc::{AllocError, Global};
 
@@ -22,6 +23,7 @@ pub fn wants_nearest(reply: &[u8]) -> bool
 // Puts the rules behind a text that a file has of who asks, and says whether it has who asks.
 fn push_rules_in(
     alloc: Global,
+    form: Form,
     files: &Files,
     base: &[u8],
     name: &[u8],
@@ -32,11 +34,13 @@ fn push_rules_in(
 ) -> Result<bool, AllocError>
     ensures found { IfOk result (λ found. found ≡ has_asker files.now who.now name.now) }
     ensures told { IfOk result (λ found. found ≡ true → (lines : List ℕ) × (out.new.items ≡ out.old.items ++ lines)
-        × HasRules files.now base.now name.now who.now (request_of request.entry.now) nearest lines) }
+        × HasRules form files.now base.now name.now who.now (request_of request.entry.now) nearest lines) }
     ensures none { IfOk result (λ found. found ≡ false → out.new.items ≡ out.old.items) }
 {
     let mut own = Vec::new(alloc);
-    match push_why_of(alloc, files, base, name, who, request, nearest, &mut own) {
+    match push_why_of(
+        alloc, form, files, base, name, who, request, nearest, &mut own,
+    ) {
         Ok(found) => {
             out.extend_from_slice(&own)?;
             Ok(found)
@@ -53,6 +57,7 @@ fn push_rules_in(
 // The same, where the file isn't left out; of one that is, nothing is put.
 fn push_rules_if_taken(
     alloc: Global,
+    form: Form,
     files: &Files,
     base: &[u8],
     name: &[u8],
@@ -64,12 +69,12 @@ fn push_rules_if_taken(
 ) -> Result<bool, AllocError>
     ensures found { IfOk result (λ found. found ≡ (is_none outcome && has_asker files.now who.now name.now)) }
     ensures told { IfOk result (λ found. found ≡ true → (lines : List ℕ) × (out.new.items ≡ out.old.items ++ lines)
-        × HasRules files.now base.now name.now who.now (request_of request.entry.now) nearest lines) }
+        × HasRules form files.now base.now name.now who.now (request_of request.entry.now) nearest lines) }
     ensures none { IfOk result (λ found. found ≡ false → out.new.items ≡ out.old.items) }
 {
     match outcome {
         Some(_) => Ok(false),
-        None => push_rules_in(alloc, files, base, name, who, request, nearest, out),
+        None => push_rules_in(alloc, form, files, base, name, who, request, nearest, out),
     }
 }
 
@@ -81,6 +86,7 @@ fn push_rules_if_taken(
 /// Where memory runs out. A beginning may have been put then.
 pub fn push_rules(
     alloc: Global,
+    form: Form,
     files: &Files,
     base: &[u8],
     names: &[String],
@@ -91,7 +97,7 @@ pub fn push_rules(
     out: &mut Vec<u8>,
 ) -> Result<(), AllocError>
     ensures { OnOk result ((lines : List ℕ) × (out.new.items ≡ out.old.items ++ lines)
-        × TellsRules files.now base.now who.now (request_of request.entry.now) nearest
+        × TellsRules form files.now base.now who.now (request_of request.entry.now) nearest
         (file_of files.now who.now (map string_bytes names.now) outcomes.now) lines) }
 {
     let mut left = outcomes;
@@ -102,6 +108,7 @@ pub fn push_rules(
         };
         let found = push_rules_if_taken(
             alloc,
+            form,
             files,
             base,
             name.as_bytes(),

@@ -1,15 +1,16 @@
 -- Nothing is told of parts that are told by the same lines.
-use Rattle.std.proofs.Common.{◌≡◌, ℕ, Bool, true, false, ◌||◌, cond, List, [], ◌∷◌, ◌++◌, codes, flat_map, map, refl, ap, ◌∙◌, subst, sym}
+use Rattle.std.proofs.Common.{◌≡◌, ℕ, Bool, true, false, not, ◌||◌, cond, List, [], ◌∷◌, ◌++◌, codes, flat_map, map, refl, ap, ◌∙◌, subst, sym}
 use Rattle.std.proofs.lemmas.Slice.Eq.{bytes_eq-Decides}
 use Rattle.std.specs.List.{list_any}
 use Rattle.std.specs.Str.{bytes_eq}
-use Rattle.aatry_changes.specs.Changes.{change_lines, changed_above, changed_text, new_text, new_text_by, old_text, old_text_by}
-use Rattle.aatry_changes.specs.Differing.{differing_text, has_text, line_text}
+use Rattle.aatry_changes.specs.Changes.{below_text, change_lines, changed_text, headed, is_changed, new_text, new_text_by, old_text, old_text_by}
+use Rattle.aatry_changes.specs.Differing.{has_text, lack_one}
 use Rattle.aatry_changes.specs.Folders.{FolderParts}
 use Rattle.aatry_changes.specs.Laws.{HaveAlike, texts_of}
 use Rattle.aatry_changes.specs.Lines.{lines_of}
 use Rattle.aatry_changes.specs.declared.lines.Line.{Line}
 use Rattle.aatry_profiles.specs.Parts.{Part}
+use Rattle.aatry_record.specs.declared.form.Form.{Form}
 
 -- a text is one of some
 abbrev is_in : List (List ℕ) → List ℕ → Bool
@@ -42,40 +43,39 @@ own : (texts : List (List ℕ)) → AreIn texts texts
 own [] = tt
 own (text ∷ texts) = (ap (λ b. b || is_in texts text) ((bytes_eq-Decides text text).1 refl), more text texts texts (own texts))
 
--- nothing is told of lines that others don't lack
-none-lacking : (folder : FolderParts) (file sign : List ℕ) (others lines : List Line)
-    → AreIn (map (λ line. line.text) others) (map (λ line. line.text) lines) → differing_text folder file sign others lines ≡ []
-none-lacking folder file sign others [] h = refl
-none-lacking folder file sign others (line ∷ lines) h =
+-- others lack none of these lines where each tells one of their texts
+none-lacking : (others lines : List Line) → AreIn (map (λ line. line.text) others) (map (λ line. line.text) lines) → lack_one others lines ≡ false
+none-lacking others [] h = refl
+none-lacking others (line ∷ lines) h =
     let found : has_text others line.text ≡ true = has-in others line.text ∙ h.0 in
-    ap (λ b. cond b [] (line_text folder file sign line) ++ differing_text folder file sign others lines) found
-    ∙ none-lacking folder file sign others lines h.1
+    ap (λ b. not b || lack_one others lines) found ∙ none-lacking others lines h.1
 
-none-differ : (folder : FolderParts) (file sign : List ℕ) (other part : Part) → texts_of other ≡ texts_of part
-    → differing_text folder file sign (lines_of other) (lines_of part) ≡ []
-none-differ folder file sign other part same =
-    none-lacking folder file sign (lines_of other) (lines_of part) (subst (λ texts. AreIn texts (texts_of part)) (sym same) (own (texts_of part)))
+none-differ : (other part : Part) → texts_of other ≡ texts_of part → lack_one (lines_of other) (lines_of part) ≡ false
+none-differ other part same =
+    none-lacking (lines_of other) (lines_of part) (subst (λ texts. AreIn texts (texts_of part)) (sym same) (own (texts_of part)))
 
 -- a part that is told by the same lines as its counterpart isn't changed
-unchanged : (old new : FolderParts) (part other : Part) → texts_of other ≡ texts_of part → changed_text old new part other ≡ []
-unchanged old new part other same =
-    let before = none-differ old part.file (codes "- ") other part same in
-    let after = none-differ new other.file (codes "+ ") part other (sym same) in
-    ap (changed_above part.name) (ap (λ text. text ++ differing_text new other.file (codes "+ ") (lines_of part) (lines_of other)) before ∙ after)
+same-lines : (part other : Part) → texts_of other ≡ texts_of part → is_changed part other ≡ false
+same-lines part other same =
+    ap (λ b. b || lack_one (lines_of part) (lines_of other)) (none-differ other part same) ∙ none-differ part other (sym same)
 
-old-none : (old new : FolderParts) (parts : List Part) → HaveAlike new.parts parts → flat_map (old_text old new) parts ≡ []
-old-none old new [] alike = refl
-old-none old new (part ∷ parts) alike =
-    let told : old_text old new part ≡ [] = ap (old_text_by old new part) alike.0.1 ∙ unchanged old new part alike.0.0 alike.0.2 in
-    ap (λ text. text ++ flat_map (old_text old new) parts) told ∙ old-none old new parts alike.1
+unchanged : (form : Form) (old new : FolderParts) (part other : Part) → texts_of other ≡ texts_of part → changed_text form old new part other ≡ []
+unchanged form old new part other same =
+    ap (λ b. cond b (headed form (codes "changed") part.name ++ below_text form old new part other) []) (same-lines part other same)
 
-new-none : (old : FolderParts) (parts : List Part) → HaveAlike old.parts parts → flat_map (new_text old) parts ≡ []
-new-none old [] alike = refl
-new-none old (part ∷ parts) alike =
-    let told : new_text old part ≡ [] = ap (new_text_by part) alike.0.1 in
-    ap (λ text. text ++ flat_map (new_text old) parts) told ∙ new-none old parts alike.1
+old-none : (form : Form) (old new : FolderParts) (parts : List Part) → HaveAlike new.parts parts → flat_map (old_text form old new) parts ≡ []
+old-none form old new [] alike = refl
+old-none form old new (part ∷ parts) alike =
+    let told : old_text form old new part ≡ [] = ap (old_text_by form old new part) alike.0.1 ∙ unchanged form old new part alike.0.0 alike.0.2 in
+    ap (λ text. text ++ flat_map (old_text form old new) parts) told ∙ old-none form old new parts alike.1
+
+new-none : (form : Form) (old : FolderParts) (parts : List Part) → HaveAlike old.parts parts → flat_map (new_text form old) parts ≡ []
+new-none form old [] alike = refl
+new-none form old (part ∷ parts) alike =
+    let told : new_text form old part ≡ [] = ap (new_text_by form part) alike.0.1 in
+    ap (λ text. text ++ flat_map (new_text form old) parts) told ∙ new-none form old parts alike.1
 
 -- where each part of either folder has its counterpart in the other, nothing is told
-pub nothing-told : (old new : FolderParts) → HaveAlike old.parts new.parts → HaveAlike new.parts old.parts → change_lines old new ≡ []
-nothing-told old new back there =
-    ap (λ text. text ++ flat_map (new_text old) new.parts) (old-none old new old.parts there) ∙ new-none old new.parts back
+pub nothing-told : (form : Form) (old new : FolderParts) → HaveAlike old.parts new.parts → HaveAlike new.parts old.parts → change_lines form old new ≡ []
+nothing-told form old new back there =
+    ap (λ text. text ++ flat_map (new_text form old) new.parts) (old-none form old new old.parts there) ∙ new-none form old new.parts back

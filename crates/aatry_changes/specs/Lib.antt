@@ -4,3 +4,4 @@ pub mod Differing
 pub mod Folders
 pub mod Laws
 pub mod Lines
+pub mod Sides

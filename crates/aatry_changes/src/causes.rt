@@ -9,8 +9,10 @@ ghost use Rattle.aatry_profiles.specs.SeenProfiles.{seen_part};
 use crate::differing::push_differing;
 use crate::folders::FolderParts;
 use crate::lines::{Line, covering_lines};
+use crate::side::Side;
 use aa_profile_access::Request;
 use aatry_profiles::{Part, part_of};
+use aatry_record::Form;
 use std::alloc::{AllocError, Global};
 
 // The lines of the rules of a part that cover something of what is asked for; none where there is no part.
@@ -31,31 +33,34 @@ fn covering_of(
 // Puts those of a part's lines behind a text that others lack; none where there is no part.
 fn push_causes_of(
     alloc: Global,
+    form: Form,
     folder: &FolderParts<'_>,
     part: Option<&Part<'_>>,
-    sign: &str,
+    side: Side,
     others: &[Line],
     lines: &[Line],
     out: &mut Vec<u8>,
 ) -> Result<(), AllocError>
     ensures { OnOk result (out.new.items ≡ out.old.items
-        ++ causes_of (seen_folder folder.now) (option_map (λ part. seen_part part.now) part.entry) sign.now others.now lines.now) }
+        ++ causes_of form (seen_folder folder.now) (option_map (λ part. seen_part part.now) part.entry) side others.now lines.now) }
 {
     match part {
         None => Ok(()),
-        Some(part) => push_differing(alloc, folder, part.file, sign, others, lines, out),
+        Some(part) => push_differing(alloc, form, folder, part, "  ", side, others, lines, out),
     }
 }
 
 /// Puts the rules behind a text that make a difference between two folders to what is asked, of who has a full name: those of the old part that cover
-/// something of what is asked for and that the new one lacks, behind `  - `, and those of the new one that the old one lacks, behind `  + `, each
-/// with the place where it is written. Where a folder has nobody of the name, it has no such rule.
+/// something of what is asked for and that the new one lacks, and those of the new one that the old one lacks, each with the place where it is
+/// written. As lines these stand behind `  - ` and `  + `; as records they are of the kinds `less` and `more`, with who asks (`name`) and the
+/// rule (`text`). Where a folder has nobody of the name, it has no such rule.
 ///
 /// # Errors
 ///
 /// Where memory runs out. A beginning may have been put then.
 pub fn push_causes(
     alloc: Global,
+    form: Form,
     old: &FolderParts<'_>,
     new: &FolderParts<'_>,
     who: &[u8],
@@ -63,12 +68,12 @@ pub fn push_causes(
     out: &mut Vec<u8>,
 ) -> Result<(), AllocError>
     ensures { OnOk result (out.new.items
-        ≡ out.old.items ++ cause_lines (seen_folder old.now) (seen_folder new.now) who.now (request_of request.entry.now)) }
+        ≡ out.old.items ++ cause_lines form (seen_folder old.now) (seen_folder new.now) who.now (request_of request.entry.now)) }
 {
     let part = part_of(old.parts, who);
     let other = part_of(new.parts, who);
     let before = covering_of(alloc, part, request)?;
     let after = covering_of(alloc, other, request)?;
-    push_causes_of(alloc, old, part, "  - ", &after, &before, out)?;
-    push_causes_of(alloc, new, other, "  + ", &before, &after, out)
+    push_causes_of(alloc, form, old, part, Side::Old, &after, &before, out)?;
+    push_causes_of(alloc, form, new, other, Side::New, &before, &after, out)
 }

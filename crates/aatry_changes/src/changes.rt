@@ -1,49 +1,84 @@
 //! Profiles, children and hats that are new, gone or changed.
 
-ghost use Rattle.std.specs.Prelude.{◌≡◌, ◌≤◌, ◌++◌, IfOk, OnOk, length, map, filter, flat_map};
-ghost use Rattle.aatry_changes.specs.Changes.{below_text, change_lines, changed_count, changed_text, headed, is_told, new_text, old_text};
+ghost use Rattle.std.specs.Prelude.{◌≡◌, ◌++◌, IfOk, OnOk, length, map, filter, flat_map};
+ghost use Rattle.aatry_changes.specs.Changes.{below_text, change_lines, changed_count, changed_text, headed, headed_line, headed_record, is_changed};
+ghost use Rattle.aatry_changes.specs.Changes.{is_gone_or_changed, is_new, new_text, old_text};
 ghost use Rattle.aatry_changes.specs.Folders.{seen_folder};
+ghost use Rattle.aatry_changes.specs.Lines.{lines_of};
 ghost use Rattle.aatry_profiles.specs.SeenProfiles.{seen_part};
+ghost use Rattle.aatry_record.specs.SeenRecord.{seen_record};
 ghost use Rattle.aatry_report.specs.Taken.{counted};
 
-use crate::differing::push_differing;
+use crate::differing::{differ, push_differing};
 use crate::folders::FolderParts;
-use crate::lines::lines_of;
+use crate::lines::{Line, lines_of};
+use crate::side::Side;
 use aatry_profiles::{Part, part_of};
+use aatry_record::{Form, Record};
 use aatry_report::push_shown;
 use std::alloc::{AllocError, Global};
 
 // Puts the line of a part behind a text: a word, and its full name.
-fn push_headed(word: &str, name: &[u8], out: &mut Vec<u8>) -> Result<(), AllocError>
-    ensures { OnOk result (out.new.items ≡ out.old.items ++ headed word.now name.now) }
+fn push_headed_line(word: &str, name: &[u8], out: &mut Vec<u8>) -> Result<(), AllocError>
+    ensures { OnOk result (out.new.items ≡ out.old.items ++ headed_line word.now name.now) }
 {
     out.extend_from_slice(word.as_bytes())?;
+    out.extend_from_slice(b": ")?;
     push_shown(out, name)?;
     out.push(b'\n')?;
     Ok(())
 }
 
+// The same as a record.
+fn headed_record(alloc: Global, word: &str, name: &[u8]) -> Result<Record, AllocError>
+    ensures { IfOk result (λ made. seen_record made ≡ headed_record word.now name.now) }
+{
+    let mut made = Record::new(alloc, word)?;
+    made.put_text(alloc, "name", name)?;
+    Ok(made)
+}
+
+// Puts what is told of a part before its lines behind a text.
+fn push_headed(
+    alloc: Global,
+    form: Form,
+    word: &str,
+    name: &[u8],
+    out: &mut Vec<u8>,
+) -> Result<(), AllocError>
+    ensures { OnOk result (out.new.items ≡ out.old.items ++ headed form word.now name.now) }
+{
+    match form {
+        Form::Lines => push_headed_line(word, name, out),
+        Form::Records => headed_record(alloc, word, name)?.push(alloc, out),
+    }
+}
+
 // Puts the lines behind a text that a part of the old folder has and that of the new one lacks, and then the others.
 fn push_below(
     alloc: Global,
+    form: Form,
     old: &FolderParts<'_>,
     new: &FolderParts<'_>,
     part: &Part<'_>,
     other: &Part<'_>,
+    before: &[Line],
+    after: &[Line],
     out: &mut Vec<u8>,
 ) -> Result<(), AllocError>
+    requires before { before.now ≡ lines_of (seen_part part.now) }
+    requires after { after.now ≡ lines_of (seen_part other.now) }
     ensures { OnOk result (out.new.items
-        ≡ out.old.items ++ below_text (seen_folder old.now) (seen_folder new.now) (seen_part part.now) (seen_part other.now)) }
+        ≡ out.old.items ++ below_text form (seen_folder old.now) (seen_folder new.now) (seen_part part.now) (seen_part other.now)) }
 {
-    let before = lines_of(alloc, part)?;
-    let after = lines_of(alloc, other)?;
-    push_differing(alloc, old, part.file, "- ", &after, &before, out)?;
-    push_differing(alloc, new, other.file, "+ ", &before, &after, out)
+    push_differing(alloc, form, old, part, "", Side::Old, after, before, out)?;
+    push_differing(alloc, form, new, other, "", Side::New, before, after, out)
 }
 
-// Puts what is told of a part of both folders behind a text, and says whether anything is.
+// Puts what is told of a part of both folders behind a text, and says whether it is changed.
 fn push_changed(
     alloc: Global,
+    form: Form,
     old: &FolderParts<'_>,
     new: &FolderParts<'_>,
     part: &Part<'_>,
@@ -51,71 +86,77 @@ fn push_changed(
     out: &mut Vec<u8>,
 ) -> Result<bool, AllocError>
     ensures told { OnOk result (out.new.items
-        ≡ out.old.items ++ changed_text (seen_folder old.now) (seen_folder new.now) (seen_part part.now) (seen_part other.now)) }
-    ensures whether { IfOk result (λ told.
-        told ≡ is_told (changed_text (seen_folder old.now) (seen_folder new.now) (seen_part part.now) (seen_part other.now))) }
+        ≡ out.old.items ++ changed_text form (seen_folder old.now) (seen_folder new.now) (seen_part part.now) (seen_part other.now)) }
+    ensures whether { IfOk result (λ told. told ≡ is_changed (seen_part part.now) (seen_part other.now)) }
 {
-    let mut below = Vec::new(alloc);
-    push_below(alloc, old, new, part, other, &mut below)?;
-    if below.is_empty() {
+    let before = lines_of(alloc, part)?;
+    let after = lines_of(alloc, other)?;
+    if !differ(&before, &after) {
         return Ok(false);
     }
-    push_headed("changed: ", part.name.as_slice(), out)?;
-    out.extend_from_slice(&below)?;
+    push_headed(alloc, form, "changed", part.name.as_slice(), out)?;
+    push_below(alloc, form, old, new, part, other, &before, &after, out)?;
     Ok(true)
 }
 
-// Puts what is told of a part of the old folder behind a text, and says whether anything is.
+// Puts what is told of a part of the old folder behind a text, and says whether it is gone or changed.
 fn push_old(
     alloc: Global,
+    form: Form,
     old: &FolderParts<'_>,
     new: &FolderParts<'_>,
     part: &Part<'_>,
     out: &mut Vec<u8>,
 ) -> Result<bool, AllocError>
-    ensures told { OnOk result (out.new.items ≡ out.old.items ++ old_text (seen_folder old.now) (seen_folder new.now) (seen_part part.now)) }
-    ensures whether { IfOk result (λ told. told ≡ is_told (old_text (seen_folder old.now) (seen_folder new.now) (seen_part part.now))) }
+    ensures told { OnOk result (out.new.items ≡ out.old.items ++ old_text form (seen_folder old.now) (seen_folder new.now) (seen_part part.now)) }
+    ensures whether { IfOk result (λ told. told ≡ is_gone_or_changed (seen_folder new.now) (seen_part part.now)) }
 {
     match part_of(new.parts, part.name.as_slice()) {
         None => {
-            push_headed("gone: ", part.name.as_slice(), out)?;
+            push_headed(alloc, form, "gone", part.name.as_slice(), out)?;
             Ok(true)
         }
-        Some(other) => push_changed(alloc, old, new, part, other, out),
+        Some(other) => push_changed(alloc, form, old, new, part, other, out),
     }
 }
 
-// Puts what is told of a part of the new folder behind a text, and says whether anything is.
-fn push_new(old: &FolderParts<'_>, part: &Part<'_>, out: &mut Vec<u8>) -> Result<bool, AllocError>
-    ensures told { OnOk result (out.new.items ≡ out.old.items ++ new_text (seen_folder old.now) (seen_part part.now)) }
-    ensures whether { IfOk result (λ told. told ≡ is_told (new_text (seen_folder old.now) (seen_part part.now))) }
+// Puts what is told of a part of the new folder behind a text, and says whether it is new.
+fn push_new(
+    alloc: Global,
+    form: Form,
+    old: &FolderParts<'_>,
+    part: &Part<'_>,
+    out: &mut Vec<u8>,
+) -> Result<bool, AllocError>
+    ensures told { OnOk result (out.new.items ≡ out.old.items ++ new_text form (seen_folder old.now) (seen_part part.now)) }
+    ensures whether { IfOk result (λ told. told ≡ is_new (seen_folder old.now) (seen_part part.now)) }
 {
     match part_of(old.parts, part.name.as_slice()) {
         None => {
-            push_headed("new: ", part.name.as_slice(), out)?;
+            push_headed(alloc, form, "new", part.name.as_slice(), out)?;
             Ok(true)
         }
         Some(_) => Ok(false),
     }
 }
 
-// Puts what is told of parts of the old folder behind a text, and says of how many anything is.
+// Puts what is told of parts of the old folder behind a text, and says how many are gone or changed.
 fn push_old_parts(
     alloc: Global,
+    form: Form,
     old: &FolderParts<'_>,
     new: &FolderParts<'_>,
     parts: &[Part<'_>],
     out: &mut Vec<u8>,
 ) -> Result<usize, AllocError>
     ensures told { OnOk result (out.new.items
-        ≡ out.old.items ++ flat_map (old_text (seen_folder old.now) (seen_folder new.now)) (map seen_part parts.now)) }
-    ensures count { IfOk result (λ count.
-        count ≡ length (filter (λ part. is_told (old_text (seen_folder old.now) (seen_folder new.now) part)) (map seen_part parts.now))) }
+        ≡ out.old.items ++ flat_map (old_text form (seen_folder old.now) (seen_folder new.now)) (map seen_part parts.now)) }
+    ensures count { IfOk result (λ count. count ≡ length (filter (is_gone_or_changed (seen_folder new.now)) (map seen_part parts.now))) }
 {
     let mut count = 0;
     let mut rest = parts;
     while let [part, behind @ ..] = rest {
-        if push_old(alloc, old, new, part, out)? {
+        if push_old(alloc, form, old, new, part, out)? {
             count += 1;
         }
         rest = behind;
@@ -123,20 +164,21 @@ fn push_old_parts(
     Ok(count)
 }
 
-// Puts what is told of parts of the new folder behind a text, and says of how many anything is.
+// Puts what is told of parts of the new folder behind a text, and says how many are new.
 fn push_new_parts(
+    alloc: Global,
+    form: Form,
     old: &FolderParts<'_>,
     parts: &[Part<'_>],
     out: &mut Vec<u8>,
 ) -> Result<usize, AllocError>
-    ensures told { OnOk result (out.new.items ≡ out.old.items ++ flat_map (new_text (seen_folder old.now)) (map seen_part parts.now)) }
-    ensures count { IfOk result (λ count.
-        count ≡ length (filter (λ part. is_told (new_text (seen_folder old.now) part)) (map seen_part parts.now))) }
+    ensures told { OnOk result (out.new.items ≡ out.old.items ++ flat_map (new_text form (seen_folder old.now)) (map seen_part parts.now)) }
+    ensures count { IfOk result (λ count. count ≡ length (filter (is_new (seen_folder old.now)) (map seen_part parts.now))) }
 {
     let mut count = 0;
     let mut rest = parts;
     while let [part, behind @ ..] = rest {
-        if push_new(old, part, out)? {
+        if push_new(alloc, form, old, part, out)? {
             count += 1;
         }
         rest = behind;
@@ -144,24 +186,29 @@ fn push_new_parts(
     Ok(count)
 }
 
-/// Puts what a change of policy changes behind a text: a line for each part of the old folder that is gone or changed, in their order, and then one for
-/// each of the new folder that is new. Below one that is changed stands each line that tells of the old part alone, behind `- `, and each that tells
-/// of the new one alone, behind `+ `: its mode, a flag, an attachment, or a rule, with the place where it is written. Lines that tell the
-/// same are equal, wherever they are written. Gives how many parts are told of, as far as the number goes.
+/// Puts what a change of policy changes behind a text: each part of the old folder that is gone or changed, in their order, and then each of the new
+/// folder that is new. Behind one that is changed stands each line that tells of the old part alone, and then each that tells of the new one alone:
+/// its mode, a flag, an attachment, or a rule, with the place where it is written. Lines that tell the same are equal, wherever they are
+/// written. Gives how many parts are gone, changed or new, as far as the number goes.
+///
+/// As lines, a word and the full name tell a part, and the lines of the old part alone stand behind `- `, and those of the new one behind `+ `. As
+/// records, a part's kind is `gone`, `changed` or `new`, with its full name (`name`), and its lines are of the kinds `less` and `more`,
+/// with the part's full name (`name`), what is told (`text`), and of a rule where it stands (`aatry_why_lines::put_where`).
 ///
 /// # Errors
 ///
 /// Where memory runs out. A beginning may have been put then.
 pub fn push_changes(
     alloc: Global,
+    form: Form,
     old: &FolderParts<'_>,
     new: &FolderParts<'_>,
     out: &mut Vec<u8>,
 ) -> Result<usize, AllocError>
-    ensures told { OnOk result (out.new.items ≡ out.old.items ++ change_lines (seen_folder old.now) (seen_folder new.now)) }
+    ensures told { OnOk result (out.new.items ≡ out.old.items ++ change_lines form (seen_folder old.now) (seen_folder new.now)) }
     ensures count { IfOk result (λ count. count ≡ counted (changed_count (seen_folder old.now) (seen_folder new.now))) }
 {
-    let before = push_old_parts(alloc, old, new, old.parts, out)?;
-    let after = push_new_parts(old, new.parts, out)?;
+    let before = push_old_parts(alloc, form, old, new, old.parts, out)?;
+    let after = push_new_parts(alloc, form, old, new.parts, out)?;
     Ok(before.saturating_add(after))
 }

@@ -1,12 +1,18 @@
 //! The lines of a part that another lacks.
 
-ghost use Rattle.std.specs.Prelude.{◌≡◌, ◌++◌, OnOk};
-ghost use Rattle.aatry_changes.specs.Differing.{differing_text, has_text, line_text, text_if_lacking, where_of};
+ghost use Rattle.std.specs.Prelude.{◌≡◌, ◌++◌, IfOk, OnOk};
+ghost use Rattle.aatry_changes.specs.Differing.{differ, differing_text, has_text, lack_one, line_record, line_text, text_if_lacking};
+ghost use Rattle.aatry_changes.specs.Differing.{told_line, where_of, with_where_of};
 ghost use Rattle.aatry_changes.specs.Folders.{seen_folder};
+ghost use Rattle.aatry_profiles.specs.SeenProfiles.{seen_part};
+ghost use Rattle.aatry_record.specs.SeenRecord.{seen_record};
 
 use crate::folders::FolderParts;
 use crate::lines::Line;
-use aatry_why_lines::push_where;
+use crate::side::{Side, kind_of, sign_of};
+use aatry_profiles::Part;
+use aatry_record::{Form, Record};
+use aatry_why_lines::{push_where, put_where};
 use std::alloc::{AllocError, Global};
 
 // Whether one of some lines tells this.
@@ -21,6 +27,27 @@ fn has_text(lines: &[Line], text: &[u8]) -> bool
         rest = behind;
     }
     false
+}
+
+// Whether none of others tells the same as one of these lines.
+fn lack_one(others: &[Line], lines: &[Line]) -> bool
+    ensures { result ≡ lack_one others.now lines.now }
+{
+    let mut rest = lines;
+    while let [line, behind @ ..] = rest {
+        if !has_text(others, line.text.as_slice()) {
+            return true;
+        }
+        rest = behind;
+    }
+    false
+}
+
+/// Whether some lines and others don't tell the same.
+pub fn differ(before: &[Line], after: &[Line]) -> bool
+    ensures { result ≡ differ before.now after.now }
+{
+    lack_one(after, before) || lack_one(before, after)
 }
 
 // Puts where a line's rule stands behind a text, if it tells one.
@@ -39,64 +66,125 @@ fn push_where_of(
     push_where(alloc, folder.files, folder.base, file, line.place, out)
 }
 
-// Puts a line behind a text, below a sign.
-fn push_line(
+// Puts it into a record.
+fn put_where_of(
     alloc: Global,
     folder: &FolderParts<'_>,
     file: &[u8],
-    sign: &str,
+    line: &Line,
+    into: &mut Record,
+) -> Result<(), AllocError>
+    ensures { OnOk result (seen_record into.new ≡ with_where_of (seen_folder folder.now) file.now line.now (seen_record into.old)) }
+{
+    if !line.rule {
+        return Ok(());
+    }
+    put_where(alloc, folder.files, folder.base, file, line.place, into)
+}
+
+// Puts a line behind a text, below blanks and a sign.
+fn push_line(
+    alloc: Global,
+    folder: &FolderParts<'_>,
+    part: &Part<'_>,
+    blanks: &str,
+    side: Side,
     line: &Line,
     out: &mut Vec<u8>,
 ) -> Result<(), AllocError>
-    ensures { OnOk result (out.new.items ≡ out.old.items ++ line_text (seen_folder folder.now) file.now sign.now line.now) }
+    ensures { OnOk result (out.new.items
+        ≡ out.old.items ++ line_text (seen_folder folder.now) (seen_part part.now) blanks.now side line.now) }
 {
-    out.extend_from_slice(sign.as_bytes())?;
-    push_where_of(alloc, folder, file, line, out)?;
+    out.extend_from_slice(blanks.as_bytes())?;
+    out.extend_from_slice(sign_of(side).as_bytes())?;
+    push_where_of(alloc, folder, part.file, line, out)?;
     out.extend_from_slice(line.text.as_slice())?;
     out.push(b'\n')?;
     Ok(())
 }
 
-// Puts a line behind a text, if others lack it.
-fn push_if_lacking(
+// The record of a line.
+fn line_record(
     alloc: Global,
     folder: &FolderParts<'_>,
-    file: &[u8],
-    sign: &str,
+    part: &Part<'_>,
+    side: Side,
+    line: &Line,
+) -> Result<Record, AllocError>
+    ensures { IfOk result (λ made. seen_record made ≡ line_record (seen_folder folder.now) (seen_part part.now) side line.now) }
+{
+    let mut made = Record::new(alloc, kind_of(side))?;
+    made.put_text(alloc, "name", part.name.as_slice())?;
+    put_where_of(alloc, folder, part.file, line, &mut made)?;
+    made.put_text(alloc, "text", line.text.as_slice())?;
+    Ok(made)
+}
+
+// Puts what is told of a line behind a text.
+fn push_told(
+    alloc: Global,
+    form: Form,
+    folder: &FolderParts<'_>,
+    part: &Part<'_>,
+    blanks: &str,
+    side: Side,
+    line: &Line,
+    out: &mut Vec<u8>,
+) -> Result<(), AllocError>
+    ensures { OnOk result (out.new.items
+        ≡ out.old.items ++ told_line form (seen_folder folder.now) (seen_part part.now) blanks.now side line.now) }
+{
+    match form {
+        Form::Lines => push_line(alloc, folder, part, blanks, side, line, out),
+        Form::Records => line_record(alloc, folder, part, side, line)?.push(alloc, out),
+    }
+}
+
+// Puts it there, if others lack the line.
+fn push_if_lacking(
+    alloc: Global,
+    form: Form,
+    folder: &FolderParts<'_>,
+    part: &Part<'_>,
+    blanks: &str,
+    side: Side,
     others: &[Line],
     line: &Line,
     out: &mut Vec<u8>,
 ) -> Result<(), AllocError>
     ensures { OnOk result (out.new.items
-        ≡ out.old.items ++ text_if_lacking (seen_folder folder.now) file.now sign.now others.now line.now) }
+        ≡ out.old.items ++ text_if_lacking form (seen_folder folder.now) (seen_part part.now) blanks.now side others.now line.now) }
 {
     if has_text(others, line.text.as_slice()) {
         return Ok(());
     }
-    push_line(alloc, folder, file, sign, line, out)
+    push_told(alloc, form, folder, part, blanks, side, line, out)
 }
 
-/// Puts those of some lines behind a text that others lack, each behind a sign: where its rule stands, if it tells one, and what it tells. `file` is the
-/// file of their part, one of the folder's.
+/// Puts those of some lines of a part behind a text that others lack. As a line each stands behind these blanks and the side's sign, with where its
+/// rule stands, if it tells one. As a record of the kind `less` or `more` it has the part's full name (`name`), where its rule stands, if it
+/// tells one (`aatry_why_lines::put_where`), and what it tells (`text`). The part is one of the folder's.
 ///
 /// # Errors
 ///
 /// Where memory runs out. A beginning may have been put then.
 pub fn push_differing(
     alloc: Global,
+    form: Form,
     folder: &FolderParts<'_>,
-    file: &[u8],
-    sign: &str,
+    part: &Part<'_>,
+    blanks: &str,
+    side: Side,
     others: &[Line],
     lines: &[Line],
     out: &mut Vec<u8>,
 ) -> Result<(), AllocError>
     ensures { OnOk result (out.new.items
-        ≡ out.old.items ++ differing_text (seen_folder folder.now) file.now sign.now others.now lines.now) }
+        ≡ out.old.items ++ differing_text form (seen_folder folder.now) (seen_part part.now) blanks.now side others.now lines.now) }
 {
     let mut rest = lines;
     while let [line, behind @ ..] = rest {
-        push_if_lacking(alloc, folder, file, sign, others, line, out)?;
+        push_if_lacking(alloc, form, folder, part, blanks, side, others, line, out)?;
         rest = behind;
     }
     Ok(())

@@ -7,6 +7,7 @@ mod differing;
 mod folders;
 mod laws;
 mod lines;
+mod side;
 
 pub use causes::push_causes;
 pub use changes::push_changes;

@@ -1,6 +1,7 @@
 -- What is told of files of policy that are checked.
 use Rattle.std.specs.Prelude.{◌≡◌, ◌+◌, ℕ, List, [], ◌∷◌, ◌++◌, codes, if◌then◌else◌, Option, None, Some, Result, Ok, Err}
 use Rattle.std.specs.Str.{bytes_eq}
+use Rattle.serde_json.specs.Data.{Members}
 use Rattle.aa_bytes.specs.Bytes.{line_feed}
 use Rattle.aa_text_files.specs.Files.{File, bytes_at, name_at}
 use Rattle.aa_text_files.specs.declared.text_error.Place.{Place}
@@ -8,33 +9,50 @@ use Rattle.aa_profile.specs.FileReading.{file_profiles}
 use Rattle.aa_profile_data.specs.declared.profile.Profile.{Profile}
 use Rattle.aa_profile_errors.specs.ProfileError.{number_of}
 use Rattle.aa_profile_errors.specs.declared.profile_error.ProfileError.{ProfileError}
-use Rattle.aatry_report.specs.Faults.{fault_lines}
+use Rattle.aatry_record.specs.Records.{record_line, record_of, with_text}
+use Rattle.aatry_record.specs.declared.form.Form.{Form}
+use Rattle.aatry_record.specs.declared.form.Form.TheVariants.{Lines, Records}
+use Rattle.aatry_report.specs.Faults.{fault_lines, with_fault}
+use Rattle.aatry_report.specs.Places.{path_below}
 use Rattle.aatry_report.specs.Shown.{shown}
 use Rattle.aatry_report.specs.Taken.{taken_line}
-
--- the path that a file is told by: its name below the folder of policy
-abbrev pub path_below : List ℕ → List ℕ → List ℕ
-path_below base name = base ++ codes "/" ++ name
 
 -- which file includes the one that a fault stands in, where it isn't that file itself
 abbrev pub included_line : List ℕ → List ℕ → List ℕ → List ℕ
 included_line base name faulty = if bytes_eq name faulty then [] else codes "  included from " ++ shown (path_below base name) ++ line_feed ∷ []
 
--- what is told of a file that is refused, in these words
-abbrev pub refusal_lines : List ℕ → List File → List ℕ → List ℕ → ℕ → Option Place → List ℕ
-refusal_lines words files base name number None = fault_lines words (path_below base name) number None []
-refusal_lines words files base name number (Some place) =
+-- a record with the same
+abbrev pub with_included : List ℕ → List ℕ → List ℕ → Members → Members
+with_included base name faulty members = if bytes_eq name faulty then members else with_text (codes "included_from") (path_below base name) members
+
+-- a record with what is wrong with a file that is refused, in these words
+abbrev pub with_refusal : List ℕ → List File → List ℕ → List ℕ → ℕ → Option Place → Members → Members
+with_refusal words files base name number None members = with_fault words (path_below base name) number None [] members
+with_refusal words files base name number (Some place) members =
+    with_included base name (name_at files place.file)
+    (with_fault words (path_below base (name_at files place.file)) number (Some place.at) (bytes_at files place.file) members)
+
+-- a record of a file that is refused, in these words
+abbrev pub refusal_record : List ℕ → List File → List ℕ → List ℕ → ℕ → Option Place → Members
+refusal_record words files base name number place = with_refusal words files base name number place (record_of (codes "refused"))
+
+-- what is told of a file that is refused, in these words: lines, or its record
+abbrev pub refusal_lines : Form → List ℕ → List File → List ℕ → List ℕ → ℕ → Option Place → List ℕ
+refusal_lines Lines words files base name number None = fault_lines words (path_below base name) number None []
+refusal_lines Lines words files base name number (Some place) =
     fault_lines words (path_below base (name_at files place.file)) number (Some place.at) (bytes_at files place.file)
     ++ included_line base name (name_at files place.file)
+refusal_lines Records words files base name number place = record_line (refusal_record words files base name number place)
 
 -- lines tell how the reading of a file came out
-abbrev pub TellsReading : List File → List ℕ → List ℕ → Result (List Profile) ProfileError → List ℕ → Type 0
-TellsReading files base name (Ok profiles) lines = lines ≡ taken_line (path_below base name) profiles
-TellsReading files base name (Err error) lines = (words : List ℕ) × (lines ≡ refusal_lines words files base name (number_of error.refusal) error.place)
+abbrev pub TellsReading : Form → List File → List ℕ → List ℕ → Result (List Profile) ProfileError → List ℕ → Type 0
+TellsReading form files base name (Ok profiles) lines = lines ≡ taken_line form (path_below base name) profiles
+TellsReading form files base name (Err error) lines =
+    (words : List ℕ) × (lines ≡ refusal_lines form words files base name (number_of error.refusal) error.place)
 
 -- lines tell a file: that it was taken, or why it is refused, exactly as its reading says
-abbrev pub Tells : List File → List ℕ → List ℕ → List ℕ → Type 0
-Tells files base name lines = TellsReading files base name (file_profiles files name) lines
+abbrev pub Tells : Form → List File → List ℕ → List ℕ → List ℕ → Type 0
+Tells form files base name lines = TellsReading form files base name (file_profiles files name) lines
 
 -- one file is refused, or none: its reading gives no profiles
 abbrev pub refused_in : List File → List ℕ → ℕ
@@ -46,6 +64,7 @@ refused_count files [] = 0
 refused_count files (name ∷ names) = refused_in files name + refused_count files names
 
 -- lines tell each of these files in turn
-abbrev pub TellsEach : List File → List ℕ → List (List ℕ) → List ℕ → Type 0
-TellsEach files base [] lines = lines ≡ []
-TellsEach files base (name ∷ names) lines = (first rest : List ℕ) × (lines ≡ first ++ rest) × Tells files base name first × TellsEach files base names rest
+abbrev pub TellsEach : Form → List File → List ℕ → List (List ℕ) → List ℕ → Type 0
+TellsEach form files base [] lines = lines ≡ []
+TellsEach form files base (name ∷ names) lines =
+    (first rest : List ℕ) × (lines ≡ first ++ rest) × Tells form files base name first × TellsEach form files base names rest

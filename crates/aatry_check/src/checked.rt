@@ -1,13 +1,15 @@
 //! The check of files of policy, each by itself.
 
 ghost use Rattle.std.specs.Prelude.{◌≡◌, ◌≤◌, ◌+◌, ◌++◌, ℕ, List, IfOk, OnOk, length, map, string_bytes};
+ghost use Rattle.aatry_report.specs.Places.{path_below};
 ghost use Rattle.aatry_report.specs.Taken.{taken_line};
-ghost use Rattle.aatry_check.specs.Checks.{Tells, TellsEach, path_below, refused_count, refused_in};
+ghost use Rattle.aatry_check.specs.Checks.{Tells, TellsEach, refused_count, refused_in};
 
-use crate::refusal::{path_below, push_refusal};
+use crate::refusal::push_refusal;
 use aa_profile::{Profile, ProfileRefusal, read_file};
 use aa_text_files::Files;
-use aatry_report::push_taken;
+use aatry_record::Form;
+use aatry_report::{path_below, push_taken};
 use std::alloc::{AllocError, Global};
 
 /// How files came out that were checked.
@@ -22,20 +24,22 @@ pub struct Checked {
 // Puts what is told of a file that was taken behind a text.
 fn push_profiles(
     alloc: Global,
+    form: Form,
     base: &[u8],
     name: &[u8],
     profiles: &[Profile],
     out: &mut Vec<u8>,
 ) -> Result<(), AllocError>
-    ensures { OnOk result (out.new.items ≡ out.old.items ++ taken_line (path_below base.now name.now) profiles.now) }
+    ensures { OnOk result (out.new.items ≡ out.old.items ++ taken_line form (path_below base.now name.now) profiles.now) }
 {
     let path = path_below(alloc, base, name)?;
-    push_taken(out, &path, profiles)
+    push_taken(alloc, form, &path, profiles, out)
 }
 
 // Checks a file, puts what is told of it behind a text, and says how many are refused: one or none.
 fn check_file(
     alloc: Global,
+    form: Form,
     files: &Files,
     base: &[u8],
     name: &[u8],
@@ -43,18 +47,18 @@ fn check_file(
 ) -> Result<usize, AllocError>
     ensures refused { IfOk result (λ refused. refused ≡ refused_in files.now name.now) }
     ensures few { IfOk result (λ refused. refused ≤ 1) }
-    ensures told { OnOk result ((lines : List ℕ) × (out.new.items ≡ out.old.items ++ lines) × Tells files.now base.now name.now lines) }
+    ensures told { OnOk result ((lines : List ℕ) × (out.new.items ≡ out.old.items ++ lines) × Tells form files.now base.now name.now lines) }
 {
     match read_file(alloc, files, name) {
         Ok(profiles) => {
-            push_profiles(alloc, base, name, &profiles, out)?;
+            push_profiles(alloc, form, base, name, &profiles, out)?;
             Ok(0)
         }
         Err(error) => {
             if error.refusal == ProfileRefusal::Memory {
                 return Err(AllocError);
             }
-            push_refusal(alloc, files, base, name, error, out)?;
+            push_refusal(alloc, form, files, base, name, error, out)?;
             Ok(1)
         }
     }
@@ -64,11 +68,16 @@ fn check_file(
 /// taken, or why it is refused and where. `base` is the folder that `files` were taken from, without a `/` at its end; each file is told by its path
 /// below that. A name that no file has is told as such.
 ///
+/// The record of a file that was taken is that of `aatry_report::push_taken`. That of one that is refused is of the kind `refused`, with the file that the
+/// fault stands in and the fault as `aatry_report::put_fault_at` puts it, or `put_fault` where it has no place; and with `included_from`, the file that is
+/// checked, where the fault stands in another.
+///
 /// # Errors
 ///
 /// Where memory runs out. What is told of some files may have been put then.
 pub fn check(
     alloc: Global,
+    form: Form,
     files: &Files,
     base: &str,
     names: &[String],
@@ -76,11 +85,11 @@ pub fn check(
 ) -> Result<Checked, AllocError>
     ensures all { IfOk result (λ checked. checked.taken + checked.refused ≡ length names.now) }
     ensures refused { IfOk result (λ checked. checked.refused ≡ refused_count files.now (map string_bytes names.now)) }
-    ensures told { OnOk result ((lines : List ℕ) × (out.new.items ≡ out.old.items ++ lines) × TellsEach files.now base.now (map string_bytes names.now) lines) }
+    ensures told { OnOk result ((lines : List ℕ) × (out.new.items ≡ out.old.items ++ lines) × TellsEach form files.now base.now (map string_bytes names.now) lines) }
 {
     let mut refused = 0;
     for name in names {
-        refused += check_file(alloc, files, base.as_bytes(), name.as_bytes(), out)?;
+        refused += check_file(alloc, form, files, base.as_bytes(), name.as_bytes(), out)?;
     }
     Ok(Checked {
         taken: names.len() - refused,

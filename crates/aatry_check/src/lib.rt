@@ -2,6 +2,7 @@
 #![tactic(auto)]
 
 mod checked;
+mod records;
 mod refusal;
 
 pub use checked::{Checked, check};

@@ -1,25 +1,19 @@
 //! What is told of a file that is refused.
 
-ghost use Rattle.std.specs.Prelude.{◌≡◌, ◌++◌, ℕ, List, Some, IfOk, OnOk};
+ghost use Rattle.std.specs.Prelude.{◌≡◌, ◌++◌, ℕ, List, Some, OnOk};
 ghost use Rattle.aa_profile_errors.specs.ProfileError.{number_of};
-ghost use Rattle.aatry_check.specs.Checks.{included_line, path_below, refusal_lines};
+ghost use Rattle.aatry_check.specs.Checks.{included_line, refusal_lines};
+ghost use Rattle.aatry_record.specs.declared.form.Form.TheVariants as form;
 ghost use Rattle.aatry_report.specs.Faults.{fault_lines};
+ghost use Rattle.aatry_report.specs.Places.{path_below};
 ghost use Rattle.aa_text_files.specs.Files.{bytes_at, name_at};
 
+use crate::records::refusal_record;
 use aa_profile::ProfileError;
 use aa_text_files::{Files, Place};
-use aatry_report::{push_fault, push_fault_at, push_shown, words_of};
+use aatry_record::Form;
+use aatry_report::{path_below, push_fault, push_fault_at, push_shown, words_of};
 use std::alloc::{AllocError, Global};
-
-/// The path that a file is told by: its name below the folder of policy.
-pub fn path_below(alloc: Global, base: &[u8], name: &[u8]) -> Result<Vec<u8>, AllocError>
-    ensures { IfOk result (λ path. path.items ≡ path_below base.now name.now) }
-{
-    let mut path = Vec::from_slice(alloc, base)?;
-    path.push(b'/')?;
-    path.extend_from_slice(name)?;
-    Ok(path)
-}
 
 // Puts which file includes the one that a fault stands in behind a text, where it isn't that file itself.
 fn push_included(
@@ -41,7 +35,7 @@ fn push_included(
     Ok(())
 }
 
-/// Puts what is told of a fault at a place behind a text, in these words. `base` is the folder that `files` were taken from, without a `/` at its end.
+/// Puts the lines of a fault at a place behind a text, in these words. `base` is the folder that `files` were taken from, without a `/` at its end.
 ///
 /// # Errors
 ///
@@ -69,7 +63,7 @@ pub fn push_placed(
     )
 }
 
-// Puts what is told of a file that is refused at a place behind a text, in these words.
+// Puts the lines of a file that is refused at a place behind a text, in these words.
 fn push_with_place(
     alloc: Global,
     files: &Files,
@@ -80,15 +74,15 @@ fn push_with_place(
     place: Place,
     out: &mut Vec<u8>,
 ) -> Result<(), AllocError>
-    ensures { OnOk result (out.new.items ≡ out.old.items ++ refusal_lines words.now files.now base.now name.now number (Some place)) }
+    ensures { OnOk result (out.new.items ≡ out.old.items ++ refusal_lines form.Lines words.now files.now base.now name.now number (Some place)) }
 {
     push_placed(alloc, files, base, words, number, place, out)?;
     push_included(alloc, base, name, files.name_at(place.file), out)?;
     Ok(())
 }
 
-// Puts what is told of a file that is refused behind a text, in these words.
-fn push_in_words(
+// Puts the lines of a file that is refused behind a text, in these words.
+fn push_lines(
     alloc: Global,
     files: &Files,
     base: &[u8],
@@ -97,7 +91,8 @@ fn push_in_words(
     error: ProfileError,
     out: &mut Vec<u8>,
 ) -> Result<(), AllocError>
-    ensures { OnOk result (out.new.items ≡ out.old.items ++ refusal_lines words.now files.now base.now name.now (number_of error.refusal) error.place) }
+    ensures { OnOk result (out.new.items ≡ out.old.items
+        ++ refusal_lines form.Lines words.now files.now base.now name.now (number_of error.refusal) error.place) }
 {
     let number = error.number();
     match error.place {
@@ -112,14 +107,21 @@ fn push_in_words(
 /// Puts what is told of a file that is refused behind a text.
 pub fn push_refusal(
     alloc: Global,
+    form: Form,
     files: &Files,
     base: &[u8],
     name: &[u8],
     error: ProfileError,
     out: &mut Vec<u8>,
 ) -> Result<(), AllocError>
-    ensures { OnOk result ((words : List ℕ) × (out.new.items ≡ out.old.items ++ refusal_lines words files.now base.now name.now (number_of error.refusal) error.place)) }
+    ensures { OnOk result ((words : List ℕ) × (out.new.items ≡ out.old.items
+        ++ refusal_lines form words files.now base.now name.now (number_of error.refusal) error.place)) }
 {
     let words = words_of(alloc, error.refusal)?;
-    push_in_words(alloc, files, base, name, words.as_str(), error, out)
+    match form {
+        Form::Lines => push_lines(alloc, files, base, name, words.as_str(), error, out),
+        Form::Records => {
+            refusal_record(alloc, files, base, name, words.as_str(), error)?.push(alloc, out)
+        }
+    }
 }

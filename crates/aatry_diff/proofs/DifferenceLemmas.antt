@@ -5,15 +5,16 @@ use Rattle.aa_decide_verdict.specs.Entries.{Loaded}
 use Rattle.aatry_requests.specs.Tallies.{Tally}
 use Rattle.aatry_diff.specs.Differences.{difference_lines, differing, differs}
 use Rattle.aatry_diff.specs.Folders.{BothFolders}
+use Rattle.aatry_record.specs.declared.form.Form.{Form}
 use Rattle.aatry_diff.specs.code.Steps.{count_at, count_of, lines_at, lines_of}
 
-module _ (folders : BothFolders) (old new : List Loaded) where
+module _ (form : Form) (folders : BothFolders) (old new : List Loaded) where
   lines-first : (tally : Tally) (tallies : List Tally)
-      → difference_lines folders old new (tally ∷ tallies) ≡ lines_of folders old new tally ++ difference_lines folders old new tallies
+      → difference_lines form folders old new (tally ∷ tallies) ≡ lines_of form folders old new tally ++ difference_lines form folders old new tallies
   lines-first tally tallies = by (differs old new tally) refl
     where
       by : (other : Bool) → differs old new tally ≡ other
-          → difference_lines folders old new (tally ∷ tallies) ≡ lines_of folders old new tally ++ difference_lines folders old new tallies
+          → difference_lines form folders old new (tally ∷ tallies) ≡ lines_of form folders old new tally ++ difference_lines form folders old new tallies
       by true h = rw h refl
       by false h = rw h refl
 
@@ -27,8 +28,8 @@ module _ (folders : BothFolders) (old new : List Loaded) where
       by false h = rw h (omega arith)
 
   lines-from : (tallies : List Tally) (place : ℕ)
-      → difference_lines folders old new (drop place tallies)
-      ≡ lines_at folders old new (slice_get tallies place) ++ difference_lines folders old new (drop (suc place) tallies)
+      → difference_lines form folders old new (drop place tallies)
+      ≡ lines_at form folders old new (slice_get tallies place) ++ difference_lines form folders old new (drop (suc place) tallies)
   lines-from [] zero = refl
   lines-from [] (suc place) = refl
   lines-from (tally ∷ tallies) zero = lines-first tally tallies
@@ -44,11 +45,11 @@ module _ (folders : BothFolders) (old new : List Loaded) where
 
   -- the line of the question at a place, and those of the questions behind it
   pub lines-step : (tallies : List Tally) (place : ℕ)
-      → difference_lines folders old new (drop place tallies)
-      ≡ lines_at folders old new (slice_get tallies place) ++ difference_lines folders old new (drop (place + 1) tallies)
+      → difference_lines form folders old new (drop place tallies)
+      ≡ lines_at form folders old new (slice_get tallies place) ++ difference_lines form folders old new (drop (place + 1) tallies)
   lines-step tallies place =
       let next : suc place ≡ place + 1 = omega arith in
-      lines-from tallies place ∙ ap (λ n. lines_at folders old new (slice_get tallies place) ++ difference_lines folders old new (drop n tallies)) next
+      lines-from tallies place ∙ ap (λ n. lines_at form folders old new (slice_get tallies place) ++ difference_lines form folders old new (drop n tallies)) next
 
   -- likewise how many they are
   pub count-step : (tallies : List Tally) (place : ℕ)

@@ -2,12 +2,16 @@
 use Rattle.std.specs.Prelude.{ℕ, Bool, not, ◌==◌, if◌then◌else◌, List, [], ◌∷◌, ◌++◌, codes, filter, flat_map}
 use Rattle.std.specs.Fmt.{decimal}
 use Rattle.std.specs.Str.{bytes_eq}
+use Rattle.serde_json.specs.Data.{Members}
 use Rattle.aa_bytes.specs.Bytes.{line_feed}
 use Rattle.aa_decide_verdict.specs.Entries.{Loaded}
 use Rattle.aa_set_commands.specs.Question.{Question}
 use Rattle.aa_set_answers.specs.Answers.{who_asks}
 use Rattle.aatry_changes.specs.Causes.{cause_lines}
 use Rattle.aatry_diff.specs.Folders.{BothFolders}
+use Rattle.aatry_record.specs.Records.{record_line, record_of, with_number, with_text}
+use Rattle.aatry_record.specs.declared.form.Form.{Form}
+use Rattle.aatry_record.specs.declared.form.Form.TheVariants.{Lines, Records}
 use Rattle.aatry_requests.specs.Questions.{rule_request}
 use Rattle.aatry_requests.specs.Tallies.{Tally}
 use Rattle.aatry_requests.specs.Texts.{question_text}
@@ -25,20 +29,35 @@ differing old new tallies = filter (differs old new) tallies
 abbrev pub times_text : ℕ → List ℕ
 times_text times = if times == 1 then codes " (once)" else codes " (" ++ decimal times ++ codes " times)"
 
--- a question, its answer before and after, and how often it came
+-- a question, its answer before and after, and how often it came, as a line
 abbrev pub line_of : Question → List ℕ → List ℕ → ℕ → List ℕ
 line_of question before after times =
     question_text question ++ codes ": " ++ before ++ codes " -> " ++ after ++ times_text times ++ line_feed ∷ []
 
--- the rules that lead to one of the answers alone: those that apply to what a question asks in one folder, and aren't written in the other
-abbrev pub causes : BothFolders → Question → List ℕ
-causes folders question = cause_lines folders.old folders.new (who_asks question) (rule_request question)
+-- these answers and this number in a record
+abbrev pub with_answers : List ℕ → List ℕ → ℕ → Members → Members
+with_answers before after times members =
+    with_number (codes "times") times (with_text (codes "after") after (with_text (codes "before") before members))
 
--- what is told of a question that is answered otherwise: its line, and below it the rules that lead to one of the answers alone
-abbrev pub difference_text : BothFolders → List Loaded → List Loaded → Tally → List ℕ
-difference_text folders old new tally =
-    line_of tally.question (answer old tally.question) (answer new tally.question) tally.times ++ causes folders tally.question
+-- the same as a record
+abbrev pub question_record : Question → List ℕ → List ℕ → ℕ → Members
+question_record question before after times =
+    with_answers before after times (with_text (codes "question") (question_text question) (record_of (codes "question")))
+
+-- what is told of a question by itself
+abbrev pub told_question : Form → Question → List ℕ → List ℕ → ℕ → List ℕ
+told_question Lines question before after times = line_of question before after times
+told_question Records question before after times = record_line (question_record question before after times)
+
+-- the rules that lead to one of the answers alone: those that apply to what a question asks in one folder, and aren't written in the other
+abbrev pub causes : Form → BothFolders → Question → List ℕ
+causes form folders question = cause_lines form folders.old folders.new (who_asks question) (rule_request question)
+
+-- what is told of a question that is answered otherwise: itself, and below it the rules that lead to one of the answers alone
+abbrev pub difference_text : Form → BothFolders → List Loaded → List Loaded → Tally → List ℕ
+difference_text form folders old new tally =
+    told_question form tally.question (answer old tally.question) (answer new tally.question) tally.times ++ causes form folders tally.question
 
 -- what is told of all of these
-abbrev pub difference_lines : BothFolders → List Loaded → List Loaded → List Tally → List ℕ
-difference_lines folders old new tallies = flat_map (difference_text folders old new) (differing old new tallies)
+abbrev pub difference_lines : Form → BothFolders → List Loaded → List Loaded → List Tally → List ℕ
+difference_lines form folders old new tallies = flat_map (difference_text form folders old new) (differing old new tallies)

@@ -1,7 +1,11 @@
--- The line that sums up.
+-- What sums up.
 use Rattle.std.specs.Prelude.{ℕ, List, [], ◌∷◌, ◌++◌, codes, length}
 use Rattle.std.specs.Fmt.{decimal}
+use Rattle.serde_json.specs.Data.{Members}
 use Rattle.aa_bytes.specs.Bytes.{line_feed}
+use Rattle.aatry_record.specs.Records.{record_line, record_of, with_number}
+use Rattle.aatry_record.specs.declared.form.Form.{Form}
+use Rattle.aatry_record.specs.declared.form.Form.TheVariants.{Lines, Records}
 use Rattle.aatry_requests.specs.Gathering.{Gathered}
 
 -- a number, and of what
@@ -25,5 +29,26 @@ questions_text gathered differing =
 abbrev pub rest_text : Gathered → List ℕ
 rest_text gathered = numbers_text gathered.others (codes " of another kind, ") gathered.unreadable (codes " unreadable")
 
-abbrev pub summary_line : Gathered → ℕ → List ℕ
-summary_line gathered differing = lines_text gathered ++ questions_text gathered differing ++ rest_text gathered ++ line_feed ∷ []
+-- how many lines there were in a record, and how many of them ask a question
+abbrev pub with_lines : Gathered → Members → Members
+with_lines gathered members = with_number (codes "requests") gathered.asked (with_number (codes "lines") gathered.lines members)
+
+-- how many different questions these are, and how many are answered otherwise
+abbrev pub with_questions : Gathered → ℕ → Members → Members
+with_questions gathered differing members =
+    with_number (codes "differing") differing (with_number (codes "questions") (length gathered.tallies) members)
+
+-- how many requests no question asks, and how many lines can't be read
+abbrev pub with_rest : Gathered → Members → Members
+with_rest gathered members =
+    with_number (codes "unreadable") gathered.unreadable (with_number (codes "others") gathered.others members)
+
+-- all of these as a record
+abbrev pub summary_record : Gathered → ℕ → Members
+summary_record gathered differing =
+    with_rest gathered (with_questions gathered differing (with_lines gathered (record_of (codes "summary"))))
+
+-- what sums up: all of these on a line, or as a record
+abbrev pub summary_line : Form → Gathered → ℕ → List ℕ
+summary_line Lines gathered differing = lines_text gathered ++ questions_text gathered differing ++ rest_text gathered ++ line_feed ∷ []
+summary_line Records gathered differing = record_line (summary_record gathered differing)

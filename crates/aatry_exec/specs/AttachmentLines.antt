@@ -1,13 +1,17 @@
 -- What is told of those that a path may be attached to.
 use Rattle.std.specs.Prelude.{ℕ, ◌+◌, Bool, false, ◌==◌, if◌then◌else◌, List, [], ◌∷◌, ◌++◌, map, Option, None, Some, codes}
+use Rattle.serde_json.specs.Data.{Members}
 use Rattle.aa_bytes.specs.Bytes.{line_feed}
-use Rattle.aa_bytes.specs.Texts.{is_empty}
 use Rattle.aa_decide_attachment.specs.StandingOut.{greatest, standing_out}
 use Rattle.aa_quoting.specs.Texts.{written_text}
 use Rattle.aa_set_listing.specs.ProfileNames.{full_name_at}
 use Rattle.aatry_exec.specs.Candidates.{Candidate, best_pattern, patterns_of, rank_of}
+use Rattle.aatry_exec.specs.Headings.{headed}
 use Rattle.aatry_exec.specs.declared.attachment.Standing.{Standing}
 use Rattle.aatry_exec.specs.declared.attachment.Standing.TheVariants.{Attached, Lost, Tied}
+use Rattle.aatry_record.specs.Records.{record_line, record_of, with_text}
+use Rattle.aatry_record.specs.declared.form.Form.{Form}
+use Rattle.aatry_record.specs.declared.form.Form.TheVariants.{Lines, Records}
 
 -- a place is the one, if there is one
 abbrev pub is_the_one : ℕ → Option ℕ → Bool
@@ -24,28 +28,35 @@ standing_words Attached = codes "attached"
 standing_words Tied = codes "equally near"
 standing_words Lost = codes "not attached"
 
+-- a record with the full name of a candidate
+abbrev pub with_name : Candidate → Members → Members
+with_name candidate members = with_text (codes "name") (full_name_at candidate.entry.profile candidate.child) members
+
+-- the record of a candidate, by the pattern that fits the path best
+abbrev pub attachment_record : Standing → Candidate → List ℕ → Members
+attachment_record standing candidate pattern =
+    with_text (codes "pattern") pattern (with_name candidate (with_text (codes "standing") (standing_words standing) (record_of (codes "attachment"))))
+
 -- the line of a candidate, by the pattern that fits the path best; without one that matches it has none
-abbrev pub line_by : Standing → Candidate → Option (List ℕ) → List ℕ
-line_by standing candidate None = []
-line_by standing candidate (Some pattern) =
+abbrev pub line_by : Form → Standing → Candidate → Option (List ℕ) → List ℕ
+line_by form standing candidate None = []
+line_by Lines standing candidate (Some pattern) =
     codes "  " ++ standing_words standing ++ codes ": "
     ++ written_text (full_name_at candidate.entry.profile candidate.child)
     ++ codes " by " ++ written_text pattern ++ line_feed ∷ []
+line_by Records standing candidate (Some pattern) = record_line (attachment_record standing candidate pattern)
 
 -- the line of the candidate at a place among those of some ranks
-abbrev pub candidate_line : List ℕ → List ℕ → ℕ → Candidate → List ℕ
-candidate_line path ranks place candidate =
-    line_by (standing_of ranks place (rank_of path candidate)) candidate (best_pattern path (patterns_of candidate))
+abbrev pub candidate_line : Form → List ℕ → List ℕ → ℕ → Candidate → List ℕ
+candidate_line form path ranks place candidate =
+    line_by form (standing_of ranks place (rank_of path candidate)) candidate (best_pattern path (patterns_of candidate))
 
 -- the line of each, where the first stands at this place
-abbrev pub lines_from : List ℕ → List ℕ → ℕ → List Candidate → List ℕ
-lines_from path ranks place [] = []
-lines_from path ranks place (candidate ∷ candidates) = candidate_line path ranks place candidate ++ lines_from path ranks (place + 1) candidates
-
--- lines below a heading; where there is no line, nothing
-abbrev pub headed : List ℕ → List ℕ → List ℕ
-headed words lines = if is_empty lines then [] else words ++ line_feed ∷ [] ++ lines
+abbrev pub lines_from : Form → List ℕ → List ℕ → ℕ → List Candidate → List ℕ
+lines_from form path ranks place [] = []
+lines_from form path ranks place (candidate ∷ candidates) =
+    candidate_line form path ranks place candidate ++ lines_from form path ranks (place + 1) candidates
 
 -- the lines of all candidates that have a pattern which matches the path, below a heading
-abbrev pub attachment_lines : List ℕ → List Candidate → List ℕ
-attachment_lines path candidates = headed (codes "attachment") (lines_from path (map (rank_of path) candidates) 0 candidates)
+abbrev pub attachment_lines : Form → List ℕ → List Candidate → List ℕ
+attachment_lines form path candidates = headed form (codes "attachment") (lines_from form path (map (rank_of path) candidates) 0 candidates)

@@ -1,3 +1,4 @@
 pub mod AttachmentLines
 pub mod Candidates
+pub mod Headings
 pub mod Leading

@@ -1,1 +1,3 @@
+pub mod Folders
+pub mod LeftOut
 pub mod Policies

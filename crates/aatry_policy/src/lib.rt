@@ -1,6 +1,10 @@
-//! The policy set that the files of a folder make together.
+//! The policy set that the files of a folder make together, and which of them are left out.
 #![tactic(auto)]
 
+mod folder;
+mod left_out;
 mod policy;
 
+pub use folder::{Folder, load_folder};
+pub use left_out::push_refusal;
 pub use policy::{Policy, load};

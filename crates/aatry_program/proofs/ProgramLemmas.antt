@@ -2,15 +2,17 @@
 use Rattle.std.proofs.Common.{◌≡◌, ℕ, List, Option, Result, Ok, Err, IfOk, inl, inr, string_bytes, subst}
 use Rattle.aatry_arguments.specs.Arguments.{CommandAsked, ForCheck, ForDiff, ForSession, ForTest, ForWho, ForWhy}
 use Rattle.aatry_arguments.specs.Asked.{Asked, ForThis, ForHelp, ForVersion, Nothing}
-use Rattle.aatry_arguments.specs.Given.{IsGivenFor, meant_command}
+use Rattle.aatry_arguments.specs.Forms.{CallAsked}
+use Rattle.aatry_arguments.specs.Given.{IsGivenFor, meant_call, meant_command}
 use Rattle.aatry_arguments.specs.declared.arguments.ArgumentFault.{ArgumentFault}
 use Rattle.aatry_arguments.specs.declared.arguments.ArgumentFault.TheVariants.{Help, Version, Bad, Memory}
-use Rattle.aatry_arguments.specs.declared.arguments.Command.{Command}
+use Rattle.aatry_arguments.specs.declared.arguments.Call.{Call}
 use Rattle.aatry_program.specs.Fault.{status_of}
 use Rattle.aatry_program.specs.Program.{Input, IsCommandDone, IsDone, IsDoneBy, IsFaultShown, IsOutcomeShown, Output}
 use Rattle.aatry_program.specs.declared.checking.Report.{Report}
 use Rattle.aatry_program.specs.declared.fault.Fault.{Fault}
 use Rattle.aatry_program.specs.declared.fault.Fault.TheVariants as fault
+use Rattle.aatry_record.specs.declared.form.Form.{Form}
 
 -- a command that came to something is done, if that is shown
 pub command_done : (Tells : List ℕ → ℕ → Type 0) (output : Output) (status : ℕ) (outcome : Result Report Fault)
@@ -18,32 +20,34 @@ pub command_done : (Tells : List ℕ → ℕ → Type 0) (output : Output) (stat
 command_done Tells output status (Ok report) told shown = inl (report.text.items, report.failed, told, shown)
 command_done Tells output status (Err fault) told shown = inr (fault, shown)
 
--- the command that is given is the one that is asked for
-pub done_by_command : (members_at : List ℕ → Option (List (List ℕ))) (bytes_at : List ℕ → Option (List ℕ)) (input : Input) (asked : Asked CommandAsked) (command : Command) (output : Output)
-    (status : ℕ) → IsGivenFor meant_command asked (Ok command) → IsDoneBy members_at bytes_at input (meant_command command) output status
+-- the call that is given is the one that is asked for
+pub done_by_command : (members_at : List ℕ → Option (List (List ℕ))) (bytes_at : List ℕ → Option (List ℕ)) (input : Input) (asked : Asked CallAsked) (call : Call) (output : Output)
+    (status : ℕ) → IsGivenFor meant_call asked (Ok call) → IsDoneBy call.form members_at bytes_at input (meant_command call.command) output status
     → IsDone members_at bytes_at input asked output status
-done_by_command members_at bytes_at input (ForThis asked) command output status given done = subst (λ a. IsDoneBy members_at bytes_at input a output status) given done
-done_by_command members_at bytes_at input ForHelp command output status given done = absurd given
-done_by_command members_at bytes_at input ForVersion command output status given done = absurd given
-done_by_command members_at bytes_at input Nothing command output status given done = absurd given
+done_by_command members_at bytes_at input (ForThis asked) call output status given done =
+    subst (λ a. IsDoneBy a.form members_at bytes_at input a.command output status) given done
+done_by_command members_at bytes_at input ForHelp call output status given done = absurd given
+done_by_command members_at bytes_at input ForVersion call output status given done = absurd given
+done_by_command members_at bytes_at input Nothing call output status given done = absurd given
 
 -- a fault may keep the program from any command
-fault_done : (members_at : List ℕ → Option (List (List ℕ))) (bytes_at : List ℕ → Option (List ℕ)) (input : Input) (command : CommandAsked) (output : Output)
-    (status : ℕ) (told : Fault) → status ≡ status_of told → IsDoneBy members_at bytes_at input command output status
-fault_done members_at bytes_at input (ForCheck check) output status told is = inr (told, is)
-fault_done members_at bytes_at input (ForTest test) output status told is = inr (told, is)
-fault_done members_at bytes_at input (ForWho asking) output status told is = inr (told, is)
-fault_done members_at bytes_at input (ForWhy asking) output status told is = inr (told, is)
-fault_done members_at bytes_at input (ForDiff comparison) output status told is = inr (told, is)
-fault_done members_at bytes_at input (ForSession session) output status told is = inr (told, is)
+fault_done : (form : Form) (members_at : List ℕ → Option (List (List ℕ))) (bytes_at : List ℕ → Option (List ℕ)) (input : Input) (command : CommandAsked) (output : Output)
+    (status : ℕ) (told : Fault) → status ≡ status_of told → IsDoneBy form members_at bytes_at input command output status
+fault_done form members_at bytes_at input (ForCheck check) output status told is = inr (told, is)
+fault_done form members_at bytes_at input (ForTest test) output status told is = inr (told, is)
+fault_done form members_at bytes_at input (ForWho asking) output status told is = inr (told, is)
+fault_done form members_at bytes_at input (ForWhy asking) output status told is = inr (told, is)
+fault_done form members_at bytes_at input (ForDiff comparison) output status told is = inr (told, is)
+fault_done form members_at bytes_at input (ForSession session) output status told is = inr (told, is)
 
 -- where no command is given, a text is shown that was asked for, or the status tells why
-pub done_by_fault : (members_at : List ℕ → Option (List (List ℕ))) (bytes_at : List ℕ → Option (List ℕ)) (input : Input) (asked : Asked CommandAsked) (told : ArgumentFault) (output : Output)
-    (status : ℕ) → IsGivenFor meant_command asked (Err told) → IsFaultShown told output status → IsDone members_at bytes_at input asked output status
+pub done_by_fault : (members_at : List ℕ → Option (List (List ℕ))) (bytes_at : List ℕ → Option (List ℕ)) (input : Input) (asked : Asked CallAsked) (told : ArgumentFault) (output : Output)
+    (status : ℕ) → IsGivenFor meant_call asked (Err told) → IsFaultShown told output status → IsDone members_at bytes_at input asked output status
 done_by_fault members_at bytes_at input (ForThis command) (Help text) output status given shown = absurd given
 done_by_fault members_at bytes_at input (ForThis command) (Version text) output status given shown = absurd given
 done_by_fault members_at bytes_at input (ForThis command) Bad output status given shown = absurd given
-done_by_fault members_at bytes_at input (ForThis command) Memory output status given shown = fault_done members_at bytes_at input command output status fault.NoMemory shown
+done_by_fault members_at bytes_at input (ForThis call) Memory output status given shown =
+    fault_done call.form members_at bytes_at input call.command output status fault.NoMemory shown
 done_by_fault members_at bytes_at input ForHelp (Help text) output status given shown = inl (string_bytes text, shown)
 done_by_fault members_at bytes_at input ForHelp (Version text) output status given shown = absurd given
 done_by_fault members_at bytes_at input ForHelp Bad output status given shown = absurd given

@@ -6,6 +6,7 @@ use Rattle.aa_text_files.specs.Files.{File}
 use Rattle.aaset_gather.specs.Gathering.{IsReadBelow, IsTakable, names_of}
 use Rattle.aatry_check.specs.Checks.{TellsEach, refused_count}
 use Rattle.aatry_folder.specs.NamesBelow.{AreFound, IsClosed}
+use Rattle.aatry_record.specs.declared.form.Form.{Form}
 
 -- a file at the top of the folder: no folder stands in its name
 abbrev pub is_at_top : List ℕ → Bool
@@ -27,8 +28,8 @@ pub record AreBelow (members_at : List ℕ → Option (List (List ℕ))) (bytes_
   pub read : All (IsReadBelow bytes_at base) files
 
 -- The files that are meant were checked over all that lies below the folder, the text tells each of them, and so many were refused.
-pub record IsChecked (members_at : List ℕ → Option (List (List ℕ))) (bytes_at : List ℕ → Option (List ℕ)) (base : List ℕ) (given : List (List ℕ)) (text : List ℕ) (refused : ℕ) : Type 0 where
+pub record IsChecked (form : Form) (members_at : List ℕ → Option (List (List ℕ))) (bytes_at : List ℕ → Option (List ℕ)) (base : List ℕ) (given : List (List ℕ)) (text : List ℕ) (refused : ℕ) : Type 0 where
   pub files : List File
   pub below : AreBelow members_at bytes_at base files
-  pub told : TellsEach files base (meant (names_of files) given) text
+  pub told : TellsEach form files base (meant (names_of files) given) text
   pub counted : refused ≡ refused_count files (meant (names_of files) given)

@@ -1,11 +1,12 @@
 -- What a comparison of two folders of policy comes to.
 use Rattle.std.specs.Prelude.{◌≡◌, ℕ, List, [], ◌∷◌, Option, None, Some}
 use Rattle.aa_text_files.specs.Files.{File}
-use Rattle.aaset_gather.specs.Gathering.{names_of}
 use Rattle.aatry_arguments.specs.DiffWords.{ComparisonAsked, LogAt, QuestionsAt, SourceAsked}
-use Rattle.aatry_asking.specs.Comparing.{Folder, are_alike, diff_text}
-use Rattle.aatry_program.specs.Checking.{AreBelow, top_names}
+use Rattle.aatry_comparing.specs.Comparing.{are_alike, diff_text}
+use Rattle.aatry_program.specs.Checking.{AreBelow}
+use Rattle.aatry_program.specs.Folders.{folder_at}
 use Rattle.aatry_program.specs.Testing.{IsFileAt, failed_by}
+use Rattle.aatry_record.specs.declared.form.Form.{Form}
 use Rattle.aatry_requests.specs.Gathering.{Gathered, gathered}
 use Rattle.aatry_requests.specs.declared.sources.Source.{Source}
 use Rattle.aatry_requests.specs.declared.sources.Source.TheVariants.{Log, Questions}
@@ -20,14 +21,6 @@ abbrev pub path_of : SourceAsked → List ℕ
 path_of (LogAt path) = path
 path_of (QuestionsAt path) = path
 
--- a folder of policy, by its path, all that lies below it, and the names of the files whose profiles are loaded
-abbrev pub folder_with : List ℕ → List File → List (List ℕ) → Folder
-folder_with base files names = record { files = files; base = base; names = names }
-
--- the same, of which the files at the top are loaded
-abbrev pub folder_at : List ℕ → List File → Folder
-folder_at base files = folder_with base files (top_names (names_of files))
-
 -- What a source of requests tells of is gathered from the file at its path; where there is no source, nothing is.
 abbrev pub IsGathered : (List ℕ → Option (List ℕ)) → Option SourceAsked → Option Gathered → Type 0
 IsGathered bytes_at None requests = requests ≡ None
@@ -36,12 +29,12 @@ IsGathered bytes_at (Some source) requests =
 
 -- The two folders, each with all that lies below it, were compared, by what the file of requests tells of too, if there is one, and the text tells how
 -- they differ. One failed where something differs.
-pub record IsComparedBelow (members_at : List ℕ → Option (List (List ℕ))) (bytes_at : List ℕ → Option (List ℕ)) (asked : ComparisonAsked) (text : List ℕ) (failed : ℕ) : Type 0 where
+pub record IsComparedBelow (form : Form) (members_at : List ℕ → Option (List (List ℕ))) (bytes_at : List ℕ → Option (List ℕ)) (asked : ComparisonAsked) (text : List ℕ) (failed : ℕ) : Type 0 where
   pub old_files : List File
   pub new_files : List File
   pub old_below : AreBelow members_at bytes_at asked.old old_files
   pub new_below : AreBelow members_at bytes_at asked.new new_files
   pub requests : Option Gathered
   pub gathered : IsGathered bytes_at asked.source requests
-  pub told : text ≡ diff_text (folder_at asked.old old_files) (folder_at asked.new new_files) requests
+  pub told : text ≡ diff_text form (folder_at asked.old old_files) (folder_at asked.new new_files) requests
   pub counted : failed ≡ failed_by (are_alike (folder_at asked.old old_files) (folder_at asked.new new_files) requests)

@@ -2,6 +2,7 @@ pub mod Asking
 pub mod Checking
 pub mod Comparing
 pub mod Fault
+pub mod Folders
 pub mod Program
 pub mod Session
 pub mod Testing

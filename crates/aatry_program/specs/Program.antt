@@ -3,6 +3,7 @@ use Rattle.std.specs.Prelude.{◌≡◌, ◌==◌, ◌⊎◌, ℕ, Bool, true, L
 use Rattle.std.specs.Io.KnownBytes.{Appends}
 use Rattle.aatry_arguments.specs.Arguments.{CommandAsked, ForCheck, ForDiff, ForSession, ForTest, ForWho, ForWhy}
 use Rattle.aatry_arguments.specs.Asked.{Asked, ForThis, ForHelp, ForVersion, Nothing}
+use Rattle.aatry_arguments.specs.Forms.{CallAsked}
 use Rattle.aatry_arguments.specs.declared.arguments.ArgumentFault.{ArgumentFault}
 use Rattle.aatry_arguments.specs.declared.arguments.ArgumentFault.TheVariants.{Help, Version, Bad, Memory}
 use Rattle.aatry_program.specs.Asking.{IsWhoToldBelow, IsWhyToldBelow}
@@ -13,6 +14,7 @@ use Rattle.aatry_program.specs.Session.{IsSession}
 use Rattle.aatry_program.specs.Testing.{IsTestedBelow}
 use Rattle.aatry_program.specs.declared.checking.Report.{Report}
 use Rattle.aatry_program.specs.declared.fault.Fault.{Fault}
+use Rattle.aatry_record.specs.declared.form.Form.{Form}
 
 -- standard output: what stood there before and stands there now, where that is known, and whether a write failed
 pub record Output : Type 0 where
@@ -45,14 +47,14 @@ IsFaultShown (Version text) output status = IsShown (string_bytes text) 0 output
 IsFaultShown Bad output status = status ≡ 2
 IsFaultShown Memory output status = status ≡ 3
 
--- a text tells what a command came to, and so much of it failed; a session comes to no text
-abbrev pub IsOutcomeOf : (List ℕ → Option (List (List ℕ))) → (List ℕ → Option (List ℕ)) → CommandAsked → List ℕ → ℕ → Type 0
-IsOutcomeOf members_at bytes_at (ForCheck check) text failed = IsChecked members_at bytes_at check.base check.names text failed
-IsOutcomeOf members_at bytes_at (ForTest test) text failed = IsTestedBelow members_at bytes_at test.base test.paths text failed
-IsOutcomeOf members_at bytes_at (ForWho asking) text failed = IsWhoToldBelow members_at bytes_at asking.base asking.words text failed
-IsOutcomeOf members_at bytes_at (ForWhy asking) text failed = IsWhyToldBelow members_at bytes_at asking.base asking.words text failed
-IsOutcomeOf members_at bytes_at (ForDiff comparison) text failed = IsComparedBelow members_at bytes_at comparison text failed
-IsOutcomeOf members_at bytes_at (ForSession session) text failed = ⊥
+-- a text tells in a form what a command came to, and so much of it failed; a test is told in lines alone, and a session comes to no text
+abbrev pub IsOutcomeOf : Form → (List ℕ → Option (List (List ℕ))) → (List ℕ → Option (List ℕ)) → CommandAsked → List ℕ → ℕ → Type 0
+IsOutcomeOf form members_at bytes_at (ForCheck check) text failed = IsChecked form members_at bytes_at check.base check.names text failed
+IsOutcomeOf form members_at bytes_at (ForTest test) text failed = IsTestedBelow members_at bytes_at test.base test.paths text failed
+IsOutcomeOf form members_at bytes_at (ForWho asking) text failed = IsWhoToldBelow form members_at bytes_at asking.base asking.words text failed
+IsOutcomeOf form members_at bytes_at (ForWhy asking) text failed = IsWhyToldBelow form members_at bytes_at asking.base asking.words text failed
+IsOutcomeOf form members_at bytes_at (ForDiff comparison) text failed = IsComparedBelow form members_at bytes_at comparison text failed
+IsOutcomeOf form members_at bytes_at (ForSession session) text failed = ⊥
 
 -- What a command came to is shown, the status telling whether some of it failed; or some fault kept the program from it, and the status is that of the
 -- fault.
@@ -68,13 +70,13 @@ IsSessionDone members_at bytes_at base input output status =
     ⊎ ((fault : Fault) × (status ≡ status_of fault))
 
 -- a command is done: a session is had, and what any other comes to is shown
-abbrev pub IsDoneBy : (List ℕ → Option (List (List ℕ))) → (List ℕ → Option (List ℕ)) → Input → CommandAsked → Output → ℕ → Type 0
-IsDoneBy members_at bytes_at input (ForSession session) output status = IsSessionDone members_at bytes_at session.base input output status
-IsDoneBy members_at bytes_at input command output status = IsCommandDone (IsOutcomeOf members_at bytes_at command) output status
+abbrev pub IsDoneBy : Form → (List ℕ → Option (List (List ℕ))) → (List ℕ → Option (List ℕ)) → Input → CommandAsked → Output → ℕ → Type 0
+IsDoneBy form members_at bytes_at input (ForSession session) output status = IsSessionDone members_at bytes_at session.base input output status
+IsDoneBy form members_at bytes_at input command output status = IsCommandDone (IsOutcomeOf form members_at bytes_at command) output status
 
 -- What is asked for is done: a command, or help or the version is shown, if memory allows; all else has the status 2.
-abbrev pub IsDone : (List ℕ → Option (List (List ℕ))) → (List ℕ → Option (List ℕ)) → Input → Asked CommandAsked → Output → ℕ → Type 0
-IsDone members_at bytes_at input (ForThis command) output status = IsDoneBy members_at bytes_at input command output status
+abbrev pub IsDone : (List ℕ → Option (List (List ℕ))) → (List ℕ → Option (List ℕ)) → Input → Asked CallAsked → Output → ℕ → Type 0
+IsDone members_at bytes_at input (ForThis call) output status = IsDoneBy call.form members_at bytes_at input call.command output status
 IsDone members_at bytes_at input ForHelp output status = ((text : List ℕ) × IsShown text 0 output status) ⊎ (status ≡ 3)
 IsDone members_at bytes_at input ForVersion output status = ((text : List ℕ) × IsShown text 0 output status) ⊎ (status ≡ 3)
 IsDone members_at bytes_at input Nothing output status = (status ≡ 2) ⊎ (status ≡ 3)

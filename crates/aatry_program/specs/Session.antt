@@ -12,6 +12,7 @@ use Rattle.aatry_line_input.specs.Inputs.{GivesLine}
 use Rattle.aatry_program.specs.Checking.{AreBelow, top_names}
 use Rattle.aatry_program.specs.Fault.{told_line}
 use Rattle.aatry_program.specs.declared.fault.Fault.{Fault}
+use Rattle.aatry_record.specs.declared.form.Form.TheVariants.{Lines}
 use Rattle.aatry_report.specs.Shown.{shown}
 use Rattle.aatry_session.specs.History.{ok_line}
 use Rattle.aatry_session.specs.Turns.{Answer, Kept, Told, Ended, Anew, Asked, begun, turn_outcome}
@@ -60,8 +61,8 @@ IsTold members_at bytes_at base state Ended after text = (after ≡ state.files)
 IsTold members_at bytes_at base state Anew after text = IsReadAnew members_at bytes_at base state.files after text
 IsTold members_at bytes_at base state (Asked question) after text =
     (after ≡ state.files)
-    × ((found : Bool) × IsAnswered state.files base (top_names (names_of state.files)) (none_refused (top_names (names_of state.files))) question
-    (how_of state.kept.managed.machine.now question) (reply_lines state.kept.managed.machine.now question) text found)
+    × ((found : Bool) × IsAnswered Lines state.files base (top_names (names_of state.files)) (none_refused (top_names (names_of state.files))) question
+    (how_of Lines state.kept.managed.machine.now question) (reply_lines state.kept.managed.machine.now question) text found)
 
 -- the session goes on behind an answer
 abbrev pub goes_on : Answer → Bool

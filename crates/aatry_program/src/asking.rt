@@ -5,7 +5,9 @@ ghost use Rattle.aaset_gather.specs.Gathering.{texts_of};
 ghost use Rattle.aatry_program.specs.Asking.{IsWhoToldBelow, IsWhyToldBelow};
 ghost use Rattle.aatry_program.specs.Checking.{AreBelow, top_names};
 ghost use Rattle.aaset_gather.specs.Gathering.{names_of};
+ghost use Rattle.aatry_program.specs.Folders.{folder_with};
 ghost use Rattle.aatry_program.specs.Testing.{failed_by};
+ghost use Rattle.aatry_policy.specs.Folders.{seen_folder};
 
 use crate::checking::{Report, top_names};
 use crate::fault::Fault;
@@ -15,6 +17,8 @@ use aaset_gather::{FileSystem, gather};
 use aatry_arguments::Asking;
 use aatry_asking::{Answered, who, why};
 use aatry_folder::{Folders, names_below};
+use aatry_policy::Folder;
+use aatry_record::Form;
 use std::alloc::Global;
 
 // All files below a folder of policy, and the names of those at its top.
@@ -40,6 +44,17 @@ pub fn policy_below<F: Folders, D: FileSystem>(
     Ok(Policy { files, top })
 }
 
+/// The folder of policy at a path, of which the files at the top are loaded.
+pub fn folder_at<'a>(base: &'a str, policy: &'a Policy) -> Folder<'a>
+    ensures { seen_folder result ≡ folder_with base.now policy.now.files (texts_of policy.now.top) }
+{
+    Folder {
+        files: &policy.files,
+        base: base.as_bytes(),
+        names: &policy.top,
+    }
+}
+
 // What a question came to, as the program reports it.
 fn report_of(answered: Answered) -> Report
     ensures text { result.text.items ≡ answered.text.items }
@@ -62,16 +77,17 @@ fn report_of(answered: Answered) -> Report
 /// - `NoMemory` where memory ran out.
 pub fn why_folder<F: Folders, D: FileSystem>(
     alloc: Global,
+    form: Form,
     folders: &F,
     disk: &D,
     asked: Asking,
 ) -> Result<Report, Fault>
-    ensures { IfOk result (λ report. IsWhyToldBelow (F.members_at folders.now) (D.bytes_at disk.now) (string_bytes asked.base) (texts_of asked.words)
+    ensures { IfOk result (λ report. IsWhyToldBelow form (F.members_at folders.now) (D.bytes_at disk.now) (string_bytes asked.base) (texts_of asked.words)
         report.text.items report.failed) }
 {
     let Asking { base, words } = asked;
     let policy = policy_below(alloc, folders, disk, base.as_str())?;
-    let answered = why(alloc, &policy.files, base.as_str(), &policy.top, &words)?;
+    let answered = why(alloc, form, &folder_at(base.as_str(), &policy), &words)?;
     Ok(report_of(answered))
 }
 
@@ -83,15 +99,16 @@ pub fn why_folder<F: Folders, D: FileSystem>(
 /// As `why_folder`.
 pub fn who_folder<F: Folders, D: FileSystem>(
     alloc: Global,
+    form: Form,
     folders: &F,
     disk: &D,
     asked: Asking,
 ) -> Result<Report, Fault>
-    ensures { IfOk result (λ report. IsWhoToldBelow (F.members_at folders.now) (D.bytes_at disk.now) (string_bytes asked.base) (texts_of asked.words)
+    ensures { IfOk result (λ report. IsWhoToldBelow form (F.members_at folders.now) (D.bytes_at disk.now) (string_bytes asked.base) (texts_of asked.words)
         report.text.items report.failed) }
 {
     let Asking { base, words } = asked;
     let policy = policy_below(alloc, folders, disk, base.as_str())?;
-    let answered = who(alloc, &policy.files, base.as_str(), &policy.top, &words)?;
+    let answered = who(alloc, form, &folder_at(base.as_str(), &policy), &words)?;
     Ok(report_of(answered))
 }

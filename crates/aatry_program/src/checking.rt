@@ -12,6 +12,7 @@ use aaset_gather::{FileSystem, gather};
 use aatry_arguments::Check;
 use aatry_check::check;
 use aatry_folder::{Folders, names_below};
+use aatry_record::Form;
 use std::alloc::{AllocError, Global};
 
 /// What a command came to.
@@ -65,15 +66,16 @@ fn meant(alloc: Global, names: &[String], given: Vec<String>) -> Result<Vec<Stri
 // Checks files, and keeps what is told of them.
 fn report_on(
     alloc: Global,
+    form: Form,
     files: &Files,
     base: &str,
     names: &[String],
 ) -> Result<Report, AllocError>
-    ensures told { IfOk result (λ report. TellsEach files.now base.now (map string_bytes names.now) report.text.items) }
+    ensures told { IfOk result (λ report. TellsEach form files.now base.now (map string_bytes names.now) report.text.items) }
     ensures counted { IfOk result (λ report. report.failed ≡ refused_count files.now (map string_bytes names.now)) }
 {
     let mut text = Vec::new(alloc);
-    let checked = check(alloc, files, base, names, &mut text)?;
+    let checked = check(alloc, form, files, base, names, &mut text)?;
     Ok(Report {
         text,
         failed: checked.refused,
@@ -91,16 +93,17 @@ fn report_on(
 /// - `NoMemory` where memory ran out.
 pub fn check_folder<F: Folders, D: FileSystem>(
     alloc: Global,
+    form: Form,
     folders: &F,
     disk: &D,
     asked: Check,
 ) -> Result<Report, Fault>
-    ensures { IfOk result (λ report. IsChecked (F.members_at folders.now) (D.bytes_at disk.now) (string_bytes asked.base) (texts_of asked.names)
+    ensures { IfOk result (λ report. IsChecked form (F.members_at folders.now) (D.bytes_at disk.now) (string_bytes asked.base) (texts_of asked.names)
         report.text.items report.failed) }
 {
     let Check { base, names: given } = asked;
     let names = names_below(folders, alloc, base.as_str())?;
     let meant = meant(alloc, &names, given)?;
     let files = gather(disk, alloc, base.as_str(), names)?;
-    Ok(report_on(alloc, &files, base.as_str(), &meant)?)
+    Ok(report_on(alloc, form, &files, base.as_str(), &meant)?)
 }

@@ -3,21 +3,23 @@
 ghost use Rattle.std.specs.Prelude.{◌≡◌, IfOk, option_map, string_bytes};
 ghost use Rattle.aaset_gather.specs.Gathering.{texts_of};
 ghost use Rattle.aatry_arguments.specs.Given.{meant_comparison, meant_source};
-ghost use Rattle.aatry_asking.specs.Comparing.{are_alike, diff_text};
-ghost use Rattle.aatry_asking.specs.code.Requests.{seen_source};
-ghost use Rattle.aatry_program.specs.Comparing.{IsComparedBelow, IsGathered, folder_with, form_of, path_of};
+ghost use Rattle.aatry_comparing.specs.Comparing.{are_alike, diff_text};
+ghost use Rattle.aatry_comparing.specs.Sources.{seen_source};
+ghost use Rattle.aatry_program.specs.Comparing.{IsComparedBelow, IsGathered, form_of, path_of};
+ghost use Rattle.aatry_program.specs.Folders.{folder_with};
 ghost use Rattle.aatry_program.specs.Testing.{failed_by};
 ghost use Rattle.aatry_program.specs.code.Requests.{gathered_of};
 
-use crate::asking::{Policy, policy_below};
+use crate::asking::{Policy, folder_at, policy_below};
 use crate::checking::Report;
 use crate::fault::Fault;
 use crate::testing::{failed_by, file_at};
 use aa_text_files::Files;
 use aaset_gather::FileSystem;
 use aatry_arguments::{Comparison, RequestSource};
-use aatry_asking::{Compared, Folder, diff};
+use aatry_comparing::{Compared, diff};
 use aatry_folder::Folders;
+use aatry_record::Form;
 use aatry_requests::Source;
 use std::alloc::{AllocError, Global};
 
@@ -72,28 +74,21 @@ fn source_of(found: &Option<(Source, Files)>) -> Option<(Source, &[u8])>
 // How two folders differ, as the program reports it.
 fn compare(
     alloc: Global,
+    form: Form,
     old: &Policy,
     old_base: &str,
     new: &Policy,
     new_base: &str,
     source: Option<(Source, &[u8])>,
 ) -> Result<Report, AllocError>
-    ensures told { IfOk result (λ report. report.text.items ≡ diff_text (folder_with old_base.now old.now.files (texts_of old.now.top))
+    ensures told { IfOk result (λ report. report.text.items ≡ diff_text form (folder_with old_base.now old.now.files (texts_of old.now.top))
         (folder_with new_base.now new.now.files (texts_of new.now.top)) (seen_source source.entry)) }
     ensures count { IfOk result (λ report. report.failed ≡ failed_by (are_alike (folder_with old_base.now old.now.files (texts_of old.now.top))
         (folder_with new_base.now new.now.files (texts_of new.now.top)) (seen_source source.entry))) }
 {
-    let before = Folder {
-        files: &old.files,
-        base: old_base,
-        names: &old.top,
-    };
-    let after = Folder {
-        files: &new.files,
-        base: new_base,
-        names: &new.top,
-    };
-    let Compared { text, alike } = diff(alloc, &before, &after, source)?;
+    let before = folder_at(old_base, old);
+    let after = folder_at(new_base, new);
+    let Compared { text, alike } = diff(alloc, form, &before, &after, source)?;
     Ok(Report {
         text,
         failed: failed_by(alike),
@@ -101,7 +96,7 @@ fn compare(
 }
 
 /// Compares two folders of policy, and by the requests of a log or the questions of a file too, where one is given: finds and reads all files below each
-/// as `check_folder` does, and tells what `aatry_asking::diff` tells, over the files at their tops. One failed where something differs.
+/// as `check_folder` does, and tells what `aatry_comparing::diff` tells, over the files at their tops. One failed where something differs.
 ///
 /// # Errors
 ///
@@ -110,11 +105,12 @@ fn compare(
 /// - `NoMemory` where memory ran out.
 pub fn diff_folders<F: Folders, D: FileSystem>(
     alloc: Global,
+    form: Form,
     folders: &F,
     disk: &D,
     asked: Comparison,
 ) -> Result<Report, Fault>
-    ensures { IfOk result (λ report. IsComparedBelow (F.members_at folders.now) (D.bytes_at disk.now) (meant_comparison asked)
+    ensures { IfOk result (λ report. IsComparedBelow form (F.members_at folders.now) (D.bytes_at disk.now) (meant_comparison asked)
         report.text.items report.failed) }
 {
     let Comparison { old, new, source } = asked;
@@ -123,6 +119,7 @@ pub fn diff_folders<F: Folders, D: FileSystem>(
     let found = requests_at(alloc, disk, source)?;
     Ok(compare(
         alloc,
+        form,
         &before,
         old.as_str(),
         &after,

@@ -1,7 +1,7 @@
 //! What the program does, from the words of its start to its exit status.
 
 ghost use Rattle.std.specs.Prelude.{◌≡◌, ◌≤◌, ◌^◌, IfOk, MatchResult, drop, map, string_bytes};
-ghost use Rattle.aatry_arguments.specs.Arguments.{asked};
+ghost use Rattle.aatry_arguments.specs.Forms.{asked_call};
 ghost use Rattle.aatry_arguments.specs.Given.{meant_command};
 ghost use Rattle.aatry_program.specs.Fault.{status_of};
 ghost use Rattle.aatry_program.specs.Program.{IsCommandDone, IsDone, IsDoneBy, IsFaultShown, IsOutcomeOf, IsOutcomeShown, IsSessionDone, IsShown};
@@ -16,8 +16,9 @@ use crate::testing::test_folder;
 use crate::writing::{report, write};
 use aa_set_lines::{Sink, Source};
 use aaset_gather::FileSystem;
-use aatry_arguments::{ArgumentFault, Command, command_of};
+use aatry_arguments::{ArgumentFault, Call, Command, call_of};
 use aatry_folder::Folders;
+use aatry_record::Form;
 use std::alloc::Global;
 
 // Shows a text, and gives the exit status: the one that goes with the text, or that of the fault of standard output.
@@ -64,19 +65,20 @@ fn show_outcome<W: Sink, E: Sink>(
 // What a command comes to.
 fn outcome_of<F: Folders, D: FileSystem>(
     alloc: Global,
+    form: Form,
     command: Command,
     folders: &F,
     disk: &D,
 ) -> Result<Report, Fault>
-    ensures { IfOk result (λ report. IsOutcomeOf (F.members_at folders.now) (D.bytes_at disk.now) (meant_command command)
+    ensures { IfOk result (λ report. IsOutcomeOf form (F.members_at folders.now) (D.bytes_at disk.now) (meant_command command)
         report.text.items report.failed) }
 {
     match command {
-        Command::Check(check) => check_folder(alloc, folders, disk, check),
+        Command::Check(check) => check_folder(alloc, form, folders, disk, check),
         Command::Test(test) => test_folder(alloc, folders, disk, test),
-        Command::Who(asking) => who_folder(alloc, folders, disk, asking),
-        Command::Why(asking) => why_folder(alloc, folders, disk, asking),
-        Command::Diff(comparison) => diff_folders(alloc, folders, disk, comparison),
+        Command::Who(asking) => who_folder(alloc, form, folders, disk, asking),
+        Command::Why(asking) => why_folder(alloc, form, folders, disk, asking),
+        Command::Diff(comparison) => diff_folders(alloc, form, folders, disk, comparison),
         // A session comes to none: it is had.
         Command::Session(_) => Err(Fault::BadArguments),
     }
@@ -114,23 +116,24 @@ fn have_session<F: Folders, D: FileSystem, S: Source, W: Sink, E: Sink>(
 // Shows what a command comes to that is no session.
 fn show_command<F: Folders, D: FileSystem, W: Sink, E: Sink>(
     alloc: Global,
+    form: Form,
     command: Command,
     folders: &F,
     disk: &D,
     output: &mut W,
     errors: &mut E,
 ) -> u8
-    ensures { IsCommandDone (IsOutcomeOf (F.members_at folders.now) (D.bytes_at disk.now) (meant_command command))
+    ensures { IsCommandDone (IsOutcomeOf form (F.members_at folders.now) (D.bytes_at disk.now) (meant_command command))
         (output_of (W.written output.old) (W.written output.new) (W.failed output.new)) result }
 {
-    let outcome = outcome_of(alloc, command, folders, disk);
+    let outcome = outcome_of(alloc, form, command, folders, disk);
     show_outcome(alloc, outcome, output, errors)
 }
 
-// Does what a command asks for.
+// Does what a call asks for.
 fn perform<F: Folders, D: FileSystem, S: Source, W: Sink, E: Sink>(
     alloc: Global,
-    command: Command,
+    call: Call,
     folders: &F,
     disk: &D,
     prompt: &[u8],
@@ -139,9 +142,10 @@ fn perform<F: Folders, D: FileSystem, S: Source, W: Sink, E: Sink>(
     errors: &mut E,
 ) -> u8
     requires { S.reads input.old ≤ 2 ^ 62 }
-    ensures { IsDoneBy (F.members_at folders.now) (D.bytes_at disk.now) (input_of (S.left input.old) prompt.now) (meant_command command)
+    ensures { IsDoneBy call.form (F.members_at folders.now) (D.bytes_at disk.now) (input_of (S.left input.old) prompt.now) (meant_command call.command)
         (output_of (W.written output.old) (W.written output.new) (W.failed output.new)) result }
 {
+    let Call { form, command } = call;
     match command {
         Command::Session(session) => have_session(
             alloc,
@@ -153,7 +157,7 @@ fn perform<F: Folders, D: FileSystem, S: Source, W: Sink, E: Sink>(
             output,
             errors,
         ),
-        command => show_command(alloc, command, folders, disk, output, errors),
+        command => show_command(alloc, form, command, folders, disk, output, errors),
     }
 }
 
@@ -192,11 +196,11 @@ pub fn start<F: Folders, D: FileSystem, S: Source, W: Sink, E: Sink>(
 ) -> u8
     requires { S.reads input.old ≤ 2 ^ 62 }
     ensures { IsDone (F.members_at folders.now) (D.bytes_at disk.now) (input_of (S.left input.old) prompt.now)
-        (asked (drop 1 (map string_bytes words.now)))
+        (asked_call (drop 1 (map string_bytes words.now)))
         (output_of (W.written output.old) (W.written output.new) (W.failed output.new)) result }
 {
-    match command_of(alloc, words) {
-        Ok(command) => perform(alloc, command, folders, disk, prompt, input, output, errors),
+    match call_of(alloc, words) {
+        Ok(call) => perform(alloc, call, folders, disk, prompt, input, output, errors),
         Err(fault) => show_fault(alloc, fault, output, errors),
     }
 }

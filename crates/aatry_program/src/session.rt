@@ -1,15 +1,13 @@
 //! A session over a folder of policy: lines of an input, answered as they come.
 
-ghost use Rattle.std.specs.Prelude.{◌≡◌, ◌≤◌, ◌+◌, ◌*◌, ◌^◌, ◌++◌, [], ℕ, List, Bool, true, false, IfOk, OnOk, map, string_bytes};
-ghost use Rattle.aaset_gather.specs.Gathering.{names_of, texts_of};
-ghost use Rattle.aa_set_lines.specs.WordLaws.{in_quotes};
+ghost use Rattle.std.specs.Prelude.{◌≡◌, ◌≤◌, ◌+◌, ◌*◌, ◌^◌, ◌++◌, ℕ, List, true, false, IfOk, OnOk, map, string_bytes};
+ghost use Rattle.aaset_gather.specs.Gathering.{names_of};
 ghost use Rattle.aatry_line_input.specs.Inputs.{GivesLine, most_reads};
 ghost use Rattle.aatry_program.specs.Checking.{AreBelow, top_names};
-ghost use Rattle.aatry_program.specs.Fault.{told_line};
 ghost use Rattle.aatry_program.specs.Session.{IsLastStep, IsReadAnew, IsRun, IsSession, IsStep, IsTold, IsTurn, LoadsEach, LoadsOne};
 ghost use Rattle.aatry_program.specs.Session.{add_line, goes_on, left_out_line, loading_text};
 ghost use Rattle.aatry_program.specs.code.Sessions.{AreAtTop, seen_table, standing};
-ghost use Rattle.aatry_session.specs.Turns.{Told, begun, turn_outcome};
+ghost use Rattle.aatry_session.specs.Turns.{Told, begun};
 ghost use Rattle.aatry_session.specs.SeenTurns.{IsAskable, seen_turn};
 ghost use Rattle.std.specs.Io.KnownBytes.{Appends};
 
@@ -22,6 +20,7 @@ use aaset_gather::FileSystem;
 use aatry_asking::push_answer_of;
 use aatry_folder::Folders;
 use aatry_line_input::LineInput;
+use aatry_record::Form;
 use aatry_report::push_shown;
 use aatry_session::{Session, Turn};
 use std::alloc::{AllocError, Global};
@@ -163,6 +162,7 @@ fn tell<F: Folders, D: FileSystem>(
         Turn::Why(question) => {
             push_answer_of(
                 alloc,
+                Form::Lines,
                 &policy.files,
                 base.as_bytes(),
                 &policy.top,

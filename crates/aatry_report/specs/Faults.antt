@@ -1,10 +1,13 @@
 -- What is told of a fault in a file of policy.
 use Rattle.std.specs.Prelude.{ℕ, List, [], ◌∷◌, ◌++◌, codes, Option, None, Some}
 use Rattle.std.specs.Fmt.{decimal}
+use Rattle.serde_json.specs.Data.{Members}
 use Rattle.aa_bytes.specs.Bytes.{line_feed}
 use Rattle.aatry_places.specs.CaretLine.{caret_line}
 use Rattle.aatry_places.specs.Columns.{column}
 use Rattle.aatry_places.specs.Lines.{line_at, line_number}
+use Rattle.aatry_record.specs.Records.{with_number, with_text}
+use Rattle.aatry_report.specs.Places.{with_place}
 use Rattle.aatry_report.specs.Shown.{shown}
 
 -- `PATH:LINE:COLUMN: `, of a place in a file's bytes
@@ -15,6 +18,10 @@ place_text path text at = shown path ++ codes ":" ++ decimal (line_number text a
 abbrev pub words_text : List ℕ → ℕ → List ℕ
 words_text words number = words ++ codes " (" ++ decimal number ++ codes ")" ++ line_feed ∷ []
 
+-- a record with the same words and number
+abbrev pub with_words : List ℕ → ℕ → Members → Members
+with_words words number members = with_text (codes "words") words (with_number (codes "number") number members)
+
 -- the line of a place, and a line with a caret below the place
 abbrev pub marked_line : List ℕ → ℕ → List ℕ
 marked_line text at = shown (line_at text at) ++ line_feed ∷ [] ++ caret_line text at ++ line_feed ∷ []
@@ -23,3 +30,9 @@ marked_line text at = shown (line_at text at) ++ line_feed ∷ [] ++ caret_line 
 abbrev pub fault_lines : List ℕ → List ℕ → ℕ → Option ℕ → List ℕ → List ℕ
 fault_lines words path number None text = shown path ++ codes ": " ++ words_text words number
 fault_lines words path number (Some at) text = place_text path text at ++ words_text words number ++ marked_line text at
+
+-- a record with a fault of this number at a place of a file, if it has one: by what the file is told, in words, and with the line of the place
+abbrev pub with_fault : List ℕ → List ℕ → ℕ → Option ℕ → List ℕ → Members → Members
+with_fault words path number None text members = with_text (codes "file") path (with_words words number members)
+with_fault words path number (Some at) text members =
+    with_text (codes "text") (line_at text at) (with_place path text at (with_words words number members))

@@ -1,11 +1,15 @@
 -- What is told of a file of policy that was taken.
-use Rattle.std.specs.Prelude.{ℕ, Bool, true, false, List, [], ◌∷◌, ◌++◌, ◌+◌, ◌-◌, ◌^◌, ◌==◌, codes, count_by, flat_map, if◌then◌else◌, min}
+use Rattle.std.specs.Prelude.{ℕ, Bool, true, false, List, [], ◌∷◌, ◌++◌, ◌+◌, ◌-◌, ◌^◌, ◌==◌, codes, count_by, flat_map, if◌then◌else◌, map, min}
 use Rattle.std.specs.Fmt.{decimal}
+use Rattle.serde_json.specs.Data.{Members}
 use Rattle.aa_bytes.specs.Bytes.{line_feed}
 use Rattle.aa_profile_data.specs.declared.profile.Child.{Child}
 use Rattle.aa_profile_data.specs.declared.profile.Profile.{Profile}
 use Rattle.aa_profile_data.specs.declared.profile.Rule.{Rule}
 use Rattle.aa_profile_data.specs.declared.profile.Rule.TheVariants.{Other}
+use Rattle.aatry_record.specs.Records.{record_line, record_of, with_number, with_text, with_texts}
+use Rattle.aatry_record.specs.declared.form.Form.{Form}
+use Rattle.aatry_record.specs.declared.form.Form.TheVariants.{Lines, Records}
 use Rattle.aatry_report.specs.Shown.{shown}
 
 -- a rule that is kept as it is written, and decides nothing here
@@ -30,7 +34,11 @@ kept_rules (profile ∷ profiles) = (kept_in profile.rules + kept_in_children pr
 abbrev pub counted : ℕ → ℕ
 counted n = min n (2 ^ 64 - 1)
 
--- the names of profiles, each behind a blank
+-- the names of profiles
+abbrev pub profile_names : List Profile → List (List ℕ)
+profile_names profiles = map (λ profile. profile.name) profiles
+
+-- the same as a text, each behind a blank
 abbrev pub names_text : List Profile → List ℕ
 names_text profiles = flat_map (λ profile. codes " " ++ shown profile.name) profiles
 
@@ -42,6 +50,13 @@ kept_words n = codes "; " ++ decimal n ++ codes " of its rules decide nothing he
 abbrev pub kept_text : ℕ → List ℕ
 kept_text n = if n == 0 then [] else kept_words n
 
--- `PATH: taken: NAME..`, and how many rules decide nothing here
-abbrev pub taken_line : List ℕ → List Profile → List ℕ
-taken_line path profiles = shown path ++ codes ": taken:" ++ names_text profiles ++ kept_text (counted (kept_rules profiles)) ++ line_feed ∷ []
+-- a record of a file that was taken, by its path: with the names of its profiles, and how many of their rules decide nothing here
+abbrev pub taken_record : List ℕ → List Profile → Members
+taken_record path profiles =
+    with_number (codes "ignored") (counted (kept_rules profiles)) (with_texts (codes "profiles") (profile_names profiles)
+    (with_text (codes "file") path (record_of (codes "taken"))))
+
+-- what is told of a file that was taken: `PATH: taken: NAME..`, and how many rules decide nothing here, or its record
+abbrev pub taken_line : Form → List ℕ → List Profile → List ℕ
+taken_line Lines path profiles = shown path ++ codes ": taken:" ++ names_text profiles ++ kept_text (counted (kept_rules profiles)) ++ line_feed ∷ []
+taken_line Records path profiles = record_line (taken_record path profiles)

@@ -1,13 +1,16 @@
 //! What is told of a fault in a file of policy.
 
 ghost use Rattle.std.specs.Prelude.{◌≡◌, ◌++◌, [], None, OnOk, Some};
-ghost use Rattle.aatry_report.specs.Faults.{fault_lines, marked_line, place_text, words_text};
+ghost use Rattle.aatry_record.specs.SeenRecord.{seen_record};
+ghost use Rattle.aatry_report.specs.Faults.{fault_lines, marked_line, place_text, with_fault, with_words, words_text};
 ghost use Rattle.aatry_report.specs.Shown.{shown};
 
 use crate::numbers::push_number;
+use crate::places::put_place;
 use crate::shown::push_shown;
 use aatry_places::{line_at, line_place, push_caret_line};
-use std::alloc::AllocError;
+use aatry_record::Record;
+use std::alloc::{AllocError, Global};
 
 /// Puts a place in a file's bytes behind a text: `PATH:LINE:COLUMN: `. `path` is what the file is told by, `text` are its bytes, and `at` says how many of
 /// them stand before the place; lines and columns are counted from 1.
@@ -34,6 +37,14 @@ fn push_words(out: &mut Vec<u8>, words: &str, number: u8) -> Result<(), AllocErr
     push_number(out, " (", number as usize)?;
     out.extend_from_slice(b")\n")?;
     Ok(())
+}
+
+// Puts them into a record.
+fn put_words(alloc: Global, words: &str, number: u8, into: &mut Record) -> Result<(), AllocError>
+    ensures { OnOk result (seen_record into.new ≡ with_words words.now number (seen_record into.old)) }
+{
+    into.put_number(alloc, "number", number as usize)?;
+    into.put_text(alloc, "words", words.as_bytes())
 }
 
 // Puts the line of a place behind a text, and a line with a caret below the place.
@@ -80,4 +91,44 @@ pub fn push_fault_at(
     push_place(out, path, text, at)?;
     push_words(out, words, number)?;
     push_marked_line(out, text, at)
+}
+
+/// Puts a fault that has no place into a record: `file`, what the file is told by, `number` and `words`, as `push_fault` tells them.
+///
+/// # Errors
+///
+/// Where memory runs out. A part of the fault may have been put then.
+pub fn put_fault(
+    alloc: Global,
+    path: &[u8],
+    words: &str,
+    number: u8,
+    into: &mut Record,
+) -> Result<(), AllocError>
+    ensures { OnOk result (seen_record into.new ≡ with_fault words.now path.now number None [] (seen_record into.old)) }
+{
+    put_words(alloc, words, number, into)?;
+    into.put_text(alloc, "file", path)
+}
+
+/// Puts a fault at a place into a record: what `put_fault` puts, `line` and `column` of the place, and `text`, the line that it stands in. `at` says how
+/// many bytes of the file's `text` stand before the place.
+///
+/// # Errors
+///
+/// Where memory runs out. A part of the fault may have been put then.
+pub fn put_fault_at(
+    alloc: Global,
+    path: &[u8],
+    words: &str,
+    number: u8,
+    text: &[u8],
+    at: usize,
+    into: &mut Record,
+) -> Result<(), AllocError>
+    ensures { OnOk result (seen_record into.new ≡ with_fault words.now path.now number (Some at) text.now (seen_record into.old)) }
+{
+    put_words(alloc, words, number, into)?;
+    put_place(alloc, path, text, at, into)?;
+    into.put_text(alloc, "text", line_at(text, at))
 }

@@ -1,12 +1,17 @@
 //! What is told of a file of policy that was taken.
 
-ghost use Rattle.std.specs.Prelude.{◌≡◌, ◌+◌, ◌++◌, OnOk};
-ghost use Rattle.aatry_report.specs.Taken.{counted, is_kept, kept_in, kept_in_children, kept_rules, kept_text, kept_words, names_text, taken_line};
+ghost use Rattle.std.specs.Prelude.{◌≡◌, ◌+◌, ◌++◌, IfOk, OnOk, codes, map};
+ghost use Rattle.aatry_record.specs.Records.{with_number, with_texts};
+ghost use Rattle.aatry_record.specs.SeenRecord.{seen_record};
+ghost use Rattle.aatry_record.specs.declared.form.Form.TheVariants as form;
+ghost use Rattle.aatry_report.specs.Taken.{counted, is_kept, kept_in, kept_in_children, kept_rules, kept_text, kept_words, names_text};
+ghost use Rattle.aatry_report.specs.Taken.{profile_names, taken_line, taken_record};
 
 use crate::numbers::push_number;
 use crate::shown::push_shown;
 use aa_profile_data::{Child, Profile, Rule};
-use std::alloc::AllocError;
+use aatry_record::{Form, Record};
+use std::alloc::{AllocError, Global};
 
 // Whether a rule is kept as it is written, and decides nothing here.
 fn is_kept(rule: &Rule) -> bool
@@ -89,14 +94,30 @@ fn push_kept(out: &mut Vec<u8>, kept: usize) -> Result<(), AllocError>
     push_kept_words(out, kept)
 }
 
-/// Puts what is told of a file that was taken behind a text: `PATH: taken: NAME..` on a line of its own, with the names of its profiles, and behind
-/// that how many of their rules decide nothing here (`docs/policy.md`, "Rules that are kept"), where there are any.
-///
-/// # Errors
-///
-/// Where memory runs out. A beginning may have been put then.
-pub fn push_taken(out: &mut Vec<u8>, path: &[u8], profiles: &[Profile]) -> Result<(), AllocError>
-    ensures { OnOk result (out.new.items ≡ out.old.items ++ taken_line path.now profiles.now) }
+// The names of profiles.
+fn profile_names(alloc: Global, profiles: &[Profile]) -> Result<Vec<&[u8]>, AllocError>
+    ensures { IfOk result (λ names. map (λ name. name.now) names.items ≡ profile_names profiles.now) }
+{
+    let mut names = Vec::with_capacity(alloc, profiles.len())?;
+    for profile in profiles {
+        names.push(profile.name.as_slice())?;
+    }
+    Ok(names)
+}
+
+// Puts the names of profiles into a record, and how many of their rules decide nothing here.
+fn put_profiles(alloc: Global, profiles: &[Profile], into: &mut Record) -> Result<(), AllocError>
+    ensures { OnOk result (seen_record into.new ≡ with_number (codes "ignored") (counted (kept_rules profiles.now))
+        (with_texts (codes "profiles") (profile_names profiles.now) (seen_record into.old))) }
+{
+    let names = profile_names(alloc, profiles)?;
+    into.put_texts(alloc, "profiles", &names)?;
+    into.put_number(alloc, "ignored", kept_rules(profiles))
+}
+
+// Puts the line of a file that was taken behind a text.
+fn push_line(path: &[u8], profiles: &[Profile], out: &mut Vec<u8>) -> Result<(), AllocError>
+    ensures { OnOk result (out.new.items ≡ out.old.items ++ taken_line form.Lines path.now profiles.now) }
 {
     push_shown(out, path)?;
     out.extend_from_slice(b": taken:")?;
@@ -104,4 +125,36 @@ pub fn push_taken(out: &mut Vec<u8>, path: &[u8], profiles: &[Profile]) -> Resul
     push_kept(out, kept_rules(profiles))?;
     out.push(b'\n')?;
     Ok(())
+}
+
+// The record of a file that was taken.
+fn taken_record(alloc: Global, path: &[u8], profiles: &[Profile]) -> Result<Record, AllocError>
+    ensures { IfOk result (λ made. seen_record made ≡ taken_record path.now profiles.now) }
+{
+    let mut made = Record::new(alloc, "taken")?;
+    made.put_text(alloc, "file", path)?;
+    put_profiles(alloc, profiles, &mut made)?;
+    Ok(made)
+}
+
+/// Puts what is told of a file that was taken behind a text. As a line: `PATH: taken: NAME..`, with the names of its profiles, and behind that how many
+/// of their rules decide nothing here (`docs/policy.md`, "Rules that are kept"), where there are any. As a record: of the kind `taken`, with the members
+/// `file`, `profiles` and `ignored`.
+///
+/// # Errors
+///
+/// Where memory runs out. A beginning may have been put then.
+pub fn push_taken(
+    alloc: Global,
+    form: Form,
+    path: &[u8],
+    profiles: &[Profile],
+    out: &mut Vec<u8>,
+) -> Result<(), AllocError>
+    ensures { OnOk result (out.new.items ≡ out.old.items ++ taken_line form path.now profiles.now) }
+{
+    match form {
+        Form::Lines => push_line(path, profiles, out),
+        Form::Records => taken_record(alloc, path, profiles)?.push(alloc, out),
+    }
 }

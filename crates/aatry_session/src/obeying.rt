@@ -1,7 +1,6 @@
 //! A line for the machine over commands, obeyed, and what is told of it.
 
 ghost use Rattle.std.specs.Prelude.{◌≡◌, ◌++◌, ℕ, List, OnOk, Some};
-ghost use Rattle.aa_set.specs.Laws.{command_in};
 ghost use Rattle.aa_set_commands.specs.Command.{seen_change};
 ghost use Rattle.aatry_session.specs.History.{change_in};
 ghost use Rattle.aatry_session.specs.Turns.{Obeys, ObeysAs, reply_told};

@@ -1,7 +1,6 @@
 //! What is told of a line that is refused.
 
 ghost use Rattle.std.specs.Prelude.{◌≡◌, ◌++◌, ℕ, List, [], OnOk};
-ghost use Rattle.aa_set_commands.specs.Refusal.{number_of};
 ghost use Rattle.aatry_session.specs.Refusals.{refusal_in_words, refusal_told, words_for};
 
 use aa_set_commands::{Refusal, RefusalKind};

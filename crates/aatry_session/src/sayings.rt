@@ -1,6 +1,6 @@
 //! What the lines of a session say.
 
-ghost use Rattle.std.specs.Prelude.{◌≡◌, ◌<◌, ◌∷◌, [], IfSome, length, map};
+ghost use Rattle.std.specs.Prelude.{◌≡◌, ◌<◌, [], map};
 ghost use Rattle.aa_set_commands.specs.Question.{question_of};
 ghost use Rattle.aa_set_lines.specs.Words.{words_of};
 ghost use Rattle.aatry_session.specs.Sayings.{IsAskable, line_saying, saying_in, saying_of, seen_saying, why_saying, word_saying, words_saying};

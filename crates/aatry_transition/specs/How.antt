@@ -13,6 +13,7 @@ use Rattle.aa_set_answers.specs.Askers.{asker}
 use Rattle.aatry_exec.specs.AttachmentLines.{attachment_lines}
 use Rattle.aatry_exec.specs.Candidates.{Candidate, child_candidates, profile_candidates}
 use Rattle.aatry_exec.specs.Leading.{lead_of}
+use Rattle.aatry_record.specs.declared.form.Form.{Form}
 use Rattle.aatry_transition.specs.Transitions.{transition_lines}
 
 -- the children and hats of who asks; a child or a hat has none
@@ -28,27 +29,27 @@ asked_candidates None entries asker to.Inherit = []
 asked_candidates None entries asker to.Unconfined = []
 
 -- the lines of a transition, if there is one, and of the attachment, where it decides where that leads
-abbrev pub led_lines : List ℕ → List Loaded → Asker → Option Transition → List ℕ
-led_lines path entries asker None = []
-led_lines path entries asker (Some transition) =
-    transition_lines path entries asker transition
-    ++ attachment_lines path (asked_candidates transition.target entries asker (row transition.word).destination)
+abbrev pub led_lines : Form → List ℕ → List Loaded → Asker → Option Transition → List ℕ
+led_lines form path entries asker None = []
+led_lines form path entries asker (Some transition) =
+    transition_lines form path entries asker transition
+    ++ attachment_lines form path (asked_candidates transition.target entries asker (row transition.word).destination)
 
 -- by what confines who asks: where nothing does, the path's attachment decides alone, and else what the rules say together
-abbrev pub confined_lines : Bool → List ℕ → List Loaded → Asker → Confinement → List ℕ
-confined_lines owned path entries asker Unconfined = attachment_lines path (profile_candidates entries)
-confined_lines owned path entries asker (By profile child mode) =
-    led_lines path entries asker (lead_of (choice (audits profile child) owned path (rules_at profile child)))
+abbrev pub confined_lines : Form → Bool → List ℕ → List Loaded → Asker → Confinement → List ℕ
+confined_lines form owned path entries asker Unconfined = attachment_lines form path (profile_candidates entries)
+confined_lines form owned path entries asker (By profile child mode) =
+    led_lines form path entries asker (lead_of (choice (audits profile child) owned path (rules_at profile child)))
 
 -- what confines who asks
 abbrev pub confinement_of : Asker → Confinement
 confinement_of asker = in_state asker.entry.profile asker.entry.state asker.child
 
 -- by who asks
-abbrev pub asked_lines : List Loaded → Option Asker → Bool → List ℕ → List ℕ
-asked_lines entries None owned path = attachment_lines path (profile_candidates entries)
-asked_lines entries (Some asker) owned path = confined_lines owned path entries asker (confinement_of asker)
+abbrev pub asked_lines : Form → List Loaded → Option Asker → Bool → List ℕ → List ℕ
+asked_lines form entries None owned path = attachment_lines form path (profile_candidates entries)
+asked_lines form entries (Some asker) owned path = confined_lines form owned path entries asker (confinement_of asker)
 
 -- the lines of how the answer came about to who asks by this full name, or as the word `unconfined`; of one that isn't there, nothing
-abbrev pub how_lines : List Loaded → List ℕ → Bool → List ℕ → List ℕ
-how_lines entries who owned path = elim (asker entries who) [ None ↦ [] | Some asker ↦ asked_lines entries asker owned path ]
+abbrev pub how_lines : Form → List Loaded → List ℕ → Bool → List ℕ → List ℕ
+how_lines form entries who owned path = elim (asker entries who) [ None ↦ [] | Some asker ↦ asked_lines form entries asker owned path ]

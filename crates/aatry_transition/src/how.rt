@@ -21,6 +21,7 @@ use aatry_exec::{
     Candidate, child_candidates, first_transition, leading_rules, profile_candidates,
     push_attachment, which_rules_lead,
 };
+use aatry_record::Form;
 use std::alloc::{AllocError, Global};
 
 // The children and hats of who asks.
@@ -54,19 +55,21 @@ fn asked_candidates<'a>(
 // Puts the lines of the attachment among all profiles behind a text.
 fn push_profiles(
     alloc: Global,
+    form: Form,
     slots: &IndexedSlots<'_>,
     path: &[u8],
     out: &mut Vec<u8>,
 ) -> Result<(), AllocError>
-    ensures { OnOk result (out.new.items ≡ out.old.items ++ attachment_lines path.now (profile_candidates (filled slots.now))) }
+    ensures { OnOk result (out.new.items ≡ out.old.items ++ attachment_lines form path.now (profile_candidates (filled slots.now))) }
 {
     let candidates = profile_candidates(alloc, slots.as_slice())?;
-    push_attachment(alloc, path, &candidates, out)
+    push_attachment(alloc, form, path, &candidates, out)
 }
 
 // Puts the lines of a transition behind a text, if there is one, and of the attachment, where it decides where that leads.
 fn push_led(
     alloc: Global,
+    form: Form,
     slots: &IndexedSlots<'_>,
     asker: Asker<'_>,
     path: &[u8],
@@ -74,15 +77,15 @@ fn push_led(
     out: &mut Vec<u8>,
 ) -> Result<(), AllocError>
     ensures { OnOk result (out.new.items ≡ out.old.items
-        ++ led_lines path.now (filled slots.now) (seen_asker asker.entry) (option_map (λ transition. transition.now) transition.entry)) }
+        ++ led_lines form path.now (filled slots.now) (seen_asker asker.entry) (option_map (λ transition. transition.now) transition.entry)) }
 {
     let Some(transition) = transition else {
         return Ok(());
     };
     let destination = transition.word.destination();
     let candidates = asked_candidates(alloc, slots, asker, &transition.target, destination)?;
-    push_transition(alloc, slots, asker, path, transition, out)?;
-    push_attachment(alloc, path, &candidates, out)
+    push_transition(alloc, form, slots, asker, path, transition, out)?;
+    push_attachment(alloc, form, path, &candidates, out)
 }
 
 // Where the rules of a profile, or of its child or hat at a place, lead together, if they lead somewhere.
@@ -105,6 +108,7 @@ fn lead_at<'a>(
 // Puts the lines behind a text for who asks by a loaded profile.
 fn push_asked_by(
     alloc: Global,
+    form: Form,
     slots: &IndexedSlots<'_>,
     asker: Asker<'_>,
     owned: bool,
@@ -112,13 +116,13 @@ fn push_asked_by(
     out: &mut Vec<u8>,
 ) -> Result<(), AllocError>
     ensures { OnOk result (out.new.items ≡ out.old.items
-        ++ confined_lines owned path.now (filled slots.now) (seen_asker asker.entry) (confinement_of (seen_asker asker.entry))) }
+        ++ confined_lines form owned path.now (filled slots.now) (seen_asker asker.entry) (confinement_of (seen_asker asker.entry))) }
 {
     match asker.entry.confinement(asker.child) {
-        Confinement::Unconfined => push_profiles(alloc, slots, path, out),
+        Confinement::Unconfined => push_profiles(alloc, form, slots, path, out),
         Confinement::By { ready, child, .. } => {
             let transition = lead_at(alloc, ready, child, owned, path)?;
-            push_led(alloc, slots, asker, path, transition, out)
+            push_led(alloc, form, slots, asker, path, transition, out)
         }
     }
 }
@@ -126,6 +130,7 @@ fn push_asked_by(
 // Puts them there for who asks, or for no one in particular.
 fn push_asked(
     alloc: Global,
+    form: Form,
     slots: &IndexedSlots<'_>,
     asker: Option<Asker<'_>>,
     owned: bool,
@@ -133,34 +138,36 @@ fn push_asked(
     out: &mut Vec<u8>,
 ) -> Result<(), AllocError>
     ensures { OnOk result (out.new.items ≡ out.old.items
-        ++ asked_lines (filled slots.now) (option_map seen_asker asker.entry) owned path.now) }
+        ++ asked_lines form (filled slots.now) (option_map seen_asker asker.entry) owned path.now) }
 {
     match asker {
-        None => push_profiles(alloc, slots, path, out),
-        Some(asker) => push_asked_by(alloc, slots, asker, owned, path, out),
+        None => push_profiles(alloc, form, slots, path, out),
+        Some(asker) => push_asked_by(alloc, form, slots, asker, owned, path, out),
     }
 }
 
 /// Puts lines behind a text that tell how the answer came about to who asks to start the program of a path, by a full name or as the word
 /// `unconfined`: below `transition` where the rules lead, and below `attachment` which profiles or children the path may be attached to, where that
-/// decides. Where no rule leads, or one denies, and where no one of the name is loaded, nothing is put. `owned` says whether the task's user owns
-/// the file. What is told is said of the filled slots in their order.
+/// decides; or, as the form says, a record of each, of the kinds `transition` and `attachment`. Where no rule leads, or one denies, and where no one
+/// of the name is loaded, nothing is put. `owned` says whether the task's user owns the file. What is told is said of the filled slots in their
+/// order.
 ///
 /// # Errors
 ///
 /// Where memory runs out. A beginning may have been put then.
 pub fn push_how(
     alloc: Global,
+    form: Form,
     slots: &IndexedSlots<'_>,
     who: &[u8],
     owned: bool,
     path: &[u8],
     out: &mut Vec<u8>,
 ) -> Result<(), AllocError>
-    ensures { OnOk result (out.new.items ≡ out.old.items ++ how_lines (filled slots.now) who.now owned path.now) }
+    ensures { OnOk result (out.new.items ≡ out.old.items ++ how_lines form (filled slots.now) who.now owned path.now) }
 {
     match find_asker(slots, who) {
         None => Ok(()),
-        Some(asker) => push_asked(alloc, slots, asker, owned, path, out),
+        Some(asker) => push_asked(alloc, form, slots, asker, owned, path, out),
     }
 }

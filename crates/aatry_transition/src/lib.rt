@@ -3,6 +3,7 @@
 
 mod how;
 mod leads;
+mod records;
 mod transition;
 
 pub use how::push_how;

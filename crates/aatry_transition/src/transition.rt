@@ -5,17 +5,21 @@ ghost use Rattle.aa_decide.specs.SeenExec.{seen_asker};
 ghost use Rattle.aa_decide_verdict.specs.Slots.{filled};
 ghost use Rattle.aa_profile_access.specs.declared.exec_word.Destination.TheVariants as to;
 ghost use Rattle.aa_set_listing.specs.RuleLines.{exec_text, target_text};
+ghost use Rattle.aatry_record.specs.declared.form.Form.TheVariants.{Lines};
 ghost use Rattle.aatry_transition.specs.SeenLeads.{seen_lead, seen_leads};
 ghost use Rattle.aatry_transition.specs.Transitions.{fallback_leads, fallback_text, lack_of, lack_text, lead_text};
 ghost use Rattle.aatry_transition.specs.Transitions.{line_of, started_text, transition_lines, word_leads};
 
 use crate::leads::{Lead, led};
+use crate::records::transition_record;
 use aa_decide::{Asker, IndexedSlots};
 use aa_profile_access::Destination;
 use aa_profile_data::Transition;
 use aa_quoting::push_text;
 use aa_set_listing::full_name;
 use aa_shared_bytes::SharedBytes;
+use aatry_exec::push_heading;
+use aatry_record::Form;
 use std::alloc::{AllocError, Global};
 
 // Puts behind a text under what a program runs.
@@ -55,7 +59,7 @@ fn push_child_lack(target: &Option<SharedBytes>, out: &mut Vec<u8>) -> Result<()
 }
 
 // Puts behind a text what isn't there, where a destination leads nowhere.
-fn push_lack(
+pub fn push_lack(
     target: &Option<SharedBytes>,
     destination: Destination,
     out: &mut Vec<u8>,
@@ -101,7 +105,7 @@ fn push_target(target: &Option<SharedBytes>, out: &mut Vec<u8>) -> Result<(), Al
 }
 
 // Puts a transition as a rule writes it behind a text.
-fn push_exec(transition: &Transition, out: &mut Vec<u8>) -> Result<(), AllocError>
+pub fn push_exec(transition: &Transition, out: &mut Vec<u8>) -> Result<(), AllocError>
     ensures { OnOk result (out.new.items ≡ out.old.items ++ exec_text (Some transition.now)) }
 {
     out.extend_from_slice(transition.word.text().as_bytes())?;
@@ -161,8 +165,8 @@ fn push_lead(
     }
 }
 
-// Puts the line of a transition behind a text.
-fn push_line(
+// Puts the words of a transition's line behind a text.
+fn push_words(
     alloc: Global,
     transition: &Transition,
     lead: Option<Lead<'_>>,
@@ -170,7 +174,7 @@ fn push_line(
     out: &mut Vec<u8>,
 ) -> Result<(), AllocError>
     ensures { OnOk result (out.new.items
-        ≡ out.old.items ++ line_of transition.now (seen_leads lead.entry) (seen_leads fallback.entry)) }
+        ≡ out.old.items ++ line_of Lines transition.now (seen_leads lead.entry) (seen_leads fallback.entry)) }
 {
     out.extend_from_slice(b"  ")?;
     push_exec(transition, out)?;
@@ -180,14 +184,34 @@ fn push_line(
     Ok(())
 }
 
+// Puts the line of a transition behind a text.
+fn push_line(
+    alloc: Global,
+    form: Form,
+    transition: &Transition,
+    lead: Option<Lead<'_>>,
+    fallback: Option<Lead<'_>>,
+    out: &mut Vec<u8>,
+) -> Result<(), AllocError>
+    ensures { OnOk result (out.new.items
+        ≡ out.old.items ++ line_of form transition.now (seen_leads lead.entry) (seen_leads fallback.entry)) }
+{
+    match form {
+        Form::Lines => push_words(alloc, transition, lead, fallback, out),
+        Form::Records => transition_record(alloc, transition, lead, fallback)?.push(alloc, out),
+    }
+}
+
 /// Puts a line behind a text that tells where a transition leads who asks to start the program of a path, below the word `transition`: by its word;
-/// or what isn't there that this would lead to, and where its fallback leads.
+/// or what isn't there that this would lead to, and where its fallback leads. As a record, of the kind `transition`, this is the transition as a rule
+/// writes it, `rule`, and the full name `leads_to`; or `lacks`, and the full name `falls_back_to`, if the fallback leads somewhere.
 ///
 /// # Errors
 ///
 /// Where memory runs out. A beginning may have been put then.
 pub fn push_transition(
     alloc: Global,
+    form: Form,
     slots: &IndexedSlots<'_>,
     asker: Asker<'_>,
     path: &[u8],
@@ -195,10 +219,10 @@ pub fn push_transition(
     out: &mut Vec<u8>,
 ) -> Result<(), AllocError>
     ensures { OnOk result (out.new.items
-        ≡ out.old.items ++ transition_lines path.now (filled slots.now) (seen_asker asker.entry) transition.now) }
+        ≡ out.old.items ++ transition_lines form path.now (filled slots.now) (seen_asker asker.entry) transition.now) }
 {
     let lead = word_leads(alloc, slots, asker, path, transition)?;
     let fallback = fallback_leads(alloc, slots, asker, path, transition)?;
-    out.extend_from_slice(b"transition\n")?;
-    push_line(alloc, transition, lead, fallback, out)
+    push_heading(form, "transition", out)?;
+    push_line(alloc, form, transition, lead, fallback, out)
 }

@@ -1,6 +1,7 @@
 -- Which profiles, children and hats would let a request through (docs/aatry.md).
 use Rattle.std.specs.Prelude.{ℕ, Bool, true, false, if◌then◌else◌, List, [], ◌∷◌, ◌++◌, Option, None, Some, codes, flat_map}
 use Rattle.std.specs.Option.{option_map}
+use Rattle.serde_json.specs.Data.{Members}
 use Rattle.aa_bytes.specs.Bytes.{line_feed}
 use Rattle.aa_decide_audit.specs.Answer.{answer_word}
 use Rattle.aa_decide_audit.specs.declared.verdict.Answer.{Answer}
@@ -13,6 +14,9 @@ use Rattle.aa_profile_data.specs.declared.profile.Child.{Child}
 use Rattle.aa_set_answers.specs.Answers.{confined_answer}
 use Rattle.aa_set_listing.specs.Children.{lines_of_children}
 use Rattle.aa_set_listing.specs.ProfileNames.{full_name_at}
+use Rattle.aatry_record.specs.Records.{record_line, record_of, with_text}
+use Rattle.aatry_record.specs.declared.form.Form.{Form}
+use Rattle.aatry_record.specs.declared.form.Form.TheVariants.{Lines, Records}
 use Rattle.aatry_report.specs.Shown.{shown}
 
 -- a request that is answered so is let through
@@ -22,32 +26,41 @@ lets_through Complain = true
 lets_through Deny = false
 lets_through Refuse = false
 
--- the line of who gives an answer: its full name and the answer's word. It has none where the answer doesn't let the request through.
-abbrev pub answer_line : List ℕ → Answer → List ℕ
-answer_line name answer = if lets_through answer then shown name ++ codes ": " ++ answer_word answer ++ line_feed ∷ [] else []
+-- a record of who gives an answer that lets a request through: its full name and the answer's word
+abbrev pub let_record : List ℕ → Answer → Members
+let_record name answer = with_text (codes "answer") (answer_word answer) (with_text (codes "name") name (record_of (codes "let")))
+
+-- what is told of it: a line of both, or the record
+abbrev pub let_line : Form → List ℕ → Answer → List ℕ
+let_line Lines name answer = shown name ++ codes ": " ++ answer_word answer ++ line_feed ∷ []
+let_line Records name answer = record_line (let_record name answer)
+
+-- the line of who gives an answer. It has none where the answer doesn't let the request through.
+abbrev pub answer_line : Form → List ℕ → Answer → List ℕ
+answer_line form name answer = if lets_through answer then let_line form name answer else []
 
 -- the answer of a verdict, if there is one
 abbrev pub answer_of : Option Verdict → Option Answer
 answer_of verdict = option_map (λ v. v.answer) verdict
 
 -- the line of who has a name, by its answer, if it confines at all
-abbrev pub line_by : List ℕ → Option Answer → List ℕ
-line_by name None = []
-line_by name (Some answer) = answer_line name answer
+abbrev pub line_by : Form → List ℕ → Option Answer → List ℕ
+line_by form name None = []
+line_by form name (Some answer) = answer_line form name answer
 
 -- the line of a profile, or of its child or hat at a place
-abbrev pub line_of : Request → Loaded → Option ℕ → List ℕ
-line_of request entry child =
-    line_by (full_name_at entry.profile child) (answer_of (confined_answer (in_state entry.profile entry.state child) request))
+abbrev pub line_of : Form → Request → Loaded → Option ℕ → List ℕ
+line_of form request entry child =
+    line_by form (full_name_at entry.profile child) (answer_of (confined_answer (in_state entry.profile entry.state child) request))
 
 -- the line of a child or a hat by its place
-abbrev pub child_line : Request → Loaded → ℕ → Child → List ℕ
-child_line request entry place child = line_of request entry (Some place)
+abbrev pub child_line : Form → Request → Loaded → ℕ → Child → List ℕ
+child_line form request entry place child = line_of form request entry (Some place)
 
 -- the line of a profile, and those of its children and hats in the order of the file
-abbrev pub entry_lines : Request → Loaded → List ℕ
-entry_lines request entry = line_of request entry None ++ lines_of_children (child_line request entry) entry.profile.children
+abbrev pub entry_lines : Form → Request → Loaded → List ℕ
+entry_lines form request entry = line_of form request entry None ++ lines_of_children (child_line form request entry) entry.profile.children
 
 -- the lines of all profiles of a policy set
-abbrev pub who_lines : Request → List Loaded → List ℕ
-who_lines request entries = flat_map (entry_lines request) entries
+abbrev pub who_lines : Form → Request → List Loaded → List ℕ
+who_lines form request entries = flat_map (entry_lines form request) entries

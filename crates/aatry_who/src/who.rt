@@ -6,12 +6,16 @@ ghost use Rattle.aa_profile_access.specs.SeenRequests.{request_of};
 ghost use Rattle.aa_decide_verdict.specs.Slots.{filled};
 ghost use Rattle.aa_set_answers.specs.Answers.{confined_answer};
 ghost use Rattle.aa_set_listing.specs.Children.{lines_of_children};
-ghost use Rattle.aatry_who.specs.Who.{answer_line, answer_of, child_line, entry_lines, lets_through, line_of, who_lines};
+ghost use Rattle.aatry_record.specs.SeenRecord.{seen_record};
+ghost use Rattle.aatry_record.specs.declared.form.Form.TheVariants as form;
+ghost use Rattle.aatry_who.specs.Who.{answer_line, answer_of, child_line, entry_lines, let_line, let_record, lets_through, line_of};
+ghost use Rattle.aatry_who.specs.Who.{who_lines};
 
 use aa_decide::{Answer, Confinement, Entry, Request, Steps};
 use aa_profile_data::Child;
 use aa_set_changes::PolicySet;
 use aa_set_listing::full_name;
+use aatry_record::{Form, Record};
 use aatry_report::push_shown;
 use std::alloc::{AllocError, Global};
 
@@ -25,15 +29,55 @@ fn lets_through(answer: Answer) -> bool
     }
 }
 
-// Puts the line of who gives an answer behind a text, if the answer lets the request through.
-fn push_answer(text: &mut Vec<u8>, name: &[u8], answer: Answer) -> Result<(), AllocError>
-    ensures { OnOk result (text.new.items ≡ text.old.items ++ answer_line name.now answer) }
+// Puts the line of who gives an answer behind a text.
+fn push_let_line(text: &mut Vec<u8>, name: &[u8], answer: Answer) -> Result<(), AllocError>
+    ensures { OnOk result (text.new.items ≡ text.old.items ++ let_line form.Lines name.now answer) }
+{
+    push_shown(text, name)?;
+    text.extend_from_slice(b": ")?;
+    text.extend_from_slice(answer.word().as_bytes())?;
+    text.push(b'\n')?;
+    Ok(())
+}
+
+// The record of who gives an answer.
+fn let_record(alloc: Global, name: &[u8], answer: Answer) -> Result<Record, AllocError>
+    ensures { IfOk result (λ made. seen_record made ≡ let_record name.now answer) }
+{
+    let mut made = Record::new(alloc, "let")?;
+    made.put_text(alloc, "name", name)?;
+    made.put_text(alloc, "answer", answer.word().as_bytes())?;
+    Ok(made)
+}
+
+// Puts what is told of who gives an answer behind a text.
+fn push_let(
+    text: &mut Vec<u8>,
+    alloc: Global,
+    form: Form,
+    name: &[u8],
+    answer: Answer,
+) -> Result<(), AllocError>
+    ensures { OnOk result (text.new.items ≡ text.old.items ++ let_line form name.now answer) }
+{
+    match form {
+        Form::Lines => push_let_line(text, name, answer),
+        Form::Records => let_record(alloc, name, answer)?.push(alloc, text),
+    }
+}
+
+// Puts it there, if the answer lets the request through.
+fn push_answer(
+    text: &mut Vec<u8>,
+    alloc: Global,
+    form: Form,
+    name: &[u8],
+    answer: Answer,
+) -> Result<(), AllocError>
+    ensures { OnOk result (text.new.items ≡ text.old.items ++ answer_line form name.now answer) }
 {
     if lets_through(answer) {
-        push_shown(text, name)?;
-        text.extend_from_slice(b": ")?;
-        text.extend_from_slice(answer.word().as_bytes())?;
-        text.push(b'\n')?;
+        push_let(text, alloc, form, name, answer)?;
     }
     Ok(())
 }
@@ -59,15 +103,16 @@ fn answer_by(
 fn push_line(
     text: &mut Vec<u8>,
     alloc: Global,
+    form: Form,
     request: &Request<'_>,
     entry: &Entry,
     child: Option<usize>,
 ) -> Result<(), AllocError>
-    ensures { OnOk result (text.new.items ≡ text.old.items ++ line_of (request_of request.entry.now) entry.now child) }
+    ensures { OnOk result (text.new.items ≡ text.old.items ++ line_of form (request_of request.entry.now) entry.now child) }
 {
     if let Some(answer) = answer_by(alloc, request, entry.confinement(child))? {
         let name = full_name(alloc, entry.profile(), child)?;
-        push_answer(text, &name, answer)?;
+        push_answer(text, alloc, form, &name, answer)?;
     }
     Ok(())
 }
@@ -76,15 +121,16 @@ fn push_line(
 fn push_children(
     text: &mut Vec<u8>,
     alloc: Global,
+    form: Form,
     request: &Request<'_>,
     entry: &Entry,
     children: &[Child],
 ) -> Result<(), AllocError>
     ensures { OnOk result (text.new.items ≡ text.old.items
-        ++ lines_of_children (child_line (request_of request.entry.now) entry.now) children.now) }
+        ++ lines_of_children (child_line form (request_of request.entry.now) entry.now) children.now) }
 {
     for (place, _) in children.iter().enumerate() {
-        push_line(text, alloc, request, entry, Some(place))?;
+        push_line(text, alloc, form, request, entry, Some(place))?;
     }
     Ok(())
 }
@@ -93,15 +139,17 @@ fn push_children(
 fn push_entry(
     text: &mut Vec<u8>,
     alloc: Global,
+    form: Form,
     request: &Request<'_>,
     entry: &Entry,
 ) -> Result<(), AllocError>
-    ensures { OnOk result (text.new.items ≡ text.old.items ++ entry_lines (request_of request.entry.now) entry.now) }
+    ensures { OnOk result (text.new.items ≡ text.old.items ++ entry_lines form (request_of request.entry.now) entry.now) }
 {
-    push_line(text, alloc, request, entry, None)?;
+    push_line(text, alloc, form, request, entry, None)?;
     push_children(
         text,
         alloc,
+        form,
         request,
         entry,
         entry.profile().children.as_slice(),
@@ -112,14 +160,15 @@ fn push_entry(
 fn push_slot(
     text: &mut Vec<u8>,
     alloc: Global,
+    form: Form,
     request: &Request<'_>,
     slot: &Option<Entry>,
 ) -> Result<(), AllocError>
-    ensures { OnOk result (text.new.items ≡ text.old.items ++ who_lines (request_of request.entry.now) (filled (slot.now ∷ []))) }
+    ensures { OnOk result (text.new.items ≡ text.old.items ++ who_lines form (request_of request.entry.now) (filled (slot.now ∷ []))) }
 {
     match slot {
         None => Ok(()),
-        Some(entry) => push_entry(text, alloc, request, entry),
+        Some(entry) => push_entry(text, alloc, form, request, entry),
     }
 }
 
@@ -127,14 +176,15 @@ fn push_slot(
 fn push_slots(
     text: &mut Vec<u8>,
     alloc: Global,
+    form: Form,
     request: &Request<'_>,
     slots: &[Option<Entry>],
 ) -> Result<(), AllocError>
-    ensures { OnOk result (text.new.items ≡ text.old.items ++ who_lines (request_of request.entry.now) (filled slots.now)) }
+    ensures { OnOk result (text.new.items ≡ text.old.items ++ who_lines form (request_of request.entry.now) (filled slots.now)) }
 {
     let mut rest = slots;
     while let [slot, behind @ ..] = rest {
-        push_slot(text, alloc, request, slot)?;
+        push_slot(text, alloc, form, request, slot)?;
         rest = behind;
     }
     Ok(())
@@ -142,19 +192,20 @@ fn push_slots(
 
 /// The lines of the profiles, children and hats of a policy set that would let a request through: a line for each, with its full name and the word of its
 /// answer, `allow` or, in complain mode, `complain`. They stand in the order of the set, children and hats behind their profile. Disabled profiles
-/// confine nobody and have no line.
+/// confine nobody and have no line. As records the lines are of the kind `let`, with the members `name` and `answer`.
 ///
 /// # Errors
 ///
 /// Where memory runs out.
 pub fn who_lines(
     alloc: Global,
+    form: Form,
     set: &PolicySet<'_>,
     request: &Request<'_>,
 ) -> Result<Vec<u8>, AllocError>
-    ensures { IfOk result (λ lines. lines.items ≡ who_lines (request_of request.entry.now) set.now) }
+    ensures { IfOk result (λ lines. lines.items ≡ who_lines form (request_of request.entry.now) set.now) }
 {
     let mut text = Vec::new(alloc);
-    push_slots(&mut text, alloc, request, set.slots().as_slice())?;
+    push_slots(&mut text, alloc, form, request, set.slots().as_slice())?;
     Ok(text)
 }

@@ -1,39 +1,53 @@
--- The lines that tell rules with the places where they are written.
+-- The lines and the records that tell rules with the places where they are written.
 use Rattle.std.specs.Prelude.{ℕ, if◌then◌else◌, List, [], ◌∷◌, ◌++◌, codes, flat_map, Option, None, Some, slice_get}
+use Rattle.serde_json.specs.Data.{Members}
 use Rattle.aa_bytes.specs.Bytes.{line_feed}
 use Rattle.aa_bytes.specs.Texts.{is_empty}
 use Rattle.aa_profile_data.specs.declared.profile.Rule.{Rule}
 use Rattle.aa_set_listing.specs.RuleLines.{rule_text}
 use Rattle.aa_text_files.specs.Files.{File, bytes_at, name_at}
 use Rattle.aa_text_files.specs.declared.text_error.Place.{Place}
+use Rattle.aatry_exec.specs.Headings.{heading_line}
+use Rattle.aatry_record.specs.Records.{record_line, record_of, with_text}
+use Rattle.aatry_record.specs.declared.form.Form.{Form}
+use Rattle.aatry_record.specs.declared.form.Form.TheVariants.{Lines, Records}
 use Rattle.aatry_report.specs.Faults.{place_text}
+use Rattle.aatry_report.specs.Places.{path_below, with_place}
 use Rattle.aatry_report.specs.Shown.{shown}
-
--- the path that a file is told by: its name below the folder of policy
-abbrev pub path_below : List ℕ → List ℕ → List ℕ
-path_below base name = base ++ codes "/" ++ name
 
 -- where a rule stands: its file, line and column, or the profile's file alone
 abbrev pub where_text : List File → List ℕ → List ℕ → Option Place → List ℕ
 where_text files base name None = shown (path_below base name) ++ codes ": "
 where_text files base name (Some place) = place_text (path_below base (name_at files place.file)) (bytes_at files place.file) place.at
 
--- the line of a rule: where it stands, and the rule as `show` tells it
-abbrev pub told_line : List File → List ℕ → List ℕ → Option Place → Rule → List ℕ
-told_line files base name place rule = codes "  " ++ where_text files base name place ++ rule_text rule ++ line_feed ∷ []
+-- a record with where a rule stands: its file, line and column, or the profile's file alone
+abbrev pub with_where : List File → List ℕ → List ℕ → Option Place → Members → Members
+with_where files base name None members = with_text (codes "file") (path_below base name) members
+with_where files base name (Some place) members =
+    with_place (path_below base (name_at files place.file)) (bytes_at files place.file) place.at members
+
+-- the record of a rule: the words over its group, where it stands, and the rule as `show` tells it
+abbrev pub rule_record : List File → List ℕ → List ℕ → List ℕ → Option Place → Rule → Members
+rule_record files base name words place rule =
+    with_text (codes "rule") (rule_text rule) (with_where files base name place (with_text (codes "group") words (record_of (codes "rule"))))
+
+-- the line of a rule: where it stands, and the rule as `show` tells it; the words over its group stand in a record alone
+abbrev pub told_line : Form → List File → List ℕ → List ℕ → List ℕ → Option Place → Rule → List ℕ
+told_line Lines files base name words place rule = codes "  " ++ where_text files base name place ++ rule_text rule ++ line_feed ∷ []
+told_line Records files base name words place rule = record_line (rule_record files base name words place rule)
 
 -- where the rule at an index stands
 abbrev pub place_at : List (Option Place) → ℕ → Option Place
 place_at places index = elim (slice_get places index) [ None ↦ None | Some place ↦ place ]
 
 -- the line of the rule at an index, if there is one
-abbrev pub line_at : List File → List ℕ → List ℕ → List Rule → List (Option Place) → ℕ → List ℕ
-line_at files base name rules places index = elim (slice_get rules index) [
+abbrev pub line_at : Form → List File → List ℕ → List ℕ → List Rule → List (Option Place) → List ℕ → ℕ → List ℕ
+line_at form files base name rules places words index = elim (slice_get rules index) [
   | None ↦ []
-  | Some rule ↦ told_line files base name (place_at places index) rule
+  | Some rule ↦ told_line form files base name words (place_at places index) rule
 ]
 
 -- the lines of the rules at some indexes, below these words; none where there is no index
-abbrev pub group_lines : List File → List ℕ → List ℕ → List Rule → List (Option Place) → List ℕ → List ℕ → List ℕ
-group_lines files base name rules places words indexes =
-    if is_empty indexes then [] else words ++ line_feed ∷ [] ++ flat_map (line_at files base name rules places) indexes
+abbrev pub group_lines : Form → List File → List ℕ → List ℕ → List Rule → List (Option Place) → List ℕ → List ℕ → List ℕ
+group_lines form files base name rules places words indexes =
+    if is_empty indexes then [] else heading_line form words ++ flat_map (line_at form files base name rules places words) indexes

@@ -11,6 +11,7 @@ use Rattle.aa_profile_places.specs.declared.places.ProfilePlaces.{ProfilePlaces}
 use Rattle.aa_text_files.specs.Files.{File}
 use Rattle.aa_text_files.specs.declared.text_error.Place.{Place}
 use Rattle.aatry_exec.specs.Leading.{leading_places}
+use Rattle.aatry_record.specs.declared.form.Form.{Form}
 use Rattle.aatry_why.specs.Told.{near, told}
 use Rattle.aatry_why.specs.declared.told.ToldRule.{ToldRule}
 use Rattle.aatry_why_lines.specs.Groups.{heading, places_in}
@@ -19,13 +20,17 @@ use Rattle.aatry_why_lines.specs.declared.groups.Group.{Group}
 use Rattle.aatry_why_lines.specs.declared.groups.Group.TheVariants.{Allowing, Auditing, Denying}
 
 -- the lines of the rules of a group
-abbrev pub lines_of : List File → List ℕ → List ℕ → List Rule → List (Option Place) → List ToldRule → Group → List ℕ
-lines_of files base name rules places told group = group_lines files base name rules places (heading group) (places_in group told)
+abbrev pub lines_of : Form → List File → List ℕ → List ℕ → List Rule → List (Option Place) → List ToldRule → Group → List ℕ
+lines_of form files base name rules places told group = group_lines form files base name rules places (heading group) (places_in group told)
 
--- the lines of the nearest rules, where they are wanted
-abbrev pub near_lines : List File → List ℕ → List ℕ → List Rule → List (Option Place) → Request → Bool → List ℕ
-near_lines files base name rules places request nearest =
-    if nearest then group_lines files base name rules places (codes "nearest rules") (near request rules) else []
+-- the lines of the nearest rules
+abbrev pub nearest_lines : Form → List File → List ℕ → List ℕ → List Rule → List (Option Place) → Request → List ℕ
+nearest_lines form files base name rules places request = group_lines form files base name rules places (codes "nearest rules") (near request rules)
+
+-- the same where they are wanted, and nothing else
+abbrev pub near_lines : Form → List File → List ℕ → List ℕ → List Rule → List (Option Place) → Request → Bool → List ℕ
+near_lines form files base name rules places request nearest =
+    if nearest then nearest_lines form files base name rules places request else []
 
 -- the places of the rules that decide where a program runs, where its start is asked for; of any other request there are none
 abbrev pub deciding : Request → List Rule → List ℕ
@@ -33,21 +38,21 @@ deciding (ForFile letters owned path) rules = if has letters EXEC then leading_p
 deciding _ rules = []
 
 -- the lines of the rules that decide where a program runs
-abbrev pub deciding_lines : List File → List ℕ → List ℕ → List Rule → List (Option Place) → Request → List ℕ
-deciding_lines files base name rules places request = group_lines files base name rules places (codes "decided by") (deciding request rules)
+abbrev pub deciding_lines : Form → List File → List ℕ → List ℕ → List Rule → List (Option Place) → Request → List ℕ
+deciding_lines form files base name rules places request = group_lines form files base name rules places (codes "decided by") (deciding request rules)
 
 -- the lines of these rules by what they do: those that deny, that allow, and that audit
-abbrev pub told_lines : List File → List ℕ → List ℕ → List Rule → List (Option Place) → List ToldRule → List ℕ
-told_lines files base name rules places told =
-    lines_of files base name rules places told Denying
-    ++ lines_of files base name rules places told Allowing
-    ++ lines_of files base name rules places told Auditing
+abbrev pub told_lines : Form → List File → List ℕ → List ℕ → List Rule → List (Option Place) → List ToldRule → List ℕ
+told_lines form files base name rules places told =
+    lines_of form files base name rules places told Denying
+    ++ lines_of form files base name rules places told Allowing
+    ++ lines_of form files base name rules places told Auditing
 
 -- the lines of the rules behind the answer to a request: those that apply, those that decide where a program runs, and the nearest ones
-abbrev pub why_lines : List File → List ℕ → List ℕ → Bool → List Rule → List (Option Place) → Request → Bool → List ℕ
-why_lines files base name flag rules places request nearest =
-    told_lines files base name rules places (told flag request rules)
-    ++ deciding_lines files base name rules places request ++ near_lines files base name rules places request nearest
+abbrev pub why_lines : Form → List File → List ℕ → List ℕ → Bool → List Rule → List (Option Place) → Request → Bool → List ℕ
+why_lines form files base name flag rules places request nearest =
+    told_lines form files base name rules places (told flag request rules)
+    ++ deciding_lines form files base name rules places request ++ near_lines form files base name rules places request nearest
 
 -- the rules of the profile at an index, or of its child or hat; one that isn't there has none
 abbrev pub rules_in : List Profile → ℕ → Option ℕ → List Rule
@@ -71,9 +76,9 @@ abbrev pub stands_in : List ProfilePlaces → ℕ → Option ℕ → List (Optio
 stands_in places index child = elim (slice_get places index) [ None ↦ [] | Some own ↦ places_at own child ]
 
 -- lines tell the rules behind the answer of a file's profile, or of its child or hat, to a request
-abbrev pub TellWhy : List File → List ℕ → List ℕ → ℕ → Option ℕ → Request → Bool → List ℕ → Type 0
-TellWhy files base name index child request nearest lines =
+abbrev pub TellWhy : Form → List File → List ℕ → List ℕ → ℕ → Option ℕ → Request → Bool → List ℕ → Type 0
+TellWhy form files base name index child request nearest lines =
     (profiles : List Profile) × (places : List ProfilePlaces)
     × (file_profiles files name ≡ Ok profiles) × (file_places files name ≡ Some places)
     × (lines
-    ≡ why_lines files base name (audits_in profiles index child) (rules_in profiles index child) (stands_in places index child) request nearest)
+    ≡ why_lines form files base name (audits_in profiles index child) (rules_in profiles index child) (stands_in places index child) request nearest)

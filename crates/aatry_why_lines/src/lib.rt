@@ -1,4 +1,4 @@
-//! What people at a terminal are told of the rules behind an answer: each with the line and the column where it is written.
+//! What is told of the rules behind an answer, as lines or as records: each with the line and the column where it is written.
 #![tactic(auto)]
 
 mod asker;
@@ -6,5 +6,5 @@ mod groups;
 mod lines;
 mod why;
 
-pub use lines::push_where;
+pub use lines::{push_where, put_where};
 pub use why::{push_why, push_why_of};

@@ -1,23 +1,19 @@
-//! The lines that tell rules with the places where they are written.
+//! The lines and the records that tell rules with the places where they are written.
 
-ghost use Rattle.std.specs.Prelude.{◌≡◌, ◌++◌, IfOk, OnOk, flat_map};
-ghost use Rattle.aatry_why_lines.specs.Lines.{group_lines, line_at, path_below, place_at, told_line, where_text};
+ghost use Rattle.std.specs.Prelude.{◌≡◌, ◌++◌, IfOk, OnOk, codes, flat_map};
+ghost use Rattle.aa_set_listing.specs.RuleLines.{rule_text};
+ghost use Rattle.aatry_record.specs.Records.{with_text};
+ghost use Rattle.aatry_record.specs.SeenRecord.{seen_record};
+ghost use Rattle.aatry_why_lines.specs.Lines.{group_lines, line_at, place_at, told_line};
+ghost use Rattle.aatry_why_lines.specs.Lines.{rule_record, where_text, with_where};
 
 use aa_profile_data::Rule;
 use aa_set_listing::push_rule;
 use aa_text_files::{Files, Place};
-use aatry_report::{push_place, push_shown};
+use aatry_exec::push_heading;
+use aatry_record::{Form, Record};
+use aatry_report::{path_below, push_place, push_shown, put_place};
 use std::alloc::{AllocError, Global};
-
-// The path that a file is told by: its name below the folder of policy.
-fn path_below(alloc: Global, base: &[u8], name: &[u8]) -> Result<Vec<u8>, AllocError>
-    ensures { IfOk result (λ path. path.items ≡ path_below base.now name.now) }
-{
-    let mut path = Vec::from_slice(alloc, base)?;
-    path.push(b'/')?;
-    path.extend_from_slice(name)?;
-    Ok(path)
-}
 
 /// Puts where a rule stands behind a text: `base` with the name of the file, the line and the column where it is written. One without a place
 /// stands in the profile's file, that of the name.
@@ -48,23 +44,88 @@ pub fn push_where(
     }
 }
 
-// Puts the line of a rule behind a text.
-fn push_told(
+/// Puts where a rule stands into a record: by the name `file`, `base` with the name of the file, and by `line` and `column` where it is written.
+/// One without a place stands in the profile's file, that of the name, which is put alone.
+///
+/// # Errors
+///
+/// Where memory runs out. Some of it may have been put then.
+pub fn put_where(
     alloc: Global,
     files: &Files,
     base: &[u8],
     name: &[u8],
     place: Option<Place>,
+    into: &mut Record,
+) -> Result<(), AllocError>
+    ensures { OnOk result (seen_record into.new ≡ with_where files.now base.now name.now place (seen_record into.old)) }
+{
+    match place {
+        None => {
+            let path = path_below(alloc, base, name)?;
+            into.put_text(alloc, "file", &path)
+        }
+        Some(place) => {
+            let path = path_below(alloc, base, files.name_at(place.file))?;
+            put_place(alloc, &path, files.bytes_at(place.file), place.at, into)
+        }
+    }
+}
+
+// Puts a rule, as `show` tells it, into a record.
+fn put_rule(alloc: Global, rule: &Rule, into: &mut Record) -> Result<(), AllocError>
+    ensures { OnOk result (seen_record into.new ≡ with_text (codes "rule") (rule_text rule.now) (seen_record into.old)) }
+{
+    let mut text = Vec::new(alloc);
+    push_rule(&mut text, rule)?;
+    into.put_text(alloc, "rule", &text)
+}
+
+// The record of a rule of a group below these words.
+fn rule_record(
+    alloc: Global,
+    files: &Files,
+    base: &[u8],
+    name: &[u8],
+    words: &str,
+    place: Option<Place>,
+    rule: &Rule,
+) -> Result<Record, AllocError>
+    ensures { IfOk result (λ made. seen_record made ≡ rule_record files.now base.now name.now words.now place rule.now) }
+{
+    let mut made = Record::new(alloc, "rule")?;
+    made.put_text(alloc, "group", words.as_bytes())?;
+    put_where(alloc, files, base, name, place, &mut made)?;
+    put_rule(alloc, rule, &mut made)?;
+    Ok(made)
+}
+
+// Puts the line of a rule of a group below these words behind a text.
+fn push_told(
+    alloc: Global,
+    form: Form,
+    files: &Files,
+    base: &[u8],
+    name: &[u8],
+    words: &str,
+    place: Option<Place>,
     rule: &Rule,
     out: &mut Vec<u8>,
 ) -> Result<(), AllocError>
-    ensures { OnOk result (out.new.items ≡ out.old.items ++ told_line files.now base.now name.now place rule.now) }
+    ensures { OnOk result (out.new.items ≡ out.old.items ++ told_line form files.now base.now name.now words.now place rule.now) }
 {
-    out.extend_from_slice(b"  ")?;
-    push_where(alloc, files, base, name, place, out)?;
-    push_rule(out, rule)?;
-    out.push(b'\n')?;
-    Ok(())
+    match form {
+        Form::Lines => {
+            out.extend_from_slice(b"  ")?;
+            push_where(alloc, files, base, name, place, out)?;
+            push_rule(out, rule)?;
+            out.push(b'\n')?;
+            Ok(())
+        }
+        Form::Records => rule_record(alloc, files, base, name, words, place, rule)?.push(
+            alloc, out,
+        ),
+    }
 }
 
 // Where the rule at an index stands.
@@ -80,21 +141,23 @@ fn place_at(places: &[Option<Place>], index: usize) -> Option<Place>
 // Puts the line of the rule at an index behind a text, if there is one.
 fn push_line(
     alloc: Global,
+    form: Form,
     files: &Files,
     base: &[u8],
     name: &[u8],
     rules: &[Rule],
     places: &[Option<Place>],
+    words: &str,
     index: usize,
     out: &mut Vec<u8>,
 ) -> Result<(), AllocError>
-    ensures { OnOk result (out.new.items ≡ out.old.items ++ line_at files.now base.now name.now rules.now places.now index) }
+    ensures { OnOk result (out.new.items ≡ out.old.items ++ line_at form files.now base.now name.now rules.now places.now words.now index) }
 {
     match rules.get(index) {
         None => Ok(()),
         Some(rule) => {
             let place = place_at(places, index);
-            push_told(alloc, files, base, name, place, rule, out)
+            push_told(alloc, form, files, base, name, words, place, rule, out)
         }
     }
 }
@@ -102,31 +165,7 @@ fn push_line(
 // Puts the lines of the rules at some indexes behind a text.
 fn push_lines(
     alloc: Global,
-    files: &Files,
-    base: &[u8],
-    name: &[u8],
-    rules: &[Rule],
-    places: &[Option<Place>],
-    indexes: &[usize],
-    out: &mut Vec<u8>,
-) -> Result<(), AllocError>
-    ensures { OnOk result (out.new.items ≡ out.old.items ++ flat_map (line_at files.now base.now name.now rules.now places.now) indexes.now) }
-{
-    let mut rest = indexes;
-    while let [index, behind @ ..] = rest {
-        push_line(alloc, files, base, name, rules, places, *index, out)?;
-        rest = behind;
-    }
-    Ok(())
-}
-
-/// Puts the lines of the rules at some indexes behind a text, below these words; nothing where there is no index.
-///
-/// # Errors
-///
-/// Where memory runs out. A beginning may have been put then.
-pub fn push_group(
-    alloc: Global,
+    form: Form,
     files: &Files,
     base: &[u8],
     name: &[u8],
@@ -136,12 +175,43 @@ pub fn push_group(
     indexes: &[usize],
     out: &mut Vec<u8>,
 ) -> Result<(), AllocError>
-    ensures { OnOk result (out.new.items ≡ out.old.items ++ group_lines files.now base.now name.now rules.now places.now words.now indexes.now) }
+    ensures { OnOk result (out.new.items ≡ out.old.items ++ flat_map (line_at form files.now base.now name.now rules.now places.now words.now) indexes.now) }
+{
+    let mut rest = indexes;
+    while let [index, behind @ ..] = rest {
+        push_line(
+            alloc, form, files, base, name, rules, places, words, *index, out,
+        )?;
+        rest = behind;
+    }
+    Ok(())
+}
+
+/// Puts the lines of the rules at some indexes behind a text, below these words; or, as the form says, a record of each, which has the words itself.
+/// Nothing where there is no index.
+///
+/// # Errors
+///
+/// Where memory runs out. A beginning may have been put then.
+pub fn push_group(
+    alloc: Global,
+    form: Form,
+    files: &Files,
+    base: &[u8],
+    name: &[u8],
+    rules: &[Rule],
+    places: &[Option<Place>],
+    words: &str,
+    indexes: &[usize],
+    out: &mut Vec<u8>,
+) -> Result<(), AllocError>
+    ensures { OnOk result (out.new.items ≡ out.old.items ++ group_lines form files.now base.now name.now rules.now places.now words.now indexes.now) }
 {
     if indexes.is_empty() {
         return Ok(());
     }
-    out.extend_from_slice(words.as_bytes())?;
-    out.push(b'\n')?;
-    push_lines(alloc, files, base, name, rules, places, indexes, out)
+    push_heading(form, words, out)?;
+    push_lines(
+        alloc, form, files, base, name, rules, places, words, indexes, out,
+    )
 }

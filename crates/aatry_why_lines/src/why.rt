@@ -7,7 +7,7 @@ ghost use Rattle.aa_profile_errors.specs.ProfileError.{plain};
 ghost use Rattle.aa_profile_errors.specs.declared.profile_error.ProfileRefusal.TheVariants.{Memory};
 ghost use Rattle.aatry_why_lines.specs.Askers.{HasNoAsker, IsAsker};
 ghost use Rattle.aatry_why_lines.specs.Why.{TellWhy, audits_in, deciding, deciding_lines, lines_of};
-ghost use Rattle.aatry_why_lines.specs.Why.{near_lines, rules_in, stands_in, told_lines, why_lines};
+ghost use Rattle.aatry_why_lines.specs.Why.{near_lines, nearest_lines, rules_in, stands_in, told_lines, why_lines};
 ghost use Rattle.aatry_why.specs.Told.{told};
 
 use crate::asker::asker_in;
@@ -18,6 +18,7 @@ use aa_profile_access::{Perms, Request};
 use aa_profile_places::{Place, ProfilePlaces, rule_places};
 use aa_text_files::Files;
 use aatry_exec::leading_rules;
+use aatry_record::Form;
 use aatry_why::{ToldRule, near_rules, told_rules};
 use bitflags::Flags;
 use std::alloc::{AllocError, Global};
@@ -25,6 +26,7 @@ use std::alloc::{AllocError, Global};
 // Puts the lines of the rules of a group behind a text.
 fn push_told_group(
     alloc: Global,
+    form: Form,
     files: &Files,
     base: &[u8],
     name: &[u8],
@@ -34,11 +36,12 @@ fn push_told_group(
     group: Group,
     out: &mut Vec<u8>,
 ) -> Result<(), AllocError>
-    ensures { OnOk result (out.new.items ≡ out.old.items ++ lines_of files.now base.now name.now rules.now places.now told.now group) }
+    ensures { OnOk result (out.new.items ≡ out.old.items ++ lines_of form files.now base.now name.now rules.now places.now told.now group) }
 {
     let indexes = places_in(alloc, group, told)?;
     push_group(
         alloc,
+        form,
         files,
         base,
         name,
@@ -69,6 +72,7 @@ fn deciding(alloc: Global, request: &Request<'_>, rules: &[Rule]) -> Result<Vec<
 // Puts the lines of the rules that decide where a program runs behind a text.
 fn push_deciding(
     alloc: Global,
+    form: Form,
     files: &Files,
     base: &[u8],
     name: &[u8],
@@ -78,11 +82,12 @@ fn push_deciding(
     out: &mut Vec<u8>,
 ) -> Result<(), AllocError>
     ensures { OnOk result (out.new.items
-        ≡ out.old.items ++ deciding_lines files.now base.now name.now rules.now places.now (request_of request.entry.now)) }
+        ≡ out.old.items ++ deciding_lines form files.now base.now name.now rules.now places.now (request_of request.entry.now)) }
 {
     let indexes = deciding(alloc, request, rules)?;
     push_group(
         alloc,
+        form,
         files,
         base,
         name,
@@ -94,27 +99,25 @@ fn push_deciding(
     )
 }
 
-// Puts the lines of the nearest rules behind a text, where they are wanted.
-fn push_near(
+// Puts the lines of the nearest rules behind a text.
+fn push_nearest(
     alloc: Global,
+    form: Form,
     files: &Files,
     base: &[u8],
     name: &[u8],
     rules: &[Rule],
     places: &[Option<Place>],
     request: &Request<'_>,
-    nearest: bool,
     out: &mut Vec<u8>,
 ) -> Result<(), AllocError>
     ensures { OnOk result (out.new.items
-        ≡ out.old.items ++ near_lines files.now base.now name.now rules.now places.now (request_of request.entry.now) nearest) }
+        ≡ out.old.items ++ nearest_lines form files.now base.now name.now rules.now places.now (request_of request.entry.now)) }
 {
-    if !nearest {
-        return Ok(());
-    }
     let indexes = near_rules(alloc, rules, request)?;
     push_group(
         alloc,
+        form,
         files,
         base,
         name,
@@ -126,9 +129,32 @@ fn push_near(
     )
 }
 
+// Puts them there where they are wanted.
+fn push_near(
+    alloc: Global,
+    form: Form,
+    files: &Files,
+    base: &[u8],
+    name: &[u8],
+    rules: &[Rule],
+    places: &[Option<Place>],
+    request: &Request<'_>,
+    nearest: bool,
+    out: &mut Vec<u8>,
+) -> Result<(), AllocError>
+    ensures { OnOk result (out.new.items
+        ≡ out.old.items ++ near_lines form files.now base.now name.now rules.now places.now (request_of request.entry.now) nearest) }
+{
+    if !nearest {
+        return Ok(());
+    }
+    push_nearest(alloc, form, files, base, name, rules, places, request, out)
+}
+
 // Puts the lines of the rules of each group behind a text.
 fn push_groups(
     alloc: Global,
+    form: Form,
     files: &Files,
     base: &[u8],
     name: &[u8],
@@ -137,10 +163,11 @@ fn push_groups(
     told: &[ToldRule],
     out: &mut Vec<u8>,
 ) -> Result<(), AllocError>
-    ensures { OnOk result (out.new.items ≡ out.old.items ++ told_lines files.now base.now name.now rules.now places.now told.now) }
+    ensures { OnOk result (out.new.items ≡ out.old.items ++ told_lines form files.now base.now name.now rules.now places.now told.now) }
 {
     push_told_group(
         alloc,
+        form,
         files,
         base,
         name,
@@ -152,6 +179,7 @@ fn push_groups(
     )?;
     push_told_group(
         alloc,
+        form,
         files,
         base,
         name,
@@ -163,6 +191,7 @@ fn push_groups(
     )?;
     push_told_group(
         alloc,
+        form,
         files,
         base,
         name,
@@ -177,6 +206,7 @@ fn push_groups(
 // Puts the lines of the rules that apply to a request behind a text.
 fn push_applying(
     alloc: Global,
+    form: Form,
     files: &Files,
     base: &[u8],
     name: &[u8],
@@ -187,15 +217,16 @@ fn push_applying(
     out: &mut Vec<u8>,
 ) -> Result<(), AllocError>
     ensures { OnOk result (out.new.items
-        ≡ out.old.items ++ told_lines files.now base.now name.now rules.now places.now (told audit (request_of request.entry.now) rules.now)) }
+        ≡ out.old.items ++ told_lines form files.now base.now name.now rules.now places.now (told audit (request_of request.entry.now) rules.now)) }
 {
     let told = told_rules(alloc, audit, rules, request)?;
-    push_groups(alloc, files, base, name, rules, places, &told, out)
+    push_groups(alloc, form, files, base, name, rules, places, &told, out)
 }
 
 // Puts the lines of the rules behind the answer to a request behind a text.
 fn push_rules(
     alloc: Global,
+    form: Form,
     files: &Files,
     base: &[u8],
     name: &[u8],
@@ -207,12 +238,14 @@ fn push_rules(
     out: &mut Vec<u8>,
 ) -> Result<(), AllocError>
     ensures { OnOk result (out.new.items
-        ≡ out.old.items ++ why_lines files.now base.now name.now audit rules.now places.now (request_of request.entry.now) nearest) }
+        ≡ out.old.items ++ why_lines form files.now base.now name.now audit rules.now places.now (request_of request.entry.now) nearest) }
 {
-    push_applying(alloc, files, base, name, audit, rules, places, request, out)?;
-    push_deciding(alloc, files, base, name, rules, places, request, out)?;
+    push_applying(
+        alloc, form, files, base, name, audit, rules, places, request, out,
+    )?;
+    push_deciding(alloc, form, files, base, name, rules, places, request, out)?;
     push_near(
-        alloc, files, base, name, rules, places, request, nearest, out,
+        alloc, form, files, base, name, rules, places, request, nearest, out,
     )
 }
 
@@ -267,6 +300,7 @@ fn stands_in(places: &[ProfilePlaces], index: usize, child: Option<usize>) -> &[
 // Puts the lines of the rules behind the answer to a request behind a text, of the profiles that a file spells.
 fn push_read(
     alloc: Global,
+    form: Form,
     files: &Files,
     base: &[u8],
     name: &[u8],
@@ -279,14 +313,14 @@ fn push_read(
 ) -> Result<(), AllocError>
     requires { file_profiles files.now name.now ≡ Ok profiles.now }
     ensures { OnOk result ((lines : List ℕ) × (out.new.items ≡ out.old.items ++ lines)
-        × TellWhy files.now base.now name.now index child (request_of request.entry.now) nearest lines) }
+        × TellWhy form files.now base.now name.now index child (request_of request.entry.now) nearest lines) }
 {
     let places = rule_places(alloc, files, name)?;
     let rules = rules_in(profiles, index, child);
     let audit = audits_in(profiles, index, child);
     let stands = stands_in(&places, index, child);
     push_rules(
-        alloc, files, base, name, audit, rules, stands, request, nearest, out,
+        alloc, form, files, base, name, audit, rules, stands, request, nearest, out,
     )?;
     Ok(())
 }
@@ -294,14 +328,16 @@ fn push_read(
 /// Puts the rules behind the answer to a request behind a text, as the profile at an index among those of a file decides, or its child or hat at a
 /// place: those that deny, that allow and that audit what is asked for, those that decide where a program runs, where its start is asked for, each
 /// group below its words, and, where `nearest` says so, those that are near. A rule that is in two groups is told in both. Each has a line of its
-/// own: `base` with the file's name, the line and the column where it is written, and the rule as `show` tells it. Rules on capabilities and
-/// sockets have no line and column. A profile, child or hat that isn't there has no rules.
+/// own: `base` with the file's name, the line and the column where it is written, and the rule as `show` tells it. As records, of the kind `rule`,
+/// these are `file`, `line` and `column`, and `rule`, with the words of the group, `group`, in each and none above. Rules on capabilities and sockets
+/// have no line and column. A profile, child or hat that isn't there has no rules.
 ///
 /// # Errors
 ///
 /// As `aa_profile::read_file` refuses the file, or `Memory`, without a place, where memory ran out. A beginning may have been put then.
 pub fn push_why(
     alloc: Global,
+    form: Form,
     files: &Files,
     base: &[u8],
     name: &[u8],
@@ -312,12 +348,12 @@ pub fn push_why(
     out: &mut Vec<u8>,
 ) -> Result<(), ProfileError>
     ensures told { OnOk result ((lines : List ℕ) × (out.new.items ≡ out.old.items ++ lines)
-        × TellWhy files.now base.now name.now index child (request_of request.entry.now) nearest lines) }
+        × TellWhy form files.now base.now name.now index child (request_of request.entry.now) nearest lines) }
     ensures refused { IfErr result (λ error. error ≢ plain Memory → file_profiles files.now name.now ≡ Err error) }
 {
     let profiles = read_file(alloc, files, name)?;
     push_read(
-        alloc, files, base, name, &profiles, index, child, request, nearest, out,
+        alloc, form, files, base, name, &profiles, index, child, request, nearest, out,
     )?;
     Ok(())
 }
@@ -330,6 +366,7 @@ pub fn push_why(
 /// As `push_why`.
 pub fn push_why_of(
     alloc: Global,
+    form: Form,
     files: &Files,
     base: &[u8],
     name: &[u8],
@@ -340,7 +377,7 @@ pub fn push_why_of(
 ) -> Result<bool, ProfileError>
     ensures told { IfOk result (λ found. found ≡ true → (index : ℕ) × (child : Option ℕ) × (lines : List ℕ)
         × IsAsker files.now name.now who.now index child × (out.new.items ≡ out.old.items ++ lines)
-        × TellWhy files.now base.now name.now index child (request_of request.entry.now) nearest lines) }
+        × TellWhy form files.now base.now name.now index child (request_of request.entry.now) nearest lines) }
     ensures absent { IfOk result (λ found. found ≡ false → HasNoAsker files.now name.now who.now × (out.new.items ≡ out.old.items)) }
     ensures refused { IfErr result (λ error. error ≢ plain Memory → file_profiles files.now name.now ≡ Err error) }
 {
@@ -349,7 +386,7 @@ pub fn push_why_of(
         return Ok(false);
     };
     push_read(
-        alloc, files, base, name, &profiles, index, child, request, nearest, out,
+        alloc, form, files, base, name, &profiles, index, child, request, nearest, out,
     )?;
     Ok(true)
 }

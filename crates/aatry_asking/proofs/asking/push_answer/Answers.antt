@@ -1,7 +1,7 @@
 use Rattle.std.proofs.Common.{◌≡◌, ◌++◌, ◌∙◌, true, ap, append_assoc, map, refl, string_bytes, subst, sym}
 use Rattle.aa_set_answers.specs.Answers.{who_asks}
 use Rattle.aa_set_commands.specs.Question.{seen_question}
-use Rattle.aatry_asking.specs.Asking.{IsAnswered, how_of}
+use Rattle.aatry_asking.specs.Asking.{IsAnswered, how_of, reply_text}
 use Rattle.aatry_asking.specs.Rules.{TellsRules, file_of, wants_nearest}
 use Rattle.aatry_requests.specs.Questions.{rule_request}
 use Rattle.aatry_asking.proofs.asking.push_answer.Goals as goal
@@ -9,23 +9,26 @@ use Rattle.aatry_asking.proofs.asking.push_answer.Goals as goal
 -- the reply, behind it the rules of who asks, and how it came about
 pub returns-in_ok-push_reasons-in-Ok : goal.returns-in_ok-push_reasons-in-Ok
 returns-in_ok-push_reasons-in-Ok c =
+    let form = c.args.form in
     let files = c.args.files.now in
     let base = c.args.base.now in
     let names = map string_bytes c.args.names.now in
     let outcomes = c.args.outcomes.now in
     let question = seen_question c.args.question.now in
-    let how = how_of c.args.manager.now.machine.now question in
+    let how = how_of form c.args.manager.now.machine.now question in
     let reply = c.in-Ok.reply.items in
+    let text = reply_text form reply in
+    let before = c.args.out.now.items in
     let told = c.in_ok-push_reasons-in-Ok.ensures in
     let rules = told.0 in
     let own : c.deref.result.now ≡ reply = c.deref.ensures.value in
     let nearest : c.wants_nearest-nearest.result ≡ wants_nearest reply = c.wants_nearest-nearest.ensures ∙ ap wants_nearest c.deref-in-Ok.ensures.value in
-    let by_nearest = subst (λ near. TellsRules files base (who_asks question) (rule_request question) near
+    let by_nearest = subst (λ near. TellsRules form files base (who_asks question) (rule_request question) near
     (file_of files (who_asks question) names outcomes) rules) nearest told.2 in (
-      reply ++ rules ++ how,
-      told.1 ∙ ap (λ l. l ++ rules ++ how) (c.in_ok-extend_from_slice-in-Ok.ensures.items ∙ ap (λ l. c.args.out.now.items ++ l) own)
-          ∙ ap (λ l. l ++ how) (append_assoc c.args.out.now.items reply rules)
-          ∙ append_assoc c.args.out.now.items (reply ++ rules) how,
-      subst (λ answer. IsAnswered files base names outcomes question how answer (reply ++ rules ++ how) true) (sym c.in-Ok.ensures.answered)
+      text ++ rules ++ how,
+      told.1 ∙ ap (λ l. l ++ rules ++ how) (c.in_ok-push_reply-in-Ok.ensures ∙ ap (λ r. before ++ reply_text form r) own)
+          ∙ ap (λ l. l ++ how) (append_assoc before text rules)
+          ∙ append_assoc before (text ++ rules) how,
+      subst (λ answer. IsAnswered form files base names outcomes question how answer (text ++ rules ++ how) true) (sym c.in-Ok.ensures.answered)
           (rules, refl, by_nearest, refl),
     )

@@ -19,5 +19,5 @@ returns-then-found c =
     let told = c.in_ok-found.ensures.told c.if-found.true in (
       told.0,
       told.1 ∙ ap (λ l. l ++ told.0) c.loop-rest.invariant.same,
-      subst (λ file. TellsRules files c.args.base.now who (request_of c.args.request.now) c.args.nearest file told.0) (ap Some own ∙ sym first ∙ c.loop-rest.invariant.left) told.2,
+      subst (λ file. TellsRules c.args.form files c.args.base.now who (request_of c.args.request.now) c.args.nearest file told.0) (ap Some own ∙ sym first ∙ c.loop-rest.invariant.left) told.2,
     )

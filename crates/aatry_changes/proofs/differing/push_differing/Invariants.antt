@@ -2,12 +2,13 @@ use Rattle.std.proofs.Common.{◌≡◌, ◌++◌, length}
 use Rattle.aatry_changes.specs.Differing.{differing_text}
 use Rattle.aatry_changes.specs.Folders.{seen_folder}
 use Rattle.aatry_changes.proofs.differing.push_differing.Given as goal
+use Rattle.aatry_profiles.specs.SeenProfiles.{seen_part}
 
 -- the text so far, with what is told of the lines that are left, is all
 abbrev pub invariant-loop-rest : goal.invariant-loop-rest
 invariant-loop-rest l =
-    l.out.items ++ differing_text (seen_folder l.folder) l.file l.sign l.others l.rest
-    ≡ l.initial.out.items ++ differing_text (seen_folder l.folder) l.file l.sign l.others l.lines
+    let text = differing_text l.form (seen_folder l.folder) (seen_part l.part) l.blanks l.side l.others in
+    l.out.items ++ text l.rest ≡ l.initial.out.items ++ text l.lines
 
 abbrev pub decreases-loop-rest : goal.decreases-loop-rest
 decreases-loop-rest l = length l.rest

@@ -10,7 +10,7 @@ invariant-loop-place l =
     let new = l.initial.new.machine.now in
     let folders = seen_folders l.folders in
     record {
-      told : l.out.items ++ difference_lines folders old new (drop l.place l.tallies) ≡ l.initial.out.items ++ difference_lines folders old new l.tallies;
+      told : l.out.items ++ difference_lines l.form folders old new (drop l.place l.tallies) ≡ l.initial.out.items ++ difference_lines l.form folders old new l.tallies;
       count : l.count + length (differing old new (drop l.place l.tallies)) ≡ length (differing old new l.tallies);
       few : l.count ≤ l.place;
       old : l.old ≡ l.initial.old;

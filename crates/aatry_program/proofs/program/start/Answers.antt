@@ -1,5 +1,5 @@
 use Rattle.std.proofs.Common.{drop, map, string_bytes}
-use Rattle.aatry_arguments.specs.Arguments.{asked}
+use Rattle.aatry_arguments.specs.Forms.{asked_call}
 use Rattle.aatry_program.proofs.ProgramLemmas.{done_by_command, done_by_fault}
 use Rattle.aatry_program.specs.Program.{input_of, output_of}
 use Rattle.aatry_program.proofs.program.start.Goals as goal
@@ -7,11 +7,11 @@ use Rattle.aatry_program.proofs.program.start.Goals as goal
 pub returns-in-Ok : goal.returns-in-Ok
 returns-in-Ok g c =
     let output = output_of (g.W.Sink.written c.args.output.now) (g.W.Sink.written c.perform.new.output) (g.W.Sink.failed c.perform.new.output) in
-    done_by_command (g.F.Folders.members_at c.args.folders.now) (g.D.FileSystem.bytes_at c.args.disk.now) (input_of (g.S.Source.left c.args.input.now) c.args.prompt.now) (asked (drop 1 (map string_bytes c.args.words.now)))
-    c.in-Ok.command output c.perform.result c.in-Ok.ensures c.perform.ensures
+    done_by_command (g.F.Folders.members_at c.args.folders.now) (g.D.FileSystem.bytes_at c.args.disk.now) (input_of (g.S.Source.left c.args.input.now) c.args.prompt.now) (asked_call (drop 1 (map string_bytes c.args.words.now)))
+    c.in-Ok.call output c.perform.result c.in-Ok.ensures c.perform.ensures
 
 pub returns-in-Err : goal.returns-in-Err
 returns-in-Err g c =
     let output = output_of (g.W.Sink.written c.args.output.now) (g.W.Sink.written c.show_fault.new.output) (g.W.Sink.failed c.show_fault.new.output) in
-    done_by_fault (g.F.Folders.members_at c.args.folders.now) (g.D.FileSystem.bytes_at c.args.disk.now) (input_of (g.S.Source.left c.args.input.now) c.args.prompt.now) (asked (drop 1 (map string_bytes c.args.words.now)))
+    done_by_fault (g.F.Folders.members_at c.args.folders.now) (g.D.FileSystem.bytes_at c.args.disk.now) (input_of (g.S.Source.left c.args.input.now) c.args.prompt.now) (asked_call (drop 1 (map string_bytes c.args.words.now)))
     c.in-Err.fault output c.show_fault.result c.in-Err.ensures c.show_fault.ensures

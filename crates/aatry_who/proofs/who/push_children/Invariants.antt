@@ -7,5 +7,5 @@ use Rattle.aatry_who.proofs.who.push_children.Given as goal
 -- the text so far, with the lines of what is left, is all
 abbrev pub invariant-loop-place : goal.invariant-loop-place
 invariant-loop-place l =
-    let line = child_line (request_of l.request) l.entry in
+    let line = child_line l.form (request_of l.request) l.entry in
     l.text.items ++ lines_from line l.place (drop l.place l.children) ≡ l.initial.text.items ++ lines_from line 0 l.children

@@ -8,7 +8,7 @@ use Rattle.aatry_who.proofs.who.push_slots.Given as goal
 abbrev pub invariant-loop-rest : goal.invariant-loop-rest
 invariant-loop-rest l =
     let request = request_of l.request in
-    l.text.items ++ who_lines request (filled l.rest) ≡ l.initial.text.items ++ who_lines request (filled l.slots)
+    l.text.items ++ who_lines l.form request (filled l.rest) ≡ l.initial.text.items ++ who_lines l.form request (filled l.slots)
 
 abbrev pub decreases-loop-rest : goal.decreases-loop-rest
 decreases-loop-rest l = length l.rest

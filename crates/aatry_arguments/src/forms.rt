@@ -1,0 +1,160 @@
+//! In which form is told what a command finds.
+
+ghost use Rattle.std.specs.Prelude.{◌≡◌, ◌++◌, IfOk, OnOk, drop, map, string_bytes};
+ghost use Rattle.aatry_arguments.specs.Arguments.{asked};
+ghost use Rattle.aatry_arguments.specs.Asked.{asked_as, asked_then};
+ghost use Rattle.aatry_arguments.specs.Forms.{asked_call, call_with, ends_options, in_records, is_json_word, wants_records, without_json};
+ghost use Rattle.aatry_arguments.specs.Given.{IsGivenFor, meant_call, meant_command};
+ghost use Rattle.aatry_record.specs.declared.form.Form.TheVariants as form;
+
+use crate::arguments::{ArgumentFault, Call, Command};
+use crate::reading::command_behind;
+use aatry_record::Form;
+use std::alloc::{AllocError, Global};
+
+// Whether behind a word none is an option.
+fn ends_options(word: &str) -> bool
+    ensures { result ≡ ends_options word.now }
+{
+    word == "--"
+}
+
+// Whether a word asks for records.
+fn is_json_word(word: &str) -> bool
+    ensures { result ≡ is_json_word word.now }
+{
+    word == "--json"
+}
+
+// Whether one of some words asks for records, ahead of the first behind which none is an option.
+fn wants_records(words: &[String]) -> bool
+    ensures { result ≡ wants_records (map string_bytes words.now) }
+{
+    let mut rest = words;
+    while let [word, behind @ ..] = rest {
+        if ends_options(word.as_str()) {
+            return false;
+        }
+        if is_json_word(word.as_str()) {
+            return true;
+        }
+        rest = behind;
+    }
+    false
+}
+
+// Puts copies of words behind others.
+fn push_words(alloc: Global, words: &[String], out: &mut Vec<String>) -> Result<(), AllocError>
+    ensures { OnOk result (map string_bytes out.new.items ≡ map string_bytes out.old.items ++ map string_bytes words.now) }
+{
+    for word in words {
+        out.push(String::from_str(alloc, word.as_str())?)?;
+    }
+    Ok(())
+}
+
+// The words without those that ask for records.
+fn without_json(alloc: Global, words: &[String]) -> Result<Vec<String>, AllocError>
+    ensures { IfOk result (λ others. map string_bytes others.items ≡ without_json (map string_bytes words.now)) }
+{
+    let mut others = Vec::new(alloc);
+    let mut rest = words;
+    while let [word, behind @ ..] = rest {
+        if ends_options(word.as_str()) {
+            push_words(alloc, rest, &mut others)?;
+            return Ok(others);
+        }
+        if !is_json_word(word.as_str()) {
+            others.push(String::from_str(alloc, word.as_str())?)?;
+        }
+        rest = behind;
+    }
+    Ok(others)
+}
+
+// A command that is to tell in lines.
+fn in_lines(command: Command) -> Call
+    ensures { meant_call result ≡ call_with form.Lines (meant_command command) }
+{
+    Call {
+        form: Form::Lines,
+        command,
+    }
+}
+
+// A command that is to tell in records: there are none of a test or a session.
+fn in_records(command: Command) -> Result<Call, ArgumentFault>
+    ensures { IsGivenFor meant_call (in_records (meant_command command)) result }
+{
+    match command {
+        Command::Test(_) | Command::Session(_) => Err(ArgumentFault::Bad),
+        command => Ok(Call {
+            form: Form::Records,
+            command,
+        }),
+    }
+}
+
+// The call that words ask for, none of which asks for records.
+fn call_in_lines(alloc: Global, words: &[String]) -> Result<Call, ArgumentFault>
+    ensures { IsGivenFor meant_call (asked_as (call_with form.Lines) (asked (map string_bytes words.now))) result }
+{
+    match command_behind(alloc, words) {
+        Ok(command) => Ok(in_lines(command)),
+        Err(fault) => Err(fault),
+    }
+}
+
+// The call that words ask for beside one that asks for records.
+fn call_in_records(alloc: Global, words: &[String]) -> Result<Call, ArgumentFault>
+    ensures { IsGivenFor meant_call (asked_then in_records (asked (map string_bytes words.now))) result }
+{
+    match command_behind(alloc, words) {
+        Ok(command) => in_records(command),
+        Err(fault) => Err(fault),
+    }
+}
+
+// The call that the words behind the program's own name ask for.
+fn call_behind(alloc: Global, words: &[String]) -> Result<Call, ArgumentFault>
+    ensures { IsGivenFor meant_call (asked_call (map string_bytes words.now)) result }
+{
+    if !wants_records(words) {
+        return call_in_lines(alloc, words);
+    }
+    match without_json(alloc, words) {
+        Ok(others) => call_in_records(alloc, &others),
+        Err(_) => Err(ArgumentFault::Memory),
+    }
+}
+
+/// The command that is asked for by the words that the program was started with, and the form in which it is to tell.
+///
+/// The first word is the program's own name, whatever it is, and the second is the command's name. Behind `check` a word is a NAME, behind `test`
+/// a FILE, behind `who` and `why` a word of the question, and behind `diff` a folder, unless it is an option: a hyphen and more behind it. Behind
+/// `session` there is none but options. Behind the word `--` none is an option.
+///
+/// `-b` takes the path of the folder of policy, and behind `diff`, which has no `-b`, `--log` and `--questions` take the path of a file. The path
+/// stands behind the option in its word, without one `=` between behind `-b` and with it behind the others, or else it is the next word, which then
+/// is no option and no `--`. Such an option may stand before, between and behind the other words, and where it is given again, the last counts.
+///
+/// The word `--json`, ahead of the first `--`, asks for records, and is none of the words above: the command is the one that the others ask for.
+///
+/// # Errors
+///
+/// - `Help` where there is no second word, or it is `--help` or `-h`. Behind a command, where the first option that takes no path is one of these,
+///   with or without other letters behind `-h`.
+/// - `Version` where the second word is `--version` or `-V`.
+/// - `Bad` where the second word is any other. Behind a command, where the first option that takes no path is any other, or where one that takes a
+///   path comes before it without one. Behind `test`, where there is no FILE. Behind `who`, where the words of the question aren't three, and behind
+///   `why`, where there is none. Behind `diff`, where the folders aren't two, or both `--log` and `--questions` are given. Behind `session`, where
+///   there is a word that is no option. Where records are asked for of `test` or `session`.
+/// - `Memory` where memory ran out.
+pub fn call_of(alloc: Global, words: &[String]) -> Result<Call, ArgumentFault>
+    ensures { IsGivenFor meant_call (asked_call (drop 1 (map string_bytes words.now))) result }
+{
+    match words {
+        [_, behind @ ..] => call_behind(alloc, behind),
+        [] => call_behind(alloc, words),
+    }
+}

@@ -1,0 +1,41 @@
+//! Headings, which stand over lines for people alone.
+
+ghost use Rattle.std.specs.Prelude.{◌≡◌, ◌++◌, OnOk};
+ghost use Rattle.aatry_exec.specs.Headings.{headed, heading_line};
+
+use aatry_record::Form;
+use std::alloc::AllocError;
+
+/// Puts a heading behind a text, on a line of its own, where lines are told; over records there is none.
+///
+/// # Errors
+///
+/// Where memory runs out. A beginning may have been put then.
+pub fn push_heading(form: Form, words: &str, out: &mut Vec<u8>) -> Result<(), AllocError>
+    ensures { OnOk result (out.new.items ≡ out.old.items ++ heading_line form words.now) }
+{
+    match form {
+        Form::Lines => {
+            out.extend_from_slice(words.as_bytes())?;
+            out.push(b'\n')?;
+            Ok(())
+        }
+        Form::Records => Ok(()),
+    }
+}
+
+// Puts lines below a heading behind a text; nothing where there is no line.
+pub fn push_headed(
+    form: Form,
+    words: &str,
+    lines: &[u8],
+    out: &mut Vec<u8>,
+) -> Result<(), AllocError>
+    ensures { OnOk result (out.new.items ≡ out.old.items ++ headed form words.now lines.now) }
+{
+    if lines.is_empty() {
+        return Ok(());
+    }
+    push_heading(form, words, out)?;
+    out.extend_from_slice(lines)
+}

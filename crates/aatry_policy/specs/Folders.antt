@@ -1,0 +1,36 @@
+-- Folders of policy, and the policy sets that they make.
+use Rattle.std.specs.Prelude.{ℕ, List, false, map, string_bytes, Option}
+use Rattle.aa_decide_verdict.specs.Entries.{Loaded}
+use Rattle.aa_set.specs.Manager.{Managed, new_manager}
+use Rattle.aa_set_commands.specs.declared.refusal.Refusal.{Refusal}
+use Rattle.aa_text_files.specs.Files.{File}
+use Rattle.aatry_policy.specs.LeftOut.{left_out_lines}
+use Rattle.aatry_policy.specs.Policies.{loaded, outcomes}
+use Rattle.aatry_policy.specs.declared.folder.Folder.{Folder as CodeFolder}
+use Rattle.aatry_record.specs.declared.form.Form.{Form}
+
+-- a folder of policy: all that lies below it, its path, and the names of the files whose profiles are loaded
+pub record Folder : Type 0 where
+  pub files : List File
+  pub base : List ℕ
+  pub names : List (List ℕ)
+
+-- a folder of the code
+abbrev pub seen_folder : CodeFolder → Folder
+seen_folder folder = record { files = folder.files.now; base = folder.base.now; names = map string_bytes folder.names.now }
+
+-- what its files make, each added in its turn
+abbrev pub loaded_in : Folder → Managed
+loaded_in folder = loaded folder.files (new_manager false) folder.names
+
+-- the policy set of them
+abbrev pub policy_in : Folder → List Loaded
+policy_in folder = (loaded_in folder).machine.now
+
+-- why each of them is left out, if it is
+abbrev pub outcomes_in : Folder → List (Option Refusal)
+outcomes_in folder = outcomes folder.files (new_manager false) folder.names
+
+-- what is told of those that are left out
+abbrev pub left_out_in : Form → Folder → List ℕ
+left_out_in form folder = left_out_lines form folder.base folder.names (outcomes_in folder)

@@ -1,0 +1,37 @@
+-- What is told of refusals, and of the files that are left out of a policy set.
+use Rattle.std.specs.Prelude.{ℕ, List, [], ◌∷◌, ◌++◌, codes, Option, None, Some}
+use Rattle.std.specs.Fmt.{decimal}
+use Rattle.serde_json.specs.Data.{Members}
+use Rattle.aa_bytes.specs.Bytes.{line_feed}
+use Rattle.aa_set_commands.specs.Refusal.{name_of, number_of}
+use Rattle.aa_set_commands.specs.declared.refusal.Refusal.{Refusal}
+use Rattle.aatry_record.specs.Records.{record_line, record_of, with_number, with_text}
+use Rattle.aatry_record.specs.declared.form.Form.{Form}
+use Rattle.aatry_record.specs.declared.form.Form.TheVariants.{Lines, Records}
+use Rattle.aatry_report.specs.Places.{path_below}
+use Rattle.aatry_report.specs.Shown.{shown}
+
+-- the number and the name of a refusal
+abbrev pub refusal_text : Refusal → List ℕ
+refusal_text refusal = decimal (number_of refusal.refusal) ++ codes " " ++ name_of refusal.refusal
+
+-- a record of a file that is left out, by its path
+abbrev pub left_out_record : List ℕ → Refusal → Members
+left_out_record path refusal =
+    with_text (codes "refusal") (name_of refusal.refusal) (with_number (codes "number") (number_of refusal.refusal)
+    (with_text (codes "file") path (record_of (codes "left_out"))))
+
+-- what is told of a file that is left out, by its path
+abbrev pub left_out_text : Form → List ℕ → Refusal → List ℕ
+left_out_text Lines path refusal = shown path ++ codes ": left out: " ++ refusal_text refusal ++ line_feed ∷ []
+left_out_text Records path refusal = record_line (left_out_record path refusal)
+
+-- what is told of a file that is left out; of one that is taken nothing is
+abbrev pub left_out_line : Form → List ℕ → List ℕ → Option Refusal → List ℕ
+left_out_line form base name None = []
+left_out_line form base name (Some refusal) = left_out_text form (path_below base name) refusal
+
+-- what is told of files, by how each came out
+abbrev pub left_out_lines : Form → List ℕ → List (List ℕ) → List (Option Refusal) → List ℕ
+left_out_lines form base (name ∷ names) (outcome ∷ outcomes) = left_out_line form base name outcome ++ left_out_lines form base names outcomes
+left_out_lines form base _ _ = []

@@ -1,0 +1,113 @@
+//! What is told of refusals, and of the files that are left out of a policy set.
+
+ghost use Rattle.std.specs.Prelude.{◌≡◌, ◌++◌, IfOk, OnOk, map, string_bytes};
+ghost use Rattle.aatry_policy.specs.LeftOut.{left_out_line, left_out_lines, left_out_record, left_out_text, refusal_text};
+ghost use Rattle.aatry_record.specs.SeenRecord.{seen_record};
+ghost use Rattle.aatry_record.specs.declared.form.Form.TheVariants as form;
+
+use aa_set_commands::Refusal;
+use aatry_record::{Form, Record};
+use aatry_report::{path_below, push_shown};
+use itoa::Buffer;
+use std::alloc::{AllocError, Global};
+
+/// Puts the number and the name of a refusal behind a text.
+///
+/// # Errors
+///
+/// Where memory runs out. A beginning may have been put then.
+pub fn push_refusal(out: &mut Vec<u8>, refusal: Refusal) -> Result<(), AllocError>
+    ensures { OnOk result (out.new.items ≡ out.old.items ++ refusal_text refusal) }
+{
+    let mut digits = Buffer::new();
+    out.extend_from_slice(digits.format(refusal.number()).as_bytes())?;
+    out.push(b' ')?;
+    out.extend_from_slice(refusal.name().as_bytes())?;
+    Ok(())
+}
+
+// Puts the line of a file that is left out behind a text.
+fn push_line(out: &mut Vec<u8>, path: &[u8], refusal: Refusal) -> Result<(), AllocError>
+    ensures { OnOk result (out.new.items ≡ out.old.items ++ left_out_text form.Lines path.now refusal) }
+{
+    push_shown(out, path)?;
+    out.extend_from_slice(b": left out: ")?;
+    push_refusal(out, refusal)?;
+    out.push(b'\n')?;
+    Ok(())
+}
+
+// The record of a file that is left out.
+fn left_out_record(alloc: Global, path: &[u8], refusal: Refusal) -> Result<Record, AllocError>
+    ensures { IfOk result (λ made. seen_record made ≡ left_out_record path.now refusal) }
+{
+    let mut made = Record::new(alloc, "left_out")?;
+    made.put_text(alloc, "file", path)?;
+    made.put_number(alloc, "number", refusal.number() as usize)?;
+    made.put_text(alloc, "refusal", refusal.name().as_bytes())?;
+    Ok(made)
+}
+
+// Puts what is told of a file that is left out behind a text.
+fn push_text(
+    alloc: Global,
+    form: Form,
+    path: &[u8],
+    refusal: Refusal,
+    out: &mut Vec<u8>,
+) -> Result<(), AllocError>
+    ensures { OnOk result (out.new.items ≡ out.old.items ++ left_out_text form path.now refusal) }
+{
+    match form {
+        Form::Lines => push_line(out, path, refusal),
+        Form::Records => left_out_record(alloc, path, refusal)?.push(alloc, out),
+    }
+}
+
+// Puts it there, if the file is left out.
+fn push_file(
+    alloc: Global,
+    form: Form,
+    base: &[u8],
+    name: &[u8],
+    outcome: Option<Refusal>,
+    out: &mut Vec<u8>,
+) -> Result<(), AllocError>
+    ensures { OnOk result (out.new.items ≡ out.old.items ++ left_out_line form base.now name.now outcome) }
+{
+    match outcome {
+        None => Ok(()),
+        Some(refusal) => {
+            let path = path_below(alloc, base, name)?;
+            push_text(alloc, form, &path, refusal, out)
+        }
+    }
+}
+
+/// Puts what is told of each file behind a text that is left out, with its path and why it is refused.
+///
+/// # Errors
+///
+/// Where memory runs out. A beginning may have been put then.
+pub fn push_left_out(
+    alloc: Global,
+    form: Form,
+    base: &[u8],
+    names: &[String],
+    outcomes: &[Option<Refusal>],
+    out: &mut Vec<u8>,
+) -> Result<(), AllocError>
+    ensures { OnOk result (out.new.items ≡ out.old.items ++ left_out_lines form base.now (map string_bytes names.now) outcomes.now) }
+{
+    let mut left = outcomes;
+    let mut rest = names;
+    while let [name, behind @ ..] = rest {
+        let [outcome, more @ ..] = left else {
+            break;
+        };
+        push_file(alloc, form, base, name.as_bytes(), *outcome, out)?;
+        rest = behind;
+        left = more;
+    }
+    Ok(())
+}
