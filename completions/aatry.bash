@@ -23,7 +23,7 @@ _aatry() {
         --log | --questions) mapfile -t COMPREPLY < <(compgen -f -- "$word") ;;
         *)
             if [[ $word == -* ]]; then
-                mapfile -t COMPREPLY < <(compgen -W '--log --questions -h --help --' -- "$word")
+                mapfile -t COMPREPLY < <(compgen -W '--log --questions --json -h --help --' -- "$word")
             else
                 mapfile -t COMPREPLY < <(compgen -d -- "$word")
             fi
@@ -54,7 +54,10 @@ _aatry() {
         # The folder of -b.
         mapfile -t COMPREPLY < <(compgen -d -- "$word")
     elif [ -n "$options" ] && [[ $word == -* ]]; then
-        mapfile -t COMPREPLY < <(compgen -W '-b -h --help --' -- "$word")
+        case ${COMP_WORDS[1]} in
+        check | why | who) mapfile -t COMPREPLY < <(compgen -W '-b --json -h --help --' -- "$word") ;;
+        *) mapfile -t COMPREPLY < <(compgen -W '-b -h --help --' -- "$word") ;;
+        esac
     elif [ "${COMP_WORDS[1]}" = who ] || [ "${COMP_WORDS[1]}" = why ]; then
         # Words of a question: its first ones, and behind them paths.
         if [ "${COMP_WORDS[1]}" = why ] && [ "$COMP_CWORD" -eq 2 ]; then
