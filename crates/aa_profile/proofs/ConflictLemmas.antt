@@ -101,8 +101,8 @@ one-free before rule off = rw (first_conflict, none-with rule off before) refl
 -- what a written rule without a pattern makes conflicts with none
 pub no-pattern : (variables : List Variable) (before : List Rule) (rule : WrittenRule) → pattern_of rule ≡ None → first_conflict before (rules_of_rule variables rule) ≡ None
 no-pattern variables before (OnFile qualifiers pattern access target) h = absurd (cc)
-no-pattern variables before (OnCapabilities qualifiers capabilities) h = one-free before (cap_rule qualifiers capabilities) (λ other. refl)
-no-pattern variables before (OnNetwork qualifiers sockets) h = one-free before (net_rule qualifiers sockets) (λ other. refl)
+no-pattern variables before (OnCapabilities qualifiers word capabilities) h = one-free before (cap_rule qualifiers capabilities) (λ other. refl)
+no-pattern variables before (OnNetwork qualifiers word sockets) h = one-free before (net_rule qualifiers sockets) (λ other. refl)
 no-pattern variables before (Kept qualifiers tokens) h = one-free before (other_rule qualifiers tokens) (λ other. refl)
 
 -- where no pattern of a written rule is told, none of its rules conflicts

@@ -44,8 +44,8 @@ file_rules-known make fine (pattern ∷ patterns) = rw (fine pattern, file_rules
 
 made-rule : (variables : List Variable) (rule : WrittenRule) → is_known rule ≡ true → list_all has_known_numbers (rules_of_rule variables rule) ≡ true
 made-rule variables (OnFile qualifiers pattern access target) h = file_rules-known (file_rule qualifiers access target) (λ pattern. refl) (patterns_at variables pattern)
-made-rule variables (OnCapabilities qualifiers capabilities) h = rw h refl
-made-rule variables (OnNetwork qualifiers sockets) h = rw h refl
+made-rule variables (OnCapabilities qualifiers word capabilities) h = rw h refl
+made-rule variables (OnNetwork qualifiers word sockets) h = rw h refl
 made-rule variables (Kept qualifiers tokens) h = refl
 
 all-both : {X : Type 0} (p : X → Bool) (xs ys : List X) → list_all p xs ≡ true → list_all p ys ≡ true → list_all p (xs ++ ys) ≡ true

@@ -86,8 +86,8 @@ module _ (variables : List Variable) where
   rule-read : (rule : WrittenRule) → first_bad variables (of_rule rule) ≡ None → All HasReadPattern (rules_of_rule variables rule)
   rule-read (OnFile qualifiers pattern access target) fine =
       expansions-read (file_rule qualifiers access target) (λ pattern read. read) (expansions variables (text_of pattern)) (token-fine pattern (first-fine pattern [] fine))
-  rule-read (OnCapabilities qualifiers capabilities) fine = one-read _ tt
-  rule-read (OnNetwork qualifiers sockets) fine = one-read _ tt
+  rule-read (OnCapabilities qualifiers word capabilities) fine = one-read _ tt
+  rule-read (OnNetwork qualifiers word sockets) fine = one-read _ tt
   rule-read (Kept qualifiers tokens) fine = one-read _ tt
 
   rules-read : (rules : List WrittenRule) → first_bad variables (of_rules rules) ≡ None → All HasReadPattern (rules_of variables rules)

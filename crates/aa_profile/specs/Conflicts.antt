@@ -17,8 +17,8 @@ use Rattle.aa_profile_errors.specs.declared.profile_error.ProfileRefusal.TheVari
 -- the pattern of a written rule, where it has one
 abbrev pub pattern_of : WrittenRule → Option Placed
 pattern_of (OnFile qualifiers pattern access target) = Some pattern
-pattern_of (OnCapabilities qualifiers capabilities) = None
-pattern_of (OnNetwork qualifiers sockets) = None
+pattern_of (OnCapabilities qualifiers word capabilities) = None
+pattern_of (OnNetwork qualifiers word sockets) = None
 pattern_of (Kept qualifiers tokens) = None
 
 -- The pattern of a written rule, where a rule that it makes conflicts with one before that. Others come before all that it makes.

@@ -8,8 +8,8 @@ use Rattle.aa_text_splicing.specs.Splicing.{Placed}
 
 abbrev pub of_rule : Rule → List Placed
 of_rule (OnFile qualifiers pattern access target) = pattern ∷ []
-of_rule (OnCapabilities qualifiers capabilities) = []
-of_rule (OnNetwork qualifiers sockets) = []
+of_rule (OnCapabilities qualifiers word capabilities) = []
+of_rule (OnNetwork qualifiers word sockets) = []
 of_rule (Kept qualifiers tokens) = []
 
 abbrev pub of_rules : List Rule → List Placed

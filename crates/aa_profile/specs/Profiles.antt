@@ -81,8 +81,8 @@ other_rule qualifiers tokens = Other (record { text = kept_text tokens; owner = 
 -- the rules that a written one makes: a file rule makes one for each of its patterns, any other makes one
 abbrev pub rules_of_rule : List Variable → WrittenRule → List Rule
 rules_of_rule variables (OnFile qualifiers pattern access target) = map (file_rule qualifiers access target) (patterns_at variables pattern)
-rules_of_rule variables (OnCapabilities qualifiers capabilities) = cap_rule qualifiers capabilities ∷ []
-rules_of_rule variables (OnNetwork qualifiers sockets) = net_rule qualifiers sockets ∷ []
+rules_of_rule variables (OnCapabilities qualifiers word capabilities) = cap_rule qualifiers capabilities ∷ []
+rules_of_rule variables (OnNetwork qualifiers word sockets) = net_rule qualifiers sockets ∷ []
 rules_of_rule variables (Kept qualifiers tokens) = other_rule qualifiers tokens ∷ []
 
 abbrev pub rules_of : List Variable → List WrittenRule → List Rule

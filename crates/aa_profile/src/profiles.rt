@@ -96,12 +96,14 @@ fn push_rule(
         WrittenRule::OnCapabilities {
             qualifiers,
             capabilities,
+            ..
         } => {
             rules.push(cap_rule(*qualifiers, *capabilities))?;
         }
         WrittenRule::OnNetwork {
             qualifiers,
             sockets,
+            ..
         } => {
             rules.push(net_rule(*qualifiers, *sockets))?;
         }

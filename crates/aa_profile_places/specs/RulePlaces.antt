@@ -20,12 +20,11 @@ abbrev pub first_place : List Placed → Option Place
 first_place [] = None
 first_place (token ∷ tokens) = Some (place_of token)
 
--- Where a rule is written, by the tokens that are kept of it: a file rule at its pattern, or at the word `file` alone, and a rule that is kept at
--- its word. Of rules on capabilities and sockets no token is kept.
+-- Where a rule is written: a file rule at its pattern, or at the word `file` alone, and any other rule at its word.
 abbrev pub place_of_rule : Rule → Option Place
 place_of_rule (OnFile qualifiers pattern access target) = Some (place_of pattern)
-place_of_rule (OnCapabilities qualifiers capabilities) = None
-place_of_rule (OnNetwork qualifiers sockets) = None
+place_of_rule (OnCapabilities qualifiers word capabilities) = Some (place_of word)
+place_of_rule (OnNetwork qualifiers word sockets) = Some (place_of word)
 place_of_rule (Kept qualifiers tokens) = first_place tokens
 
 -- the places of the rules that a written one makes: each stands where that is written

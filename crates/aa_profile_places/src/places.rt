@@ -27,7 +27,7 @@ use std::alloc::{AllocError, Global};
 /// Where the rules of a profile stand, and those of its children and hats.
 #[derive(Debug, Drop)]
 pub struct ProfilePlaces {
-    /// The place of each of its rules, in their order. Those on capabilities and sockets have none, since no token of them is kept.
+    /// The place of each of its rules, in their order. A rule that is kept and has no token has none; of files there is no such.
     pub rules: Sequence<Option<Place>>,
     /// The same of each of its children and hats, in the order of these.
     pub children: Sequence<Sequence<Option<Place>>>,
@@ -49,8 +49,8 @@ fn place_of_rule(rule: &Rule<'_>) -> Option<Place>
 {
     match rule {
         Rule::OnFile { pattern, .. } => Some(place_of(*pattern)),
-        Rule::OnCapabilities { .. } => None,
-        Rule::OnNetwork { .. } => None,
+        Rule::OnCapabilities { word, .. } => Some(place_of(*word)),
+        Rule::OnNetwork { word, .. } => Some(place_of(*word)),
         Rule::Kept { tokens, .. } => first_place(tokens),
     }
 }
@@ -200,8 +200,8 @@ fn read_profiles(
 }
 
 /// The places of the rules of the profiles that a file of the handed-in ones spells, in their order: where the rules of its profiles stand, and those
-/// of their children and hats. A rule stands where the token of its pattern does, one that is kept where its first token does, and each as a
-/// byte offset in its file or in one that that includes. One written rule may make several; each of them stands where that is written.
+/// of their children and hats. A rule on files stands where the token of its pattern does, any other where that of its word does, and each
+/// as a byte offset in its file or in one that that includes. One written rule may make several; each of them stands where that is written.
 ///
 /// The file is one that `aa_profile::read_file` reads.
 ///

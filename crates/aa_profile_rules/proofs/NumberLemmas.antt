@@ -199,14 +199,14 @@ module _ (known : NamesKnown) where
   unowned_rule-known : (qualifiers : Qualifiers) (word : Placed) (tokens : List Placed) → Reads Known (unowned_rule qualifiers word tokens)
   unowned_rule-known qualifiers word tokens =
       reads-either Known qualifiers.owner (refused BadToken word) (chosen (is_word_of (codes "capability") word)) tt
-      (reads-either Known (is_word_of (codes "capability") word) (capability_rule qualifiers tokens) (network_rule qualifiers tokens)
-      (reads-followed (λ set. set < 2 ^ 41) Known (capabilities tokens) (λ set behind. ended (OnCapabilities qualifiers set) behind) (capabilities-known tokens)
-      (λ set behind below. ended-known (OnCapabilities qualifiers set) behind (lt-ltb set (2 ^ 41) below)))
-      (reads-followed AreSockets Known (sockets tokens) (λ found behind. ended (OnNetwork qualifiers found) behind) (sockets-known tokens)
-      (λ found behind fit. ended-known (OnNetwork qualifiers found) behind fit)))
+      (reads-either Known (is_word_of (codes "capability") word) (capability_rule qualifiers word tokens) (network_rule qualifiers word tokens)
+      (reads-followed (λ set. set < 2 ^ 41) Known (capabilities tokens) (λ set behind. ended (OnCapabilities qualifiers word set) behind) (capabilities-known tokens)
+      (λ set behind below. ended-known (OnCapabilities qualifiers word set) behind (lt-ltb set (2 ^ 41) below)))
+      (reads-followed AreSockets Known (sockets tokens) (λ found behind. ended (OnNetwork qualifiers word found) behind) (sockets-known tokens)
+      (λ found behind fit. ended-known (OnNetwork qualifiers word found) behind fit)))
     where
       chosen : Bool → Part Rule
-      chosen test = if test then capability_rule qualifiers tokens else network_rule qualifiers tokens
+      chosen test = if test then capability_rule qualifiers word tokens else network_rule qualifiers word tokens
 
   plain_rule-known : (qualifiers : Qualifiers) (tokens : List Placed) → Reads Known (plain_rule qualifiers tokens)
   plain_rule-known qualifiers [] = tt

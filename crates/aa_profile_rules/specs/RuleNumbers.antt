@@ -11,6 +11,6 @@ are_sockets sockets = is_domain sockets.domain && is_kind sockets.kind
 -- a rule has no number that doesn't stand in the tables
 abbrev pub has_known_numbers : Rule → Bool
 has_known_numbers (OnFile qualifiers pattern access target) = true
-has_known_numbers (OnCapabilities qualifiers capabilities) = are_capabilities capabilities
-has_known_numbers (OnNetwork qualifiers sockets) = are_sockets sockets
+has_known_numbers (OnCapabilities qualifiers word capabilities) = are_capabilities capabilities
+has_known_numbers (OnNetwork qualifiers word sockets) = are_sockets sockets
 has_known_numbers (Kept qualifiers tokens) = true

@@ -15,12 +15,12 @@ use Rattle.aa_profile_rules.specs.declared.access.Access.{Access}
 use Rattle.aa_profile_rules.specs.declared.networks.Sockets.{Sockets}
 use Rattle.aa_profile_rules.specs.declared.qualifiers.Qualifiers.{Qualifiers}
 
--- A rule: on the files of a pattern, with its access and the target that it names, if it does; on a set of capabilities; on sockets; or one
--- that is kept, with its tokens up to the Comma that ends it.
+-- A rule: on the files of a pattern, with its access and the target that it names, if it does; on a set of capabilities, or on sockets, with the
+-- token of its word; or one that is kept, with its tokens up to the Comma that ends it.
 pub data Rule : Type 0 where
   OnFile : (qualifiers : Qualifiers) (pattern : Placed) (access : Access) (target : Option Placed) → Rule
-  OnCapabilities : (qualifiers : Qualifiers) (capabilities : ℕ) → Rule
-  OnNetwork : (qualifiers : Qualifiers) (sockets : Sockets) → Rule
+  OnCapabilities : (qualifiers : Qualifiers) (word : Placed) (capabilities : ℕ) → Rule
+  OnNetwork : (qualifiers : Qualifiers) (word : Placed) (sockets : Sockets) → Rule
   Kept : (qualifiers : Qualifiers) (tokens : List Placed) → Rule
 
 -- a rule, where a Comma ends it
@@ -69,12 +69,12 @@ abbrev pub kept_rule : Qualifiers → List Placed → Part Rule
 kept_rule qualifiers tokens = followed (kept tokens) (λ kept behind. Ok (Kept qualifiers kept, behind))
 
 -- a rule on capabilities, behind its word
-abbrev pub capability_rule : Qualifiers → List Placed → Part Rule
-capability_rule qualifiers tokens = followed (capabilities tokens) (λ set behind. ended (OnCapabilities qualifiers set) behind)
+abbrev pub capability_rule : Qualifiers → Placed → List Placed → Part Rule
+capability_rule qualifiers word tokens = followed (capabilities tokens) (λ set behind. ended (OnCapabilities qualifiers word set) behind)
 
 -- a rule on sockets, behind its word
-abbrev pub network_rule : Qualifiers → List Placed → Part Rule
-network_rule qualifiers tokens = followed (sockets tokens) (λ found behind. ended (OnNetwork qualifiers found) behind)
+abbrev pub network_rule : Qualifiers → Placed → List Placed → Part Rule
+network_rule qualifiers word tokens = followed (sockets tokens) (λ found behind. ended (OnNetwork qualifiers word found) behind)
 
 -- the words of rules on what has no owner
 abbrev pub begins_unowned : Placed → Bool
@@ -84,8 +84,8 @@ begins_unowned token = is_word_of (codes "capability") token || is_word_of (code
 abbrev pub unowned_rule : Qualifiers → Placed → List Placed → Part Rule
 unowned_rule qualifiers word tokens =
     if qualifiers.owner then refused BadToken word else
-    if is_word_of (codes "capability") word then capability_rule qualifiers tokens else
-    network_rule qualifiers tokens
+    if is_word_of (codes "capability") word then capability_rule qualifiers word tokens else
+    network_rule qualifiers word tokens
 
 -- a rule that isn't kept: on what has no owner, where it begins with such a word, and else on files
 abbrev pub plain_rule : Qualifiers → List Placed → Part Rule

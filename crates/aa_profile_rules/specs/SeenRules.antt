@@ -9,6 +9,6 @@ use Rattle.aa_profile_rules.specs.declared.rules.Rule.TheVariants as rule
 -- a rule of the code
 abbrev pub seen_rule : Rule → SeenRule
 seen_rule (rule.OnFile qualifiers pattern access target) = OnFile qualifiers (seen_spliced pattern) access (option_map seen_spliced target)
-seen_rule (rule.OnCapabilities qualifiers capabilities) = OnCapabilities qualifiers capabilities
-seen_rule (rule.OnNetwork qualifiers sockets) = OnNetwork qualifiers sockets
+seen_rule (rule.OnCapabilities qualifiers word capabilities) = OnCapabilities qualifiers (seen_spliced word) capabilities
+seen_rule (rule.OnNetwork qualifiers word sockets) = OnNetwork qualifiers (seen_spliced word) sockets
 seen_rule (rule.Kept qualifiers tokens) = Kept qualifiers (seen_tokens tokens.now)

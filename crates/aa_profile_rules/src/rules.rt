@@ -38,6 +38,8 @@ pub enum Rule<'a> {
     OnCapabilities {
         /// The words before it.
         qualifiers: Qualifiers,
+        /// The token of its word.
+        word: Spliced<'a>,
         /// The set of its capabilities: the bit of each number of `aa_profile_tables` tells whether that one is in it.
         capabilities: u64,
     },
@@ -45,6 +47,8 @@ pub enum Rule<'a> {
     OnNetwork {
         /// The words before it.
         qualifiers: Qualifiers,
+        /// The token of its word.
+        word: Spliced<'a>,
         /// The sockets that it is about.
         sockets: Sockets,
     },
@@ -196,38 +200,42 @@ fn read_kept_rule<'a>(
     Ok((Rule::Kept { qualifiers, tokens }, rest))
 }
 
-// The rule on capabilities that tokens go on with behind its word, and what stands behind the rule.
+// The rule on capabilities of this word that tokens go on with behind it, and what stands behind the rule.
 fn read_capability_rule<'a>(
     qualifiers: Qualifiers,
+    word: Spliced<'a>,
     tokens: &'a [Spliced<'a>],
 ) -> Result<(Rule<'a>, &'a [Spliced<'a>]), Fault>
-    ensures ok { IfOk result (IsRead seen_rule (capability_rule qualifiers) tokens.now) }
-    ensures refused { IfErr result (IsFault (capability_rule qualifiers) tokens.now) }
+    ensures ok { IfOk result (IsRead seen_rule (capability_rule qualifiers (seen_spliced word.entry)) tokens.now) }
+    ensures refused { IfErr result (IsFault (capability_rule qualifiers (seen_spliced word.entry)) tokens.now) }
     ensures shorter { IfOk result (λ read. length read.1.now < length tokens.now) }
 {
     let (capabilities, behind) = read_capabilities(tokens)?;
     read_end(
         Rule::OnCapabilities {
             qualifiers,
+            word,
             capabilities,
         },
         behind,
     )
 }
 
-// The rule on sockets that tokens go on with behind its word, and what stands behind the rule.
+// The rule on sockets of this word that tokens go on with behind it, and what stands behind the rule.
 fn read_network_rule<'a>(
     qualifiers: Qualifiers,
+    word: Spliced<'a>,
     tokens: &'a [Spliced<'a>],
 ) -> Result<(Rule<'a>, &'a [Spliced<'a>]), Fault>
-    ensures ok { IfOk result (IsRead seen_rule (network_rule qualifiers) tokens.now) }
-    ensures refused { IfErr result (IsFault (network_rule qualifiers) tokens.now) }
+    ensures ok { IfOk result (IsRead seen_rule (network_rule qualifiers (seen_spliced word.entry)) tokens.now) }
+    ensures refused { IfErr result (IsFault (network_rule qualifiers (seen_spliced word.entry)) tokens.now) }
     ensures shorter { IfOk result (λ read. length read.1.now < length tokens.now) }
 {
     let (sockets, behind) = read_sockets(tokens)?;
     read_end(
         Rule::OnNetwork {
             qualifiers,
+            word,
             sockets,
         },
         behind,
@@ -255,9 +263,9 @@ fn read_unowned_rule<'a>(
         return Err(refusal_at(GrammarRefusal::BadToken, word));
     }
     if is_word_of(b"capability", word) {
-        read_capability_rule(qualifiers, tokens)
+        read_capability_rule(qualifiers, word, tokens)
     } else {
-        read_network_rule(qualifiers, tokens)
+        read_network_rule(qualifiers, word, tokens)
     }
 }
 

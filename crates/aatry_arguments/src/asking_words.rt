@@ -58,8 +58,7 @@ Options:
 All files below DIR are read, as check reads them; those at its top that are refused are told
 first, and left out. WHO is a profile, child or hat, or unconfined.
 The answer is told, with its audit line if there is one, as ask of aaset tells it. Below stand the
-rules behind it, under one of these, each with FILE:LINE:COLUMN: where it is written. Of rules on
-capabilities and sockets no line and column is told.
+rules behind it, under one of these, each with FILE:LINE:COLUMN: where it is written.
   denied by      They deny the request, or a part of it
   allowed by     They allow it, or a part of it
   audited by     They ask for the audit line

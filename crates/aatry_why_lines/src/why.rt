@@ -329,8 +329,8 @@ fn push_read(
 /// place: those that deny, that allow and that audit what is asked for, those that decide where a program runs, where its start is asked for, each
 /// group below its words, and, where `nearest` says so, those that are near. A rule that is in two groups is told in both. Each has a line of its
 /// own: `base` with the file's name, the line and the column where it is written, and the rule as `show` tells it. As records, of the kind `rule`,
-/// these are `file`, `line` and `column`, and `rule`, with the words of the group, `group`, in each and none above. Rules on capabilities and sockets
-/// have no line and column. A profile, child or hat that isn't there has no rules.
+/// these are `file`, `line` and `column`, and `rule`, with the words of the group, `group`, in each and none above. A profile,
+/// child or hat that isn't there has no rules.
 ///
 /// # Errors
 ///
