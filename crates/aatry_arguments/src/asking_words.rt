@@ -27,7 +27,7 @@ Options:
 All files below DIR are read, as check reads them; those at its top that are refused are told
 first, and left out. Of each profile, child and hat that would let the request through a line is
 told:
-  NAME: allow     It lets it through
+  NAME: allow     It lets it through. Below stand the rules that do, each with its place
   NAME: complain  Its rules don't, and it is in complain mode
 
 Exit status:

@@ -15,6 +15,7 @@ use Rattle.aatry_asking.specs.Questions.{letting_words}
 use Rattle.aatry_asking.specs.Rules.{TellsRules, file_of, wants_nearest}
 use Rattle.aatry_policy.specs.Folders.{Folder, left_out_in, outcomes_in, policy_in}
 use Rattle.aatry_policy.specs.LeftOut.{refusal_text}
+use Rattle.aatry_policy.specs.Parts.{by_parts}
 use Rattle.aatry_record.specs.Records.{record_line, record_of, with_number, with_text}
 use Rattle.aatry_record.specs.declared.form.Form.{Form}
 use Rattle.aatry_record.specs.declared.form.Form.TheVariants.{Lines, Records}
@@ -74,6 +75,10 @@ IsWhyTold form folder words text found =
     × IsAnswered form folder.files folder.base folder.names (outcomes_in folder) question (how_of form (policy_in folder) question)
     (reply_lines (policy_in folder) question) own found
 
+-- who lets through what a question asks for, and by which rules
+abbrev pub let_by : Form → Folder → Question → List ℕ
+let_by form folder question = who_lines form (by_parts folder) (rule_request question) (policy_in folder)
+
 -- somebody is told
 abbrev pub is_let : List ℕ → Bool
 is_let text = not (is_empty text)
@@ -82,5 +87,5 @@ is_let text = not (is_empty text)
 abbrev pub IsWhoTold : Form → Folder → List (List ℕ) → List ℕ → Bool → Type 0
 IsWhoTold form folder words text found =
     (question : Question) × (question_of (letting_words words) ≡ Ok question)
-    × (text ≡ left_out_in form folder ++ who_lines form (rule_request question) (policy_in folder))
-    × (found ≡ is_let (who_lines form (rule_request question) (policy_in folder)))
+    × (text ≡ left_out_in form folder ++ let_by form folder question)
+    × (found ≡ is_let (let_by form folder question))

@@ -3,11 +3,11 @@
 ghost use Rattle.std.specs.Prelude.{◌≡◌, ◌++◌, ℕ, List, false, is_ok, IfErr, IfOk, OnOk, map, string_bytes};
 ghost use Rattle.aa_set_answers.specs.Answers.{reply_lines, who_asks};
 ghost use Rattle.aa_set_commands.specs.Question.{IsWellFormed, question_of, seen_question};
-ghost use Rattle.aatry_asking.specs.Asking.{IsAnswered, IsWhoTold, IsWhyTold, how_of, is_let, none_refused};
+ghost use Rattle.aatry_asking.specs.Asking.{IsAnswered, IsWhoTold, IsWhyTold, how_of, is_let, let_by, none_refused};
 ghost use Rattle.aatry_asking.specs.Questions.{letting_words};
 ghost use Rattle.aatry_asking.specs.declared.question.QuestionFault.TheVariants as fault;
 ghost use Rattle.aatry_asking.specs.Rules.{TellsRules, file_of};
-ghost use Rattle.aatry_policy.specs.Folders.{seen_folder};
+ghost use Rattle.aatry_policy.specs.Folders.{loaded_in, outcomes_in, seen_folder};
 ghost use Rattle.aatry_requests.specs.Questions.{rule_request};
 
 use crate::question::{QuestionFault, letting_question, question_by};
@@ -16,7 +16,8 @@ use crate::rules::{push_rules, wants_nearest};
 use aa_set::Manager;
 use aa_set_commands::{Question, Refusal, RefusalKind};
 use aa_text_files::Files;
-use aatry_policy::{Folder, load_folder};
+use aatry_policy::{Folder, Policy, by_parts, load_folder};
+use aatry_profiles::{parts_of, read_profiles};
 use aatry_record::Form;
 use aatry_requests::{rule_request, who_asks};
 use aatry_transition::push_how;
@@ -206,6 +207,29 @@ fn is_let(text: &[u8]) -> bool
     !text.is_empty()
 }
 
+// Who lets through what a question asks for, and by which rules, told by the policy of a folder.
+fn let_by(
+    alloc: Global,
+    form: Form,
+    folder: &Folder<'_>,
+    policy: &Policy,
+    question: &Question<'_>,
+) -> Result<Vec<u8>, AllocError>
+    requires set { policy.now.manager ≡ loaded_in (seen_folder folder.now) }
+    requires outcomes { policy.now.outcomes.items ≡ outcomes_in (seen_folder folder.now) }
+    ensures { IfOk result (λ lines. lines.items ≡ let_by form (seen_folder folder.now) (seen_question question.entry.now)) }
+{
+    let read = read_profiles(alloc, folder.files, folder.names, &policy.outcomes)?;
+    let parts = parts_of(alloc, &read)?;
+    who_lines(
+        alloc,
+        form,
+        &by_parts(folder, &parts),
+        &policy.manager.policy_set(),
+        &rule_request(question),
+    )
+}
+
 /// Which profiles, children and hats of a folder would let a request for a file through, by its access, its owner's word and its path, as
 /// `aatry_who::who_lines` tells them in a form. First come the files that are left out (`aatry_policy::load_folder`).
 ///
@@ -225,12 +249,7 @@ pub fn who(
     let question = letting_question(alloc, words)?;
     let mut text = Vec::new(alloc);
     let policy = load_folder(alloc, form, folder, &mut text)?;
-    let own = who_lines(
-        alloc,
-        form,
-        &policy.manager.policy_set(),
-        &rule_request(&question),
-    )?;
+    let own = let_by(alloc, form, folder, &policy, &question)?;
     text.extend_from_slice(&own)?;
     Ok(Answered {
         text,

@@ -1,24 +1,14 @@
 -- What is told of two folders of policy that are compared (docs/aatry.md).
 use Rattle.std.specs.Prelude.{ℕ, Bool, ◌==◌, ◌&&◌, List, ◌++◌, Option}
 use Rattle.aatry_changes.specs.Changes.{change_lines, changed_count}
-use Rattle.aatry_changes.specs.Folders.{FolderParts}
 use Rattle.aatry_comparing.specs.Sources.{differing_count, requests_text}
 use Rattle.aatry_diff.specs.Folders.{BothFolders}
-use Rattle.aatry_policy.specs.Folders.{Folder, left_out_in, outcomes_in, policy_in}
-use Rattle.aatry_profiles.specs.Parts.{Part, parts_of}
-use Rattle.aatry_profiles.specs.Profiles.{read_profiles}
+use Rattle.aatry_policy.specs.Folders.{Folder, left_out_in, policy_in}
+use Rattle.aatry_policy.specs.Parts.{by_parts}
 use Rattle.aatry_record.specs.declared.form.Form.{Form}
 use Rattle.aatry_requests.specs.Gathering.{Gathered}
 
--- the profiles, children and hats of the files of a folder that are taken
-abbrev pub parts_in : Folder → List Part
-parts_in folder = parts_of (read_profiles folder.files folder.names (outcomes_in folder))
-
--- a folder by these
-abbrev pub by_parts : Folder → FolderParts
-by_parts folder = record { files = folder.files; base = folder.base; parts = parts_in folder }
-
--- both folders by them
+-- both folders by their profiles, children and hats
 abbrev pub both : Folder → Folder → BothFolders
 both old new = record { old = by_parts old; new = by_parts new }
 

@@ -2,7 +2,7 @@
 
 ghost use Rattle.std.specs.Prelude.{◌≡◌, ◌++◌, ◌==◌, ◌&&◌, length, IfOk, OnOk};
 ghost use Rattle.aatry_changes.specs.Changes.{change_lines, changed_count};
-ghost use Rattle.aatry_comparing.specs.Comparing.{are_alike, both, by_parts, diff_text};
+ghost use Rattle.aatry_comparing.specs.Comparing.{are_alike, both, diff_text};
 ghost use Rattle.aatry_comparing.specs.Sources.{differing_count, requests_text, seen_source};
 ghost use Rattle.aatry_diff.specs.Differences.{difference_lines, differing};
 ghost use Rattle.aatry_diff.specs.Folders.{seen_folders};
@@ -11,10 +11,10 @@ ghost use Rattle.aatry_policy.specs.Folders.{outcomes_in, seen_folder};
 ghost use Rattle.aatry_requests.specs.Gathering.{seen_requests};
 
 use aa_set::Manager;
-use aatry_changes::{FolderParts, push_changes};
+use aatry_changes::push_changes;
 use aatry_diff::{BothFolders, push_differences, push_summary};
-use aatry_policy::{Folder, Policy, load_folder};
-use aatry_profiles::{Part, parts_of, read_profiles};
+use aatry_policy::{Folder, Policy, by_parts, load_folder};
+use aatry_profiles::{parts_of, read_profiles};
 use aatry_record::Form;
 use aatry_requests::{Requests, Source, gather};
 use std::alloc::{AllocError, Global};
@@ -26,19 +26,6 @@ pub struct Compared {
     pub text: Vec<u8>,
     /// Whether nothing differs: no profile, child or hat, and no answer.
     pub alike: bool,
-}
-
-// A folder by its profiles, children and hats.
-fn by_parts<'a>(folder: &Folder<'a>, parts: &'a [Part<'a>]) -> FolderParts<'a>
-    ensures files { result.files.now ≡ (seen_folder folder.now).files }
-    ensures base { result.base.now ≡ (seen_folder folder.now).base }
-    ensures parts { result.parts.now ≡ parts.now }
-{
-    FolderParts {
-        files: folder.files,
-        base: folder.base,
-        parts,
-    }
 }
 
 // Puts what two policy sets answer otherwise behind a text, and says how many questions that are.

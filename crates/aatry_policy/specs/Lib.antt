@@ -1,3 +1,4 @@
 pub mod Folders
 pub mod LeftOut
+pub mod Parts
 pub mod Policies

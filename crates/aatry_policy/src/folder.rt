@@ -6,6 +6,8 @@ ghost use Rattle.aatry_policy.specs.Folders.{left_out_in, loaded_in, outcomes_in
 use crate::left_out::push_left_out;
 use crate::policy::{Policy, load};
 use aa_text_files::Files;
+use aatry_changes::FolderParts;
+use aatry_profiles::Part;
 use aatry_record::Form;
 use std::alloc::{AllocError, Global};
 
@@ -18,6 +20,19 @@ pub struct Folder<'a> {
     pub base: &'a [u8],
     /// The names of the files whose profiles are loaded.
     pub names: &'a [String],
+}
+
+/// A folder by its profiles, children and hats.
+pub fn by_parts<'a>(folder: &Folder<'a>, parts: &'a [Part<'a>]) -> FolderParts<'a>
+    ensures files { result.files.now ≡ (seen_folder folder.now).files }
+    ensures base { result.base.now ≡ (seen_folder folder.now).base }
+    ensures parts { result.parts.now ≡ parts.now }
+{
+    FolderParts {
+        files: folder.files,
+        base: folder.base,
+        parts,
+    }
 }
 
 /// The policy set of a folder: that of the files of its names, as `load` makes it. What is told of those that are left out is put behind a text: a line of

@@ -5,6 +5,6 @@ mod folder;
 mod left_out;
 mod policy;
 
-pub use folder::{Folder, load_folder};
+pub use folder::{Folder, by_parts, load_folder};
 pub use left_out::push_refusal;
 pub use policy::{Policy, load};

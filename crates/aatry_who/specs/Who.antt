@@ -14,10 +14,13 @@ use Rattle.aa_profile_data.specs.declared.profile.Child.{Child}
 use Rattle.aa_set_answers.specs.Answers.{confined_answer}
 use Rattle.aa_set_listing.specs.Children.{lines_of_children}
 use Rattle.aa_set_listing.specs.ProfileNames.{full_name_at}
+use Rattle.aatry_changes.specs.Folders.{FolderParts}
+use Rattle.aatry_profiles.specs.Parts.{Part, part_of}
 use Rattle.aatry_record.specs.Records.{record_line, record_of, with_text}
 use Rattle.aatry_record.specs.declared.form.Form.{Form}
 use Rattle.aatry_record.specs.declared.form.Form.TheVariants.{Lines, Records}
 use Rattle.aatry_report.specs.Shown.{shown}
+use Rattle.aatry_why_lines.specs.Why.{allowing_lines}
 
 -- a request that is answered so is let through
 abbrev pub lets_through : Answer → Bool
@@ -35,32 +38,45 @@ abbrev pub let_line : Form → List ℕ → Answer → List ℕ
 let_line Lines name answer = shown name ++ codes ": " ++ answer_word answer ++ line_feed ∷ []
 let_line Records name answer = record_line (let_record name answer)
 
--- the line of who gives an answer. It has none where the answer doesn't let the request through.
-abbrev pub answer_line : Form → List ℕ → Answer → List ℕ
-answer_line form name answer = if lets_through answer then let_line form name answer else []
+-- the lines of the rules of a part that allow something of a request, if there is one
+abbrev pub rule_lines : Form → FolderParts → Option Part → Request → List ℕ
+rule_lines form folder None request = []
+rule_lines form folder (Some part) request =
+    allowing_lines form folder.files folder.base part.file part.audit part.rules part.places request
+
+-- by which rules who has a name lets a request through: where the mode does it, by none
+abbrev pub by_rules : Form → FolderParts → Request → List ℕ → Answer → List ℕ
+by_rules form folder request name Allow = rule_lines form folder (part_of folder.parts name) request
+by_rules form folder request name _ = []
+
+-- what is told of who gives an answer, and by which rules. Nothing is told where the answer doesn't let the request through.
+abbrev pub answer_lines : Form → FolderParts → Request → List ℕ → Answer → List ℕ
+answer_lines form folder request name answer =
+    if lets_through answer then let_line form name answer ++ by_rules form folder request name answer else []
 
 -- the answer of a verdict, if there is one
 abbrev pub answer_of : Option Verdict → Option Answer
 answer_of verdict = option_map (λ v. v.answer) verdict
 
--- the line of who has a name, by its answer, if it confines at all
-abbrev pub line_by : Form → List ℕ → Option Answer → List ℕ
-line_by form name None = []
-line_by form name (Some answer) = answer_line form name answer
+-- the lines of who has a name, by its answer, if it confines at all
+abbrev pub lines_by : Form → FolderParts → Request → List ℕ → Option Answer → List ℕ
+lines_by form folder request name None = []
+lines_by form folder request name (Some answer) = answer_lines form folder request name answer
 
--- the line of a profile, or of its child or hat at a place
-abbrev pub line_of : Form → Request → Loaded → Option ℕ → List ℕ
-line_of form request entry child =
-    line_by form (full_name_at entry.profile child) (answer_of (confined_answer (in_state entry.profile entry.state child) request))
+-- the lines of a profile, or of its child or hat at a place
+abbrev pub lines_of : Form → FolderParts → Request → Loaded → Option ℕ → List ℕ
+lines_of form folder request entry child =
+    lines_by form folder request (full_name_at entry.profile child) (answer_of (confined_answer (in_state entry.profile entry.state child) request))
 
--- the line of a child or a hat by its place
-abbrev pub child_line : Form → Request → Loaded → ℕ → Child → List ℕ
-child_line form request entry place child = line_of form request entry (Some place)
+-- the lines of a child or a hat by its place
+abbrev pub child_lines : Form → FolderParts → Request → Loaded → ℕ → Child → List ℕ
+child_lines form folder request entry place child = lines_of form folder request entry (Some place)
 
--- the line of a profile, and those of its children and hats in the order of the file
-abbrev pub entry_lines : Form → Request → Loaded → List ℕ
-entry_lines form request entry = line_of form request entry None ++ lines_of_children (child_line form request entry) entry.profile.children
+-- the lines of a profile, and those of its children and hats in the order of the file
+abbrev pub entry_lines : Form → FolderParts → Request → Loaded → List ℕ
+entry_lines form folder request entry =
+    lines_of form folder request entry None ++ lines_of_children (child_lines form folder request entry) entry.profile.children
 
--- the lines of all profiles of a policy set
-abbrev pub who_lines : Form → Request → List Loaded → List ℕ
-who_lines form request entries = flat_map (entry_lines form request) entries
+-- the lines of all profiles of a policy set, with their rules as a folder has them
+abbrev pub who_lines : Form → FolderParts → Request → List Loaded → List ℕ
+who_lines form folder request entries = flat_map (entry_lines form folder request) entries

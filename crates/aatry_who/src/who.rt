@@ -1,22 +1,27 @@
 //! Which profiles, children and hats would let a request through.
 
-ghost use Rattle.std.specs.Prelude.{◌≡◌, ◌∷◌, [], ◌++◌, IfOk, OnOk};
+ghost use Rattle.std.specs.Prelude.{◌≡◌, ◌∷◌, [], ◌++◌, IfOk, OnOk, option_map};
 ghost use Rattle.aa_decide_verdict.specs.Confinement.{found};
 ghost use Rattle.aa_profile_access.specs.SeenRequests.{request_of};
 ghost use Rattle.aa_decide_verdict.specs.Slots.{filled};
 ghost use Rattle.aa_set_answers.specs.Answers.{confined_answer};
 ghost use Rattle.aa_set_listing.specs.Children.{lines_of_children};
+ghost use Rattle.aatry_changes.specs.Folders.{seen_folder};
+ghost use Rattle.aatry_profiles.specs.SeenProfiles.{seen_part};
 ghost use Rattle.aatry_record.specs.SeenRecord.{seen_record};
 ghost use Rattle.aatry_record.specs.declared.form.Form.TheVariants as form;
-ghost use Rattle.aatry_who.specs.Who.{answer_line, answer_of, child_line, entry_lines, let_line, let_record, lets_through, line_of};
-ghost use Rattle.aatry_who.specs.Who.{who_lines};
+ghost use Rattle.aatry_who.specs.Who.{answer_lines, answer_of, by_rules, child_lines, entry_lines, let_line, let_record, lets_through};
+ghost use Rattle.aatry_who.specs.Who.{lines_of, rule_lines, who_lines};
 
 use aa_decide::{Answer, Confinement, Entry, Request, Steps};
 use aa_profile_data::Child;
 use aa_set_changes::PolicySet;
 use aa_set_listing::full_name;
+use aatry_changes::FolderParts;
+use aatry_profiles::{Part, part_of};
 use aatry_record::{Form, Record};
 use aatry_report::push_shown;
+use aatry_why_lines::push_allowing;
 use std::alloc::{AllocError, Global};
 
 // Whether an answer lets the request through.
@@ -66,20 +71,75 @@ fn push_let(
     }
 }
 
-// Puts it there, if the answer lets the request through.
+// Puts the lines of the rules of a part behind a text that allow something of a request, if there is one.
+fn push_rules(
+    text: &mut Vec<u8>,
+    alloc: Global,
+    form: Form,
+    folder: &FolderParts<'_>,
+    part: Option<&Part<'_>>,
+    request: &Request<'_>,
+) -> Result<(), AllocError>
+    ensures { OnOk result (text.new.items ≡ text.old.items
+        ++ rule_lines form (seen_folder folder.now) (option_map (λ part. seen_part part.now) part.entry) (request_of request.entry.now)) }
+{
+    match part {
+        None => Ok(()),
+        Some(part) => push_allowing(
+            alloc,
+            form,
+            folder.files,
+            folder.base,
+            part.file,
+            part.audit,
+            part.rules,
+            part.places,
+            request,
+            text,
+        ),
+    }
+}
+
+// Puts behind a text by which rules who has a name lets a request through: where the mode does it, by none.
+fn push_by_rules(
+    text: &mut Vec<u8>,
+    alloc: Global,
+    form: Form,
+    folder: &FolderParts<'_>,
+    request: &Request<'_>,
+    name: &[u8],
+    answer: Answer,
+) -> Result<(), AllocError>
+    ensures { OnOk result (text.new.items ≡ text.old.items
+        ++ by_rules form (seen_folder folder.now) (request_of request.entry.now) name.now answer) }
+{
+    match answer {
+        Answer::Allow => {
+            let part = part_of(folder.parts, name);
+            push_rules(text, alloc, form, folder, part, request)
+        }
+        Answer::Complain | Answer::Deny | Answer::Refuse => Ok(()),
+    }
+}
+
+// Puts what is told of who gives an answer behind a text, and by which rules, if the answer lets the request through.
 fn push_answer(
     text: &mut Vec<u8>,
     alloc: Global,
     form: Form,
+    folder: &FolderParts<'_>,
+    request: &Request<'_>,
     name: &[u8],
     answer: Answer,
 ) -> Result<(), AllocError>
-    ensures { OnOk result (text.new.items ≡ text.old.items ++ answer_line form name.now answer) }
+    ensures { OnOk result (text.new.items ≡ text.old.items
+        ++ answer_lines form (seen_folder folder.now) (request_of request.entry.now) name.now answer) }
 {
-    if lets_through(answer) {
-        push_let(text, alloc, form, name, answer)?;
+    if !lets_through(answer) {
+        return Ok(());
     }
-    Ok(())
+    push_let(text, alloc, form, name, answer)?;
+    push_by_rules(text, alloc, form, folder, request, name, answer)
 }
 
 // The answer of what confines a task; none where nothing does.
@@ -99,20 +159,21 @@ fn answer_by(
     }
 }
 
-// Puts the line of a profile, or of its child or hat at a place, behind a text, if it would let a request through.
-fn push_line(
+// Puts the lines of a profile, or of its child or hat at a place, behind a text, if it would let a request through.
+fn push_lines(
     text: &mut Vec<u8>,
     alloc: Global,
     form: Form,
+    folder: &FolderParts<'_>,
     request: &Request<'_>,
     entry: &Entry,
     child: Option<usize>,
 ) -> Result<(), AllocError>
-    ensures { OnOk result (text.new.items ≡ text.old.items ++ line_of form (request_of request.entry.now) entry.now child) }
+    ensures { OnOk result (text.new.items ≡ text.old.items ++ lines_of form (seen_folder folder.now) (request_of request.entry.now) entry.now child) }
 {
     if let Some(answer) = answer_by(alloc, request, entry.confinement(child))? {
         let name = full_name(alloc, entry.profile(), child)?;
-        push_answer(text, alloc, form, &name, answer)?;
+        push_answer(text, alloc, form, folder, request, &name, answer)?;
     }
     Ok(())
 }
@@ -122,15 +183,16 @@ fn push_children(
     text: &mut Vec<u8>,
     alloc: Global,
     form: Form,
+    folder: &FolderParts<'_>,
     request: &Request<'_>,
     entry: &Entry,
     children: &[Child],
 ) -> Result<(), AllocError>
     ensures { OnOk result (text.new.items ≡ text.old.items
-        ++ lines_of_children (child_line form (request_of request.entry.now) entry.now) children.now) }
+        ++ lines_of_children (child_lines form (seen_folder folder.now) (request_of request.entry.now) entry.now) children.now) }
 {
     for (place, _) in children.iter().enumerate() {
-        push_line(text, alloc, form, request, entry, Some(place))?;
+        push_lines(text, alloc, form, folder, request, entry, Some(place))?;
     }
     Ok(())
 }
@@ -140,16 +202,18 @@ fn push_entry(
     text: &mut Vec<u8>,
     alloc: Global,
     form: Form,
+    folder: &FolderParts<'_>,
     request: &Request<'_>,
     entry: &Entry,
 ) -> Result<(), AllocError>
-    ensures { OnOk result (text.new.items ≡ text.old.items ++ entry_lines form (request_of request.entry.now) entry.now) }
+    ensures { OnOk result (text.new.items ≡ text.old.items ++ entry_lines form (seen_folder folder.now) (request_of request.entry.now) entry.now) }
 {
-    push_line(text, alloc, form, request, entry, None)?;
+    push_lines(text, alloc, form, folder, request, entry, None)?;
     push_children(
         text,
         alloc,
         form,
+        folder,
         request,
         entry,
         entry.profile().children.as_slice(),
@@ -161,14 +225,15 @@ fn push_slot(
     text: &mut Vec<u8>,
     alloc: Global,
     form: Form,
+    folder: &FolderParts<'_>,
     request: &Request<'_>,
     slot: &Option<Entry>,
 ) -> Result<(), AllocError>
-    ensures { OnOk result (text.new.items ≡ text.old.items ++ who_lines form (request_of request.entry.now) (filled (slot.now ∷ []))) }
+    ensures { OnOk result (text.new.items ≡ text.old.items ++ who_lines form (seen_folder folder.now) (request_of request.entry.now) (filled (slot.now ∷ []))) }
 {
     match slot {
         None => Ok(()),
-        Some(entry) => push_entry(text, alloc, form, request, entry),
+        Some(entry) => push_entry(text, alloc, form, folder, request, entry),
     }
 }
 
@@ -177,22 +242,24 @@ fn push_slots(
     text: &mut Vec<u8>,
     alloc: Global,
     form: Form,
+    folder: &FolderParts<'_>,
     request: &Request<'_>,
     slots: &[Option<Entry>],
 ) -> Result<(), AllocError>
-    ensures { OnOk result (text.new.items ≡ text.old.items ++ who_lines form (request_of request.entry.now) (filled slots.now)) }
+    ensures { OnOk result (text.new.items ≡ text.old.items ++ who_lines form (seen_folder folder.now) (request_of request.entry.now) (filled slots.now)) }
 {
     let mut rest = slots;
     while let [slot, behind @ ..] = rest {
-        push_slot(text, alloc, form, request, slot)?;
+        push_slot(text, alloc, form, folder, request, slot)?;
         rest = behind;
     }
     Ok(())
 }
 
 /// The lines of the profiles, children and hats of a policy set that would let a request through: a line for each, with its full name and the word of its
-/// answer, `allow` or, in complain mode, `complain`. They stand in the order of the set, children and hats behind their profile. Disabled profiles
-/// confine nobody and have no line. As records the lines are of the kind `let`, with the members `name` and `answer`.
+/// answer, `allow` or, in complain mode, `complain`; and below one that allows it the rules that allow something of it, as a folder has them of that
+/// name (`aatry_why_lines::push_allowing`). They stand in the order of the set, children and hats behind their profile. Disabled profiles confine nobody
+/// and have no line. As records the lines are of the kind `let`, with the members `name` and `answer`, and of the kind `rule`.
 ///
 /// # Errors
 ///
@@ -200,12 +267,20 @@ fn push_slots(
 pub fn who_lines(
     alloc: Global,
     form: Form,
+    folder: &FolderParts<'_>,
     set: &PolicySet<'_>,
     request: &Request<'_>,
 ) -> Result<Vec<u8>, AllocError>
-    ensures { IfOk result (λ lines. lines.items ≡ who_lines form (request_of request.entry.now) set.now) }
+    ensures { IfOk result (λ lines. lines.items ≡ who_lines form (seen_folder folder.now) (request_of request.entry.now) set.now) }
 {
     let mut text = Vec::new(alloc);
-    push_slots(&mut text, alloc, form, request, set.slots().as_slice())?;
+    push_slots(
+        &mut text,
+        alloc,
+        form,
+        folder,
+        request,
+        set.slots().as_slice(),
+    )?;
     Ok(text)
 }

@@ -1,5 +1,5 @@
 -- What is told of the rules behind an answer.
-use Rattle.std.specs.Prelude.{◌≡◌, ℕ, Bool, false, if◌then◌else◌, List, [], ◌++◌, codes, Option, None, Some, Ok, slice_get}
+use Rattle.std.specs.Prelude.{◌≡◌, ℕ, Bool, false, if◌then◌else◌, List, [], ◌++◌, codes, flat_map, Option, None, Some, Ok, slice_get}
 use Rattle.aa_decide_verdict.specs.Ready.{audits, rules_at}
 use Rattle.aa_profile.specs.FileReading.{file_profiles}
 use Rattle.aa_profile_access.specs.Access.{EXEC, has}
@@ -15,13 +15,18 @@ use Rattle.aatry_record.specs.declared.form.Form.{Form}
 use Rattle.aatry_why.specs.Told.{near, told}
 use Rattle.aatry_why.specs.declared.told.ToldRule.{ToldRule}
 use Rattle.aatry_why_lines.specs.Groups.{heading, places_in}
-use Rattle.aatry_why_lines.specs.Lines.{group_lines}
+use Rattle.aatry_why_lines.specs.Lines.{group_lines, line_at}
 use Rattle.aatry_why_lines.specs.declared.groups.Group.{Group}
 use Rattle.aatry_why_lines.specs.declared.groups.Group.TheVariants.{Allowing, Auditing, Denying}
 
 -- the lines of the rules of a group
 abbrev pub lines_of : Form → List File → List ℕ → List ℕ → List Rule → List (Option Place) → List ToldRule → Group → List ℕ
 lines_of form files base name rules places told group = group_lines form files base name rules places (heading group) (places_in group told)
+
+-- the lines of the rules that allow something of what is asked for, with no words over them
+abbrev pub allowing_lines : Form → List File → List ℕ → List ℕ → Bool → List Rule → List (Option Place) → Request → List ℕ
+allowing_lines form files base name flag rules places request =
+    flat_map (line_at form files base name rules places (heading Allowing)) (places_in Allowing (told flag request rules))
 
 -- the lines of the nearest rules
 abbrev pub nearest_lines : Form → List File → List ℕ → List ℕ → List Rule → List (Option Place) → Request → List ℕ

@@ -7,4 +7,4 @@ mod lines;
 mod why;
 
 pub use lines::{push_where, put_where};
-pub use why::{push_why, push_why_of};
+pub use why::{push_allowing, push_why, push_why_of};

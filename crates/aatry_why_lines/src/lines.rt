@@ -162,8 +162,12 @@ fn push_line(
     }
 }
 
-// Puts the lines of the rules at some indexes behind a text.
-fn push_lines(
+/// Puts the lines of the rules at some indexes behind a text; the words over their group stand in records alone.
+///
+/// # Errors
+///
+/// Where memory runs out. A beginning may have been put then.
+pub fn push_lines(
     alloc: Global,
     form: Form,
     files: &Files,

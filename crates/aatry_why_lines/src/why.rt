@@ -6,13 +6,13 @@ ghost use Rattle.aa_profile_access.specs.SeenRequests.{request_of};
 ghost use Rattle.aa_profile_errors.specs.ProfileError.{plain};
 ghost use Rattle.aa_profile_errors.specs.declared.profile_error.ProfileRefusal.TheVariants.{Memory};
 ghost use Rattle.aatry_why_lines.specs.Askers.{HasNoAsker, IsAsker};
-ghost use Rattle.aatry_why_lines.specs.Why.{TellWhy, audits_in, deciding, deciding_lines, lines_of};
+ghost use Rattle.aatry_why_lines.specs.Why.{TellWhy, allowing_lines, audits_in, deciding, deciding_lines, lines_of};
 ghost use Rattle.aatry_why_lines.specs.Why.{near_lines, nearest_lines, rules_in, stands_in, told_lines, why_lines};
 ghost use Rattle.aatry_why.specs.Told.{told};
 
 use crate::asker::asker_in;
 use crate::groups::{Group, heading, places_in};
-use crate::lines::push_group;
+use crate::lines::{push_group, push_lines};
 use aa_profile::{Profile, ProfileError, Rule, read_file};
 use aa_profile_access::{Perms, Request};
 use aa_profile_places::{Place, ProfilePlaces, rule_places};
@@ -149,6 +149,43 @@ fn push_near(
         return Ok(());
     }
     push_nearest(alloc, form, files, base, name, rules, places, request, out)
+}
+
+/// Puts the rules behind a text that allow something of what a request asks for, as `push_why` tells those that allow, but with no words over them:
+/// `rules` with their `places`, of a profile, child or hat of the file of this name, whose flag `audit` audits all of them, or not.
+///
+/// # Errors
+///
+/// Where memory runs out. A beginning may have been put then.
+pub fn push_allowing(
+    alloc: Global,
+    form: Form,
+    files: &Files,
+    base: &[u8],
+    name: &[u8],
+    audit: bool,
+    rules: &[Rule],
+    places: &[Option<Place>],
+    request: &Request<'_>,
+    out: &mut Vec<u8>,
+) -> Result<(), AllocError>
+    ensures { OnOk result (out.new.items
+        ≡ out.old.items ++ allowing_lines form files.now base.now name.now audit rules.now places.now (request_of request.entry.now)) }
+{
+    let told = told_rules(alloc, audit, rules, request)?;
+    let indexes = places_in(alloc, Group::Allowing, &told)?;
+    push_lines(
+        alloc,
+        form,
+        files,
+        base,
+        name,
+        rules,
+        places,
+        heading(Group::Allowing),
+        &indexes,
+        out,
+    )
 }
 
 // Puts the lines of the rules of each group behind a text.

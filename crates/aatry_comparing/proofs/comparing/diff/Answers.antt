@@ -1,8 +1,9 @@
 use Rattle.std.proofs.Common.{◌≡◌, ◌++◌, ◌∙◌, ap}
 use Rattle.aatry_changes.specs.Changes.{change_lines}
-use Rattle.aatry_comparing.specs.Comparing.{both, by_parts}
+use Rattle.aatry_comparing.specs.Comparing.{both}
 use Rattle.aatry_comparing.specs.Sources.{requests_text, seen_source}
 use Rattle.aatry_policy.specs.Folders.{left_out_in, policy_in, seen_folder}
+use Rattle.aatry_policy.specs.Parts.{by_parts}
 use Rattle.aatry_comparing.proofs.comparing.diff.Goals as goal
 
 -- the files that are left out, what is changed, and the requests

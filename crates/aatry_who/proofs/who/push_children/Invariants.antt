@@ -1,11 +1,12 @@
 use Rattle.std.proofs.Common.{◌≡◌, ◌++◌, drop}
 use Rattle.aa_profile_access.specs.SeenRequests.{request_of}
 use Rattle.aa_set_listing.specs.Children.{lines_from}
-use Rattle.aatry_who.specs.Who.{child_line}
+use Rattle.aatry_changes.specs.Folders.{seen_folder}
+use Rattle.aatry_who.specs.Who.{child_lines}
 use Rattle.aatry_who.proofs.who.push_children.Given as goal
 
 -- the text so far, with the lines of what is left, is all
 abbrev pub invariant-loop-place : goal.invariant-loop-place
 invariant-loop-place l =
-    let line = child_line l.form (request_of l.request) l.entry in
+    let line = child_lines l.form (seen_folder l.folder) (request_of l.request) l.entry in
     l.text.items ++ lines_from line l.place (drop l.place l.children) ≡ l.initial.text.items ++ lines_from line 0 l.children
