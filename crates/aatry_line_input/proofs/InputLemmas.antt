@@ -1,8 +1,8 @@
 -- What comes of an input, piece by piece.
-use Rattle.std.proofs.Common.{◌≡◌, ◌∙◌, ℕ, ◌+◌, Bool, true, false, List, [], ◌∷◌, ◌++◌, Option, ap, ◌||◌, append-nil, append_assoc, arith, inl, inr, length, refl, sym, subst, take}
+use Rattle.std.proofs.Common.{◌≡◌, ◌∙◌, ℕ, ◌+◌, Bool, true, false, List, [], ◌∷◌, ◌++◌, Option, None, Some, OnErr, Result, Ok, Err, ap, ◌||◌, append-nil, append_assoc, arith, inl, inr, length, refl, sym, subst, take}
 use Rattle.std.specs.Prelude.{◌==◌, not}
 use Rattle.std.specs.List.{list_any}
-use Rattle.std.specs.Io.KnownBytes.{Consumes, IsAtEnd}
+use Rattle.std.specs.Io.KnownBytes.{Consumes, IsAtEnd, Keeps}
 use Rattle.std.proofs.KnownBytes.{Consumes-nil, Consumes-trans}
 use Rattle.std.proofs.lemmas.Bool.{cases_lt}
 use Rattle.std.proofs.lemmas.List.Folds.{list_any-append}
@@ -10,7 +10,7 @@ use Rattle.std.proofs.lemmas.List.{take_all, take-append-le, length-take-le, tak
 use Rattle.aa_bytes.specs.Bytes.{line_feed}
 use Rattle.aa_set_lines.specs.Limits.{longest_line}
 use Rattle.aa_set_lines.specs.Lines.{is_line_feed}
-use Rattle.aatry_line_input.specs.Inputs.{Comes, GivesLine, kept}
+use Rattle.aatry_line_input.specs.Inputs.{BreaksOff, Comes, GivesLine, kept}
 
 -- what is dropped behind a front changes no front as long
 pub take-of_front : (n : ℕ) (xs ys : List ℕ) → take n (take n xs ++ ys) ≡ take n (xs ++ ys)
@@ -69,3 +69,23 @@ pub input_ends : (before now : Option (List ℕ)) (waited waits text given : Lis
 input_ends before now waited waits text given none comes size gives end is =
     let empty = none_left waits size in
     record { line = text; gives = gives; comes = inr (subst (λ w. Comes before now waited w text) empty comes, empty, end, ap not is) }
+
+-- what holds always holds at an error
+pub at_err : {A E : Type 0} (r : Result A E) (P : Type 0) → P → OnErr r P
+at_err (Ok x) P p = tt
+at_err (Err e) P p = p
+
+-- what is kept loses no byte
+none_lost : (before now : Option (List ℕ)) → Keeps before now → Consumes before now []
+none_lost None now h = h
+none_lost (Some xs) None h = h
+none_lost (Some xs) (Some ys) h = sym h
+
+-- all that waits has no line feed, and no more can be read
+pub breaks_off : (before mid now : Option (List ℕ)) (waited waits more text line given : List ℕ) → Comes before mid waited waits text → line ≡ kept text
+    → list_any is_line_feed waits ≡ false → given ≡ kept (line ++ waits) → Keeps mid now → more ≡ [] → BreaksOff before now waited more given
+breaks_off before mid now waited waits more text line given comes is unended gives keeps none = record {
+  line = text ++ waits;
+  holds = held_more text waits line given is gives;
+  comes = subst (λ l. Comes before now waited l (text ++ waits)) (sym none) (more_comes before mid now waited waits [] text comes unended (none_lost mid now keeps));
+}

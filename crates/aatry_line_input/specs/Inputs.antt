@@ -28,3 +28,9 @@ pub record GivesLine (before now : Option (List ℕ)) (waited waits given : List
   pub gives : given ≡ kept line
   pub comes : (Comes before now waited (line_feed ∷ waits) line × (is_line ≡ true))
       ⊎ (Comes before now waited [] line × (waits ≡ []) × IsAtEnd now × (is_line ≡ not (length given == 0)))
+
+-- No line was given: what had waited and what was read since is a beginning of a line, which is held as far as it matters, and what waits now.
+pub record BreaksOff (before now : Option (List ℕ)) (waited waits held : List ℕ) : Type 0 where
+  pub line : List ℕ
+  pub holds : held ≡ kept line
+  pub comes : Comes before now waited waits line

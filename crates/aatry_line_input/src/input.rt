@@ -1,11 +1,11 @@
 //! An input, given line by line.
 
-ghost use Rattle.std.specs.Prelude.{◌≡◌, ◌+◌, ◌-◌, ◌^◌, ◌<◌, ◌≤◌, ◌++◌, ◌∷◌, [], ℕ, List, true, false, IfOk, OnErr, OnOk, drop, length};
+ghost use Rattle.std.specs.Prelude.{◌≡◌, ◌⊎◌, ◌+◌, ◌-◌, ◌^◌, ◌<◌, ◌≤◌, ◌++◌, ◌∷◌, [], ℕ, List, true, false, IfOk, OnErr, OnOk, drop, length};
 ghost use Rattle.std.specs.Io.KnownBytes.{Consumes, IsAtEnd, Keeps};
 ghost use Rattle.std.specs.List.{list_any};
 ghost use Rattle.aa_bytes.specs.Bytes.{line_feed};
 ghost use Rattle.aa_set_lines.specs.Lines.{is_line_feed};
-ghost use Rattle.aatry_line_input.specs.Inputs.{GivesLine, kept, most_reads};
+ghost use Rattle.aatry_line_input.specs.Inputs.{BreaksOff, GivesLine, kept, most_reads};
 
 use aa_set_lines::{Failed, LineBuffer, Source, first_line};
 use std::alloc::{AllocError, Global};
@@ -59,12 +59,15 @@ impl LineInput {
     ///
     /// # Errors
     ///
-    /// `Failed` where a read fails, or the line didn't end within 2,147,483,648 reads.
+    /// `Failed` where a read fails, or the line didn't end within 2,147,483,648 reads. `line` then holds the beginning of the line, as far as it was read,
+    /// which no further call gives again; what was read behind it waits.
     pub fn next<S: Source>(&mut self, reader: &mut S, line: &mut LineBuffer) -> Result<bool, Failed>
         requires { S.reads reader.old ≤ 2 ^ 63 }
         ensures given { IfOk result (GivesLine (S.left reader.old) (S.left reader.new) self.old self.new line.new) }
         ensures bound { S.reads reader.new ≤ S.reads reader.old + most_reads }
         ensures whole { OnOk result (S.failed reader.new ≡ S.failed reader.old) }
+        ensures fault { OnErr result ((S.failed reader.new ≡ true) ⊎ (S.reads reader.new ≡ S.reads reader.old + most_reads)) }
+        ensures broken { OnErr result (BreaksOff (S.left reader.old) (S.left reader.new) self.old self.new line.new) }
     {
         line.clear();
         for _count in 0..MOST_READS {
@@ -122,6 +125,8 @@ impl LineInput {
         ensures counted { S.reads reader.new ≡ S.reads reader.old + 1 }
         ensures ok { OnOk result (S.failed reader.new ≡ S.failed reader.old) }
         ensures kept { OnErr result (Keeps (S.left reader.old) (S.left reader.new)) }
+        ensures fault { OnErr result (S.failed reader.new ≡ true) }
+        ensures nothing { OnErr result (self.new ≡ []) }
     {
         self.from = 0;
         self.to = 0;

@@ -1,4 +1,4 @@
-use Rattle.std.proofs.Common.{◌≡◌, ◌+◌, ◌≤◌, ℕ, List}
+use Rattle.std.proofs.Common.{◌≡◌, ◌+◌, ℕ, List}
 use Rattle.aatry_line_input.specs.Inputs.{Comes, kept}
 use Rattle.aatry_line_input.proofs.input.LineInput.next.Given as goal
 
@@ -8,5 +8,5 @@ invariant-loop-count g l =
     (text : List ℕ)
     × Comes (g.S.Source.left l.initial.reader) (g.S.Source.left l.reader) l.initial.self l.self text
     × (l.line ≡ kept text)
-    × (g.S.Source.reads l.reader ≤ g.S.Source.reads l.initial.reader + l._count)
+    × (g.S.Source.reads l.reader ≡ g.S.Source.reads l.initial.reader + l._count)
     × (g.S.Source.failed l.reader ≡ g.S.Source.failed l.initial.reader)
