@@ -1,6 +1,7 @@
 //! Where the members of folders are read from.
-ghost use Rattle.std.specs.Prelude.{◌≡◌, ℕ, List, ◌++◌, Option, None, IfOk, IfSome, IsNone, OnOk, codes, option_map, string_bytes};
+ghost use Rattle.std.specs.Prelude.{◌≡◌, ℕ, List, ◌++◌, Option, None, Ok, Err, IfErr, IfOk, IfSome, IsNone, OnOk, codes, false, is_err, option_map, string_bytes, true};
 ghost use Rattle.std.specs.Fs.{IsDir, IsFile};
+ghost use Rattle.std.specs.IoError.{error_kind};
 ghost use Rattle.std.specs.List.Sorted.{IsSorted};
 ghost use Rattle.std.specs.String.{string_cmp};
 ghost use Rattle.aatry_folder.specs.Members.{texts_of};
@@ -51,10 +52,14 @@ fn leads_nowhere(kind: ErrorKind) -> bool
     )
 }
 
-// What a path leads to, if it leads anywhere.
-fn followed(rt: &impl rt::Files, path: &str) -> io::Result<Option<FileType>> {
-    match fs::metadata(rt, path) {
-        Ok(metadata) => Ok(Some(metadata.file_type())),
+// What following a path found, if it leads anywhere. Only the errors of links that lead nowhere are passed over.
+fn found(followed: io::Result<FileType>) -> io::Result<Option<FileType>>
+    ensures kind { IfOk followed (λ kind. result ≡ Ok (Some kind)) }
+    ensures nowhere { IfErr followed (λ error. leads_nowhere (error_kind error) ≡ true → result ≡ Ok None) }
+    ensures failed { IfErr followed (λ error. leads_nowhere (error_kind error) ≡ false → result ≡ Err error) }
+{
+    match followed {
+        Ok(kind) => Ok(Some(kind)),
         Err(error) => {
             if leads_nowhere(error.kind()) {
                 Ok(None)
@@ -63,6 +68,16 @@ fn followed(rt: &impl rt::Files, path: &str) -> io::Result<Option<FileType>> {
             }
         }
     }
+}
+
+// What a path leads to.
+fn kind_at(rt: &impl rt::Files, path: &str) -> io::Result<FileType> {
+    Ok(fs::metadata(rt, path)?.file_type())
+}
+
+// The same, if it leads anywhere.
+fn followed(rt: &impl rt::Files, path: &str) -> io::Result<Option<FileType>> {
+    found(kind_at(rt, path))
 }
 
 // A folder's name, with `/` behind it.
@@ -88,13 +103,15 @@ fn member_name(alloc: Global, name: &str, kind: Option<FileType>) -> io::Result<
     }
 }
 
-// Takes a member behind the others, if it is a file or a folder.
+// Takes a member behind the others, if it is a file or a folder. One that can't be read fails.
 fn take_member<R: rt::Files + Drop>(
     rt: &R,
     alloc: Global,
     entry: io::Result<fs::DirEntry<R, Global>>,
     names: &mut Vec<String>,
-) -> io::Result<()> {
+) -> io::Result<()>
+    ensures { is_err entry ≡ true → is_err result ≡ true }
+{
     let entry = entry?;
     let kind = followed(rt, entry.path().as_str())?;
     if let Some(name) = member_name(alloc, entry.file_name(), kind)? {
