@@ -3,7 +3,6 @@
 ghost use Rattle.std.specs.Prelude.{◌≡◌, ◌++◌, [], None, OnOk, Some};
 ghost use Rattle.aatry_record.specs.SeenRecord.{seen_record};
 ghost use Rattle.aatry_report.specs.Faults.{fault_lines, marked_line, place_text, with_fault, with_words, words_text};
-ghost use Rattle.aatry_report.specs.Shown.{shown};
 
 use crate::numbers::push_number;
 use crate::places::put_place;

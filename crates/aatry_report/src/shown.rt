@@ -1,6 +1,6 @@
 //! Texts of files and names, as they are shown at a terminal.
 
-ghost use Rattle.std.specs.Prelude.{◌≡◌, ◌++◌, OnOk, map, take};
+ghost use Rattle.std.specs.Prelude.{◌≡◌, ◌++◌, OnOk};
 ghost use Rattle.aatry_report.specs.Shown.{is_obeyed, shown, shown_byte};
 
 use std::alloc::AllocError;
