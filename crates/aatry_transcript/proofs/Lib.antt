@@ -1,2 +1,3 @@
 mod CompareLemmas
 mod LineLemmas
+mod PartLemmas

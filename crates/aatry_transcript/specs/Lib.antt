@@ -1,3 +1,4 @@
 pub mod Differences
+pub mod Laws
 pub mod Replies
 pub mod Transcripts

@@ -9,6 +9,6 @@ mod replies;
 mod transcripts;
 
 pub use comparing::compare;
-pub use laws::what_a_comparison_says;
+pub use laws::{what_a_comparison_says, what_parts_are};
 pub use lines::lines_of;
 pub use transcripts::input_of;
