@@ -51,9 +51,14 @@ pub questions_in_word : (words : List (List ℕ)) (path : List ℕ) (given : Dif
 unfolding chars
 questions_in_word words path given = refl
 
-pub last_word : (words : List (List ℕ)) (first last : List ℕ) (given : DiffGiven) → is_option first ≡ false → is_option last ≡ false
+pub last_log : (words : List (List ℕ)) (first last : List ℕ) (given : DiffGiven) → is_option first ≡ false → is_option last ≡ false
     → given_behind (Open given) (codes "--log" ∷ first ∷ codes "--log" ∷ last ∷ words) ≡ given_behind (Open (with_path OfLog last given)) words
-last_word words first last given f l = log_word (codes "--log" ∷ last ∷ words) first given f ∙ log_word words last (with_path OfLog first given) l
+last_log words first last given f l = log_word (codes "--log" ∷ last ∷ words) first given f ∙ log_word words last (with_path OfLog first given) l
+
+pub last_questions : (words : List (List ℕ)) (first last : List ℕ) (given : DiffGiven) → is_option first ≡ false → is_option last ≡ false
+    → given_behind (Open given) (codes "--questions" ∷ first ∷ codes "--questions" ∷ last ∷ words) ≡ given_behind (Open (with_path OfQuestions last given)) words
+last_questions words first last given f l =
+    questions_word (codes "--questions" ∷ last ∷ words) first given f ∙ questions_word words last (with_path OfQuestions first given) l
 
 -- what is asked for by words behind two folders
 behind_folders : (words : List (List ℕ)) (old new : List ℕ) (given : Asked DiffGiven) → is_option old ≡ false → is_option new ≡ false

@@ -116,11 +116,16 @@ pub fn what_comparisons_have()
     ensures questions_in_word { (words : List (List ℕ)) (path : List ℕ) (given : DiffGiven)
         → given_behind (diff.Open given) ((codes "--questions=" ++ path) ∷ words)
         ≡ given_behind (diff.Open (with_path OfQuestions path given)) words }
-    ensures last { (words : List (List ℕ)) (first last : List ℕ) (given : DiffGiven)
+    ensures last_log { (words : List (List ℕ)) (first last : List ℕ) (given : DiffGiven)
         → is_option first ≡ false
         → is_option last ≡ false
         → given_behind (diff.Open given) (codes "--log" ∷ first ∷ codes "--log" ∷ last ∷ words)
         ≡ given_behind (diff.Open (with_path OfLog last given)) words }
+    ensures last_questions { (words : List (List ℕ)) (first last : List ℕ) (given : DiffGiven)
+        → is_option first ≡ false
+        → is_option last ≡ false
+        → given_behind (diff.Open given) (codes "--questions" ∷ first ∷ codes "--questions" ∷ last ∷ words)
+        ≡ given_behind (diff.Open (with_path OfQuestions last given)) words }
     ensures plain { (words : List (List ℕ)) (given : DiffGiven)
         → list_all is_name words ≡ true
         → given_behind (diff.Open given) words ≡ ForThis (with_folders words given) }

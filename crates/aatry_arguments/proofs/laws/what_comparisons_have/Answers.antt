@@ -1,5 +1,5 @@
 use Rattle.std.proofs.Common.{refl}
-use Rattle.aatry_arguments.proofs.DiffLawLemmas.{compared_by_both, compared_by_log, compared_by_none, compared_by_questions, last_word, log_in_word, log_word, plain_words, questions_in_word, questions_word}
+use Rattle.aatry_arguments.proofs.DiffLawLemmas.{compared_by_both, compared_by_log, compared_by_none, compared_by_questions, last_log, last_questions, log_in_word, log_word, plain_words, questions_in_word, questions_word}
 use Rattle.aatry_arguments.proofs.laws.what_comparisons_have.Goals as goal
 
 pub returns-clause-alone : goal.returns-clause-alone
@@ -29,8 +29,11 @@ returns-clause-questions c words path given p = questions_word words path given 
 pub returns-clause-questions_in_word : goal.returns-clause-questions_in_word
 returns-clause-questions_in_word c words path given = questions_in_word words path given
 
-pub returns-clause-last : goal.returns-clause-last
-returns-clause-last c words first last given f l = last_word words first last given f l
+pub returns-clause-last_log : goal.returns-clause-last_log
+returns-clause-last_log c words first last given f l = last_log words first last given f l
+
+pub returns-clause-last_questions : goal.returns-clause-last_questions
+returns-clause-last_questions c words first last given f l = last_questions words first last given f l
 
 pub returns-clause-plain : goal.returns-clause-plain
 returns-clause-plain c words given h = plain_words words given h
