@@ -1,5 +1,5 @@
 -- The laws of a session.
-use Rattle.std.proofs.Common.{◌≡◌, ◌∙◌, ℕ, true, List, [], Option, None, Some, refl, sym, ap}
+use Rattle.std.proofs.Common.{◌≡◌, ◌∙◌, ℕ, true, List, [], Option, None, Some, inl, inr, refl, subst, sym, ap}
 use Rattle.std.proofs.lemmas.Bool.{true≢false}
 use Rattle.aa_decide_verdict.specs.Entries.{Loaded}
 use Rattle.aa_history.specs.MarkLaws.{StartedMarksItsSets}
@@ -10,7 +10,7 @@ use Rattle.aa_set.specs.declared.reply.Reply.{Reply}
 use Rattle.aa_set.specs.declared.reply.Reply.TheVariants.{Answered, Done, Refused, Silent}
 use Rattle.aa_set_commands.specs.Command.{PolicyChange}
 use Rattle.aatry_session.specs.History.{change_in}
-use Rattle.aatry_session.specs.Laws.{BeginsInStep, IsInStep, RefusedTurnLeavesAll, StaysInStep}
+use Rattle.aatry_session.specs.Laws.{BeginsInStep, IsInStep, LeavesInStep, RefusedTurnLeavesAll, StaysInStep}
 use Rattle.aatry_session.specs.Sayings.{Command, Help, History, NoQuestion, Quit, Reload, Saying, Why, saying_in}
 use Rattle.aatry_session.specs.Turns.{depth, kept_after, said_outcome, texts_behind}
 use Rattle.aatry_session.proofs.StepLemmas.{Known, line_keeps}
@@ -29,6 +29,12 @@ stays known files base words kept line flag h = by (saying_in line)
     by Reload = h
     by (Why question) = h
     by (NoQuestion refusal) = h
+
+pub leaves : Known → LeavesInStep
+leaves known files before after line left h = elim left [
+  | inl same ↦ subst IsInStep (sym same) h
+  | inr obeyed ↦ subst IsInStep (sym obeyed.1) (stays known files [] [] before line obeyed.0 h)
+]
 
 -- a refused line leaves the texts
 texts_stay : (done : ℕ) (change : Option PolicyChange) (reply : Reply) (texts : List (List ℕ)) → is_refusal reply ≡ true → texts_behind done change reply texts ≡ texts

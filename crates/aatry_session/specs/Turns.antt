@@ -1,5 +1,5 @@
 -- The turns of a session: what a line is answered, and the session after it.
-use Rattle.std.specs.Prelude.{◌≡◌, ℕ, Bool, List, [], ◌++◌, length, Option, None, Some}
+use Rattle.std.specs.Prelude.{◌≡◌, ◌⊎◌, ℕ, Bool, List, [], ◌++◌, length, Option, None, Some}
 use Rattle.aa_set.specs.Laws.{command_in}
 use Rattle.aa_set.specs.Manager.{Managed, new_manager}
 use Rattle.aa_set.specs.Run.{line_outcome}
@@ -63,9 +63,19 @@ ObeysAs files base before after texts now change line old new =
     × (record { managed = after; texts = now } ≡ kept_after files (record { managed = before; texts = texts }) change line flag)
     × (new ≡ old ++ told_of files base words (record { managed = before; texts = texts }) change line flag)
 
+-- A line that makes this change, if it makes one, was obeyed, or all is as it was.
+abbrev pub LeavesAs : List File → (before after : Managed) → (texts now : List (List ℕ)) → Option PolicyChange → List ℕ → Type 0
+LeavesAs files before after texts now change line =
+    (◌≡◌ {A = Kept} (record { managed = after; texts = now }) (record { managed = before; texts = texts }))
+    ⊎ ((flag : Bool) × (record { managed = after; texts = now } ≡ kept_after files (record { managed = before; texts = texts }) change line flag))
+
 -- A line was obeyed, and what is told of it was put behind a text.
 abbrev pub Obeys : List File → List ℕ → (before after : Managed) → (texts now : List (List ℕ)) → List ℕ → (old new : List ℕ) → Type 0
 Obeys files base before after texts now line old new = ObeysAs files base before after texts now (change_in (command_in line)) line old new
+
+-- A line was obeyed, or all is as it was.
+abbrev pub Leaves : List File → (before after : Managed) → (texts now : List (List ℕ)) → List ℕ → Type 0
+Leaves files before after texts now line = LeavesAs files before after texts now (change_in (command_in line)) line
 
 -- what a turn is answered: a text, or what the caller has to do
 pub data Answer : Type 0 where
@@ -94,3 +104,11 @@ said_outcome files base words kept line flag (NoQuestion refusal) = record { ans
 -- what a line is answered
 abbrev pub turn_outcome : List File → List ℕ → List ℕ → Kept → List ℕ → Bool → Outcome
 turn_outcome files base words kept line flag = said_outcome files base words kept line flag (saying_in line)
+
+-- the session after a line, whatever is told of it
+abbrev pub kept_behind : List File → Kept → List ℕ → Bool → Kept
+kept_behind files kept line flag = (turn_outcome files [] [] kept line flag).kept
+
+-- What a line leaves that memory ran out for: all as it was, or what the line made of it, where memory ran out for what is told alone.
+abbrev pub IsLeft : List File → (before after : Kept) → List ℕ → Type 0
+IsLeft files before after line = (after ≡ before) ⊎ ((flag : Bool) × (after ≡ kept_behind files before line flag))

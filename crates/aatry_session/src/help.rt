@@ -18,6 +18,10 @@ help, quit
 ";
 
 /// Puts the commands of a session behind a text.
+///
+/// # Errors
+///
+/// Where memory runs out.
 pub fn push_help(out: &mut Vec<u8>) -> Result<(), AllocError>
     ensures { OnOk result (out.new.items ≡ out.old.items ++ help_text) }
 {

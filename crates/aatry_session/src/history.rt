@@ -35,6 +35,10 @@ fn push_named(out: &mut Vec<u8>, word: &str, name: &[u8]) -> Result<(), AllocErr
 }
 
 /// Puts the text of a change behind another: the words of its command.
+///
+/// # Errors
+///
+/// Where memory runs out. A beginning may have been put then.
 pub fn push_change(out: &mut Vec<u8>, change: PolicyChange<'_>) -> Result<(), AllocError>
     ensures { OnOk result (out.new.items ≡ out.old.items ++ change_text (seen_change change.entry)) }
 {
@@ -121,6 +125,10 @@ fn push_mark_lines(out: &mut Vec<u8>, number: usize, marks: &[Mark]) -> Result<(
 
 /// Puts the history behind a text: a line for each change, the first `done` of which are done, the others undone, and behind it one for each mark of the
 /// policy set that it led to.
+///
+/// # Errors
+///
+/// Where memory runs out. A beginning may have been put then.
 pub fn push_history(
     out: &mut Vec<u8>,
     done: usize,

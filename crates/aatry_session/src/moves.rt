@@ -69,6 +69,10 @@ fn push_undone(out: &mut Vec<u8>, texts: &[Sequence<u8>]) -> Result<(), AllocErr
 
 /// Puts what is told of an accepted command behind a text: the changes that it undid, the last one first, or those that it redid, the first one first, or
 /// `ok`. `from` is how many changes were done before it, `to` how many are done now.
+///
+/// # Errors
+///
+/// Where memory runs out. A beginning may have been put then.
 pub fn push_moves(
     out: &mut Vec<u8>,
     texts: &[Sequence<u8>],

@@ -1,9 +1,9 @@
 //! A line for the machine over commands, obeyed, and what is told of it.
 
-ghost use Rattle.std.specs.Prelude.{◌≡◌, ◌++◌, ℕ, List, OnOk, Some};
+ghost use Rattle.std.specs.Prelude.{◌≡◌, ◌++◌, ℕ, List, OnErr, OnOk, Some};
 ghost use Rattle.aa_set_commands.specs.Command.{seen_change};
 ghost use Rattle.aatry_session.specs.History.{change_in};
-ghost use Rattle.aatry_session.specs.Turns.{Obeys, ObeysAs, reply_told};
+ghost use Rattle.aatry_session.specs.Turns.{Leaves, LeavesAs, Obeys, ObeysAs, reply_told};
 
 use crate::history::{change_in, keep, push_change};
 use crate::moves::push_moves;
@@ -49,8 +49,9 @@ fn obey_change(
     line: &[u8],
     out: &mut Vec<u8>,
 ) -> Result<(), AllocError>
-    ensures { OnOk result (ObeysAs files.now base.now manager.old manager.new texts.old.items texts.new.items (Some (seen_change change.entry))
+    ensures told { OnOk result (ObeysAs files.now base.now manager.old manager.new texts.old.items texts.new.items (Some (seen_change change.entry))
         line.now out.old.items out.new.items) }
+    ensures left { OnErr result (LeavesAs files.now manager.old manager.new texts.old.items texts.new.items (Some (seen_change change.entry)) line.now) }
 {
     let mut text = Vec::new(alloc);
     push_change(&mut text, change)?;
@@ -71,7 +72,8 @@ fn obey_other(
     line: &[u8],
     out: &mut Vec<u8>,
 ) -> Result<(), AllocError>
-    ensures { OnOk result (ObeysAs files.now base.now manager.old manager.new texts.now texts.now None line.now out.old.items out.new.items) }
+    ensures told { OnOk result (ObeysAs files.now base.now manager.old manager.new texts.now texts.now None line.now out.old.items out.new.items) }
+    ensures left { OnErr result (LeavesAs files.now manager.old manager.new texts.now texts.now None line.now) }
 {
     let from = manager.depth();
     let reply = reply_to(files, manager, line);
@@ -80,6 +82,10 @@ fn obey_other(
 }
 
 /// Obeys a line, keeps the text of its change, if it makes one, and puts what is told of it behind a text.
+///
+/// # Errors
+///
+/// Where memory runs out: for the text of a change, and the line isn't obeyed then; or for what is told, and it is. A beginning of that may have been put.
 pub fn obey(
     alloc: Global,
     files: &Files,
@@ -89,7 +95,8 @@ pub fn obey(
     line: &[u8],
     out: &mut Vec<u8>,
 ) -> Result<(), AllocError>
-    ensures { OnOk result (Obeys files.now base.now manager.old manager.new texts.old.items texts.new.items line.now out.old.items out.new.items) }
+    ensures told { OnOk result (Obeys files.now base.now manager.old manager.new texts.old.items texts.new.items line.now out.old.items out.new.items) }
+    ensures left { OnErr result (Leaves files.now manager.old manager.new texts.old.items texts.new.items line.now) }
 {
     match change_in(line) {
         Some(change) => obey_change(alloc, files, base, manager, texts, change, line, out),

@@ -47,6 +47,10 @@ fn push_in_words(
 }
 
 /// Puts what is told of a refusal behind a text: where it has a place in a file, as a check of that file tells it.
+///
+/// # Errors
+///
+/// Where memory runs out. A beginning may have been put then.
 pub fn push_refusal(
     alloc: Global,
     files: &Files,

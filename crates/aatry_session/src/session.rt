@@ -1,9 +1,9 @@
 //! A session: a manager, and the texts of its changes.
 
-ghost use Rattle.std.specs.Prelude.{◌≡◌, Bool, ℕ, List, IfOk};
+ghost use Rattle.std.specs.Prelude.{◌≡◌, Bool, ℕ, List, IfOk, OnErr};
 ghost use Rattle.aatry_session.specs.Help.{help_text};
 ghost use Rattle.aatry_session.specs.History.{history_lines};
-ghost use Rattle.aatry_session.specs.Turns.{Told, begun, depth, turn_outcome};
+ghost use Rattle.aatry_session.specs.Turns.{IsLeft, Told, begun, depth, turn_outcome};
 ghost use Rattle.aatry_session.specs.SeenTurns.{IsAskable, seen_turn};
 
 use crate::help::push_help;
@@ -72,7 +72,8 @@ impl Session {
     ///
     /// # Errors
     ///
-    /// Where memory runs out for what is told, or for the text of a change. In the second case the change isn't made.
+    /// Where memory runs out: for the text of a change, and the change isn't made then; or for what is told, and a command of the machine is obeyed then
+    /// all the same, with its text kept. So the policy set and its history stay in step, and the session can go on.
     pub fn answer<'a>(
         &mut self,
         alloc: Global,
@@ -83,6 +84,7 @@ impl Session {
         ensures told { IfOk result (λ turn. (flag : Bool) × (words : List ℕ)
             × (record { answer = seen_turn turn; kept = self.new } ≡ turn_outcome files.now base.now words self.old line.now flag)) }
         ensures askable { IfOk result IsAskable }
+        ensures left { OnErr result (IsLeft files.now self.old self.new line.now) }
     {
         match saying_in(line) {
             Saying::Command => {
