@@ -2,7 +2,7 @@
 
 ghost use Rattle.std.specs.Prelude.{◌≡◌, codes, option_map, IfOk};
 ghost use Rattle.aatry_log.specs.Lines.{file_told, is_owned, quoted_at, request_told, seen_line, tells_else, tells_request, text_at};
-ghost use Rattle.aatry_log.specs.Lines.{told_as, told_by, told_of};
+ghost use Rattle.aatry_log.specs.Lines.{told_by, told_of};
 ghost use Rattle.aatry_log.specs.Pairs.{value_of};
 ghost use Rattle.aatry_log.specs.Questions.{seen_logged};
 ghost use Rattle.aatry_log.specs.Values.{seen_text};

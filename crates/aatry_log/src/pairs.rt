@@ -1,6 +1,6 @@
 //! The pairs of a line.
 
-ghost use Rattle.std.specs.Prelude.{◌≡◌, ◌<◌, ◌≤◌, ◌∷◌, [], not, option_map, IfSome, length};
+ghost use Rattle.std.specs.Prelude.{◌≡◌, ◌<◌, ◌≤◌, ◌∷◌, [], option_map, IfSome, length};
 ghost use Rattle.std.specs.Option.{option_map_or};
 ghost use Rattle.std.specs.List.{position_or_len};
 ghost use Rattle.aatry_log.specs.Pairs.{is_gap, value_of, words};
