@@ -1,5 +1,6 @@
 //! The names of all files and folders below a folder of policy.
-ghost use Rattle.std.specs.Prelude.{◌≡◌, ◌+◌, ◌<◌, ◌≤◌, [], ◌∷◌, ◌++◌, IfErr, IfOk, IfSome, IsTrue, OnErr, OnOk, string_bytes, vec_len};
+ghost use Rattle.std.specs.Prelude.{◌≡◌, ◌+◌, ◌<◌, ◌≤◌, [], ◌∷◌, ◌++◌, false, IfErr, IfOk, IfSome, IsTrue, OnErr, OnOk, string_bytes, vec_len};
+ghost use Rattle.aatry_folder.specs.Links.{is_for_memory};
 ghost use Rattle.aatry_folder.specs.Members.{is_folder, texts_of};
 ghost use Rattle.aatry_folder.specs.NamesBelow.{AreFound, ComeOf, IsClosed, IsFault, IsListing, most_names, path_of};
 ghost use Rattle.aatry_folder.specs.declared.below.FolderFault.TheVariants as fault;
@@ -48,20 +49,29 @@ fn path_of(alloc: Global, base: &str, name: &str) -> Result<String, AllocError>
     Ok(path)
 }
 
-// The fault of a folder that can't be read.
+// The fault of a folder that can't be read, by the kind of error, and by what the folder is told by, if there was memory for that.
+fn fault_by(kind: ErrorKind, told: Result<String, AllocError>) -> FolderFault
+    ensures memory { kind ≡ ErrorKind.OutOfMemory → result ≡ FolderFault.Memory }
+    ensures unreadable { is_for_memory kind ≡ false → IfOk told (λ told. result ≡ fault.Unreadable told) }
+    ensures untold { OnErr told (result ≡ FolderFault.Memory) }
+{
+    if let ErrorKind::OutOfMemory = kind {
+        return FolderFault::Memory;
+    }
+    match told {
+        Ok(told) => FolderFault::Unreadable(told),
+        Err(_) => FolderFault::Memory,
+    }
+}
+
+// The same by the folder's name below the base.
 fn fault_of(alloc: Global, base: &str, name: &str, kind: ErrorKind) -> FolderFault
     requires { IsTrue (is_folder name.now) }
     ensures told { IsFaultAt base.now name.now result }
     ensures memory { kind ≡ ErrorKind.OutOfMemory → result ≡ FolderFault.Memory }
 {
-    if let ErrorKind::OutOfMemory = kind {
-        return FolderFault::Memory;
-    }
     let told = if name.is_empty() { base } else { name };
-    match String::from_str(alloc, told) {
-        Ok(told) => FolderFault::Unreadable(told),
-        Err(_) => FolderFault::Memory,
-    }
+    fault_by(kind, String::from_str(alloc, told))
 }
 
 // The members of a folder by its name below the base.

@@ -1,5 +1,5 @@
 //! Where the members of folders are read from.
-ghost use Rattle.std.specs.Prelude.{◌≡◌, ℕ, List, ◌++◌, Option, None, Ok, Err, IfErr, IfOk, IfSome, IsNone, OnOk, codes, false, is_err, option_map, string_bytes, true};
+ghost use Rattle.std.specs.Prelude.{◌≡◌, ℕ, List, ◌++◌, Option, None, Ok, Err, IfErr, IfOk, IfSome, IsNone, codes, false, is_err, option_map, string_bytes, true};
 ghost use Rattle.std.specs.Fs.{IsDir, IsFile};
 ghost use Rattle.std.specs.IoError.{error_kind};
 ghost use Rattle.std.specs.List.Sorted.{IsSorted};
