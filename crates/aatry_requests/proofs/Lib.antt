@@ -1,2 +1,3 @@
 mod LineLemmas
 mod TallyLemmas
+mod TextLemmas

@@ -1,4 +1,5 @@
 pub mod Gathering
+pub mod Laws
 pub mod Questions
 pub mod SeenTallies
 pub mod Sources

@@ -1,12 +1,14 @@
 //! The requests of a kernel's log, or of a file of questions, each with how often it came.
 #![tactic(auto)]
 
+mod laws;
 mod questions;
 mod requests;
 mod sources;
 mod tallies;
 mod texts;
 
+pub use laws::what_texts_tell;
 pub use questions::{rule_request, who_asks};
 pub use requests::{Requests, gather};
 pub use sources::Source;

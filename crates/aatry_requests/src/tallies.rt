@@ -1,6 +1,6 @@
 //! Questions, and how often each came.
 
-ghost use Rattle.std.specs.Prelude.{◌≡◌, [], OnOk, length, option_map, slice_get};
+ghost use Rattle.std.specs.Prelude.{◌≡◌, [], OnErr, OnOk, length, option_map, slice_get};
 ghost use Rattle.aatry_log.specs.Questions.{seen_logged};
 ghost use Rattle.aatry_requests.specs.Tallies.{counted_with};
 ghost use Rattle.aatry_requests.specs.SeenTallies.{seen_tally};
@@ -63,9 +63,10 @@ impl<'a> Tallies<'a> {
     ///
     /// # Errors
     ///
-    /// Where memory runs out.
+    /// Where memory runs out. The tallies are as before then.
     pub fn count(&mut self, alloc: Global, question: LoggedQuestion<'a>) -> Result<(), AllocError>
-        ensures { OnOk result (self.new ≡ counted_with (seen_logged question.entry) self.old) }
+        ensures counted { OnOk result (self.new ≡ counted_with (seen_logged question.entry) self.old) }
+        ensures unchanged { OnErr result (self.new ≡ self.old) }
     {
         let mut text = Vec::new(alloc);
         push_question(&mut text, &question.question())?;

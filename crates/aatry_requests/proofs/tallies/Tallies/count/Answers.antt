@@ -18,8 +18,8 @@ invariant_of-self-2 c =
     ∙ ap question_text c.question.ensures.value in
     subst AreUnderTexts (sym c.in_ok-insert.ensures.entries) (put-under entries text c.args.question c.times_with-times.result c.self.invariant own)
 
-pub returns : goal.returns
-returns c =
+pub returns-clause-counted : goal.returns-clause-counted
+returns-clause-counted c =
     let entries = c.self.inside.by_text.entries in
     let text = c.push_question.new.out in
     let own : text.items ≡ question_text (seen_logged c.args.question) =

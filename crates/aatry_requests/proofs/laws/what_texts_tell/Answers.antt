@@ -1,0 +1,5 @@
+use Rattle.aatry_requests.proofs.TextLemmas.{told-apart}
+use Rattle.aatry_requests.proofs.laws.what_texts_tell.Goals as goal
+
+pub returns : goal.returns
+returns c = told-apart c.what_is_written_reads_back.ensures
