@@ -2,13 +2,14 @@
 use Rattle.std.specs.Prelude.{ℕ, ◌+◌, Bool, false, ◌==◌, if◌then◌else◌, List, [], ◌∷◌, ◌++◌, map, Option, None, Some, codes}
 use Rattle.serde_json.specs.Data.{Members}
 use Rattle.aa_bytes.specs.Bytes.{line_feed}
+use Rattle.aa_bytes.specs.Texts.{is_empty}
 use Rattle.aa_decide_attachment.specs.StandingOut.{greatest, standing_out}
 use Rattle.aa_quoting.specs.Texts.{written_text}
 use Rattle.aa_set_listing.specs.ProfileNames.{full_name_at}
 use Rattle.aatry_exec.specs.Candidates.{Candidate, best_pattern, patterns_of, rank_of}
-use Rattle.aatry_exec.specs.Headings.{headed}
 use Rattle.aatry_exec.specs.declared.attachment.Standing.{Standing}
 use Rattle.aatry_exec.specs.declared.attachment.Standing.TheVariants.{Attached, Lost, Tied}
+use Rattle.aatry_record.specs.Headings.{heading_line}
 use Rattle.aatry_record.specs.Records.{record_line, record_of, with_text}
 use Rattle.aatry_record.specs.declared.form.Form.{Form}
 use Rattle.aatry_record.specs.declared.form.Form.TheVariants.{Lines, Records}
@@ -56,6 +57,10 @@ abbrev pub lines_from : Form → List ℕ → List ℕ → ℕ → List Candidat
 lines_from form path ranks place [] = []
 lines_from form path ranks place (candidate ∷ candidates) =
     candidate_line form path ranks place candidate ++ lines_from form path ranks (place + 1) candidates
+
+-- lines below a heading; where there is no line, nothing
+abbrev pub headed : Form → List ℕ → List ℕ → List ℕ
+headed form words lines = if is_empty lines then [] else heading_line form words ++ lines
 
 -- the lines of all candidates that have a pattern which matches the path, below a heading
 abbrev pub attachment_lines : Form → List ℕ → List Candidate → List ℕ

@@ -1,4 +1,3 @@
 pub mod AttachmentLines
 pub mod Candidates
-pub mod Headings
 pub mod Leading

@@ -3,14 +3,13 @@
 ghost use Rattle.std.specs.Prelude.{◌≡◌, ◌++◌, IfOk, OnOk, Some};
 ghost use Rattle.std.specs.Option.{option_map};
 ghost use Rattle.aa_decide.specs.Attachment.{attached_child};
-ghost use Rattle.aatry_exec.specs.AttachmentLines.{attachment_lines, attachment_record, candidate_line, is_the_one};
+ghost use Rattle.aatry_exec.specs.AttachmentLines.{attachment_lines, attachment_record, candidate_line, headed, is_the_one};
 ghost use Rattle.aatry_exec.specs.AttachmentLines.{line_by, lines_from, standing_of, standing_words, with_name};
 ghost use Rattle.aatry_exec.specs.Candidates.{seen_candidate, seen_candidates};
 ghost use Rattle.aatry_record.specs.SeenRecord.{seen_record};
 ghost use Rattle.aatry_record.specs.declared.form.Form.TheVariants.{Lines};
 
 use crate::candidates::{Candidate, child_candidates, patterns_of, rank_of, ranks_of};
-use crate::headings::push_headed;
 use crate::laws::which_is_attached;
 use crate::ranks::{best_pattern, greatest};
 use aa_decide_attachment::standing_out;
@@ -18,7 +17,7 @@ use aa_decide_verdict::Entry;
 use aa_glob_pattern::Pattern;
 use aa_quoting::push_text;
 use aa_set_listing::full_name;
-use aatry_record::{Form, Record};
+use aatry_record::{Form, Record, push_heading};
 use std::alloc::{AllocError, Global};
 
 /// How a candidate comes out among others on a path.
@@ -171,6 +170,17 @@ fn push_candidates(
         rest = behind;
     }
     Ok(())
+}
+
+// Puts lines below a heading behind a text; nothing where there is no line.
+fn push_headed(form: Form, words: &str, lines: &[u8], out: &mut Vec<u8>) -> Result<(), AllocError>
+    ensures { OnOk result (out.new.items ≡ out.old.items ++ headed form words.now lines.now) }
+{
+    if lines.is_empty() {
+        return Ok(());
+    }
+    push_heading(form, words, out)?;
+    out.extend_from_slice(lines)
 }
 
 /// Puts a line behind a text for each candidate that has a pattern which matches a path, below the word `attachment`: `attached:`, `equally near:`

@@ -3,13 +3,11 @@
 
 mod attachment;
 mod candidates;
-mod headings;
 mod laws;
 mod leading;
 mod ranks;
 
 pub use attachment::{Standing, attached_child, push_attachment};
 pub use candidates::{Candidate, child_candidates, profile_candidates};
-pub use headings::push_heading;
 pub use laws::{which_is_attached, which_rules_lead};
 pub use leading::{first_transition, leading_rules};

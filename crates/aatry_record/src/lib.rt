@@ -2,8 +2,10 @@
 #![tactic(auto)]
 
 mod form;
+mod headings;
 mod record;
 mod texts;
 
 pub use form::Form;
+pub use headings::push_heading;
 pub use record::Record;

@@ -11,7 +11,7 @@ use Rattle.aa_profile_data.specs.declared.profile.Transition.{Transition}
 use Rattle.aa_quoting.specs.Texts.{written_text}
 use Rattle.aa_set_listing.specs.ProfileNames.{full_name_at}
 use Rattle.aa_set_listing.specs.RuleLines.{exec_text}
-use Rattle.aatry_exec.specs.Headings.{heading_line}
+use Rattle.aatry_record.specs.Headings.{heading_line}
 use Rattle.aatry_record.specs.Records.{record_line, record_of, with_text}
 use Rattle.aatry_record.specs.declared.form.Form.{Form}
 use Rattle.aatry_record.specs.declared.form.Form.TheVariants.{Lines, Records}

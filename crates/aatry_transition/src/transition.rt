@@ -18,8 +18,7 @@ use aa_profile_data::Transition;
 use aa_quoting::push_text;
 use aa_set_listing::full_name;
 use aa_shared_bytes::SharedBytes;
-use aatry_exec::push_heading;
-use aatry_record::Form;
+use aatry_record::{Form, push_heading};
 use std::alloc::{AllocError, Global};
 
 // Puts behind a text under what a program runs.

@@ -7,7 +7,7 @@ use Rattle.aa_profile_data.specs.declared.profile.Rule.{Rule}
 use Rattle.aa_set_listing.specs.RuleLines.{rule_text}
 use Rattle.aa_text_files.specs.Files.{File, bytes_at, name_at}
 use Rattle.aa_text_files.specs.declared.text_error.Place.{Place}
-use Rattle.aatry_exec.specs.Headings.{heading_line}
+use Rattle.aatry_record.specs.Headings.{heading_line}
 use Rattle.aatry_record.specs.Records.{record_line, record_of, with_text}
 use Rattle.aatry_record.specs.declared.form.Form.{Form}
 use Rattle.aatry_record.specs.declared.form.Form.TheVariants.{Lines, Records}

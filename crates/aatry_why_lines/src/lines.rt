@@ -10,8 +10,7 @@ ghost use Rattle.aatry_why_lines.specs.Lines.{rule_record, where_text, with_wher
 use aa_profile_data::Rule;
 use aa_set_listing::push_rule;
 use aa_text_files::{Files, Place};
-use aatry_exec::push_heading;
-use aatry_record::{Form, Record};
+use aatry_record::{Form, Record, push_heading};
 use aatry_report::{path_below, push_place, push_shown, put_place};
 use std::alloc::{AllocError, Global};
 

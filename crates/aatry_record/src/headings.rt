@@ -1,9 +1,9 @@
 //! Headings, which stand over lines for people alone.
 
 ghost use Rattle.std.specs.Prelude.{◌≡◌, ◌++◌, OnOk};
-ghost use Rattle.aatry_exec.specs.Headings.{headed, heading_line};
+ghost use Rattle.aatry_record.specs.Headings.{heading_line};
 
-use aatry_record::Form;
+use crate::form::Form;
 use std::alloc::AllocError;
 
 /// Puts a heading behind a text, on a line of its own, where lines are told; over records there is none.
@@ -22,20 +22,4 @@ pub fn push_heading(form: Form, words: &str, out: &mut Vec<u8>) -> Result<(), Al
         }
         Form::Records => Ok(()),
     }
-}
-
-// Puts lines below a heading behind a text; nothing where there is no line.
-pub fn push_headed(
-    form: Form,
-    words: &str,
-    lines: &[u8],
-    out: &mut Vec<u8>,
-) -> Result<(), AllocError>
-    ensures { OnOk result (out.new.items ≡ out.old.items ++ headed form words.now lines.now) }
-{
-    if lines.is_empty() {
-        return Ok(());
-    }
-    push_heading(form, words, out)?;
-    out.extend_from_slice(lines)
 }
