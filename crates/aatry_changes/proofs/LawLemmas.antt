@@ -5,10 +5,10 @@ use Rattle.std.specs.List.{list_any}
 use Rattle.std.specs.Str.{bytes_eq}
 use Rattle.aatry_changes.specs.Changes.{below_text, change_lines, changed_text, headed, is_changed, new_text, new_text_by, old_text, old_text_by}
 use Rattle.aatry_changes.specs.Differing.{has_text, lack_one}
-use Rattle.aatry_changes.specs.Folders.{FolderParts}
 use Rattle.aatry_changes.specs.Laws.{HaveAlike, texts_of}
 use Rattle.aatry_changes.specs.Lines.{lines_of}
 use Rattle.aatry_changes.specs.declared.lines.Line.{Line}
+use Rattle.aatry_profiles.specs.Folders.{FolderParts}
 use Rattle.aatry_profiles.specs.Parts.{Part}
 use Rattle.aatry_record.specs.declared.form.Form.{Form}
 

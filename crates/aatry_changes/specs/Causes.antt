@@ -2,11 +2,11 @@
 use Rattle.std.specs.Prelude.{ℕ, List, [], ◌++◌, codes, Option, None, Some}
 use Rattle.aa_profile_access.specs.Request.{Request}
 use Rattle.aatry_changes.specs.Differing.{differing_text}
-use Rattle.aatry_changes.specs.Folders.{FolderParts}
 use Rattle.aatry_changes.specs.Lines.{covering_lines}
 use Rattle.aatry_changes.specs.declared.lines.Line.{Line}
 use Rattle.aatry_changes.specs.declared.side.Side.{Side}
 use Rattle.aatry_changes.specs.declared.side.Side.TheVariants.{New, Old}
+use Rattle.aatry_profiles.specs.Folders.{FolderParts}
 use Rattle.aatry_profiles.specs.Parts.{Part, part_of}
 use Rattle.aatry_record.specs.declared.form.Form.{Form}
 

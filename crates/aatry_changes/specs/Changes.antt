@@ -3,9 +3,9 @@ use Rattle.std.specs.Prelude.{ℕ, ◌+◌, Bool, true, if◌then◌else◌, Lis
 use Rattle.serde_json.specs.Data.{Members}
 use Rattle.aa_bytes.specs.Bytes.{line_feed}
 use Rattle.aatry_changes.specs.Differing.{differ, differing_text}
-use Rattle.aatry_changes.specs.Folders.{FolderParts}
 use Rattle.aatry_changes.specs.Lines.{lines_of}
 use Rattle.aatry_changes.specs.declared.side.Side.TheVariants.{New, Old}
+use Rattle.aatry_profiles.specs.Folders.{FolderParts}
 use Rattle.aatry_profiles.specs.Parts.{Part, part_of}
 use Rattle.aatry_record.specs.Records.{record_line, record_of, with_text}
 use Rattle.aatry_record.specs.declared.form.Form.{Form}

@@ -4,10 +4,10 @@ use Rattle.std.specs.List.{list_any}
 use Rattle.std.specs.Str.{bytes_eq}
 use Rattle.serde_json.specs.Data.{Members}
 use Rattle.aa_bytes.specs.Bytes.{line_feed}
-use Rattle.aatry_changes.specs.Folders.{FolderParts}
 use Rattle.aatry_changes.specs.Sides.{kind, sign}
 use Rattle.aatry_changes.specs.declared.lines.Line.{Line}
 use Rattle.aatry_changes.specs.declared.side.Side.{Side}
+use Rattle.aatry_profiles.specs.Folders.{FolderParts}
 use Rattle.aatry_profiles.specs.Parts.{Part}
 use Rattle.aatry_record.specs.Records.{record_line, record_of, with_text}
 use Rattle.aatry_record.specs.declared.form.Form.{Form}

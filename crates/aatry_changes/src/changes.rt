@@ -3,17 +3,16 @@
 ghost use Rattle.std.specs.Prelude.{◌≡◌, ◌++◌, IfOk, OnOk, length, map, filter, flat_map};
 ghost use Rattle.aatry_changes.specs.Changes.{below_text, change_lines, changed_count, changed_text, headed, headed_line, headed_record, is_changed};
 ghost use Rattle.aatry_changes.specs.Changes.{is_gone_or_changed, is_new, new_text, old_text};
-ghost use Rattle.aatry_changes.specs.Folders.{seen_folder};
 ghost use Rattle.aatry_changes.specs.Lines.{lines_of};
+ghost use Rattle.aatry_profiles.specs.Folders.{seen_folder};
 ghost use Rattle.aatry_profiles.specs.SeenProfiles.{seen_part};
 ghost use Rattle.aatry_record.specs.SeenRecord.{seen_record};
 ghost use Rattle.aatry_report.specs.Taken.{counted};
 
 use crate::differing::{differ, push_differing};
-use crate::folders::FolderParts;
 use crate::lines::{Line, lines_of};
 use crate::side::Side;
-use aatry_profiles::{Part, part_of};
+use aatry_profiles::{FolderParts, Part, part_of};
 use aatry_record::{Form, Record};
 use aatry_report::push_shown;
 use std::alloc::{AllocError, Global};

@@ -3,14 +3,13 @@
 ghost use Rattle.std.specs.Prelude.{◌≡◌, ◌++◌, IfOk, OnOk};
 ghost use Rattle.aatry_changes.specs.Differing.{differ, differing_text, has_text, lack_one, line_record, line_text, text_if_lacking};
 ghost use Rattle.aatry_changes.specs.Differing.{told_line, where_of, with_where_of};
-ghost use Rattle.aatry_changes.specs.Folders.{seen_folder};
+ghost use Rattle.aatry_profiles.specs.Folders.{seen_folder};
 ghost use Rattle.aatry_profiles.specs.SeenProfiles.{seen_part};
 ghost use Rattle.aatry_record.specs.SeenRecord.{seen_record};
 
-use crate::folders::FolderParts;
 use crate::lines::Line;
 use crate::side::{Side, kind_of, sign_of};
-use aatry_profiles::Part;
+use aatry_profiles::{FolderParts, Part};
 use aatry_record::{Form, Record};
 use aatry_why_lines::{push_where, put_where};
 use std::alloc::{AllocError, Global};

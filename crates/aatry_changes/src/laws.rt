@@ -2,8 +2,8 @@
 
 ghost use Rattle.std.specs.Prelude.{◌≡◌, []};
 ghost use Rattle.aatry_changes.specs.Changes.{change_lines};
-ghost use Rattle.aatry_changes.specs.Folders.{FolderParts};
 ghost use Rattle.aatry_changes.specs.Laws.{HaveAlike};
+ghost use Rattle.aatry_profiles.specs.Folders.{FolderParts};
 ghost use Rattle.aatry_record.specs.declared.form.Form.{Form};
 
 /// Nothing is told of two folders, in either form, where each part of either has one of its full name in the other that is told by the same lines,

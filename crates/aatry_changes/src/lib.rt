@@ -4,12 +4,10 @@
 mod causes;
 mod changes;
 mod differing;
-mod folders;
 mod laws;
 mod lines;
 mod side;
 
 pub use causes::push_causes;
 pub use changes::push_changes;
-pub use folders::FolderParts;
 pub use laws::when_nothing_is_told;

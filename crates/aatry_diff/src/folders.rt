@@ -1,6 +1,6 @@
 //! Two folders of policy that are compared.
 
-use aatry_changes::FolderParts;
+use aatry_profiles::FolderParts;
 
 /// Two folders of policy that are compared, by their profiles, children and hats.
 #[derive(Clone, Copy)]

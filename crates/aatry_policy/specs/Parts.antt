@@ -1,7 +1,7 @@
 -- Folders of policy by their profiles, children and hats.
 use Rattle.std.specs.Prelude.{List}
-use Rattle.aatry_changes.specs.Folders.{FolderParts}
 use Rattle.aatry_policy.specs.Folders.{Folder, outcomes_in}
+use Rattle.aatry_profiles.specs.Folders.{FolderParts}
 use Rattle.aatry_profiles.specs.Parts.{Part, parts_of}
 use Rattle.aatry_profiles.specs.Profiles.{read_profiles}
 

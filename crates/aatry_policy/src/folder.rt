@@ -6,8 +6,7 @@ ghost use Rattle.aatry_policy.specs.Folders.{left_out_in, loaded_in, outcomes_in
 use crate::left_out::push_left_out;
 use crate::policy::{Policy, load};
 use aa_text_files::Files;
-use aatry_changes::FolderParts;
-use aatry_profiles::Part;
+use aatry_profiles::{FolderParts, Part};
 use aatry_record::Form;
 use std::alloc::{AllocError, Global};
 

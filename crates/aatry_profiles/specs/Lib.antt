@@ -1,3 +1,4 @@
+pub mod Folders
 pub mod Parts
 pub mod Profiles
 pub mod SeenProfiles

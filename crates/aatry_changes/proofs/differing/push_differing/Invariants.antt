@@ -1,7 +1,7 @@
 use Rattle.std.proofs.Common.{◌≡◌, ◌++◌, length}
 use Rattle.aatry_changes.specs.Differing.{differing_text}
-use Rattle.aatry_changes.specs.Folders.{seen_folder}
 use Rattle.aatry_changes.proofs.differing.push_differing.Given as goal
+use Rattle.aatry_profiles.specs.Folders.{seen_folder}
 use Rattle.aatry_profiles.specs.SeenProfiles.{seen_part}
 
 -- the text so far, with what is told of the lines that are left, is all

@@ -1,7 +1,7 @@
 //! Folders of policy by their parts.
 
+use crate::parts::Part;
 use aa_text_files::Files;
-use aatry_profiles::Part;
 
 /// A folder of policy by its parts.
 #[derive(Clone, Copy)]

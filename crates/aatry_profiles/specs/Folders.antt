@@ -1,9 +1,9 @@
 -- Folders of policy by their parts.
 use Rattle.std.specs.Prelude.{ℕ, List, map}
 use Rattle.aa_text_files.specs.Files.{File}
-use Rattle.aatry_changes.specs.declared.folders.FolderParts.{FolderParts as CodeFolder}
 use Rattle.aatry_profiles.specs.Parts.{Part}
 use Rattle.aatry_profiles.specs.SeenProfiles.{seen_part}
+use Rattle.aatry_profiles.specs.declared.folders.FolderParts.{FolderParts as CodeFolder}
 
 -- a folder of policy: all that lies below it, its path, and its profiles, children and hats
 pub record FolderParts : Type 0 where
