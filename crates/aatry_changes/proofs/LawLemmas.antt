@@ -1,10 +1,10 @@
 -- Nothing is told of parts that are told by the same lines.
-use Rattle.std.proofs.Common.{◌≡◌, ℕ, Bool, true, false, not, ◌||◌, cond, List, [], ◌∷◌, ◌++◌, codes, flat_map, map, refl, ap, ◌∙◌, subst, sym}
+use Rattle.std.proofs.Common.{◌≡◌, ℕ, Bool, true, false, not, ◌||◌, cond, List, [], ◌∷◌, ◌++◌, flat_map, map, refl, ap, ◌∙◌, subst, sym}
 use Rattle.std.proofs.lemmas.Slice.Eq.{bytes_eq-Decides}
 use Rattle.std.specs.List.{list_any}
 use Rattle.std.specs.Str.{bytes_eq}
-use Rattle.aatry_changes.specs.Changes.{below_text, change_lines, changed_text, headed, is_changed, new_text, new_text_by, old_text, old_text_by}
-use Rattle.aatry_changes.specs.Differing.{has_text, lack_one}
+use Rattle.aatry_changes.specs.Changes.{change_lines, changed_by, changed_text, lines_alone, new_text, new_text_by, old_text, old_text_by}
+use Rattle.aatry_changes.specs.Lacking.{has_text, lacking}
 use Rattle.aatry_changes.specs.Laws.{HaveAlike, texts_of}
 use Rattle.aatry_changes.specs.Lines.{lines_of}
 use Rattle.aatry_changes.specs.declared.lines.Line.{Line}
@@ -14,7 +14,7 @@ use Rattle.aatry_record.specs.declared.form.Form.{Form}
 
 -- a text is one of some
 abbrev is_in : List (List ℕ) → List ℕ → Bool
-is_in texts text = list_any (λ other. bytes_eq other text) texts
+is_in texts text = list_any (λ other. bytes_eq text other) texts
 
 -- so is each of these
 abbrev AreIn : List (List ℕ) → List (List ℕ) → Type 0
@@ -24,11 +24,11 @@ AreIn others (text ∷ texts) = (is_in others text ≡ true) × AreIn others tex
 -- lines tell a text where it is one of theirs
 has-in : (lines : List Line) (text : List ℕ) → has_text lines text ≡ is_in (map (λ line. line.text) lines) text
 has-in [] text = refl
-has-in (line ∷ lines) text = ap (λ b. bytes_eq line.text text || b) (has-in lines text)
+has-in (line ∷ lines) text = ap (λ b. bytes_eq text line.text || b) (has-in lines text)
 
 -- a text that is one of some is one of more
 in-more : (other : List ℕ) (others : List (List ℕ)) (text : List ℕ) → is_in others text ≡ true → is_in (other ∷ others) text ≡ true
-in-more other others text h = by (bytes_eq other text)
+in-more other others text h = by (bytes_eq text other)
   where
     by : (b : Bool) → (b || is_in others text) ≡ true
     by true = refl
@@ -44,24 +44,22 @@ own [] = tt
 own (text ∷ texts) = (ap (λ b. b || is_in texts text) ((bytes_eq-Decides text text).1 refl), more text texts texts (own texts))
 
 -- others lack none of these lines where each tells one of their texts
-none-lacking : (others lines : List Line) → AreIn (map (λ line. line.text) others) (map (λ line. line.text) lines) → lack_one others lines ≡ false
+none-lacking : (others lines : List Line) → AreIn (map (λ line. line.text) others) (map (λ line. line.text) lines) → lacking others lines ≡ []
 none-lacking others [] h = refl
 none-lacking others (line ∷ lines) h =
     let found : has_text others line.text ≡ true = has-in others line.text ∙ h.0 in
-    ap (λ b. not b || lack_one others lines) found ∙ none-lacking others lines h.1
+    ap (λ b. cond (not b) (line ∷ lacking others lines) (lacking others lines)) found ∙ none-lacking others lines h.1
 
-none-differ : (other part : Part) → texts_of other ≡ texts_of part → lack_one (lines_of other) (lines_of part) ≡ false
-none-differ other part same =
+-- a part has no line alone that is told by the same lines as the other
+none-alone : (part other : Part) → texts_of other ≡ texts_of part → lines_alone part other ≡ []
+none-alone part other same =
     none-lacking (lines_of other) (lines_of part) (subst (λ texts. AreIn texts (texts_of part)) (sym same) (own (texts_of part)))
 
--- a part that is told by the same lines as its counterpart isn't changed
-same-lines : (part other : Part) → texts_of other ≡ texts_of part → is_changed part other ≡ false
-same-lines part other same =
-    ap (λ b. b || lack_one (lines_of part) (lines_of other)) (none-differ other part same) ∙ none-differ part other (sym same)
-
+-- so it isn't changed
 unchanged : (form : Form) (old new : FolderParts) (part other : Part) → texts_of other ≡ texts_of part → changed_text form old new part other ≡ []
 unchanged form old new part other same =
-    ap (λ b. cond b (headed form (codes "changed") part.name ++ below_text form old new part other) []) (same-lines part other same)
+    ap (λ less. changed_by form old new part other less (lines_alone other part)) (none-alone part other same)
+    ∙ ap (changed_by form old new part other []) (none-alone other part (sym same))
 
 old-none : (form : Form) (old new : FolderParts) (parts : List Part) → HaveAlike new.parts parts → flat_map (old_text form old new) parts ≡ []
 old-none form old new [] alike = refl

@@ -1,1 +1,2 @@
+mod LackingLemmas
 mod LawLemmas

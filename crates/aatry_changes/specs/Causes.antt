@@ -1,7 +1,8 @@
 -- The rules behind a question that two folders answer otherwise (docs/aatry.md).
 use Rattle.std.specs.Prelude.{ℕ, List, [], ◌++◌, codes, Option, None, Some}
 use Rattle.aa_profile_access.specs.Request.{Request}
-use Rattle.aatry_changes.specs.Differing.{differing_text}
+use Rattle.aatry_changes.specs.Differing.{told_lines}
+use Rattle.aatry_changes.specs.Lacking.{lacking}
 use Rattle.aatry_changes.specs.Lines.{covering_lines}
 use Rattle.aatry_changes.specs.declared.lines.Line.{Line}
 use Rattle.aatry_changes.specs.declared.side.Side.{Side}
@@ -18,7 +19,7 @@ covering_of request (Some part) = covering_lines request part.rules part.places
 -- those of a part's lines that others lack
 abbrev pub causes_of : Form → FolderParts → Option Part → Side → List Line → List Line → List ℕ
 causes_of form folder None side others lines = []
-causes_of form folder (Some part) side others lines = differing_text form folder part (codes "  ") side others lines
+causes_of form folder (Some part) side others lines = told_lines form folder part (codes "  ") side (lacking others lines)
 
 -- the rules that the old part has and the new one lacks, and those that the new one has and the old one lacks
 abbrev pub causes_between : Form → FolderParts → FolderParts → Option Part → Option Part → Request → List ℕ

@@ -1,7 +1,5 @@
--- The lines of a part that another lacks, and what is told of them.
-use Rattle.std.specs.Prelude.{ℕ, Bool, not, ◌||◌, if◌then◌else◌, List, [], ◌∷◌, ◌++◌, codes, flat_map}
-use Rattle.std.specs.List.{list_any}
-use Rattle.std.specs.Str.{bytes_eq}
+-- What is told of the lines of a part that another lacks.
+use Rattle.std.specs.Prelude.{ℕ, if◌then◌else◌, List, [], ◌∷◌, ◌++◌, codes, flat_map}
 use Rattle.serde_json.specs.Data.{Members}
 use Rattle.aa_bytes.specs.Bytes.{line_feed}
 use Rattle.aatry_changes.specs.Sides.{kind, sign}
@@ -13,18 +11,6 @@ use Rattle.aatry_record.specs.Records.{record_line, record_of, with_text}
 use Rattle.aatry_record.specs.declared.form.Form.{Form}
 use Rattle.aatry_record.specs.declared.form.Form.TheVariants.{Lines, Records}
 use Rattle.aatry_why_lines.specs.Lines.{where_text, with_where}
-
--- one of some lines tells this
-abbrev pub has_text : List Line → List ℕ → Bool
-has_text lines text = list_any (λ line. bytes_eq line.text text) lines
-
--- none of others tells the same as one of these lines
-abbrev pub lack_one : List Line → List Line → Bool
-lack_one others lines = list_any (λ line. not (has_text others line.text)) lines
-
--- some lines and others don't tell the same
-abbrev pub differ : List Line → List Line → Bool
-differ before after = lack_one after before || lack_one before after
 
 -- where the rule stands that a line tells, if it tells one: in a part of this file
 abbrev pub where_of : FolderParts → List ℕ → Line → List ℕ
@@ -48,11 +34,6 @@ abbrev pub told_line : Form → FolderParts → Part → List ℕ → Side → L
 told_line Lines folder part blanks side line = line_text folder part blanks side line
 told_line Records folder part blanks side line = record_line (line_record folder part side line)
 
--- a line, if none of others tells the same
-abbrev pub text_if_lacking : Form → FolderParts → Part → List ℕ → Side → List Line → Line → List ℕ
-text_if_lacking form folder part blanks side others line =
-    if has_text others line.text then [] else told_line form folder part blanks side line
-
--- those of some lines that others lack
-abbrev pub differing_text : Form → FolderParts → Part → List ℕ → Side → List Line → List Line → List ℕ
-differing_text form folder part blanks side others lines = flat_map (text_if_lacking form folder part blanks side others) lines
+-- what is told of each of some lines
+abbrev pub told_lines : Form → FolderParts → Part → List ℕ → Side → List Line → List ℕ
+told_lines form folder part blanks side lines = flat_map (told_line form folder part blanks side) lines

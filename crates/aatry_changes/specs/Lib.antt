@@ -1,6 +1,9 @@
 pub mod Causes
 pub mod Changes
 pub mod Differing
+pub mod Lacking
 pub mod Laws
 pub mod Lines
+pub mod SeenLines
 pub mod Sides
+pub mod code

@@ -1,12 +1,13 @@
 //! The rules behind a question that two folders answer otherwise.
 
-ghost use Rattle.std.specs.Prelude.{◌≡◌, ◌++◌, IfOk, OnOk, option_map};
+ghost use Rattle.std.specs.Prelude.{◌≡◌, ◌++◌, IfOk, OnOk, Some, option_map};
 ghost use Rattle.aa_profile_access.specs.SeenRequests.{request_of};
 ghost use Rattle.aatry_changes.specs.Causes.{cause_lines, causes_of, covering_of};
 ghost use Rattle.aatry_profiles.specs.Folders.{seen_folder};
 ghost use Rattle.aatry_profiles.specs.SeenProfiles.{seen_part};
 
-use crate::differing::push_differing;
+use crate::differing::push_lines;
+use crate::lacking::lacking;
 use crate::lines::{Line, covering_lines};
 use crate::side::Side;
 use aa_profile_access::Request;
@@ -29,7 +30,25 @@ fn covering_of(
     }
 }
 
-// Puts those of a part's lines behind a text that others lack; none where there is no part.
+// Puts those of a part's lines behind a text that others lack.
+fn push_lacking(
+    alloc: Global,
+    form: Form,
+    folder: &FolderParts<'_>,
+    part: &Part<'_>,
+    side: Side,
+    others: &[Line],
+    lines: &[Line],
+    out: &mut Vec<u8>,
+) -> Result<(), AllocError>
+    ensures { OnOk result (out.new.items ≡ out.old.items
+        ++ causes_of form (seen_folder folder.now) (Some (seen_part part.now)) side others.now lines.now) }
+{
+    let found = lacking(alloc, others, lines)?;
+    push_lines(alloc, form, folder, part, "  ", side, &found, out)
+}
+
+// The same of a part, if there is one.
 fn push_causes_of(
     alloc: Global,
     form: Form,
@@ -45,7 +64,7 @@ fn push_causes_of(
 {
     match part {
         None => Ok(()),
-        Some(part) => push_differing(alloc, form, folder, part, "  ", side, others, lines, out),
+        Some(part) => push_lacking(alloc, form, folder, part, side, others, lines, out),
     }
 }
 

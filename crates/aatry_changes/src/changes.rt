@@ -1,15 +1,17 @@
 //! Profiles, children and hats that are new, gone or changed.
 
 ghost use Rattle.std.specs.Prelude.{◌≡◌, ◌++◌, IfOk, OnOk, length, map, filter, flat_map};
-ghost use Rattle.aatry_changes.specs.Changes.{below_text, change_lines, changed_count, changed_text, headed, headed_line, headed_record, is_changed};
-ghost use Rattle.aatry_changes.specs.Changes.{is_gone_or_changed, is_new, new_text, old_text};
-ghost use Rattle.aatry_changes.specs.Lines.{lines_of};
+ghost use Rattle.aatry_changes.specs.Changes.{below_text, change_lines, changed_by, changed_count, changed_text, differ, headed, headed_line};
+ghost use Rattle.aatry_changes.specs.Changes.{headed_record, is_changed, is_gone_or_changed, is_new, new_text, old_text};
+ghost use Rattle.aatry_changes.specs.Lacking.{lacking};
+ghost use Rattle.aatry_changes.specs.SeenLines.{seen_lines};
 ghost use Rattle.aatry_profiles.specs.Folders.{seen_folder};
 ghost use Rattle.aatry_profiles.specs.SeenProfiles.{seen_part};
 ghost use Rattle.aatry_record.specs.SeenRecord.{seen_record};
 ghost use Rattle.aatry_report.specs.Taken.{counted};
 
-use crate::differing::{differ, push_differing};
+use crate::differing::push_lines;
+use crate::lacking::lacking;
 use crate::lines::{Line, lines_of};
 use crate::side::Side;
 use aatry_profiles::{FolderParts, Part, part_of};
@@ -53,8 +55,53 @@ fn push_headed(
     }
 }
 
-// Puts the lines behind a text that a part of the old folder has and that of the new one lacks, and then the others.
+// Puts the lines behind a text that the old part has alone, and then those that the new one has alone.
 fn push_below(
+    alloc: Global,
+    form: Form,
+    old: &FolderParts<'_>,
+    new: &FolderParts<'_>,
+    part: &Part<'_>,
+    other: &Part<'_>,
+    less: &[&Line],
+    more: &[&Line],
+    out: &mut Vec<u8>,
+) -> Result<(), AllocError>
+    ensures { OnOk result (out.new.items ≡ out.old.items
+        ++ below_text form (seen_folder old.now) (seen_folder new.now) (seen_part part.now) (seen_part other.now)
+        (seen_lines less.now) (seen_lines more.now)) }
+{
+    push_lines(alloc, form, old, part, "", Side::Old, less, out)?;
+    push_lines(alloc, form, new, other, "", Side::New, more, out)
+}
+
+// Puts what is told of a part of both folders behind a text, by the lines that either has alone, and says whether it is changed.
+fn push_differing(
+    alloc: Global,
+    form: Form,
+    old: &FolderParts<'_>,
+    new: &FolderParts<'_>,
+    part: &Part<'_>,
+    other: &Part<'_>,
+    less: &[&Line],
+    more: &[&Line],
+    out: &mut Vec<u8>,
+) -> Result<bool, AllocError>
+    ensures told { OnOk result (out.new.items ≡ out.old.items
+        ++ changed_by form (seen_folder old.now) (seen_folder new.now) (seen_part part.now) (seen_part other.now)
+        (seen_lines less.now) (seen_lines more.now)) }
+    ensures whether { IfOk result (λ told. told ≡ differ (seen_lines less.now) (seen_lines more.now)) }
+{
+    if less.is_empty() && more.is_empty() {
+        return Ok(false);
+    }
+    push_headed(alloc, form, "changed", part.name.as_slice(), out)?;
+    push_below(alloc, form, old, new, part, other, less, more, out)?;
+    Ok(true)
+}
+
+// The same by the lines of both.
+fn push_between(
     alloc: Global,
     form: Form,
     old: &FolderParts<'_>,
@@ -64,14 +111,15 @@ fn push_below(
     before: &[Line],
     after: &[Line],
     out: &mut Vec<u8>,
-) -> Result<(), AllocError>
-    requires before { before.now ≡ lines_of (seen_part part.now) }
-    requires after { after.now ≡ lines_of (seen_part other.now) }
-    ensures { OnOk result (out.new.items
-        ≡ out.old.items ++ below_text form (seen_folder old.now) (seen_folder new.now) (seen_part part.now) (seen_part other.now)) }
+) -> Result<bool, AllocError>
+    ensures told { OnOk result (out.new.items ≡ out.old.items
+        ++ changed_by form (seen_folder old.now) (seen_folder new.now) (seen_part part.now) (seen_part other.now)
+        (lacking after.now before.now) (lacking before.now after.now)) }
+    ensures whether { IfOk result (λ told. told ≡ differ (lacking after.now before.now) (lacking before.now after.now)) }
 {
-    push_differing(alloc, form, old, part, "", Side::Old, after, before, out)?;
-    push_differing(alloc, form, new, other, "", Side::New, before, after, out)
+    let less = lacking(alloc, after, before)?;
+    let more = lacking(alloc, before, after)?;
+    push_differing(alloc, form, old, new, part, other, &less, &more, out)
 }
 
 // Puts what is told of a part of both folders behind a text, and says whether it is changed.
@@ -90,12 +138,7 @@ fn push_changed(
 {
     let before = lines_of(alloc, part)?;
     let after = lines_of(alloc, other)?;
-    if !differ(&before, &after) {
-        return Ok(false);
-    }
-    push_headed(alloc, form, "changed", part.name.as_slice(), out)?;
-    push_below(alloc, form, old, new, part, other, &before, &after, out)?;
-    Ok(true)
+    push_between(alloc, form, old, new, part, other, &before, &after, out)
 }
 
 // Puts what is told of a part of the old folder behind a text, and says whether it is gone or changed.

@@ -1,8 +1,8 @@
-//! The lines of a part that another lacks.
+//! What is told of the lines of a part that another lacks.
 
 ghost use Rattle.std.specs.Prelude.{◌≡◌, ◌++◌, IfOk, OnOk};
-ghost use Rattle.aatry_changes.specs.Differing.{differ, differing_text, has_text, lack_one, line_record, line_text, text_if_lacking};
-ghost use Rattle.aatry_changes.specs.Differing.{told_line, where_of, with_where_of};
+ghost use Rattle.aatry_changes.specs.Differing.{line_record, line_text, told_line, told_lines, where_of, with_where_of};
+ghost use Rattle.aatry_changes.specs.SeenLines.{seen_lines};
 ghost use Rattle.aatry_profiles.specs.Folders.{seen_folder};
 ghost use Rattle.aatry_profiles.specs.SeenProfiles.{seen_part};
 ghost use Rattle.aatry_record.specs.SeenRecord.{seen_record};
@@ -13,41 +13,6 @@ use aatry_profiles::{FolderParts, Part};
 use aatry_record::{Form, Record};
 use aatry_why_lines::{push_where, put_where};
 use std::alloc::{AllocError, Global};
-
-// Whether one of some lines tells this.
-fn has_text(lines: &[Line], text: &[u8]) -> bool
-    ensures { result ≡ has_text lines.now text.now }
-{
-    let mut rest = lines;
-    while let [line, behind @ ..] = rest {
-        if line.text.as_slice() == text {
-            return true;
-        }
-        rest = behind;
-    }
-    false
-}
-
-// Whether none of others tells the same as one of these lines.
-fn lack_one(others: &[Line], lines: &[Line]) -> bool
-    ensures { result ≡ lack_one others.now lines.now }
-{
-    let mut rest = lines;
-    while let [line, behind @ ..] = rest {
-        if !has_text(others, line.text.as_slice()) {
-            return true;
-        }
-        rest = behind;
-    }
-    false
-}
-
-/// Whether some lines and others don't tell the same.
-pub fn differ(before: &[Line], after: &[Line]) -> bool
-    ensures { result ≡ differ before.now after.now }
-{
-    lack_one(after, before) || lack_one(before, after)
-}
 
 // Puts where a line's rule stands behind a text, if it tells one.
 fn push_where_of(
@@ -139,51 +104,29 @@ fn push_told(
     }
 }
 
-// Puts it there, if others lack the line.
-fn push_if_lacking(
-    alloc: Global,
-    form: Form,
-    folder: &FolderParts<'_>,
-    part: &Part<'_>,
-    blanks: &str,
-    side: Side,
-    others: &[Line],
-    line: &Line,
-    out: &mut Vec<u8>,
-) -> Result<(), AllocError>
-    ensures { OnOk result (out.new.items
-        ≡ out.old.items ++ text_if_lacking form (seen_folder folder.now) (seen_part part.now) blanks.now side others.now line.now) }
-{
-    if has_text(others, line.text.as_slice()) {
-        return Ok(());
-    }
-    push_told(alloc, form, folder, part, blanks, side, line, out)
-}
-
-/// Puts those of some lines of a part behind a text that others lack. As a line each stands behind these blanks and the side's sign, with where its
-/// rule stands, if it tells one. As a record of the kind `less` or `more` it has the part's full name (`name`), where its rule stands, if it
-/// tells one (`aatry_why_lines::put_where`), and what it tells (`text`). The part is one of the folder's.
+/// Puts lines behind a text that another part lacks. As a line each stands behind these blanks and the side's sign, with where its rule stands, if it
+/// tells one. As a record of the kind `less` or `more` it has the part's full name (`name`), where its rule stands, if it tells one
+/// (`aatry_why_lines::put_where`), and what it tells (`text`). They are lines of this part, and it is one of the folder's.
 ///
 /// # Errors
 ///
 /// Where memory runs out. A beginning may have been put then.
-pub fn push_differing(
+pub fn push_lines(
     alloc: Global,
     form: Form,
     folder: &FolderParts<'_>,
     part: &Part<'_>,
     blanks: &str,
     side: Side,
-    others: &[Line],
-    lines: &[Line],
+    lines: &[&Line],
     out: &mut Vec<u8>,
 ) -> Result<(), AllocError>
     ensures { OnOk result (out.new.items
-        ≡ out.old.items ++ differing_text form (seen_folder folder.now) (seen_part part.now) blanks.now side others.now lines.now) }
+        ≡ out.old.items ++ told_lines form (seen_folder folder.now) (seen_part part.now) blanks.now side (seen_lines lines.now)) }
 {
     let mut rest = lines;
     while let [line, behind @ ..] = rest {
-        push_if_lacking(alloc, form, folder, part, blanks, side, others, line, out)?;
+        push_told(alloc, form, folder, part, blanks, side, *line, out)?;
         rest = behind;
     }
     Ok(())

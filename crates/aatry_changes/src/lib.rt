@@ -4,6 +4,7 @@
 mod causes;
 mod changes;
 mod differing;
+mod lacking;
 mod laws;
 mod lines;
 mod side;

@@ -1,14 +1,15 @@
 use Rattle.std.proofs.Common.{◌≡◌, ◌++◌, length}
-use Rattle.aatry_changes.specs.Differing.{differing_text}
-use Rattle.aatry_changes.proofs.differing.push_differing.Given as goal
+use Rattle.aatry_changes.specs.Differing.{told_lines}
+use Rattle.aatry_changes.specs.SeenLines.{seen_lines}
+use Rattle.aatry_changes.proofs.differing.push_lines.Given as goal
 use Rattle.aatry_profiles.specs.Folders.{seen_folder}
 use Rattle.aatry_profiles.specs.SeenProfiles.{seen_part}
 
 -- the text so far, with what is told of the lines that are left, is all
 abbrev pub invariant-loop-rest : goal.invariant-loop-rest
 invariant-loop-rest l =
-    let text = differing_text l.form (seen_folder l.folder) (seen_part l.part) l.blanks l.side l.others in
-    l.out.items ++ text l.rest ≡ l.initial.out.items ++ text l.lines
+    let text = told_lines l.form (seen_folder l.folder) (seen_part l.part) l.blanks l.side in
+    l.out.items ++ text (seen_lines l.rest) ≡ l.initial.out.items ++ text (seen_lines l.lines)
 
 abbrev pub decreases-loop-rest : goal.decreases-loop-rest
 decreases-loop-rest l = length l.rest
