@@ -11,4 +11,4 @@ mod side;
 
 pub use causes::push_causes;
 pub use changes::push_changes;
-pub use laws::when_nothing_is_told;
+pub use laws::{what_is_counted_is_told, when_nothing_is_told};

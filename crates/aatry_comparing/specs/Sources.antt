@@ -18,8 +18,16 @@ abbrev pub differing_count : List Loaded → List Loaded → Option Gathered →
 differing_count old new None = 0
 differing_count old new (Some requests) = length (differing old new requests.tallies)
 
--- what is told of these: each question that is answered otherwise, and what sums up
+-- what is told of these
+abbrev pub differences_text : Form → BothFolders → List Loaded → List Loaded → Option Gathered → List ℕ
+differences_text form folders old new None = []
+differences_text form folders old new (Some requests) = difference_lines form folders old new requests.tallies
+
+-- what sums up
+abbrev pub summary_text : Form → List Loaded → List Loaded → Option Gathered → List ℕ
+summary_text form old new None = []
+summary_text form old new (Some requests) = summary_line form requests (length (differing old new requests.tallies))
+
+-- what is told of a source: each question that is answered otherwise, and what sums up
 abbrev pub requests_text : Form → BothFolders → List Loaded → List Loaded → Option Gathered → List ℕ
-requests_text form folders old new None = []
-requests_text form folders old new (Some requests) =
-    difference_lines form folders old new requests.tallies ++ summary_line form requests (length (differing old new requests.tallies))
+requests_text form folders old new requests = differences_text form folders old new requests ++ summary_text form old new requests

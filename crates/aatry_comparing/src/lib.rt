@@ -2,5 +2,7 @@
 #![tactic(auto)]
 
 mod comparing;
+mod laws;
 
 pub use comparing::{Compared, diff};
+pub use laws::what_is_alike_is_not_told;

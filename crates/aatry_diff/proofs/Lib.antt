@@ -1,1 +1,2 @@
 mod DifferenceLemmas
+mod LawLemmas

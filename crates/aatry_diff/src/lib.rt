@@ -4,9 +4,11 @@
 mod answers;
 mod differences;
 mod folders;
+mod laws;
 mod numbers;
 mod summary;
 
 pub use differences::push_differences;
 pub use folders::BothFolders;
+pub use laws::what_differs_is_told;
 pub use summary::push_summary;
