@@ -4,6 +4,7 @@
 use aa_set_lines::{FromRead, ToWrite};
 use aaset_gather::RuntimeFiles;
 use aatry_folder::RuntimeFolders;
+use aatry_program::Streams;
 use std::io::IsTerminal;
 use std::process::ExitCode;
 use std::rt::Env;
@@ -26,15 +27,18 @@ fn main(rt: HostRuntime) -> ExitCode {
     let words = words_of_start(&rt);
     let reader = rt.reader();
     let prompt = prompt(reader.is_terminal());
+    let mut streams = Streams {
+        input: FromRead::new(reader),
+        output: ToWrite::new(io::writer(&rt)),
+        errors: ToWrite::new(rt.stderr()),
+    };
     let status = aatry_program::start(
         rt.alloc(),
         &words,
         &RuntimeFolders::new(&rt),
         &RuntimeFiles::new(&rt),
         prompt,
-        &mut FromRead::new(reader),
-        &mut ToWrite::new(io::writer(&rt)),
-        &mut ToWrite::new(rt.stderr()),
+        &mut streams,
     );
     ExitCode::from(status)
 }

@@ -25,7 +25,7 @@ pub fn what_is_missing_is_asked_for()
 {}
 
 /// So nothing is missing that stands in the folder of policy: where the names of the files are closed, nothing stands there for the include that the
-/// fault is told at. This is so of all that `aatry_program::check_folder` and the other commands read.
+/// fault is told at. This is so of all that `aatry_commands::check_folder` and the other commands read.
 pub fn nothing_that_stands_is_missing()
     ensures { (members_at : List ℕ → Option (List (List ℕ))) (base : List ℕ) (files : List File) (name : List ℕ) (place : Place)
         → IsClosed members_at base (names_of files)

@@ -1,3 +1,1 @@
 mod ProgramLemmas
-mod TestingLemmas
-mod SessionLemmas

@@ -1,9 +1,2 @@
-pub mod Asking
-pub mod Checking
-pub mod Comparing
-pub mod Fault
-pub mod Folders
 pub mod Program
-pub mod Session
-pub mod Testing
-pub mod code
+pub mod Status

@@ -1,0 +1,30 @@
+use Rattle.std.proofs.Common.{rules, ◌≡◌, ◌∙◌, ◌∷◌, ap, arith, length, map, string_bytes, subst, sym}
+use Rattle.std.proofs.lemmas.List.{length-map}
+use Rattle.std.specs.Vec.Iter.{into_iter_items}
+use Rattle.aaset_gather.specs.Gathering.{texts_of}
+use Rattle.aatry_commands.specs.Testing.{TestsEach}
+use Rattle.aatry_commands.proofs.TestingLemmas.{tests_all, tests_one_more}
+use Rattle.aatry_commands.proofs.testing.test_each.Goals as goal
+
+-- What is told of the next path stands behind the text.
+pub loop-path-preserved : goal.loop-path-preserved
+loop-path-preserved g c =
+    let bytes_at = g.D.FileSystem.bytes_at c.args.disk.now in
+    let files = c.args.files.now in
+    let path = string_bytes c.in-Some.path in
+    let behind = map string_bytes (into_iter_items c.next.new.self) in
+    let all = texts_of c.args.paths in
+    let so_far = c.loop-path.invariant in
+    let next : map string_bytes (into_iter_items c.loop-path.path-iterator) ≡ path ∷ behind = ap (map string_bytes) c.in-Some.ensures.steps.0 in
+    let own = c.in_ok-failed.ensures.told in
+    let one = c.in_ok-failed.field-0 in
+    record {
+      told = λ rest left tests. tests_one_more bytes_at files path behind all c.loop-path.text.items c.test_at.new.text.items own.0 rest c.loop-path.failed one left own.1 own.2
+          (λ r l t. so_far.told r l (subst (λ ps. TestsEach bytes_at files ps r l) (sym next) t)) tests;
+      few = omega (arith, so_far.few, c.in_ok-failed.ensures.few, ap length c.in-Some.ensures.steps.0);
+    }
+
+pub returns : goal.returns
+returns g c =
+    tests_all (g.D.FileSystem.bytes_at c.args.disk.now) c.args.files.now (map string_bytes (into_iter_items c.loop-path.path-iterator)) (texts_of c.args.paths)
+    c.loop-path.text.items c.loop-path.failed (length-map (into_iter_items c.loop-path.path-iterator) string_bytes ∙ (search rules)) c.loop-path.invariant.told

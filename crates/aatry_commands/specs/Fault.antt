@@ -1,0 +1,51 @@
+-- What keeps the program from doing what it is asked for, and what is told of it.
+use Rattle.std.specs.Prelude.{ℕ, List, [], ◌∷◌, ◌++◌, codes, string_bytes, ⊤}
+use Rattle.aa_bytes.specs.Bytes.{line_feed}
+use Rattle.aaset_gather.specs.declared.gathering.GatherFault.{GatherFault}
+use Rattle.aaset_gather.specs.declared.gathering.GatherFault.TheVariants as files
+use Rattle.aatry_asking.specs.declared.question.QuestionFault.{QuestionFault}
+use Rattle.aatry_asking.specs.declared.question.QuestionFault.TheVariants as question
+use Rattle.aatry_folder.specs.declared.below.FolderFault.{FolderFault}
+use Rattle.aatry_folder.specs.declared.below.FolderFault.TheVariants as folder
+use Rattle.aatry_commands.specs.declared.fault.Fault.{Fault}
+use Rattle.aatry_commands.specs.declared.fault.Fault.TheVariants.{BadArguments, BadQuestion, Unreadable, TooMany, NoMemory, Read, Write}
+use Rattle.aatry_report.specs.Shown.{shown}
+
+abbrev pub fault_of_folder : FolderFault → Fault
+fault_of_folder (folder.Unreadable name) = Unreadable name
+fault_of_folder folder.TooMany = TooMany
+fault_of_folder folder.Memory = NoMemory
+
+abbrev pub fault_of_files : GatherFault → Fault
+fault_of_files (files.Untaken name) = Unreadable name
+fault_of_files files.Memory = NoMemory
+
+abbrev pub fault_of_question : QuestionFault → Fault
+fault_of_question question.Bad = BadQuestion
+fault_of_question question.Memory = NoMemory
+
+-- a fault that keeps a folder of policy from being read: one of its files or folders can't be, there are too many, or memory ran out
+abbrev pub IsOfFolder : Fault → Type 0
+IsOfFolder (Unreadable name) = ⊤
+IsOfFolder TooMany = ⊤
+IsOfFolder NoMemory = ⊤
+IsOfFolder fault = ⊥
+
+-- the words that tell a fault
+abbrev pub words_of : Fault → List ℕ
+words_of BadArguments = codes "aatry: bad arguments: see aatry --help"
+words_of BadQuestion = codes "aatry: bad question: see aatry why --help, aatry who --help"
+words_of (Unreadable _) = codes "aatry: cannot read "
+words_of TooMany = codes "aatry: more than 65,536 files and folders"
+words_of NoMemory = codes "aatry: no memory"
+words_of Read = codes "aatry: read fault"
+words_of Write = codes "aatry: write fault"
+
+-- the name that stands behind them
+abbrev pub name_of : Fault → List ℕ
+name_of (Unreadable name) = string_bytes name
+name_of _ = []
+
+-- the line that tells a fault
+abbrev pub told_line : Fault → List ℕ
+told_line fault = words_of fault ++ shown (name_of fault) ++ line_feed ∷ []

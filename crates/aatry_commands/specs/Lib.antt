@@ -1,0 +1,7 @@
+pub mod Asking
+pub mod Checking
+pub mod Comparing
+pub mod Fault
+pub mod Folders
+pub mod Testing
+pub mod code

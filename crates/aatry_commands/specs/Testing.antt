@@ -1,0 +1,34 @@
+-- What a test of transcripts over a folder of policy comes to.
+use Rattle.std.specs.Prelude.{◌≡◌, ◌+◌, ℕ, Bool, false, if◌then◌else◌, List, [], ◌∷◌, ◌++◌, Option, codes}
+use Rattle.aa_text_files.specs.Files.{File, is_folder_name}
+use Rattle.aaset_gather.specs.Gathering.{IsReadBelow}
+use Rattle.aatry_commands.specs.Checking.{AreBelow}
+use Rattle.aatry_test.specs.Tests.{IsTested}
+
+-- The one of these files is that of this path: it has the bytes that lie there, where they are known. A path that isn't whole begins in the current
+-- folder, and one that ends in `/` is that of no file.
+abbrev pub IsFileAt : (List ℕ → Option (List ℕ)) → List ℕ → List File → Type 0
+IsFileAt bytes_at path files =
+    (bytes : List ℕ) × (files ≡ (path, bytes) ∷ []) × (is_folder_name path ≡ false) × IsReadBelow bytes_at (codes ".") (path, bytes)
+
+-- how many failed, where one was tried
+abbrev pub failed_by : Bool → ℕ
+failed_by passed = if passed then 0 else 1
+
+-- The transcript of this path was tested, the text tells how it came out, and so many failed: one or none.
+abbrev pub IsFileTested : (List ℕ → Option (List ℕ)) → List File → List ℕ → List ℕ → ℕ → Type 0
+IsFileTested bytes_at files path text failed =
+    (bytes : List ℕ) × (passed : Bool) × IsFileAt bytes_at path ((path, bytes) ∷ []) × IsTested files path bytes passed text × (failed ≡ failed_by passed)
+
+-- a text tells each of these transcripts in turn, and so many failed
+abbrev pub TestsEach : (List ℕ → Option (List ℕ)) → List File → List (List ℕ) → List ℕ → ℕ → Type 0
+TestsEach bytes_at files [] text failed = (text ≡ []) × (failed ≡ 0)
+TestsEach bytes_at files (path ∷ paths) text failed =
+    (first rest : List ℕ) × (one left : ℕ) × (text ≡ first ++ rest) × (failed ≡ one + left)
+    × IsFileTested bytes_at files path first one × TestsEach bytes_at files paths rest left
+
+-- The transcripts were tested over all that lies below the folder, the text tells each of them, and so many failed.
+pub record IsTestedBelow (members_at : List ℕ → Option (List (List ℕ))) (bytes_at : List ℕ → Option (List ℕ)) (base : List ℕ) (paths : List (List ℕ)) (text : List ℕ) (failed : ℕ) : Type 0 where
+  pub files : List File
+  pub below : AreBelow members_at bytes_at base files
+  pub each : TestsEach bytes_at files paths text failed

@@ -1,0 +1,109 @@
+//! The check of a folder of policy.
+
+ghost use Rattle.std.specs.Prelude.{◌≡◌, ◌++◌, ◌∷◌, [], IfOk, OnOk, map, string_bytes};
+ghost use Rattle.aaset_gather.specs.Gathering.{texts_of};
+ghost use Rattle.aatry_check.specs.Checks.{TellsEach, refused_count};
+ghost use Rattle.aatry_commands.specs.Checking.{IsChecked, is_at_top, meant, top_names};
+
+use crate::fault::Fault;
+use aa_bytes::has_byte;
+use aa_text_files::Files;
+use aaset_gather::{FileSystem, gather};
+use aatry_arguments::Check;
+use aatry_check::check;
+use aatry_folder::{Folders, names_below};
+use aatry_record::Form;
+use std::alloc::{AllocError, Global};
+
+/// What a command came to.
+#[derive(Drop)]
+pub struct Report {
+    /// What is told of it.
+    pub text: Vec<u8>,
+    /// How much of it failed: files that were refused, transcripts whose replies differ, or a question without an answer.
+    pub failed: usize,
+}
+
+// Whether a file stands at the top of the folder.
+fn is_at_top(name: &str) -> bool
+    ensures { result ≡ is_at_top name.now }
+{
+    !has_byte(b'/', name.as_bytes())
+}
+
+// Puts a name behind others, if its file stands at the top of the folder.
+fn push_top(alloc: Global, names: &mut Vec<String>, name: &str) -> Result<(), AllocError>
+    ensures { OnOk result (texts_of names.new ≡ texts_of names.old ++ top_names (name.now ∷ [])) }
+{
+    if is_at_top(name) {
+        names.push(String::from_str(alloc, name)?)?;
+    }
+    Ok(())
+}
+
+/// The names of the files at the top of the folder.
+pub fn top_names(alloc: Global, names: &[String]) -> Result<Vec<String>, AllocError>
+    ensures { IfOk result (λ top. texts_of top ≡ top_names (map string_bytes names.now)) }
+{
+    let mut top = Vec::new(alloc);
+    for name in names {
+        push_top(alloc, &mut top, name.as_str())?;
+    }
+    Ok(top)
+}
+
+// The files that are meant: those that are given, and all at the top where none is.
+fn meant(alloc: Global, names: &[String], given: Vec<String>) -> Result<Vec<String>, AllocError>
+    ensures { IfOk result (λ found. texts_of found ≡ meant (map string_bytes names.now) (texts_of given)) }
+{
+    if given.is_empty() {
+        top_names(alloc, names)
+    } else {
+        Ok(given)
+    }
+}
+
+// Checks files, and keeps what is told of them.
+fn report_on(
+    alloc: Global,
+    form: Form,
+    files: &Files,
+    base: &str,
+    names: &[String],
+) -> Result<Report, AllocError>
+    ensures told { IfOk result (λ report. TellsEach form files.now base.now (map string_bytes names.now) report.text.items) }
+    ensures counted { IfOk result (λ report. report.failed ≡ refused_count files.now (map string_bytes names.now)) }
+{
+    let mut text = Vec::new(alloc);
+    let checked = check(alloc, form, files, base, names, &mut text)?;
+    Ok(Report {
+        text,
+        failed: checked.refused,
+    })
+}
+
+/// Checks the files that are asked of a folder of policy, or all at its top where none is named: finds all files and folders below it, as
+/// `aatry_folder::names_below` does, reads them as `aaset_gather::gather` does, and tells of each file that is meant as `aatry_check::check` does. So
+/// nothing that an include asks for is missing where it stands in the folder and isn't passed over.
+///
+/// # Errors
+///
+/// - `Unreadable` with the first folder or file that can't be read.
+/// - `TooMany` where there are more than 65,536 files and folders.
+/// - `NoMemory` where memory ran out.
+pub fn check_folder<F: Folders, D: FileSystem>(
+    alloc: Global,
+    form: Form,
+    folders: &F,
+    disk: &D,
+    asked: Check,
+) -> Result<Report, Fault>
+    ensures { IfOk result (λ report. IsChecked form (F.members_at folders.now) (D.bytes_at disk.now) (string_bytes asked.base) (texts_of asked.names)
+        report.text.items report.failed) }
+{
+    let Check { base, names: given } = asked;
+    let names = names_below(folders, alloc, base.as_str())?;
+    let meant = meant(alloc, &names, given)?;
+    let files = gather(disk, alloc, base.as_str(), names)?;
+    Ok(report_on(alloc, form, &files, base.as_str(), &meant)?)
+}

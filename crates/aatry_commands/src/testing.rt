@@ -1,0 +1,127 @@
+//! The test of transcripts over a folder of policy.
+
+ghost use Rattle.std.specs.Prelude.{◌≡◌, ◌++◌, ◌∷◌, [], ◌≤◌, ℕ, List, IfOk, string_bytes};
+ghost use Rattle.aaset_gather.specs.Gathering.{texts_of};
+ghost use Rattle.aatry_commands.specs.Checking.{AreBelow};
+ghost use Rattle.aatry_commands.specs.Testing.{IsFileTested, IsTestedBelow, IsFileAt, TestsEach, failed_by};
+
+use crate::checking::Report;
+use crate::fault::Fault;
+use aa_text_files::Files;
+use aaset_gather::{FileSystem, gather};
+use aatry_arguments::Test;
+use aatry_folder::{Folders, names_below};
+use aatry_test::test;
+use std::alloc::{AllocError, Global};
+
+// The folder that the path of a file begins in, where it is no whole path.
+const CURRENT: &str = ".";
+
+// All files below the folder of policy.
+fn files_below<F: Folders, D: FileSystem>(
+    alloc: Global,
+    folders: &F,
+    disk: &D,
+    base: &str,
+) -> Result<Files, Fault>
+    ensures { IfOk result (λ files. AreBelow (F.members_at folders.now) (D.bytes_at disk.now) base.now files) }
+{
+    let names = names_below(folders, alloc, base)?;
+    Ok(gather(disk, alloc, base, names)?)
+}
+
+// A path alone.
+fn one_path(alloc: Global, path: String) -> Result<Vec<String>, AllocError>
+    ensures { IfOk result (λ paths. texts_of paths ≡ string_bytes path ∷ []) }
+{
+    let mut paths = Vec::new(alloc);
+    paths.push(path)?;
+    Ok(paths)
+}
+
+/// The file of this path, as the one file of some. The path begins in the current folder where it isn't whole.
+///
+/// # Errors
+///
+/// - `Unreadable` with the path, where no file can be read there.
+/// - `NoMemory` where memory ran out.
+pub fn file_at<D: FileSystem>(alloc: Global, disk: &D, path: String) -> Result<Files, Fault>
+    ensures { IfOk result (λ found. IsFileAt (D.bytes_at disk.now) (string_bytes path) found) }
+{
+    if Files::is_folder(path.as_bytes()) {
+        return Err(Fault::Unreadable(path));
+    }
+    let paths = one_path(alloc, path)?;
+    Ok(gather(disk, alloc, CURRENT, paths)?)
+}
+
+// Tests a transcript, puts what is told of it behind a text, and says how many failed: one or none.
+fn test_at<D: FileSystem>(
+    alloc: Global,
+    disk: &D,
+    files: &Files,
+    path: String,
+    text: &mut Vec<u8>,
+) -> Result<usize, Fault>
+    ensures told { IfOk result (λ failed. (own : List ℕ) × (text.new.items ≡ text.old.items ++ own)
+        × IsFileTested (D.bytes_at disk.now) files.now (string_bytes path) own failed) }
+    ensures few { IfOk result (λ failed. failed ≤ 1) }
+{
+    let transcript = file_at(alloc, disk, path)?;
+    let passed = test(
+        alloc,
+        files,
+        transcript.name_at(0),
+        transcript.bytes_at(0),
+        text,
+    )?;
+    Ok(failed_by(passed))
+}
+
+/// How many failed, where one was tried.
+pub fn failed_by(passed: bool) -> usize
+    ensures value { result ≡ failed_by passed }
+    ensures few { result ≤ 1 }
+{
+    if passed { 0 } else { 1 }
+}
+
+// Tests transcripts, and keeps what is told of them.
+fn test_each<D: FileSystem>(
+    alloc: Global,
+    disk: &D,
+    files: &Files,
+    paths: Vec<String>,
+) -> Result<Report, Fault>
+    ensures { IfOk result (λ report. TestsEach (D.bytes_at disk.now) files.now (texts_of paths) report.text.items report.failed) }
+{
+    let mut text = Vec::new(alloc);
+    let mut failed = 0;
+    for path in paths {
+        failed += test_at(alloc, disk, files, path, &mut text)?;
+    }
+    Ok(Report { text, failed })
+}
+
+/// Tests the transcripts that are asked for over a folder of policy: finds all files and folders below it, as `aatry_folder::names_below` does, reads
+/// them as `aaset_gather::gather` does, and tests each transcript as `aatry_test::test` does. A transcript is read at its own path, which begins in
+/// the current folder where it doesn't begin with `/`.
+///
+/// # Errors
+///
+/// - `Unreadable` with the first folder or file below the folder of policy that can't be read, or else the first transcript.
+/// - `TooMany` where there are more than 65,536 files and folders.
+/// - `NoMemory` where memory ran out.
+pub fn test_folder<F: Folders, D: FileSystem>(
+    alloc: Global,
+    folders: &F,
+    disk: &D,
+    asked: Test,
+) -> Result<Report, Fault>
+    ensures { IfOk result (λ report. IsTestedBelow (F.members_at folders.now) (D.bytes_at disk.now) (string_bytes asked.base) (texts_of asked.paths)
+        report.text.items report.failed) }
+{
+    let Test { base, paths } = asked;
+    let files = files_below(alloc, folders, disk, base.as_str())?;
+    test_each(alloc, disk, &files, paths)
+}

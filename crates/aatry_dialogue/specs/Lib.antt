@@ -1,0 +1,3 @@
+pub mod Broken
+pub mod Session
+pub mod code

@@ -1,0 +1,8 @@
+//! A session over a folder of policy: lines of an input, answered as they come.
+#![tactic(auto)]
+
+mod session;
+mod writing;
+
+pub use session::session_over;
+pub use writing::write;

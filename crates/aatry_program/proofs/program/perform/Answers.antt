@@ -1,0 +1,46 @@
+use Rattle.std.proofs.Common.{string_bytes, subst}
+use Rattle.aaset_gather.specs.Gathering.{texts_of}
+use Rattle.aatry_arguments.specs.Given.{meant_comparison}
+use Rattle.aatry_commands.specs.Asking.{IsWhoToldBelow, IsWhyToldBelow}
+use Rattle.aatry_commands.specs.Checking.{IsChecked}
+use Rattle.aatry_commands.specs.Comparing.{IsComparedBelow}
+use Rattle.aatry_commands.specs.Testing.{IsTestedBelow}
+use Rattle.aatry_program.proofs.ProgramLemmas.{command_done}
+use Rattle.aatry_program.specs.Program.{IsSessionDone, input_of, output_of}
+use Rattle.aatry_program.proofs.program.perform.Goals as goal
+
+pub returns-in-Check : goal.returns-in-Check
+returns-in-Check g c =
+    let output = output_of (g.W.Sink.written c.args.streams.now.output) (g.W.Sink.written c.show_outcome.new.streams.output) (g.W.Sink.failed c.show_outcome.new.streams.output) in
+    rw c.in-Check.is (command_done (IsChecked c.args.call.form (g.F.Folders.members_at c.args.folders.now) (g.D.FileSystem.bytes_at c.args.disk.now) (string_bytes c.in-Check.asked.base) (texts_of c.in-Check.asked.names)) output
+    c.show_outcome.result c.check_folder-outcome.result c.check_folder-outcome.ensures c.show_outcome.ensures)
+
+pub returns-in-Test : goal.returns-in-Test
+returns-in-Test g c =
+    let output = output_of (g.W.Sink.written c.args.streams.now.output) (g.W.Sink.written c.show_outcome-in-Test.new.streams.output) (g.W.Sink.failed c.show_outcome-in-Test.new.streams.output) in
+    rw c.in-Test.is (command_done (IsTestedBelow (g.F.Folders.members_at c.args.folders.now) (g.D.FileSystem.bytes_at c.args.disk.now) (string_bytes c.in-Test.asked.base) (texts_of c.in-Test.asked.paths)) output
+    c.show_outcome-in-Test.result c.test_folder-outcome.result c.test_folder-outcome.ensures c.show_outcome-in-Test.ensures)
+
+pub returns-in-Who : goal.returns-in-Who
+returns-in-Who g c =
+    let output = output_of (g.W.Sink.written c.args.streams.now.output) (g.W.Sink.written c.show_outcome-in-Who.new.streams.output) (g.W.Sink.failed c.show_outcome-in-Who.new.streams.output) in
+    rw c.in-Who.is (command_done (IsWhoToldBelow c.args.call.form (g.F.Folders.members_at c.args.folders.now) (g.D.FileSystem.bytes_at c.args.disk.now) (string_bytes c.in-Who.asked.base) (texts_of c.in-Who.asked.words)) output
+    c.show_outcome-in-Who.result c.who_folder-outcome.result c.who_folder-outcome.ensures c.show_outcome-in-Who.ensures)
+
+pub returns-in-Why : goal.returns-in-Why
+returns-in-Why g c =
+    let output = output_of (g.W.Sink.written c.args.streams.now.output) (g.W.Sink.written c.show_outcome-in-Why.new.streams.output) (g.W.Sink.failed c.show_outcome-in-Why.new.streams.output) in
+    rw c.in-Why.is (command_done (IsWhyToldBelow c.args.call.form (g.F.Folders.members_at c.args.folders.now) (g.D.FileSystem.bytes_at c.args.disk.now) (string_bytes c.in-Why.asked.base) (texts_of c.in-Why.asked.words)) output
+    c.show_outcome-in-Why.result c.why_folder-outcome.result c.why_folder-outcome.ensures c.show_outcome-in-Why.ensures)
+
+pub returns-in-Diff : goal.returns-in-Diff
+returns-in-Diff g c =
+    let output = output_of (g.W.Sink.written c.args.streams.now.output) (g.W.Sink.written c.show_outcome-in-Diff.new.streams.output) (g.W.Sink.failed c.show_outcome-in-Diff.new.streams.output) in
+    rw c.in-Diff.is (command_done (IsComparedBelow c.args.call.form (g.F.Folders.members_at c.args.folders.now) (g.D.FileSystem.bytes_at c.args.disk.now) (meant_comparison c.in-Diff.asked)) output
+    c.show_outcome-in-Diff.result c.diff_folders-outcome.result c.diff_folders-outcome.ensures c.show_outcome-in-Diff.ensures)
+
+pub returns-in-Session : goal.returns-in-Session
+returns-in-Session g c =
+    let output = output_of (g.W.Sink.written c.args.streams.now.output) (g.W.Sink.written c.have_session.new.streams.output) (g.W.Sink.failed c.have_session.new.streams.output) in
+    rw c.in-Session.is (subst (λ base. IsSessionDone (g.F.Folders.members_at c.args.folders.now) (g.D.FileSystem.bytes_at c.args.disk.now) base (input_of (g.S.Source.left c.args.streams.now.input) c.args.prompt.now) output c.have_session.result)
+    c.as_str.ensures.value c.have_session.ensures)

@@ -1,0 +1,18 @@
+-- The exit status.
+use Rattle.std.specs.Prelude.{◌==◌, ℕ, if◌then◌else◌}
+use Rattle.aatry_commands.specs.declared.fault.Fault.{Fault}
+use Rattle.aatry_commands.specs.declared.fault.Fault.TheVariants.{BadArguments, BadQuestion, Unreadable, TooMany, NoMemory, Read, Write}
+
+-- the exit status of a command, by how much of it failed
+abbrev pub failure_status : ℕ → ℕ
+failure_status failed = if failed == 0 then 0 else 1
+
+-- the exit status of a fault: 2 where what was asked for can't be had, and 3 where a stream or memory failed
+abbrev pub status_of : Fault → ℕ
+status_of BadArguments = 2
+status_of BadQuestion = 2
+status_of (Unreadable _) = 2
+status_of TooMany = 2
+status_of NoMemory = 3
+status_of Read = 3
+status_of Write = 3
