@@ -10,9 +10,8 @@ use Rattle.aa_set_commands.specs.Question.{OfAccess, OfExec, Question, question_
 use Rattle.aa_set_commands.specs.Refusal.{name_of, number_of}
 use Rattle.aa_set_commands.specs.declared.refusal.Refusal.{Refusal}
 use Rattle.aa_set_lines.specs.Lines.{is_line_feed}
-use Rattle.aa_text_files.specs.Files.{File}
 use Rattle.aatry_asking.specs.Questions.{letting_words}
-use Rattle.aatry_asking.specs.Rules.{TellsRules, file_of, wants_nearest}
+use Rattle.aatry_asking.specs.Rules.{TellsRules, asker_file, is_lacking}
 use Rattle.aatry_policy.specs.Folders.{Folder, left_out_in, outcomes_in, policy_in}
 use Rattle.aatry_policy.specs.LeftOut.{refusal_text}
 use Rattle.aatry_policy.specs.Parts.{by_parts}
@@ -59,21 +58,24 @@ refused_text Lines refusal = codes "refused " ++ refusal_text refusal ++ line_fe
 refused_text Records refusal = record_line (refused_record refusal)
 
 -- A text tells the reply to a question, behind it the rules that led to it, and how; or why the question is refused.
-abbrev pub IsAnswered :
-    Form → List File → List ℕ → List (List ℕ) → List (Option Refusal) → Question → List ℕ → Result (List ℕ) Refusal → List ℕ → Bool → Type 0
-IsAnswered form files base names outcomes question how (Ok reply) text found =
+abbrev pub IsReplied : Form → Folder → List (Option Refusal) → Question → List ℕ → Result (List ℕ) Refusal → List ℕ → Bool → Type 0
+IsReplied form folder outcomes question how (Ok reply) text found =
     (rules : List ℕ) × (text ≡ reply_text form reply ++ rules ++ how)
-    × TellsRules form files base (who_asks question) (rule_request question) (wants_nearest reply) (file_of files (who_asks question) names outcomes) rules
+    × TellsRules form folder (who_asks question) (rule_request question) (is_lacking reply) (asker_file folder outcomes (who_asks question)) rules
     × (found ≡ true)
-IsAnswered form files base names outcomes question how (Err refusal) text found = (text ≡ refused_text form refusal) × (found ≡ false)
+IsReplied form folder outcomes question how (Err refusal) text found = (text ≡ refused_text form refusal) × (found ≡ false)
+
+-- A text tells what a policy set answers to a question, with the rules as the files of a folder have them, but for those that are left out.
+abbrev pub IsAnswered : Form → Folder → List (Option Refusal) → List Loaded → Question → List ℕ → Bool → Type 0
+IsAnswered form folder outcomes entries question text found =
+    IsReplied form folder outcomes question (how_of form entries question) (reply_lines entries question) text found
 
 -- The words ask a question of the policy set of a folder, and a text tells the files that are left out and what is answered.
 abbrev pub IsWhyTold : Form → Folder → List (List ℕ) → List ℕ → Bool → Type 0
 IsWhyTold form folder words text found =
     (question : Question) × (question_of words ≡ Ok question)
     × (own : List ℕ) × (text ≡ left_out_in form folder ++ own)
-    × IsAnswered form folder.files folder.base folder.names (outcomes_in folder) question (how_of form (policy_in folder) question)
-    (reply_lines (policy_in folder) question) own found
+    × IsAnswered form folder (outcomes_in folder) (policy_in folder) question own found
 
 -- who lets through what a question asks for, and by which rules
 abbrev pub let_by : Form → Folder → Question → List ℕ

@@ -1,21 +1,20 @@
 //! Questions to the policy of a folder.
 
 ghost use Rattle.std.specs.Prelude.{◌≡◌, ◌++◌, ℕ, List, false, is_ok, IfErr, IfOk, OnOk, map, string_bytes};
-ghost use Rattle.aa_set_answers.specs.Answers.{reply_lines, who_asks};
+ghost use Rattle.aa_set_answers.specs.Answers.{who_asks};
 ghost use Rattle.aa_set_commands.specs.Question.{IsWellFormed, question_of, seen_question};
 ghost use Rattle.aatry_asking.specs.Asking.{IsAnswered, IsWhoTold, IsWhyTold, how_of, is_let, let_by, none_refused};
 ghost use Rattle.aatry_asking.specs.Questions.{letting_words};
 ghost use Rattle.aatry_asking.specs.declared.question.QuestionFault.TheVariants as fault;
-ghost use Rattle.aatry_asking.specs.Rules.{TellsRules, file_of};
+ghost use Rattle.aatry_asking.specs.Rules.{TellsRules, asker_file};
 ghost use Rattle.aatry_policy.specs.Folders.{loaded_in, outcomes_in, seen_folder};
 ghost use Rattle.aatry_requests.specs.Questions.{rule_request};
 
 use crate::question::{QuestionFault, letting_question, question_by};
 use crate::replies::{push_refused, push_reply};
-use crate::rules::{push_rules, wants_nearest};
+use crate::rules::{is_lacking, push_rules};
 use aa_set::Manager;
 use aa_set_commands::{Question, Refusal, RefusalKind};
-use aa_text_files::Files;
 use aatry_policy::{Folder, Policy, by_parts, load_folder};
 use aatry_profiles::{parts_of, read_profiles};
 use aatry_record::Form;
@@ -63,25 +62,21 @@ fn push_how_of(
 fn push_reasons(
     alloc: Global,
     form: Form,
-    files: &Files,
-    base: &[u8],
-    names: &[String],
+    folder: &Folder<'_>,
     outcomes: &[Option<Refusal>],
     manager: &Manager,
     question: &Question<'_>,
-    nearest: bool,
+    lacking: bool,
     out: &mut Vec<u8>,
 ) -> Result<(), AllocError>
     ensures { OnOk result ((rules : List ℕ)
         × (out.new.items ≡ out.old.items ++ rules ++ how_of form manager.now.machine.now (seen_question question.entry.now))
-        × TellsRules form files.now base.now (who_asks (seen_question question.entry.now)) (rule_request (seen_question question.entry.now)) nearest
-        (file_of files.now (who_asks (seen_question question.entry.now)) (map string_bytes names.now) outcomes.now) rules) }
+        × TellsRules form (seen_folder folder.now) (who_asks (seen_question question.entry.now)) (rule_request (seen_question question.entry.now)) lacking
+        (asker_file (seen_folder folder.now) outcomes.now (who_asks (seen_question question.entry.now))) rules) }
 {
     let who = who_asks(question);
     let request = rule_request(question);
-    push_rules(
-        alloc, form, files, base, names, outcomes, who, &request, nearest, out,
-    )?;
+    push_rules(alloc, form, folder, outcomes, who, &request, lacking, out)?;
     push_how_of(alloc, form, manager, question, out)
 }
 
@@ -89,9 +84,7 @@ fn push_reasons(
 fn push_answer(
     alloc: Global,
     form: Form,
-    files: &Files,
-    base: &[u8],
-    names: &[String],
+    folder: &Folder<'_>,
     outcomes: &[Option<Refusal>],
     manager: &Manager,
     question: &Question<'_>,
@@ -99,16 +92,14 @@ fn push_answer(
 ) -> Result<bool, AllocError>
     requires { IsWellFormed question.now }
     ensures { IfOk result (λ found. (lines : List ℕ) × (out.new.items ≡ out.old.items ++ lines)
-        × IsAnswered form files.now base.now (map string_bytes names.now) outcomes.now (seen_question question.entry.now)
-        (how_of form manager.now.machine.now (seen_question question.entry.now))
-        (reply_lines manager.now.machine.now (seen_question question.entry.now)) lines found) }
+        × IsAnswered form (seen_folder folder.now) outcomes.now manager.now.machine.now (seen_question question.entry.now) lines found) }
 {
     match manager.ask(question) {
         Ok(reply) => {
             push_reply(alloc, form, &reply, out)?;
-            let nearest = wants_nearest(&reply);
+            let lacking = is_lacking(&reply);
             push_reasons(
-                alloc, form, files, base, names, outcomes, manager, question, nearest, out,
+                alloc, form, folder, outcomes, manager, question, lacking, out,
             )?;
             Ok(true)
         }
@@ -133,9 +124,9 @@ fn none_refused(alloc: Global, names: &[String]) -> Result<Vec<Option<Refusal>>,
     Ok(outcomes)
 }
 
-/// Puts the answer of a policy set to a question behind a text, and the rules behind it as `why` tells them: those of the first of some files that has who
-/// asks. These may be others than those that made the policy set. Says whether there is an answer. The caller sees to it that the question is
-/// well-formed, as one of `Question::read` is. `base` is the folder that `files` were taken from, without a `/` at its end.
+/// Puts the answer of a policy set to a question behind a text, and the rules behind it as `why` tells them: those of the first file of a folder that has
+/// who asks. These may be others than those that made the policy set. Says whether there is an answer. The caller sees to it that the question is
+/// well-formed, as one of `Question::read` is.
 ///
 /// # Errors
 ///
@@ -143,29 +134,24 @@ fn none_refused(alloc: Global, names: &[String]) -> Result<Vec<Option<Refusal>>,
 pub fn push_answer_of(
     alloc: Global,
     form: Form,
-    files: &Files,
-    base: &[u8],
-    names: &[String],
+    folder: &Folder<'_>,
     manager: &Manager,
     question: &Question<'_>,
     out: &mut Vec<u8>,
 ) -> Result<bool, AllocError>
     requires { IsWellFormed question.now }
     ensures { IfOk result (λ found. (lines : List ℕ) × (out.new.items ≡ out.old.items ++ lines)
-        × IsAnswered form files.now base.now (map string_bytes names.now) (none_refused (map string_bytes names.now)) (seen_question question.entry.now)
-        (how_of form manager.now.machine.now (seen_question question.entry.now))
-        (reply_lines manager.now.machine.now (seen_question question.entry.now)) lines found) }
+        × IsAnswered form (seen_folder folder.now) (none_refused (seen_folder folder.now).names) manager.now.machine.now
+        (seen_question question.entry.now) lines found) }
 {
-    let outcomes = none_refused(alloc, names)?;
-    push_answer(
-        alloc, form, files, base, names, &outcomes, manager, question, out,
-    )
+    let outcomes = none_refused(alloc, folder.names)?;
+    push_answer(alloc, form, folder, &outcomes, manager, question, out)
 }
 
 /// What the policy of a folder answers to a question, and the rules behind the answer, told in a form. First come the files that are left out
 /// (`aatry_policy::load_folder`). Then comes what `ask` would be answered, and behind it the rules, each with the place where it is written
-/// (`aatry_why_lines`); where something isn't allowed, the nearest rules too; and of the start of a program where its transition leads and what its
-/// path may be attached to (`aatry_transition`). Where nobody of the name is loaded, the refusal is told.
+/// (`aatry_why_lines`); where something isn't allowed, the rule that is missing and the nearest ones too; and of the start of a program where its
+/// transition leads and what its path may be attached to (`aatry_transition`). Where nobody of the name is loaded, the refusal is told.
 ///
 /// As records, the reply is one of the kind `answer`, with the texts `answer` and `audit`, the line that logs it, which is empty where none does; and a
 /// refusal is one of the kind `refused`, with `number` and `refusal`.
@@ -189,9 +175,7 @@ pub fn why(
     let found = push_answer(
         alloc,
         form,
-        folder.files,
-        folder.base,
-        folder.names,
+        folder,
         &policy.outcomes,
         &policy.manager,
         &question,

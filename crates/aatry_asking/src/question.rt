@@ -45,11 +45,12 @@ fn push_letting_words<'a>(words: &'a [String], out: &mut Vec<&'a [u8]>) -> Resul
     push_words(words, out)
 }
 
-// The question of some words, if they ask one.
+// The question of some words, if they ask one. It takes no memory.
 fn read<'a>(words: &[&'a [u8]]) -> Result<Question<'a>, QuestionFault>
     ensures ok { IfOk result (λ question. question_of (map (λ word. word.now) words.now) ≡ Ok (seen_question question)) }
     ensures known { IfOk result (λ question. IsWellFormed question) }
-    ensures bad { IfErr result (λ fault. is_ok (question_of (map (λ word. word.now) words.now)) ≡ false) }
+    ensures bad { IfErr result (λ told. is_ok (question_of (map (λ word. word.now) words.now)) ≡ false) }
+    ensures only { IfErr result (λ told. told ≡ fault.Bad) }
 {
     match Question::read(words) {
         Ok(question) => Ok(question),

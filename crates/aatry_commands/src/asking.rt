@@ -54,7 +54,7 @@ pub fn policy_below<F: Folders, D: FileSystem>(
     Ok(PolicyFiles { files, top })
 }
 
-// The folder of policy at a path, of which the files at the top are loaded.
+/// The folder of policy at a path, of which the files at the top are loaded.
 pub fn folder_at<'a>(base: &'a str, policy: &'a PolicyFiles) -> Folder<'a>
     ensures { seen_folder result ≡ folder_with base.now policy.now.files (texts_of policy.now.top) }
 {

@@ -3,13 +3,13 @@ use Rattle.std.specs.Prelude.{◌≡◌, ◌⊎◌, ℕ, Bool, true, false, if�
 use Rattle.std.specs.Io.KnownBytes.{Appends}
 use Rattle.std.specs.Str.{bytes_eq}
 use Rattle.aa_bytes.specs.Bytes.{line_feed}
-use Rattle.aa_set_answers.specs.Answers.{reply_lines}
 use Rattle.aa_set_lines.specs.WordLaws.{in_quotes}
 use Rattle.aa_text_files.specs.Files.{File}
 use Rattle.aaset_gather.specs.Gathering.{names_of}
-use Rattle.aatry_asking.specs.Asking.{IsAnswered, how_of, none_refused}
+use Rattle.aatry_asking.specs.Asking.{IsAnswered, none_refused}
 use Rattle.aatry_commands.specs.Checking.{AreBelow, top_names}
 use Rattle.aatry_commands.specs.Fault.{told_line}
+use Rattle.aatry_commands.specs.Folders.{folder_at}
 use Rattle.aatry_commands.specs.declared.fault.Fault.{Fault}
 use Rattle.aatry_line_input.specs.Inputs.{GivesLine}
 use Rattle.aatry_record.specs.declared.form.Form.TheVariants.{Lines}
@@ -61,8 +61,8 @@ IsTold members_at bytes_at base state Ended after text = (after ≡ state.files)
 IsTold members_at bytes_at base state Anew after text = IsReadAnew members_at bytes_at base state.files after text
 IsTold members_at bytes_at base state (Asked question) after text =
     (after ≡ state.files)
-    × ((found : Bool) × IsAnswered Lines state.files base (top_names (names_of state.files)) (none_refused (top_names (names_of state.files))) question
-    (how_of Lines state.kept.managed.machine.now question) (reply_lines state.kept.managed.machine.now question) text found)
+    × ((found : Bool) × IsAnswered Lines (folder_at base state.files) (none_refused (top_names (names_of state.files)))
+    state.kept.managed.machine.now question text found)
 
 -- the session goes on behind an answer
 abbrev pub goes_on : Answer → Bool

@@ -18,7 +18,7 @@ use aa_set_lines::{LineBuffer, Sink, Source};
 use aa_text_files::Files;
 use aaset_gather::FileSystem;
 use aatry_asking::push_answer_of;
-use aatry_commands::{Fault, PolicyFiles, policy_below, push_told};
+use aatry_commands::{Fault, PolicyFiles, folder_at, policy_below, push_told};
 use aatry_folder::Folders;
 use aatry_line_input::LineInput;
 use aatry_record::Form;
@@ -174,12 +174,11 @@ fn tell<F: Folders, D: FileSystem>(
             Ok(true)
         }
         Turn::Why(question) => {
+            let folder = folder_at(setting.base, policy);
             push_answer_of(
                 alloc,
                 Form::Lines,
-                &policy.files,
-                setting.base.as_bytes(),
-                &policy.top,
+                &folder,
                 session.manager(),
                 &question,
                 out,

@@ -21,6 +21,7 @@ use Rattle.aatry_record.specs.declared.form.Form.{Form}
 use Rattle.aatry_record.specs.declared.form.Form.TheVariants.{Lines, Records}
 use Rattle.aatry_report.specs.Shown.{shown}
 use Rattle.aatry_why_lines.specs.Why.{allowing_lines}
+use Rattle.aatry_why_lines.specs.Written.{Written}
 
 -- a request that is answered so is let through
 abbrev pub lets_through : Answer → Bool
@@ -38,11 +39,21 @@ abbrev pub let_line : Form → List ℕ → Answer → List ℕ
 let_line Lines name answer = shown name ++ codes ": " ++ answer_word answer ++ line_feed ∷ []
 let_line Records name answer = record_line (let_record name answer)
 
+-- the rules of a part of a folder, with where they are written
+abbrev pub written_of : FolderParts → Part → Written
+written_of folder part = record {
+  files = folder.files;
+  base = folder.base;
+  name = part.file;
+  audit = part.audit;
+  rules = part.rules;
+  places = part.places;
+}
+
 -- the lines of the rules of a part that allow something of a request, if there is one
 abbrev pub rule_lines : Form → FolderParts → Option Part → Request → List ℕ
 rule_lines form folder None request = []
-rule_lines form folder (Some part) request =
-    allowing_lines form folder.files folder.base part.file part.audit part.rules part.places request
+rule_lines form folder (Some part) request = allowing_lines form (written_of folder part) request
 
 -- by which rules who has a name lets a request through: where the mode does it, by none
 abbrev pub by_rules : Form → FolderParts → Request → List ℕ → Answer → List ℕ

@@ -11,7 +11,8 @@ ghost use Rattle.aatry_profiles.specs.SeenProfiles.{seen_part};
 ghost use Rattle.aatry_record.specs.SeenRecord.{seen_record};
 ghost use Rattle.aatry_record.specs.declared.form.Form.TheVariants as form;
 ghost use Rattle.aatry_who.specs.Who.{answer_lines, answer_of, by_rules, child_lines, entry_lines, let_line, let_record, lets_through};
-ghost use Rattle.aatry_who.specs.Who.{lines_of, rule_lines, who_lines};
+ghost use Rattle.aatry_who.specs.Who.{lines_of, rule_lines, who_lines, written_of};
+ghost use Rattle.aatry_why_lines.specs.Written.{seen_rules};
 
 use aa_decide::{Answer, Confinement, Entry, Request, Steps};
 use aa_profile_data::Child;
@@ -20,7 +21,7 @@ use aa_set_listing::full_name;
 use aatry_profiles::{FolderParts, Part, part_of};
 use aatry_record::{Form, Record};
 use aatry_report::push_shown;
-use aatry_why_lines::push_allowing;
+use aatry_why_lines::{WrittenRules, push_allowing};
 use std::alloc::{AllocError, Global};
 
 // Whether an answer lets the request through.
@@ -70,6 +71,20 @@ fn push_let(
     }
 }
 
+// The rules of a part of a folder, with where they are written.
+fn written_of<'a>(folder: &FolderParts<'a>, part: &Part<'a>) -> WrittenRules<'a>
+    ensures { seen_rules result ≡ written_of (seen_folder folder.now) (seen_part part.now) }
+{
+    WrittenRules {
+        files: folder.files,
+        base: folder.base,
+        name: part.file,
+        audit: part.audit,
+        rules: part.rules,
+        places: part.places,
+    }
+}
+
 // Puts the lines of the rules of a part behind a text that allow something of a request, if there is one.
 fn push_rules(
     text: &mut Vec<u8>,
@@ -84,18 +99,7 @@ fn push_rules(
 {
     match part {
         None => Ok(()),
-        Some(part) => push_allowing(
-            alloc,
-            form,
-            folder.files,
-            folder.base,
-            part.file,
-            part.audit,
-            part.rules,
-            part.places,
-            request,
-            text,
-        ),
+        Some(part) => push_allowing(alloc, form, &written_of(folder, part), request, text),
     }
 }
 

@@ -1,2 +1,3 @@
 pub mod DecidingLemmas
+pub mod MissingLemmas
 pub mod PlaceLemmas

@@ -16,8 +16,8 @@ fn the_need() -> Perms
     Perms::from_bits_retain(128)
 }
 
-// What a request needs.
-fn needs(request: &Request<'_>) -> Perms
+/// What a request needs.
+pub fn needs(request: &Request<'_>) -> Perms
     ensures { result.0 ≡ needs (request_of request.entry.now) }
 {
     match request {

@@ -3,8 +3,10 @@
 
 mod cover;
 mod laws;
+mod missing;
 mod told;
 
 pub use cover::covers;
-pub use laws::{what_is_told, what_told_rules_decide, where_rules_stand};
+pub use laws::{what_a_missing_rule_lets, what_is_told, what_told_rules_decide, where_rules_stand};
+pub use missing::missing_rule;
 pub use told::{ToldRule, near_rules, told_rules};

@@ -1,6 +1,6 @@
 //! The rules of a list that apply to a request, and those that are near it.
 
-ghost use Rattle.std.specs.Prelude.{◌≡◌, ◌++◌, IfOk, OnOk};
+ghost use Rattle.std.specs.Prelude.{◌≡◌, IfOk};
 ghost use Rattle.aa_profile_access.specs.SeenRequests.{request_of};
 ghost use Rattle.aatry_why.specs.Told.{near, told, told_rule};
 

@@ -2,3 +2,4 @@ pub mod Askers
 pub mod Groups
 pub mod Lines
 pub mod Why
+pub mod Written

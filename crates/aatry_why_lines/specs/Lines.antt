@@ -14,6 +14,7 @@ use Rattle.aatry_record.specs.declared.form.Form.TheVariants.{Lines, Records}
 use Rattle.aatry_report.specs.Faults.{place_text}
 use Rattle.aatry_report.specs.Places.{path_below, with_place}
 use Rattle.aatry_report.specs.Shown.{shown}
+use Rattle.aatry_why_lines.specs.Written.{Written}
 
 -- where a rule stands: its file, line and column, or the profile's file alone
 abbrev pub where_text : List File → List ℕ → List ℕ → Option Place → List ℕ
@@ -27,27 +28,37 @@ with_where files base name (Some place) members =
     with_place (path_below base (name_at files place.file)) (bytes_at files place.file) place.at members
 
 -- the record of a rule: the words over its group, where it stands, and the rule as `show` tells it
-abbrev pub rule_record : List File → List ℕ → List ℕ → List ℕ → Option Place → Rule → Members
-rule_record files base name words place rule =
-    with_text (codes "rule") (rule_text rule) (with_where files base name place (with_text (codes "group") words (record_of (codes "rule"))))
+abbrev pub rule_record : Written → List ℕ → Option Place → Rule → Members
+rule_record written words place rule =
+    with_text (codes "rule") (rule_text rule)
+    (with_where written.files written.base written.name place (with_text (codes "group") words (record_of (codes "rule"))))
 
 -- the line of a rule: where it stands, and the rule as `show` tells it; the words over its group stand in a record alone
-abbrev pub told_line : Form → List File → List ℕ → List ℕ → List ℕ → Option Place → Rule → List ℕ
-told_line Lines files base name words place rule = codes "  " ++ where_text files base name place ++ rule_text rule ++ line_feed ∷ []
-told_line Records files base name words place rule = record_line (rule_record files base name words place rule)
+abbrev pub told_line : Form → Written → List ℕ → Option Place → Rule → List ℕ
+told_line Lines written words place rule =
+    codes "  " ++ where_text written.files written.base written.name place ++ rule_text rule ++ line_feed ∷ []
+told_line Records written words place rule = record_line (rule_record written words place rule)
 
 -- where the rule at an index stands
 abbrev pub place_at : List (Option Place) → ℕ → Option Place
 place_at places index = elim (slice_get places index) [ None ↦ None | Some place ↦ place ]
 
 -- the line of the rule at an index, if there is one
-abbrev pub line_at : Form → List File → List ℕ → List ℕ → List Rule → List (Option Place) → List ℕ → ℕ → List ℕ
-line_at form files base name rules places words index = elim (slice_get rules index) [
+abbrev pub line_at : Form → Written → List ℕ → ℕ → List ℕ
+line_at form written words index = elim (slice_get written.rules index) [
   | None ↦ []
-  | Some rule ↦ told_line form files base name words (place_at places index) rule
+  | Some rule ↦ told_line form written words (place_at written.places index) rule
 ]
 
 -- the lines of the rules at some indexes, below these words; none where there is no index
-abbrev pub group_lines : Form → List File → List ℕ → List ℕ → List Rule → List (Option Place) → List ℕ → List ℕ → List ℕ
-group_lines form files base name rules places words indexes =
-    if is_empty indexes then [] else heading_line form words ++ flat_map (line_at form files base name rules places words) indexes
+abbrev pub group_lines : Form → Written → List ℕ → List ℕ → List ℕ
+group_lines form written words indexes = if is_empty indexes then [] else heading_line form words ++ flat_map (line_at form written words) indexes
+
+-- a record of a rule that isn't there
+abbrev pub missing_record : Rule → Members
+missing_record rule = with_text (codes "rule") (rule_text rule) (record_of (codes "missing"))
+
+-- the line of a rule that isn't there, below words of its own
+abbrev pub missing_line : Form → Rule → List ℕ
+missing_line Lines rule = heading_line Lines (codes "missing rule") ++ codes "  " ++ rule_text rule ++ line_feed ∷ []
+missing_line Records rule = record_line (missing_record rule)

@@ -5,6 +5,8 @@ mod asker;
 mod groups;
 mod lines;
 mod why;
+mod written;
 
 pub use lines::{push_where, put_where};
-pub use why::{push_allowing, push_why, push_why_of};
+pub use why::{push_allowing, push_why};
+pub use written::WrittenRules;

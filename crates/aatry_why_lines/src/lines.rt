@@ -4,9 +4,11 @@ ghost use Rattle.std.specs.Prelude.{◌≡◌, ◌++◌, IfOk, OnOk, codes, flat
 ghost use Rattle.aa_set_listing.specs.RuleLines.{rule_text};
 ghost use Rattle.aatry_record.specs.Records.{with_text};
 ghost use Rattle.aatry_record.specs.SeenRecord.{seen_record};
-ghost use Rattle.aatry_why_lines.specs.Lines.{group_lines, line_at, place_at, told_line};
+ghost use Rattle.aatry_why_lines.specs.Lines.{group_lines, line_at, missing_line, missing_record, place_at, told_line};
 ghost use Rattle.aatry_why_lines.specs.Lines.{rule_record, where_text, with_where};
+ghost use Rattle.aatry_why_lines.specs.Written.{seen_rules};
 
+use crate::written::WrittenRules;
 use aa_profile_data::Rule;
 use aa_set_listing::push_rule;
 use aa_text_files::{Files, Place};
@@ -83,18 +85,23 @@ fn put_rule(alloc: Global, rule: &Rule, into: &mut Record) -> Result<(), AllocEr
 // The record of a rule of a group below these words.
 fn rule_record(
     alloc: Global,
-    files: &Files,
-    base: &[u8],
-    name: &[u8],
+    written: &WrittenRules<'_>,
     words: &str,
     place: Option<Place>,
     rule: &Rule,
 ) -> Result<Record, AllocError>
-    ensures { IfOk result (λ made. seen_record made ≡ rule_record files.now base.now name.now words.now place rule.now) }
+    ensures { IfOk result (λ made. seen_record made ≡ rule_record (seen_rules written.now) words.now place rule.now) }
 {
     let mut made = Record::new(alloc, "rule")?;
     made.put_text(alloc, "group", words.as_bytes())?;
-    put_where(alloc, files, base, name, place, &mut made)?;
+    put_where(
+        alloc,
+        written.files,
+        written.base,
+        written.name,
+        place,
+        &mut made,
+    )?;
     put_rule(alloc, rule, &mut made)?;
     Ok(made)
 }
@@ -103,27 +110,23 @@ fn rule_record(
 fn push_told(
     alloc: Global,
     form: Form,
-    files: &Files,
-    base: &[u8],
-    name: &[u8],
+    written: &WrittenRules<'_>,
     words: &str,
     place: Option<Place>,
     rule: &Rule,
     out: &mut Vec<u8>,
 ) -> Result<(), AllocError>
-    ensures { OnOk result (out.new.items ≡ out.old.items ++ told_line form files.now base.now name.now words.now place rule.now) }
+    ensures { OnOk result (out.new.items ≡ out.old.items ++ told_line form (seen_rules written.now) words.now place rule.now) }
 {
     match form {
         Form::Lines => {
             out.extend_from_slice(b"  ")?;
-            push_where(alloc, files, base, name, place, out)?;
+            push_where(alloc, written.files, written.base, written.name, place, out)?;
             push_rule(out, rule)?;
             out.push(b'\n')?;
             Ok(())
         }
-        Form::Records => rule_record(alloc, files, base, name, words, place, rule)?.push(
-            alloc, out,
-        ),
+        Form::Records => rule_record(alloc, written, words, place, rule)?.push(alloc, out),
     }
 }
 
@@ -141,22 +144,18 @@ fn place_at(places: &[Option<Place>], index: usize) -> Option<Place>
 fn push_line(
     alloc: Global,
     form: Form,
-    files: &Files,
-    base: &[u8],
-    name: &[u8],
-    rules: &[Rule],
-    places: &[Option<Place>],
+    written: &WrittenRules<'_>,
     words: &str,
     index: usize,
     out: &mut Vec<u8>,
 ) -> Result<(), AllocError>
-    ensures { OnOk result (out.new.items ≡ out.old.items ++ line_at form files.now base.now name.now rules.now places.now words.now index) }
+    ensures { OnOk result (out.new.items ≡ out.old.items ++ line_at form (seen_rules written.now) words.now index) }
 {
-    match rules.get(index) {
+    match written.rules.get(index) {
         None => Ok(()),
         Some(rule) => {
-            let place = place_at(places, index);
-            push_told(alloc, form, files, base, name, words, place, rule, out)
+            let place = place_at(written.places, index);
+            push_told(alloc, form, written, words, place, rule, out)
         }
     }
 }
@@ -169,22 +168,16 @@ fn push_line(
 pub fn push_lines(
     alloc: Global,
     form: Form,
-    files: &Files,
-    base: &[u8],
-    name: &[u8],
-    rules: &[Rule],
-    places: &[Option<Place>],
+    written: &WrittenRules<'_>,
     words: &str,
     indexes: &[usize],
     out: &mut Vec<u8>,
 ) -> Result<(), AllocError>
-    ensures { OnOk result (out.new.items ≡ out.old.items ++ flat_map (line_at form files.now base.now name.now rules.now places.now words.now) indexes.now) }
+    ensures { OnOk result (out.new.items ≡ out.old.items ++ flat_map (line_at form (seen_rules written.now) words.now) indexes.now) }
 {
     let mut rest = indexes;
     while let [index, behind @ ..] = rest {
-        push_line(
-            alloc, form, files, base, name, rules, places, words, *index, out,
-        )?;
+        push_line(alloc, form, written, words, *index, out)?;
         rest = behind;
     }
     Ok(())
@@ -199,22 +192,50 @@ pub fn push_lines(
 pub fn push_group(
     alloc: Global,
     form: Form,
-    files: &Files,
-    base: &[u8],
-    name: &[u8],
-    rules: &[Rule],
-    places: &[Option<Place>],
+    written: &WrittenRules<'_>,
     words: &str,
     indexes: &[usize],
     out: &mut Vec<u8>,
 ) -> Result<(), AllocError>
-    ensures { OnOk result (out.new.items ≡ out.old.items ++ group_lines form files.now base.now name.now rules.now places.now words.now indexes.now) }
+    ensures { OnOk result (out.new.items ≡ out.old.items ++ group_lines form (seen_rules written.now) words.now indexes.now) }
 {
     if indexes.is_empty() {
         return Ok(());
     }
     push_heading(form, words, out)?;
-    push_lines(
-        alloc, form, files, base, name, rules, places, words, indexes, out,
-    )
+    push_lines(alloc, form, written, words, indexes, out)
+}
+
+// The record of a rule that isn't there.
+fn missing_record(alloc: Global, rule: &Rule) -> Result<Record, AllocError>
+    ensures { IfOk result (λ made. seen_record made ≡ missing_record rule.now) }
+{
+    let mut made = Record::new(alloc, "missing")?;
+    put_rule(alloc, rule, &mut made)?;
+    Ok(made)
+}
+
+/// Puts the line of a rule that isn't there behind a text, below words of its own; or a record of it, of the kind `missing`.
+///
+/// # Errors
+///
+/// Where memory runs out. A beginning may have been put then.
+pub fn push_missing(
+    alloc: Global,
+    form: Form,
+    rule: &Rule,
+    out: &mut Vec<u8>,
+) -> Result<(), AllocError>
+    ensures { OnOk result (out.new.items ≡ out.old.items ++ missing_line form rule.now) }
+{
+    match form {
+        Form::Lines => {
+            push_heading(form, "missing rule", out)?;
+            out.extend_from_slice(b"  ")?;
+            push_rule(out, rule)?;
+            out.push(b'\n')?;
+            Ok(())
+        }
+        Form::Records => missing_record(alloc, rule)?.push(alloc, out),
+    }
 }

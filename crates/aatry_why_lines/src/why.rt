@@ -6,20 +6,23 @@ ghost use Rattle.aa_profile_access.specs.SeenRequests.{request_of};
 ghost use Rattle.aa_profile_errors.specs.ProfileError.{plain};
 ghost use Rattle.aa_profile_errors.specs.declared.profile_error.ProfileRefusal.TheVariants.{Memory};
 ghost use Rattle.aatry_why_lines.specs.Askers.{HasNoAsker, IsAsker};
-ghost use Rattle.aatry_why_lines.specs.Why.{TellWhy, allowing_lines, audits_in, deciding, deciding_lines, lines_of};
-ghost use Rattle.aatry_why_lines.specs.Why.{near_lines, nearest_lines, rules_in, stands_in, told_lines, why_lines};
+ghost use Rattle.aatry_why_lines.specs.Why.{TellWhy, allowing_lines, audits_in, deciding, deciding_lines, lacking_lines, lines_of};
+ghost use Rattle.aatry_why_lines.specs.Why.{missing_lines, nearest_lines, rules_in, stands_in, told_lines, why_lines};
+ghost use Rattle.aatry_why_lines.specs.Written.{seen_rules};
+ghost use Rattle.aatry_why.specs.Missing.{missing_rule};
 ghost use Rattle.aatry_why.specs.Told.{told};
 
 use crate::asker::asker_in;
 use crate::groups::{Group, heading, places_in};
-use crate::lines::{push_group, push_lines};
+use crate::lines::{push_group, push_lines, push_missing};
+use crate::written::WrittenRules;
 use aa_profile::{Profile, ProfileError, Rule, read_file};
 use aa_profile_access::{Perms, Request};
 use aa_profile_places::{Place, ProfilePlaces, rule_places};
 use aa_text_files::Files;
 use aatry_exec::leading_rules;
 use aatry_record::Form;
-use aatry_why::{ToldRule, near_rules, told_rules};
+use aatry_why::{ToldRule, missing_rule, near_rules, told_rules};
 use bitflags::Flags;
 use std::alloc::{AllocError, Global};
 
@@ -27,30 +30,15 @@ use std::alloc::{AllocError, Global};
 fn push_told_group(
     alloc: Global,
     form: Form,
-    files: &Files,
-    base: &[u8],
-    name: &[u8],
-    rules: &[Rule],
-    places: &[Option<Place>],
+    written: &WrittenRules<'_>,
     told: &[ToldRule],
     group: Group,
     out: &mut Vec<u8>,
 ) -> Result<(), AllocError>
-    ensures { OnOk result (out.new.items ≡ out.old.items ++ lines_of form files.now base.now name.now rules.now places.now told.now group) }
+    ensures { OnOk result (out.new.items ≡ out.old.items ++ lines_of form (seen_rules written.now) told.now group) }
 {
     let indexes = places_in(alloc, group, told)?;
-    push_group(
-        alloc,
-        form,
-        files,
-        base,
-        name,
-        rules,
-        places,
-        heading(group),
-        &indexes,
-        out,
-    )
+    push_group(alloc, form, written, heading(group), &indexes, out)
 }
 
 // The places of the rules that decide where a program runs, where its start is asked for.
@@ -73,86 +61,66 @@ fn deciding(alloc: Global, request: &Request<'_>, rules: &[Rule]) -> Result<Vec<
 fn push_deciding(
     alloc: Global,
     form: Form,
-    files: &Files,
-    base: &[u8],
-    name: &[u8],
-    rules: &[Rule],
-    places: &[Option<Place>],
+    written: &WrittenRules<'_>,
     request: &Request<'_>,
     out: &mut Vec<u8>,
 ) -> Result<(), AllocError>
-    ensures { OnOk result (out.new.items
-        ≡ out.old.items ++ deciding_lines form files.now base.now name.now rules.now places.now (request_of request.entry.now)) }
+    ensures { OnOk result (out.new.items ≡ out.old.items ++ deciding_lines form (seen_rules written.now) (request_of request.entry.now)) }
 {
-    let indexes = deciding(alloc, request, rules)?;
-    push_group(
-        alloc,
-        form,
-        files,
-        base,
-        name,
-        rules,
-        places,
-        "decided by",
-        &indexes,
-        out,
-    )
+    let indexes = deciding(alloc, request, written.rules)?;
+    push_group(alloc, form, written, "decided by", &indexes, out)
+}
+
+// Puts the line of the rule that a request lacks behind a text, if it lacks one.
+fn push_missing_rule(
+    alloc: Global,
+    form: Form,
+    rules: &[Rule],
+    request: &Request<'_>,
+    out: &mut Vec<u8>,
+) -> Result<(), AllocError>
+    ensures { OnOk result (out.new.items ≡ out.old.items ++ missing_lines form (missing_rule (request_of request.entry.now) rules.now)) }
+{
+    match missing_rule(alloc, rules, request)? {
+        None => Ok(()),
+        Some(rule) => push_missing(alloc, form, &rule, out),
+    }
 }
 
 // Puts the lines of the nearest rules behind a text.
 fn push_nearest(
     alloc: Global,
     form: Form,
-    files: &Files,
-    base: &[u8],
-    name: &[u8],
-    rules: &[Rule],
-    places: &[Option<Place>],
+    written: &WrittenRules<'_>,
     request: &Request<'_>,
     out: &mut Vec<u8>,
 ) -> Result<(), AllocError>
-    ensures { OnOk result (out.new.items
-        ≡ out.old.items ++ nearest_lines form files.now base.now name.now rules.now places.now (request_of request.entry.now)) }
+    ensures { OnOk result (out.new.items ≡ out.old.items ++ nearest_lines form (seen_rules written.now) (request_of request.entry.now)) }
 {
-    let indexes = near_rules(alloc, rules, request)?;
-    push_group(
-        alloc,
-        form,
-        files,
-        base,
-        name,
-        rules,
-        places,
-        "nearest rules",
-        &indexes,
-        out,
-    )
+    let indexes = near_rules(alloc, written.rules, request)?;
+    push_group(alloc, form, written, "nearest rules", &indexes, out)
 }
 
-// Puts them there where they are wanted.
-fn push_near(
+// Puts both there where something of the request isn't allowed.
+fn push_lacking(
     alloc: Global,
     form: Form,
-    files: &Files,
-    base: &[u8],
-    name: &[u8],
-    rules: &[Rule],
-    places: &[Option<Place>],
+    written: &WrittenRules<'_>,
     request: &Request<'_>,
-    nearest: bool,
+    lacking: bool,
     out: &mut Vec<u8>,
 ) -> Result<(), AllocError>
     ensures { OnOk result (out.new.items
-        ≡ out.old.items ++ near_lines form files.now base.now name.now rules.now places.now (request_of request.entry.now) nearest) }
+        ≡ out.old.items ++ lacking_lines form (seen_rules written.now) (request_of request.entry.now) lacking) }
 {
-    if !nearest {
+    if !lacking {
         return Ok(());
     }
-    push_nearest(alloc, form, files, base, name, rules, places, request, out)
+    push_missing_rule(alloc, form, written.rules, request, out)?;
+    push_nearest(alloc, form, written, request, out)
 }
 
-/// Puts the rules behind a text that allow something of what a request asks for, as `push_why` tells those that allow, but with no words over them:
-/// `rules` with their `places`, of a profile, child or hat of the file of this name, whose flag `audit` audits all of them, or not.
+/// Puts the rules behind a text that allow something of what a request asks for, as `push_why` tells those that allow, but with no words over them.
 ///
 /// # Errors
 ///
@@ -160,28 +128,18 @@ fn push_near(
 pub fn push_allowing(
     alloc: Global,
     form: Form,
-    files: &Files,
-    base: &[u8],
-    name: &[u8],
-    audit: bool,
-    rules: &[Rule],
-    places: &[Option<Place>],
+    written: &WrittenRules<'_>,
     request: &Request<'_>,
     out: &mut Vec<u8>,
 ) -> Result<(), AllocError>
-    ensures { OnOk result (out.new.items
-        ≡ out.old.items ++ allowing_lines form files.now base.now name.now audit rules.now places.now (request_of request.entry.now)) }
+    ensures { OnOk result (out.new.items ≡ out.old.items ++ allowing_lines form (seen_rules written.now) (request_of request.entry.now)) }
 {
-    let told = told_rules(alloc, audit, rules, request)?;
+    let told = told_rules(alloc, written.audit, written.rules, request)?;
     let indexes = places_in(alloc, Group::Allowing, &told)?;
     push_lines(
         alloc,
         form,
-        files,
-        base,
-        name,
-        rules,
-        places,
+        written,
         heading(Group::Allowing),
         &indexes,
         out,
@@ -192,98 +150,47 @@ pub fn push_allowing(
 fn push_groups(
     alloc: Global,
     form: Form,
-    files: &Files,
-    base: &[u8],
-    name: &[u8],
-    rules: &[Rule],
-    places: &[Option<Place>],
+    written: &WrittenRules<'_>,
     told: &[ToldRule],
     out: &mut Vec<u8>,
 ) -> Result<(), AllocError>
-    ensures { OnOk result (out.new.items ≡ out.old.items ++ told_lines form files.now base.now name.now rules.now places.now told.now) }
+    ensures { OnOk result (out.new.items ≡ out.old.items ++ told_lines form (seen_rules written.now) told.now) }
 {
-    push_told_group(
-        alloc,
-        form,
-        files,
-        base,
-        name,
-        rules,
-        places,
-        told,
-        Group::Denying,
-        out,
-    )?;
-    push_told_group(
-        alloc,
-        form,
-        files,
-        base,
-        name,
-        rules,
-        places,
-        told,
-        Group::Allowing,
-        out,
-    )?;
-    push_told_group(
-        alloc,
-        form,
-        files,
-        base,
-        name,
-        rules,
-        places,
-        told,
-        Group::Auditing,
-        out,
-    )
+    push_told_group(alloc, form, written, told, Group::Denying, out)?;
+    push_told_group(alloc, form, written, told, Group::Allowing, out)?;
+    push_told_group(alloc, form, written, told, Group::Auditing, out)
 }
 
 // Puts the lines of the rules that apply to a request behind a text.
 fn push_applying(
     alloc: Global,
     form: Form,
-    files: &Files,
-    base: &[u8],
-    name: &[u8],
-    audit: bool,
-    rules: &[Rule],
-    places: &[Option<Place>],
+    written: &WrittenRules<'_>,
     request: &Request<'_>,
     out: &mut Vec<u8>,
 ) -> Result<(), AllocError>
     ensures { OnOk result (out.new.items
-        ≡ out.old.items ++ told_lines form files.now base.now name.now rules.now places.now (told audit (request_of request.entry.now) rules.now)) }
+        ≡ out.old.items
+        ++ told_lines form (seen_rules written.now) (told written.now.audit (request_of request.entry.now) written.now.rules.now)) }
 {
-    let told = told_rules(alloc, audit, rules, request)?;
-    push_groups(alloc, form, files, base, name, rules, places, &told, out)
+    let told = told_rules(alloc, written.audit, written.rules, request)?;
+    push_groups(alloc, form, written, &told, out)
 }
 
 // Puts the lines of the rules behind the answer to a request behind a text.
 fn push_rules(
     alloc: Global,
     form: Form,
-    files: &Files,
-    base: &[u8],
-    name: &[u8],
-    audit: bool,
-    rules: &[Rule],
-    places: &[Option<Place>],
+    written: &WrittenRules<'_>,
     request: &Request<'_>,
-    nearest: bool,
+    lacking: bool,
     out: &mut Vec<u8>,
 ) -> Result<(), AllocError>
-    ensures { OnOk result (out.new.items
-        ≡ out.old.items ++ why_lines form files.now base.now name.now audit rules.now places.now (request_of request.entry.now) nearest) }
+    ensures { OnOk result (out.new.items ≡ out.old.items ++ why_lines form (seen_rules written.now) (request_of request.entry.now) lacking) }
 {
-    push_applying(
-        alloc, form, files, base, name, audit, rules, places, request, out,
-    )?;
-    push_deciding(alloc, form, files, base, name, rules, places, request, out)?;
-    push_near(
-        alloc, form, files, base, name, rules, places, request, nearest, out,
-    )
+    push_applying(alloc, form, written, request, out)?;
+    push_deciding(alloc, form, written, request, out)?;
+    push_lacking(alloc, form, written, request, lacking, out)
 }
 
 // The rules of the profile at an index, or of its child or hat.
@@ -345,29 +252,33 @@ fn push_read(
     index: usize,
     child: Option<usize>,
     request: &Request<'_>,
-    nearest: bool,
+    lacking: bool,
     out: &mut Vec<u8>,
 ) -> Result<(), AllocError>
     requires { file_profiles files.now name.now ≡ Ok profiles.now }
     ensures { OnOk result ((lines : List ℕ) × (out.new.items ≡ out.old.items ++ lines)
-        × TellWhy form files.now base.now name.now index child (request_of request.entry.now) nearest lines) }
+        × TellWhy form files.now base.now name.now index child (request_of request.entry.now) lacking lines) }
 {
     let places = rule_places(alloc, files, name)?;
-    let rules = rules_in(profiles, index, child);
-    let audit = audits_in(profiles, index, child);
-    let stands = stands_in(&places, index, child);
-    push_rules(
-        alloc, form, files, base, name, audit, rules, stands, request, nearest, out,
-    )?;
+    let written = WrittenRules {
+        files,
+        base,
+        name,
+        audit: audits_in(profiles, index, child),
+        rules: rules_in(profiles, index, child),
+        places: stands_in(&places, index, child),
+    };
+    push_rules(alloc, form, &written, request, lacking, out)?;
     Ok(())
 }
 
-/// Puts the rules behind the answer to a request behind a text, as the profile at an index among those of a file decides, or its child or hat at a
-/// place: those that deny, that allow and that audit what is asked for, those that decide where a program runs, where its start is asked for, each
-/// group below its words, and, where `nearest` says so, those that are near. A rule that is in two groups is told in both. Each has a line of its
-/// own: `base` with the file's name, the line and the column where it is written, and the rule as `show` tells it. As records, of the kind `rule`,
-/// these are `file`, `line` and `column`, and `rule`, with the words of the group, `group`, in each and none above. A profile,
-/// child or hat that isn't there has no rules.
+/// Puts the rules behind the answer to a request behind a text, as who asks by a full name decides it, a profile of a file or a child or hat of one: the
+/// rules that deny, that allow and that audit what is asked for, those that decide where a program runs, where its start is asked for, each group below
+/// its words, and, where `lacking` says that something of it isn't allowed, the rule that is missing (`aatry_why::missing_rule`) and those that are near.
+/// A rule that is in two groups is told in both. Each has a line of its own: `base` with the file's name, the line and the column where it is written,
+/// and the rule as `show` tells it. As records, of the kind `rule`, these are `file`, `line` and `column`, and `rule`, with the words of the group,
+/// `group`, in each and none above; the missing rule, of the kind `missing`, has `rule` alone. It says whether the file has who asks; where it hasn't,
+/// nothing is put.
 ///
 /// # Errors
 ///
@@ -378,43 +289,14 @@ pub fn push_why(
     files: &Files,
     base: &[u8],
     name: &[u8],
-    index: usize,
-    child: Option<usize>,
-    request: &Request<'_>,
-    nearest: bool,
-    out: &mut Vec<u8>,
-) -> Result<(), ProfileError>
-    ensures told { OnOk result ((lines : List ℕ) × (out.new.items ≡ out.old.items ++ lines)
-        × TellWhy form files.now base.now name.now index child (request_of request.entry.now) nearest lines) }
-    ensures refused { IfErr result (λ error. error ≢ plain Memory → file_profiles files.now name.now ≡ Err error) }
-{
-    let profiles = read_file(alloc, files, name)?;
-    push_read(
-        alloc, form, files, base, name, &profiles, index, child, request, nearest, out,
-    )?;
-    Ok(())
-}
-
-/// The same as who asks by a full name decides, that of a profile of the file, or of a child or hat of it. It says whether the file has such a one;
-/// where it hasn't, nothing is put.
-///
-/// # Errors
-///
-/// As `push_why`.
-pub fn push_why_of(
-    alloc: Global,
-    form: Form,
-    files: &Files,
-    base: &[u8],
-    name: &[u8],
     who: &[u8],
     request: &Request<'_>,
-    nearest: bool,
+    lacking: bool,
     out: &mut Vec<u8>,
 ) -> Result<bool, ProfileError>
     ensures told { IfOk result (λ found. found ≡ true → (index : ℕ) × (child : Option ℕ) × (lines : List ℕ)
         × IsAsker files.now name.now who.now index child × (out.new.items ≡ out.old.items ++ lines)
-        × TellWhy form files.now base.now name.now index child (request_of request.entry.now) nearest lines) }
+        × TellWhy form files.now base.now name.now index child (request_of request.entry.now) lacking lines) }
     ensures absent { IfOk result (λ found. found ≡ false → HasNoAsker files.now name.now who.now × (out.new.items ≡ out.old.items)) }
     ensures refused { IfErr result (λ error. error ≢ plain Memory → file_profiles files.now name.now ≡ Err error) }
 {
@@ -423,7 +305,7 @@ pub fn push_why_of(
         return Ok(false);
     };
     push_read(
-        alloc, form, files, base, name, &profiles, index, child, request, nearest, out,
+        alloc, form, files, base, name, &profiles, index, child, request, lacking, out,
     )?;
     Ok(true)
 }

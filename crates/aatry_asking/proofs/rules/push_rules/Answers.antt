@@ -1,13 +1,14 @@
 use Rattle.std.proofs.Common.{◌≡◌, ◌++◌, ◌∙◌, ◌&&◌, None, Some, true, ap, get_or, string_bytes, subst, sym}
 use Rattle.std.specs.Prelude.{is_none}
 use Rattle.aa_profile_access.specs.SeenRequests.{request_of}
+use Rattle.aatry_policy.specs.Folders.{seen_folder}
 use Rattle.aatry_asking.specs.Rules.{TellsRules, has_asker}
 use Rattle.aatry_asking.proofs.RuleLemmas.{first_has}
 use Rattle.aatry_asking.proofs.rules.push_rules.Goals as goal
 
 pub returns-then-found : goal.returns-then-found
 returns-then-found c =
-    let files = c.args.files.now in
+    let files = c.args.folder.now.files.now in
     let who = c.args.who.now in
     let rest = c.loop-rest.rest.now in
     let left = c.loop-rest.left.now in
@@ -19,5 +20,5 @@ returns-then-found c =
     let told = c.in_ok-found.ensures.told c.if-found.true in (
       told.0,
       told.1 ∙ ap (λ l. l ++ told.0) c.loop-rest.invariant.same,
-      subst (λ file. TellsRules c.args.form files c.args.base.now who (request_of c.args.request.now) c.args.nearest file told.0) (ap Some own ∙ sym first ∙ c.loop-rest.invariant.left) told.2,
+      subst (λ file. TellsRules c.args.form (seen_folder c.args.folder.now) who (request_of c.args.request.now) c.args.lacking file told.0) (ap Some own ∙ sym first ∙ c.loop-rest.invariant.left) told.2,
     )

@@ -6,7 +6,7 @@ use Rattle.aatry_asking.proofs.rules.push_rules.Given as goal
 abbrev pub invariant-loop-rest : goal.invariant-loop-rest
 invariant-loop-rest l = record {
   same : l.out.items ≡ l.initial.out.items;
-  left : file_of l.files l.who (map string_bytes l.rest) l.left ≡ file_of l.files l.who (map string_bytes l.names) l.outcomes;
+  left : file_of l.folder.files.now l.who (map string_bytes l.rest) l.left ≡ file_of l.folder.files.now l.who (map string_bytes l.folder.names.now) l.outcomes;
 }
 
 abbrev pub decreases-loop-rest : goal.decreases-loop-rest

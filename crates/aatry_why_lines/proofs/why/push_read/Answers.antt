@@ -10,6 +10,6 @@ returns c = (
     c.in_ok-places.places.items,
     c.requires,
     c.in_ok-places.ensures,
-    rw (c.audits_in-audit.ensures, c.rules_in-rules.ensures, c.stands_in-stands.ensures, c.deref.ensures.value) refl,
+    rw (c.audits_in.ensures, c.rules_in.ensures, c.stands_in.ensures, c.deref.ensures.value) refl,
   ),
 )

@@ -1,0 +1,27 @@
+-- The rules of a profile, or of a child or hat, with where they are written.
+use Rattle.std.specs.Prelude.{ℕ, Bool, List, Option}
+use Rattle.aa_profile_data.specs.declared.profile.Rule.{Rule}
+use Rattle.aa_text_files.specs.Files.{File}
+use Rattle.aa_text_files.specs.declared.text_error.Place.{Place}
+use Rattle.aatry_why_lines.specs.declared.written.WrittenRules.{WrittenRules}
+
+-- Rules: all that lies below the folder of policy and its path, the name of the file that has the profile, whether the profile's flag audits each of the
+-- rules, the rules themselves, and where they stand.
+pub record Written : Type 0 where
+  pub files : List File
+  pub base : List ℕ
+  pub name : List ℕ
+  pub audit : Bool
+  pub rules : List Rule
+  pub places : List (Option Place)
+
+-- rules of the code
+abbrev pub seen_rules : WrittenRules → Written
+seen_rules written = record {
+  files = written.files.now;
+  base = written.base.now;
+  name = written.name.now;
+  audit = written.audit;
+  rules = written.rules.now;
+  places = written.places.now;
+}

@@ -1,0 +1,21 @@
+//! Rules with where they are written.
+
+use aa_profile_data::Rule;
+use aa_text_files::{Files, Place};
+
+/// The rules of a profile, or of a child or hat, with where they are written.
+#[derive(Clone, Copy)]
+pub struct WrittenRules<'a> {
+    /// All files and folders below the folder of policy, by their names in it.
+    pub files: &'a Files,
+    /// The folder's path, without a `/` at its end.
+    pub base: &'a [u8],
+    /// The name of the file that has the profile.
+    pub name: &'a [u8],
+    /// Whether each of the rules is audited, whatever its own words are: the flag of their profile.
+    pub audit: bool,
+    /// The rules, in their order.
+    pub rules: &'a [Rule],
+    /// Where each of them is written, in the same order; one without a place stands in the profile's file.
+    pub places: &'a [Option<Place>],
+}
