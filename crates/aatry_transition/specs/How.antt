@@ -1,5 +1,8 @@
 -- What is told of how the answer to the start of a program came about, behind the rules that decide.
-use Rattle.std.specs.Prelude.{ℕ, Bool, List, [], ◌++◌, Option, None, Some}
+use Rattle.std.specs.Prelude.{ℕ, Bool, if◌then◌else◌, List, [], ◌∷◌, ◌++◌, codes, Option, None, Some}
+use Rattle.serde_json.specs.Data.{Members}
+use Rattle.aa_bytes.specs.Bytes.{line_feed}
+use Rattle.aa_bytes.specs.Texts.{is_empty}
 use Rattle.aa_decide.specs.Exec.{Asker}
 use Rattle.aa_decide_exec_rules.specs.Choices.{choice}
 use Rattle.aa_decide_verdict.specs.Confinement.{By, Confinement, Unconfined, in_state}
@@ -13,7 +16,10 @@ use Rattle.aa_set_answers.specs.Askers.{asker}
 use Rattle.aatry_exec.specs.AttachmentLines.{attachment_lines}
 use Rattle.aatry_exec.specs.Candidates.{Candidate, child_candidates, profile_candidates}
 use Rattle.aatry_exec.specs.Leading.{lead_of}
+use Rattle.aatry_record.specs.Headings.{heading_line}
+use Rattle.aatry_record.specs.Records.{record_line, record_of, with_text}
 use Rattle.aatry_record.specs.declared.form.Form.{Form}
+use Rattle.aatry_record.specs.declared.form.Form.TheVariants.{Lines, Records}
 use Rattle.aatry_transition.specs.Transitions.{transition_lines}
 
 -- the children and hats of who asks; a child or a hat has none
@@ -35,9 +41,30 @@ led_lines form path entries asker (Some transition) =
     transition_lines form path entries asker transition
     ++ attachment_lines form path (asked_candidates transition.target entries asker (row transition.word).destination)
 
+-- a record of an attachment that there isn't
+abbrev pub none_record : Members
+none_record = with_text (codes "standing") (codes "none") (record_of (codes "attachment"))
+
+-- the line of one
+abbrev pub none_line : List ℕ
+none_line = codes "  none: no profile in force has a pattern that matches the path" ++ line_feed ∷ []
+
+-- what is told where no profile in force has a pattern that matches the path
+abbrev pub none_attached : Form → List ℕ
+none_attached Lines = heading_line Lines (codes "attachment") ++ none_line
+none_attached Records = record_line none_record
+
+-- these lines, or that there is none to be attached to
+abbrev pub lines_or_none : Form → List ℕ → List ℕ
+lines_or_none form lines = if is_empty lines then none_attached form else lines
+
+-- where nothing confines who asks, the profiles that the path may be attached to
+abbrev pub profile_lines : Form → List ℕ → List Loaded → List ℕ
+profile_lines form path entries = lines_or_none form (attachment_lines form path (profile_candidates entries))
+
 -- by what confines who asks: where nothing does, the path's attachment decides alone, and else what the rules say together
 abbrev pub confined_lines : Form → Bool → List ℕ → List Loaded → Asker → Confinement → List ℕ
-confined_lines form owned path entries asker Unconfined = attachment_lines form path (profile_candidates entries)
+confined_lines form owned path entries asker Unconfined = profile_lines form path entries
 confined_lines form owned path entries asker (By profile child mode) =
     led_lines form path entries asker (lead_of (choice (audits profile child) owned path (rules_at profile child)))
 
@@ -47,7 +74,7 @@ confinement_of asker = in_state asker.entry.profile asker.entry.state asker.chil
 
 -- by who asks
 abbrev pub asked_lines : Form → List Loaded → Option Asker → Bool → List ℕ → List ℕ
-asked_lines form entries None owned path = attachment_lines form path (profile_candidates entries)
+asked_lines form entries None owned path = profile_lines form path entries
 asked_lines form entries (Some asker) owned path = confined_lines form owned path entries asker (confinement_of asker)
 
 -- the lines of how the answer came about to who asks by this full name, or as the word `unconfined`; of one that isn't there, nothing

@@ -6,9 +6,10 @@ ghost use Rattle.aa_decide.specs.SeenExec.{seen_asker};
 ghost use Rattle.aa_decide_exec_rules.specs.Choices.{choice};
 ghost use Rattle.aa_decide_verdict.specs.Ready.{audits, rules_at};
 ghost use Rattle.aa_decide_verdict.specs.Slots.{filled};
-ghost use Rattle.aatry_exec.specs.AttachmentLines.{attachment_lines};
-ghost use Rattle.aatry_exec.specs.Candidates.{profile_candidates, seen_candidates};
-ghost use Rattle.aatry_transition.specs.How.{asked_candidates, asked_lines, confined_lines, confinement_of, how_lines, led_lines, own_children};
+ghost use Rattle.aatry_exec.specs.Candidates.{seen_candidates};
+ghost use Rattle.aatry_record.specs.SeenRecord.{seen_record};
+ghost use Rattle.aatry_transition.specs.How.{asked_candidates, asked_lines, confined_lines, confinement_of, how_lines, led_lines};
+ghost use Rattle.aatry_transition.specs.How.{lines_or_none, none_attached, none_line, none_record, own_children, profile_lines};
 ghost use Rattle.aatry_exec.specs.Leading.{lead_of};
 
 use crate::transition::push_transition;
@@ -21,7 +22,7 @@ use aatry_exec::{
     Candidate, child_candidates, first_transition, leading_rules, profile_candidates,
     push_attachment, which_rules_lead,
 };
-use aatry_record::Form;
+use aatry_record::{Form, Record, push_heading};
 use std::alloc::{AllocError, Global};
 
 // The children and hats of who asks.
@@ -52,7 +53,53 @@ fn asked_candidates<'a>(
     }
 }
 
-// Puts the lines of the attachment among all profiles behind a text.
+// The record of an attachment that there isn't.
+fn none_record(alloc: Global) -> Result<Record, AllocError>
+    ensures { IfOk result (λ made. seen_record made ≡ none_record) }
+{
+    let mut made = Record::new(alloc, "attachment")?;
+    made.put_text(alloc, "standing", b"none")?;
+    Ok(made)
+}
+
+// Puts the line behind a text of an attachment that there isn't.
+fn push_none_line(out: &mut Vec<u8>) -> Result<(), AllocError>
+    ensures { OnOk result (out.new.items ≡ out.old.items ++ none_line) }
+{
+    out.extend_from_slice(b"  none: no profile in force has a pattern that matches the path")?;
+    out.push(b'\n')?;
+    Ok(())
+}
+
+// Puts behind a text that no profile in force has a pattern that matches the path.
+fn push_none_attached(alloc: Global, form: Form, out: &mut Vec<u8>) -> Result<(), AllocError>
+    ensures { OnOk result (out.new.items ≡ out.old.items ++ none_attached form) }
+{
+    match form {
+        Form::Lines => {
+            push_heading(form, "attachment", out)?;
+            push_none_line(out)
+        }
+        Form::Records => none_record(alloc)?.push(alloc, out),
+    }
+}
+
+// Puts lines behind a text, or that there is none to be attached to.
+fn push_lines_or_none(
+    alloc: Global,
+    form: Form,
+    lines: &[u8],
+    out: &mut Vec<u8>,
+) -> Result<(), AllocError>
+    ensures { OnOk result (out.new.items ≡ out.old.items ++ lines_or_none form lines.now) }
+{
+    if lines.is_empty() {
+        return push_none_attached(alloc, form, out);
+    }
+    out.extend_from_slice(lines)
+}
+
+// Puts the lines of the profiles that the path may be attached to behind a text.
 fn push_profiles(
     alloc: Global,
     form: Form,
@@ -60,10 +107,12 @@ fn push_profiles(
     path: &[u8],
     out: &mut Vec<u8>,
 ) -> Result<(), AllocError>
-    ensures { OnOk result (out.new.items ≡ out.old.items ++ attachment_lines form path.now (profile_candidates (filled slots.now))) }
+    ensures { OnOk result (out.new.items ≡ out.old.items ++ profile_lines form path.now (filled slots.now)) }
 {
     let candidates = profile_candidates(alloc, slots.as_slice())?;
-    push_attachment(alloc, form, path, &candidates, out)
+    let mut lines = Vec::new(alloc);
+    push_attachment(alloc, form, path, &candidates, &mut lines)?;
+    push_lines_or_none(alloc, form, &lines, out)
 }
 
 // Puts the lines of a transition behind a text, if there is one, and of the attachment, where it decides where that leads.
@@ -148,7 +197,8 @@ fn push_asked(
 
 /// Puts lines behind a text that tell how the answer came about to who asks to start the program of a path, by a full name or as the word
 /// `unconfined`: below `transition` where the rules lead, and below `attachment` which profiles or children the path may be attached to, where that
-/// decides; or, as the form says, a record of each, of the kinds `transition` and `attachment`. Where no rule leads, or one denies, and where no one
+/// decides; or, as the form says, a record of each, of the kinds `transition` and `attachment`. Where nothing confines who asks and no profile in force
+/// has a pattern that matches, `attachment` says so: the standing is `none` then. Where no rule leads, or one denies, and where no one
 /// of the name is loaded, nothing is put. `owned` says whether the task's user owns the file. What is told is said of the filled slots in their
 /// order.
 ///
