@@ -1,0 +1,3 @@
+mod LoadLemmas
+mod PartLemmas
+mod ReadLemmas
