@@ -337,8 +337,7 @@ fn all_lines(alloc: Global) -> Result<Lines, AllocError>
 ///
 /// # Errors
 ///
-/// - `Unreadable` with the first folder or file that can't be read, `TooMany` where there are more than 65,536: nothing was read of the input or written
-///   then.
+/// - `Unreadable` with the first folder or file that can't be read, `TooMany` where there are more than 65,536: nothing was written then.
 /// - `Read` where a read of the input failed, a line took more than 2,147,483,648 reads, or 1,073,741,824 lines didn't end the session. What is told of
 ///   the lines so far is written then, and the prompt behind it, but where there were so many lines.
 /// - `Write` where a write failed: a front of what a session writes is written then.
