@@ -18,7 +18,7 @@ use Rattle.aa_set_changes.specs.Changes.{loaded}
 use Rattle.aa_set_listing.specs.ProfileNames.{full_name_at}
 use Rattle.aa_text_files.specs.declared.text_error.Place.{Place}
 use Rattle.aa_text_variables.specs.Variables.{Variable}
-use Rattle.aatry_parts.specs.Laws.{HasOwnRules}
+use Rattle.aatry_policy_laws.specs.Laws.{HasOwnRules}
 use Rattle.aatry_profiles.specs.Parts.{Part, child_part, child_parts, file_parts, part_of, parts_from, parts_of, profile_part, profile_parts}
 use Rattle.aatry_profiles.specs.Profiles.{FileProfiles}
 

@@ -25,9 +25,9 @@ use Rattle.aa_set_commands.specs.declared.refusal.Refusal.{Refusal}
 use Rattle.aa_set_commands.specs.declared.refusal.RefusalKind.TheVariants.{Exists}
 use Rattle.aa_set_listing.specs.ProfileNames.{full_name_at}
 use Rattle.aa_text_files.specs.Files.{File}
-use Rattle.aatry_parts.proofs.PartLemmas.{HasAll, IsOf, IsPlaced, are-files, contains-mapped, has-files, profiles_in, rules-of, taken}
-use Rattle.aatry_parts.proofs.ReadLemmas.{IsRead, all-read, placed, read-named}
-use Rattle.aatry_parts.specs.Laws.{HasOwnRules}
+use Rattle.aatry_policy_laws.proofs.PartLemmas.{HasAll, IsOf, IsPlaced, are-files, contains-mapped, has-files, profiles_in, rules-of, taken}
+use Rattle.aatry_policy_laws.proofs.ReadLemmas.{IsRead, all-read, placed, read-named}
+use Rattle.aatry_policy_laws.specs.Laws.{HasOwnRules}
 use Rattle.aatry_policy.specs.Folders.{Folder, outcomes_in, policy_in}
 use Rattle.aatry_policy.specs.Parts.{parts_in}
 use Rattle.aatry_policy.specs.Policies.{loaded, made_or, outcomes, refusal_of, with_file}

@@ -1,5 +1,5 @@
-use Rattle.aatry_parts.proofs.LoadLemmas.{which-rules}
-use Rattle.aatry_parts.proofs.laws.which_rules_parts_have.Goals as goal
+use Rattle.aatry_policy_laws.proofs.LoadLemmas.{which-rules}
+use Rattle.aatry_policy_laws.proofs.laws.which_rules_parts_have.Goals as goal
 
 pub returns : goal.returns
 returns c =

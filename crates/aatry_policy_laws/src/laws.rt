@@ -2,7 +2,7 @@
 
 ghost use Rattle.aa_decide.specs.Exec.{Asker};
 ghost use Rattle.aa_set_answers.specs.Laws.{IsListed};
-ghost use Rattle.aatry_parts.specs.Laws.{HasOwnRules};
+ghost use Rattle.aatry_policy_laws.specs.Laws.{HasOwnRules};
 ghost use Rattle.aatry_policy.specs.Folders.{Folder, policy_in};
 ghost use Rattle.aatry_policy.specs.Parts.{parts_in};
 

@@ -1,6 +1,0 @@
-//! The parts of a folder of policy: they have the rules of the profiles, children and hats that its files load.
-#![tactic(auto)]
-
-mod laws;
-
-pub use laws::which_rules_parts_have;
