@@ -1,10 +1,9 @@
 //! Sets of bytes, of which an item stands for one.
 
-ghost use Rattle.std.specs.Prelude.{◌≡◌, IfOk};
+ghost use Rattle.std.specs.Prelude.{◌≡◌};
 ghost use Rattle.aa_bytes.specs.ByteSets.{is_inside, has, is_listed, lists};
 
 use crate::sequence::Sequence;
-use std::alloc::{AllocError, Global};
 
 /// A member of a class: the bytes from one to another, both among them.
 #[derive(Clone, Copy, Debug, PartialEq, Eq)]
@@ -48,19 +47,6 @@ impl ByteSet {
             ByteSet::Class { negated, ranges } => {
                 byte != 0 && *negated != is_listed(ranges.as_slice(), byte)
             }
-        }
-    }
-
-    /// An equal set.
-    pub fn try_copy(&self, alloc: Global) -> Result<ByteSet, AllocError>
-        ensures { IfOk result (λ copy. copy ≡ self.now) }
-    {
-        match self {
-            ByteSet::Inside => Ok(ByteSet::Inside),
-            ByteSet::Class { negated, ranges } => Ok(ByteSet::Class {
-                negated: *negated,
-                ranges: Sequence::from_slice(alloc, ranges.as_slice())?,
-            }),
         }
     }
 }

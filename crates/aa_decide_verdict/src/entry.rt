@@ -1,12 +1,12 @@
 //! Loaded profiles with their states.
 
-ghost use Rattle.std.specs.Prelude.{◌≡◌, IfOk, true};
+ghost use Rattle.std.specs.Prelude.{◌≡◌, true};
 ghost use Rattle.aa_decide_verdict.specs.Entries.{fits, is_in_force, state_left, with_state};
 
 use crate::ready::Ready;
 use aa_bytes::Sequence;
 use aa_profile_data::{Mode, Profile};
-use std::alloc::{AllocError, Global};
+use std::alloc::Global;
 use std::marker::Model;
 use std::mem;
 
@@ -57,16 +57,6 @@ impl State {
             State::Modes(modes) => modes.as_slice().len() == profile.children.as_slice().len() + 1,
         }
     }
-
-    // An equal state.
-    fn try_copy(&self, alloc: Global) -> Result<State, AllocError>
-        ensures { IfOk result (λ copy. copy ≡ self.now) }
-    {
-        match self {
-            State::Disabled => Ok(State::Disabled),
-            State::Modes(modes) => Ok(State::Modes(Sequence::from_slice(alloc, modes.as_slice())?)),
-        }
-    }
 }
 
 impl Entry {
@@ -109,19 +99,6 @@ impl Entry {
         if state.fits(&self.ready.profile) {
             mem::swap(&mut self.state, state);
         }
-    }
-
-    /// An equal entry.
-    ///
-    /// # Errors
-    ///
-    /// Where memory runs out.
-    pub fn try_copy(&self, alloc: Global) -> Result<Entry, AllocError>
-        ensures { IfOk result (λ copy. copy ≡ self.now) }
-    {
-        let ready = self.ready.try_copy(alloc)?;
-        let state = self.state.try_copy(alloc)?;
-        Ok(Entry { ready, state })
     }
 
     /// Remembers what follows at the places of a path, and tells whether all of it is remembered now (`Ready::remember`).

@@ -112,24 +112,6 @@ impl Part {
         })
     }
 
-    /// An equal part.
-    ///
-    /// # Errors
-    ///
-    /// Where memory runs out.
-    pub fn try_copy(&self, alloc: Global) -> Result<Part, AllocError>
-        ensures { IfOk result (λ copy. copy ≡ self.now) }
-    {
-        let files = self.files.try_copy(alloc)?;
-        let places = Sequence::from_slice(alloc, self.places.as_slice())?;
-        let attachments = self.attachments.try_copy(alloc)?;
-        Ok(Part {
-            files,
-            places,
-            attachments,
-        })
-    }
-
     /// How many states the automaton of the file rules has.
     pub fn states(&self) -> usize
         ensures { HoldsOf self.now (λ rules attachments. HasStates (file_patterns rules) result) }
@@ -206,19 +188,4 @@ pub fn parts_of(alloc: Global, children: &[Child]) -> Result<Vec<Part>, AllocErr
         parts.push(Part::build(alloc, rules, attachments)?)?;
     }
     Ok(parts)
-}
-
-/// Equal parts.
-///
-/// # Errors
-///
-/// Where memory runs out.
-pub fn copied_parts(alloc: Global, parts: &[Part]) -> Result<Vec<Part>, AllocError>
-    ensures { IfOk result (λ copies. copies.items ≡ parts.now) }
-{
-    let mut copies = Vec::with_capacity(alloc, parts.len())?;
-    for part in parts {
-        copies.push(part.try_copy(alloc)?)?;
-    }
-    Ok(copies)
 }

@@ -15,7 +15,7 @@ ghost use Rattle.aa_decide_verdict.specs.Verdict.{is_for_file};
 ghost use Rattle.aa_decide_verdict.specs.code.Parts.{HasNothingAt, IsPartAt};
 ghost use Rattle.aa_profile_access.specs.SeenRequests.{request_of};
 
-use crate::part::{Part, copied_parts, parts_of};
+use crate::part::{Part, parts_of};
 use crate::verdict::{found_verdict, rules_verdict};
 use aa_decide_audit::Verdict;
 use aa_glob_front::Steps;
@@ -86,24 +86,6 @@ impl Ready {
     {
         let _profile = &self.profile;
         let _part = self.part_at(child);
-    }
-
-    /// An equal one, whose automata are copied.
-    ///
-    /// # Errors
-    ///
-    /// Where memory runs out.
-    pub fn try_copy(&self, alloc: Global) -> Result<Ready, AllocError>
-        ensures { IfOk result (λ copy. copy ≡ self.now) }
-    {
-        let profile = self.profile.try_copy(alloc)?;
-        let own = self.own.try_copy(alloc)?;
-        let parts = copied_parts(alloc, self.parts.as_slice())?;
-        Ok(Ready {
-            profile,
-            own,
-            parts,
-        })
     }
 
     /// The rules by which the profile decides, or its child or hat at a place; one that isn't there has none.

@@ -21,7 +21,7 @@ use Rattle.aa_glob_nfa.specs.Graphs.{AddsEnd, AreBytes, EndsAt, Graph, IsFound, 
 use Rattle.aa_glob_prefixes.specs.Beginnings.{AreBeginnings, Begun, HasStates, IsBeginning, IsSuffixOf}
 use Rattle.aa_glob_prefixes.specs.Laws.{FirstTextIsBegun, NextTextIsBegun, WholeTextIsThere}
 use Rattle.aa_glob_prefixes.specs.Trails.{Trail, trail_of}
-use Rattle.aa_glob_trie.specs.Ways.{HasNoWay, Ways, next, places}
+use Rattle.aa_glob_automaton.specs.Tree.{HasNoWay, Ways, next, places}
 
 -- no pattern yet
 

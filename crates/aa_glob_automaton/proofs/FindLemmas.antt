@@ -10,7 +10,7 @@ use Rattle.aa_glob_nfa_laws.specs.Drawn.{trail_at}
 use Rattle.aa_glob_syntax.specs.Elements.{Element}
 use Rattle.aa_glob_prefixes.specs.Beginnings.{AreApart}
 use Rattle.aa_glob_prefixes.specs.Trails.{Trail}
-use Rattle.aa_glob_trie.specs.Ways.{HasOneMore, Ways, next, places}
+use Rattle.aa_glob_automaton.specs.Tree.{HasOneMore, Ways, next, places}
 
 -- one trail behind others leaves them as they are
 pub goes_on-push : (trails : List Trail) (trail : Trail) → GoesOn trails (trails ++ trail ∷ [])

@@ -22,7 +22,7 @@ use Rattle.aa_glob_nfa.specs.declared.entry.Entry.{Entry}
 use Rattle.aa_glob_prefixes.specs.Beginnings.{Begun}
 use Rattle.aa_glob_prefixes.specs.Laws.{KnownTrailIsMet, NewTrailIsAdded}
 use Rattle.aa_glob_prefixes.specs.Trails.{sources, Trail, trail_of}
-use Rattle.aa_glob_trie.specs.Ways.{next}
+use Rattle.aa_glob_automaton.specs.Tree.{next}
 
 -- the ways to a state that is new are drawn between states
 pub ways_fit : (old new : Graph) (entry : Entry) (e : Element) (walk : Standing)

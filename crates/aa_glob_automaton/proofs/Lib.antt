@@ -8,3 +8,4 @@ pub mod SeenLemmas
 pub mod StandLemmas
 pub mod VisitLemmas
 pub mod WayLemmas
+pub mod TreeLemmas

@@ -6,7 +6,7 @@ use Rattle.aa_glob_automaton.specs.Walks.{OpenStates, Standing}
 use Rattle.aa_glob_nfa_laws.specs.Drawn.{trail_at}
 use Rattle.aa_glob_syntax.specs.Elements.{Element}
 use Rattle.aa_glob_prefixes.specs.Trails.{groups_of, Trail, TrailGroup}
-use Rattle.aa_glob_trie.specs.Ways.{Ways, next, places}
+use Rattle.aa_glob_automaton.specs.Tree.{Ways, next, places}
 
 -- the group that is open where these states stand for these trails
 abbrev pub group_at : List Trail → OpenStates → TrailGroup

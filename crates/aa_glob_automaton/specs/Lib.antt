@@ -6,3 +6,4 @@ pub mod Visits
 pub mod Walks
 pub mod Ways
 pub mod code
+pub mod Tree

@@ -3,3 +3,4 @@ pub mod Followed
 pub mod Growths
 pub mod Numbered
 pub mod SeenGroups
+pub mod Noted

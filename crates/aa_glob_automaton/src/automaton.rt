@@ -67,20 +67,6 @@ impl Automaton {
         Ok(builder.finish())
     }
 
-    /// An equal automaton.
-    ///
-    /// # Errors
-    ///
-    /// Where memory runs out.
-    pub fn try_copy(&self, alloc: Global) -> Result<Automaton, AllocError>
-        ensures { IfOk result (λ copy. copy ≡ self.now) }
-    {
-        match &self.nfa {
-            None => Ok(Automaton::none()),
-            Some(nfa) => Ok(Automaton::of(nfa.try_copy(alloc)?)),
-        }
-    }
-
     /// How many states there are: one for each different beginning of the patterns, and so at most two for each byte of their texts and two for each
     /// pattern; none where there is no pattern. It takes no memory.
     pub fn states(&self) -> usize

@@ -6,16 +6,16 @@ ghost use Rattle.aa_glob_automaton.specs.Grown.{IsThere};
 ghost use Rattle.aa_glob_automaton.specs.Numbers.{most_number, number_of};
 ghost use Rattle.aa_glob_automaton.specs.code.Growths.{GoesOver, GrowsBy, IsWalked, LeadsTo};
 ghost use Rattle.aa_glob_syntax.specs.Cursor.{meaning};
-ghost use Rattle.aa_glob_trie.specs.Ways.{next, places};
+ghost use Rattle.aa_glob_automaton.specs.Tree.{next, places};
 
 use crate::element::{add_state, number_of};
 use crate::numbers::Numbers;
+use crate::tree::Tree;
 use crate::walk::Walk;
 use aa_glob_nfa_laws::how_graphs_are_drawn;
 use aa_glob_prefixes::how_beginnings_are_gathered;
 use aa_glob_run::Drawing;
 use aa_glob_syntax::Element;
-use aa_glob_trie::Tree;
 use std::alloc::{AllocError, Global};
 
 /// What there is of an automaton while it grows: its states with their ways, the tree in which they are found, and the numbers of elements

@@ -8,6 +8,7 @@ mod following;
 mod growing;
 mod numbers;
 mod overlapping;
+mod tree;
 mod walk;
 mod ways;
 

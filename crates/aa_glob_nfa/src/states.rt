@@ -1,6 +1,6 @@
 //! The states of an automaton, by their numbers.
 
-ghost use Rattle.std.specs.Prelude.{◌≡◌, ◌++◌, ◌∷◌, ◌<◌, [], length, set, IfOk, OnErr, OnOk};
+ghost use Rattle.std.specs.Prelude.{◌≡◌, ◌++◌, ◌∷◌, ◌<◌, [], length, set, OnErr, OnOk};
 ghost use Rattle.aa_glob_nfa.specs.Tables.{bare, ending, leading_away, leading_on, state_at};
 
 use crate::packed_state::PackedState;
@@ -32,15 +32,6 @@ impl States {
         States {
             packed: Vec::new(alloc),
         }
-    }
-
-    /// Equal states, or `AllocError` where memory ran out.
-    pub fn try_copy(&self, alloc: Global) -> Result<States, AllocError>
-        ensures { IfOk result (λ copy. copy ≡ self.now) }
-    {
-        Ok(States {
-            packed: Vec::from_slice(alloc, self.packed.as_slice())?,
-        })
     }
 
     /// How many states there are.

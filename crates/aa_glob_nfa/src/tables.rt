@@ -49,23 +49,6 @@ impl Tables {
         })
     }
 
-    /// Equal tables, or `AllocError` where memory ran out.
-    pub fn try_copy(&self, alloc: Global) -> Result<Tables, AllocError>
-        ensures states { IfOk result (λ copy. copy.states ≡ self.now.states) }
-        ensures ways { IfOk result (λ copy. copy.ways.items ≡ self.now.ways.items) }
-        ensures firsts { IfOk result (λ copy. copy.firsts.items ≡ self.now.firsts.items) }
-        ensures classes { IfOk result (λ copy. copy.classes.items ≡ self.now.classes.items) }
-        ensures ends { IfOk result (λ copy. copy.ends.items ≡ self.now.ends.items) }
-    {
-        Ok(Tables {
-            states: self.states.try_copy(alloc)?,
-            ways: Vec::from_slice(alloc, self.ways.as_slice())?,
-            firsts: Vec::from_slice(alloc, self.firsts.as_slice())?,
-            classes: Vec::from_slice(alloc, self.classes.as_slice())?,
-            ends: Vec::from_slice(alloc, self.ends.as_slice())?,
-        })
-    }
-
     /// Adds a state with this entry, and tells its number. `AllocError` is answered where memory ran out, or where there are 2^32 - 1 states
     /// already; what there is then is sound.
     pub fn add(&mut self, entry: &Entry) -> Result<u32, AllocError>

@@ -1,1 +1,5 @@
 pub mod ErrorLemmas
+pub mod PlaceLemmas
+pub mod PassLemmas
+pub mod PlainLemmas
+pub mod UnreadLemmas

@@ -6,7 +6,7 @@ ghost use Rattle.aa_glob_syntax.specs.Matching.{Matches, matches};
 ghost use Rattle.aa_glob_syntax.specs.Reading.{items_of, reading};
 ghost use Rattle.aa_glob_syntax.specs.declared.pattern_error.PatternError.TheVariants.{Memory};
 
-use aa_glob_match::matches_text;
+use crate::matching::matches_text;
 use aa_glob_prefixes::matching_is_by_splits;
 use aa_glob_syntax::{PatternError, check_pattern};
 use std::alloc::{AllocError, Global};

@@ -7,3 +7,7 @@ pub mod PatternLemmas
 pub mod SourceLemmas
 pub mod StandLemmas
 pub mod WalkLemmas
+pub mod OverlapLemmas
+pub mod ReadLemmas
+pub mod SharedLemmas
+pub mod TestLemmas

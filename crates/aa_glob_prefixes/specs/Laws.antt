@@ -1,15 +1,17 @@
--- What holds of trails.
+-- What holds of trails, and of patterns that overlap.
 use Rattle.std.specs.Prelude.{◌≡◌, ◌↔◌, ℕ, ◌<◌, ◌≤◌, Bool, true, false, Contains, Decides, IsTrue, List, [], ◌∷◌, ◌++◌, length, Ok, reverse}
 use Rattle.std.specs.List.{IsDistinct}
 use Rattle.aa_glob_syntax.specs.Elements.{Element, Single, Open, Comma, Close, Fault, elements}
 use Rattle.aa_glob_syntax.specs.Items.{Pattern}
 use Rattle.aa_glob_syntax.specs.Matching.{matches, Matches}
+use Rattle.aa_glob_syntax.specs.Overlap.{Overlap}
 use Rattle.aa_glob_syntax.specs.Reading.{items_of, reading}
 use Rattle.aa_glob_syntax.specs.Symbols.{symbols}
 use Rattle.aa_glob_syntax.specs.declared.context.Context.TheVariants.{Elsewhere}
 use Rattle.aa_glob_prefixes.specs.Beginnings.{AreApart, AreBeginnings, Begun, HasStates, most_states}
 use Rattle.aa_glob_prefixes.specs.Elements.{EachMayStand, elements_of}
 use Rattle.aa_glob_prefixes.specs.Reads.{element_behind, reads, some_reads}
+use Rattle.aa_glob_prefixes.specs.Shared.{overlaps}
 use Rattle.aa_glob_prefixes.specs.Trails.{depth_behind, element_within, grouped, groups_of, sources, Trail, trail_behind, trail_of}
 
 -- the test of a match says that the text can be cut into one text for each item
@@ -137,3 +139,10 @@ abbrev pub WholeTextIsThere : Type 0
 WholeTextIsThere =
     (texts : List (List ℕ)) (text : List ℕ) (trails : List Trail)
     → Begun texts (trail_of text) trails → AreBeginnings (texts ++ text ∷ []) trails
+
+-- some text matches both patterns exactly where the test says so
+abbrev pub OverlapsAreTested : Type 0
+OverlapsAreTested =
+    (one other : List ℕ)
+    → reading one ≡ Ok (items_of one) → reading other ≡ Ok (items_of other)
+    → (overlaps one other ≡ true ↔ Overlap one other)

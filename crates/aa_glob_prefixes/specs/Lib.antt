@@ -5,3 +5,4 @@ pub mod Left
 pub mod Reads
 pub mod Standing
 pub mod Trails
+pub mod Shared

@@ -1,7 +1,7 @@
-//! What holds of trails, as laws over their definitions.
+//! What holds of trails and of patterns that overlap, as laws over their definitions.
 
 ghost use Rattle.aa_glob_prefixes.specs.Laws.{ApartIsDistinct, BeginningsStandInGroups, DepthIsOfElements, DepthIsOfOpenGroups};
-ghost use Rattle.aa_glob_prefixes.specs.Laws.{FirstTextIsBegun, KnownTrailIsMet, MatchingIsBySplits, NewTrailIsAdded, NextTextIsBegun};
+ghost use Rattle.aa_glob_prefixes.specs.Laws.{FirstTextIsBegun, KnownTrailIsMet, MatchingIsBySplits, NewTrailIsAdded, NextTextIsBegun, OverlapsAreTested};
 ghost use Rattle.aa_glob_prefixes.specs.Laws.{SameTextsHaveSameStates, SomeAreReadAsOneIs, SourcesAreShorter, StatesAreFew};
 ghost use Rattle.aa_glob_prefixes.specs.Laws.{StatesHaveOneCount, TrailsAreReadBehindSources, TrailsGrowInFront, WholeTextIsThere};
 ghost use Rattle.aa_glob_prefixes.specs.Laws.{WholeTextsStand, WholeTrailsAreElements, WholeTrailsAreMatched, WholeTrailsGrowByElements};
@@ -62,3 +62,11 @@ pub fn how_beginnings_are_gathered()
     ensures new_trail_is_added { NewTrailIsAdded }
     ensures whole_text_is_there { WholeTextIsThere }
 {}
+
+/// Some text matches two patterns exactly where the test `overlaps` says so, which goes back over both from their ends.
+pub fn how_overlaps_are_tested()
+    ensures { OverlapsAreTested }
+{
+    how_trails_are_read();
+    what_reads_to_the_end_matches();
+}

@@ -63,20 +63,6 @@ impl Nfa {
         self.tables.states.len()
     }
 
-    /// An equal automaton.
-    ///
-    /// # Errors
-    ///
-    /// Where memory runs out.
-    pub fn try_copy(&self, alloc: Global) -> Result<Nfa, AllocError>
-        ensures { IfOk result (λ copy. copy ≡ self.now) }
-    {
-        Ok(Nfa {
-            tables: self.tables.try_copy(alloc)?,
-            memo: Memo::new(alloc),
-        })
-    }
-
     /// The least pattern that clashes with one of a smaller number: some text leads to ends of both, and their classes differ. `classes` has the
     /// class of each pattern, by its number.
     ///

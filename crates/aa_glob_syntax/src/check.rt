@@ -45,9 +45,9 @@ pub fn check_pattern(text: &[u8]) -> Result<Facts, PatternError>
     }
 }
 
-/// Refuses a text with one of the faults that are told before anything is read: `TooLong`, `ZeroByte` and `NotAbsolute`. It takes no
-/// memory.
-pub fn check_text(text: &[u8]) -> Result<(), PatternError>
+// Refuses a text with one of the faults that are told before anything is read: `TooLong`, `ZeroByte` and `NotAbsolute`. It takes no
+// memory.
+fn check_text(text: &[u8]) -> Result<(), PatternError>
     ensures fine { OnOk result (HasNoFirstFault text.now) }
     ensures refused { IfErr result (λ error. reading text.now ≡ Err error) }
     ensures memory { IfErr result (λ error. error ≢ Memory) }

@@ -14,7 +14,7 @@ mod star;
 mod symbol;
 
 pub use bits::BitStack;
-pub use check::{Facts, LONGEST_PATTERN, check_pattern, check_text};
+pub use check::{Facts, LONGEST_PATTERN, check_pattern};
 pub use class::Class;
 pub use context::Context;
 pub use element::{Element, Next, next_element};

@@ -17,8 +17,8 @@ use Rattle.aa_profile_rules.specs.Rules.{Rule as WrittenRule}
 use Rattle.aa_profile.specs.Conflicts.{conflict_in_members, conflict_in_profiles, conflict_in_rules, refusal_of_conflicts}
 use Rattle.aa_profile.specs.FileReading.{refusal_of_patterns}
 use Rattle.aa_profile.specs.Laws.{ChildHasNoConflict, HasNoConflict}
-use Rattle.aa_profile.specs.PatternTokens.{of_profiles}
-use Rattle.aa_profile.specs.Patterns.{first_bad, over_limit}
+use Rattle.aa_profile_patterns.specs.PatternTokens.{of_profiles}
+use Rattle.aa_profile_patterns.specs.Patterns.{first_bad, over_limit}
 use Rattle.aa_profile.specs.Profiles.{children_of, profile_of, rules_of, rules_of_members, rules_of_rule}
 use Rattle.aa_profile_errors.specs.ProfileError.{placed}
 use Rattle.aa_profile_errors.specs.declared.profile_error.ProfileError.{ProfileError}

@@ -17,7 +17,8 @@ use Rattle.aa_text_files.specs.declared.text_error.Place.{Place}
 use Rattle.aa_text_files.specs.declared.text_error.TextRefusal.{TextRefusal}
 use Rattle.aa_text_files.specs.declared.text_error.TextRefusal.TheVariants.{Cycle, Undefined}
 use Rattle.aa_profile.specs.Assignments.{all_assigned, assigned, cycle, first_of, first_undefined, naming, undefined_name}
-use Rattle.aa_profile.specs.code.FileReadingProgress.{first_undefined_value, have_expansions}
+use Rattle.aa_profile.specs.code.FileReadingProgress.{first_undefined_value}
+use Rattle.aa_profile_patterns.specs.Patterns.{have_expansions}
 use Rattle.aa_profile_grammar.specs.Preamble.{Assignment}
 use Rattle.aa_profile_parsing.specs.Tokens.{place_of, text_of}
 use Rattle.aa_profile_errors.specs.ProfileError.{placed}

@@ -16,13 +16,12 @@ use Rattle.aa_profile_grammar.specs.Blocks.{OfChild, OfRule, Child as WrittenChi
 use Rattle.aa_profile_parsing.specs.Tokens.{place_of, text_of}
 use Rattle.aa_profile_rules.specs.Rules.{Kept, OnCapabilities, OnFile, OnNetwork, Rule as WrittenRule}
 use Rattle.aa_profile.specs.Conflicts.{conflict_in_members, conflict_in_profiles, conflict_in_rule, conflict_in_rules, pattern_of}
-use Rattle.aa_profile.specs.Limits.{most_rules}
-use Rattle.aa_profile.specs.Patterns.{over_limit, too_many}
+use Rattle.aa_profile_patterns.specs.Limits.{most_rules}
+use Rattle.aa_profile_patterns.specs.Patterns.{have_expansions, over_limit, too_many}
 use Rattle.aa_profile.specs.Profiles.{cap_rule, children_of, net_rule, other_rule, profile_of, rules_of, rules_of_members, rules_of_rule}
 use Rattle.aa_profile_errors.specs.ProfileError.{placed}
 use Rattle.aa_profile_errors.specs.declared.profile_error.ProfileRefusal.TheVariants.{TooManyRules}
 use Rattle.aa_profile.specs.code.ConflictProgress.{are_counted, is_counted, Passes, ReachesMembers, ReachesRules}
-use Rattle.aa_profile.specs.code.FileReadingProgress.{have_expansions}
 
 -- a conflict of the first rules comes before those behind them
 pub first-front : (before rules rest : List Rule) (k : ℕ) → first_conflict before rules ≡ Some k → first_conflict before (rules ++ rest) ≡ Some k

@@ -4,7 +4,6 @@ pub mod ConflictLemmas
 pub mod GrammarLemmas
 pub mod NameLemmas
 pub mod NumberLemmas
-pub mod PatternLemmas
 pub mod ProfileLemmas
 pub mod ReadLemmas
 pub mod ReadingLemmas

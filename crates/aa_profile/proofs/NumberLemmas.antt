@@ -20,7 +20,7 @@ use Rattle.aa_profile_grammar.specs.declared.sequence.Next.{Next}
 use Rattle.aa_profile_grammar.specs.declared.sequence.Next.TheVariants.{Item, End}
 use Rattle.aa_profile_data.specs.Numbers.{child_has_known_numbers, has_known_numbers, profile_has_known_numbers}
 use Rattle.aa_profile_data.specs.declared.profile.Rule.{Rule}
-use Rattle.aa_profile.specs.Patterns.{patterns_at}
+use Rattle.aa_profile_patterns.specs.Patterns.{patterns_at}
 use Rattle.aa_profile.specs.Profiles.{children_of, file_rule, profile_of, rules_of, rules_of_members, rules_of_rule}
 use Rattle.aa_text_variables.specs.Variables.{Variable}
 use Rattle.aa_profile.proofs.GrammarLemmas.{first-told, followed-ok, no-skipped, profiles-keep, row-keeps}

@@ -8,9 +8,8 @@ use Rattle.aa_text_variables.specs.Variables.{Variable}
 use Rattle.aa_profile_parsing.specs.Tokens.{text_of}
 use Rattle.aa_profile_rules.specs.SeenRules.{seen_rule}
 use Rattle.aa_profile_rules.specs.declared.rules.Rule.{Rule}
-use Rattle.aa_profile.specs.PatternTokens.{of_rule, of_rules}
-use Rattle.aa_profile.specs.Patterns.{first_bad, refusal_of_token}
-use Rattle.aa_profile.specs.code.FileReadingProgress.{have_expansions}
+use Rattle.aa_profile_patterns.specs.PatternTokens.{of_rule, of_rules}
+use Rattle.aa_profile_patterns.specs.Patterns.{first_bad, have_expansions, refusal_of_token}
 use Rattle.aa_profile_errors.specs.declared.profile_error.ProfileError.{ProfileError}
 
 -- where some tokens are fine, those behind them decide

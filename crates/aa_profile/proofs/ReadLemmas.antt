@@ -15,8 +15,8 @@ use Rattle.aa_profile_rules.specs.Rules.{Kept, OnCapabilities, OnFile, OnNetwork
 use Rattle.aa_text_splicing.specs.Splicing.{Placed}
 use Rattle.aa_text_variables.specs.Expansions.{expansions}
 use Rattle.aa_text_variables.specs.Variables.{Variable}
-use Rattle.aa_profile.specs.PatternTokens.{of_child, of_head, of_members, of_profile, of_profiles, of_rule, of_rules}
-use Rattle.aa_profile.specs.Patterns.{collapsed, first_bad, refusal_of_expansion, refusal_of_expansions, refusal_of_token}
+use Rattle.aa_profile_patterns.specs.PatternTokens.{of_child, of_head, of_members, of_profile, of_profiles, of_rule, of_rules}
+use Rattle.aa_profile_patterns.specs.Patterns.{collapsed, first_bad, refusal_of_expansion, refusal_of_expansions, refusal_of_token}
 use Rattle.aa_profile.specs.Profiles.{children_of, file_rule, rules_of, rules_of_members, rules_of_rule}
 use Rattle.aa_profile_errors.specs.ProfileError.{placed, refusal_of_pattern}
 use Rattle.aa_profile_errors.specs.declared.profile_error.ProfileError.{ProfileError}

@@ -10,7 +10,7 @@ use Rattle.aa_profile_data.specs.declared.profile.Profile.{Profile}
 use Rattle.aa_profile.specs.Assignments.{variables_of}
 use Rattle.aa_profile.specs.Conflicts.{conflict_in_profiles, refusal_of_conflicts}
 use Rattle.aa_profile.specs.FileReading.{file_profiles, profiles_in, profiles_of, profiles_with, refusal_of_patterns, refusal_of_rules}
-use Rattle.aa_profile.specs.PatternTokens.{of_profiles}
+use Rattle.aa_profile_patterns.specs.PatternTokens.{of_profiles}
 use Rattle.aa_profile.specs.Profiles.{profile_of}
 use Rattle.aa_profile_errors.specs.declared.profile_error.ProfileError.{ProfileError}
 use Rattle.aa_profile_errors.specs.ProfileError.{error_of_grammar, refusal_of_text}

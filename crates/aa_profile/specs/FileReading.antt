@@ -9,8 +9,8 @@ use Rattle.aa_text_variables.specs.Variables.{Variable}
 use Rattle.aa_profile_data.specs.declared.profile.Profile.{Profile}
 use Rattle.aa_profile.specs.Assignments.{variables_of}
 use Rattle.aa_profile.specs.Conflicts.{refusal_of_conflicts}
-use Rattle.aa_profile.specs.PatternTokens.{of_profiles}
-use Rattle.aa_profile.specs.Patterns.{first_bad, over_limit}
+use Rattle.aa_profile_patterns.specs.PatternTokens.{of_profiles}
+use Rattle.aa_profile_patterns.specs.Patterns.{first_bad, over_limit}
 use Rattle.aa_profile_errors.specs.ProfileError.{error_of_grammar, refusal_of_text}
 use Rattle.aa_profile.specs.Profiles.{profile_of}
 use Rattle.aa_profile_errors.specs.declared.profile_error.ProfileError.{ProfileError}

@@ -8,7 +8,7 @@ use Rattle.aa_profile_grammar.specs.Blocks.{Profile as WrittenProfile}
 use Rattle.aa_text_variables.specs.Variables.{Variable}
 use Rattle.aa_profile.specs.Conflicts.{refusal_of_conflicts}
 use Rattle.aa_profile.specs.FileReading.{refusal_of_patterns}
-use Rattle.aa_profile.specs.PatternTokens.{of_profiles}
+use Rattle.aa_profile_patterns.specs.PatternTokens.{of_profiles}
 use Rattle.aa_profile.specs.Profiles.{profile_of}
 
 -- no rule of a child or a hat conflicts with an earlier one

@@ -2,9 +2,6 @@ pub mod Assignments
 pub mod Conflicts
 pub mod FileReading
 pub mod Laws
-pub mod Limits
-pub mod PatternTokens
-pub mod Patterns
 pub mod ProfileNames
 pub mod Profiles
 pub mod code

@@ -21,7 +21,7 @@ use Rattle.aa_profile_rules.specs.declared.networks.Sockets.{Sockets}
 use Rattle.aa_profile_rules.specs.declared.qualifiers.Qualifiers.{Qualifiers}
 use Rattle.aa_text_splicing.specs.Splicing.{Placed}
 use Rattle.aa_text_variables.specs.Variables.{Variable}
-use Rattle.aa_profile.specs.Patterns.{patterns_at}
+use Rattle.aa_profile_patterns.specs.Patterns.{patterns_at}
 
 -- a token as it stands in its file
 abbrev pub span_of : Placed → List ℕ

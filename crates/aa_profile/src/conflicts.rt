@@ -8,10 +8,10 @@ ghost use Rattle.aa_profile_grammar.specs.SeenFiles.{seen_child, seen_member, se
 ghost use Rattle.aa_profile_parsing.specs.Tokens.{place_of};
 ghost use Rattle.aa_profile_rules.specs.SeenRules.{seen_rule};
 ghost use Rattle.aa_profile.specs.Conflicts.{conflict_in_members, conflict_in_profiles, conflict_in_rules, pattern_of, refusal_of_conflicts};
-ghost use Rattle.aa_profile.specs.PatternTokens.{of_members, of_profiles, of_rule, of_rules};
+ghost use Rattle.aa_profile_patterns.specs.PatternTokens.{of_members, of_profiles, of_rule, of_rules};
+ghost use Rattle.aa_profile_patterns.specs.Refusals.{IsRefusal};
 ghost use Rattle.aa_profile.specs.Profiles.{children_of, profile_of, rules_of, rules_of_members, rules_of_rule};
 ghost use Rattle.aa_profile.specs.code.ConflictProgress.{Passes, are_counted};
-ghost use Rattle.aa_profile.specs.code.FileReadingProgress.{IsRefusal};
 
 use aa_profile_conflicts::first_conflict;
 use aa_profile_data::{Child, Profile, Rule};

@@ -6,8 +6,6 @@ mod conflicts;
 mod file_rules;
 mod kept_rules;
 mod laws;
-mod pattern_tokens;
-mod patterns;
 mod profiles;
 mod reading;
 
@@ -17,8 +15,8 @@ pub use aa_profile_data::{
 };
 pub use aa_profile_errors::{ProfileError, ProfileRefusal};
 pub use aa_profile_parsing::GrammarRefusal;
+pub use aa_profile_patterns::MOST_RULES;
 pub use laws::{
     how_profiles_are_named, when_conflicts_are_refused, which_numbers_rules_have, which_rules_agree,
 };
-pub use patterns::MOST_RULES;
 pub use reading::read_file;

@@ -7,17 +7,16 @@ ghost use Rattle.aa_text_splicing.specs.SeenTokens.{seen_spliced};
 ghost use Rattle.aa_profile_grammar.specs.SeenFiles.{seen_child, seen_head, seen_member, seen_profile};
 ghost use Rattle.aa_profile_parsing.specs.SeenTokens.{seen_tokens};
 ghost use Rattle.aa_profile_rules.specs.SeenRules.{seen_rule};
-ghost use Rattle.aa_profile.specs.PatternTokens.{of_child, of_head, of_member, of_members, of_profile, of_profiles, of_rule, of_rules};
-ghost use Rattle.aa_profile.specs.Patterns.{first_bad};
+ghost use Rattle.aa_profile_patterns.specs.PatternTokens.{of_child, of_head, of_member, of_members, of_profile, of_profiles, of_rule, of_rules};
+ghost use Rattle.aa_profile_patterns.specs.Patterns.{first_bad, have_expansions};
+ghost use Rattle.aa_profile_patterns.specs.Refusals.{IsRefusal};
 ghost use Rattle.aa_profile.specs.Profiles.{attachments_of, cap_rule, child_of, children_of, children_of_member, mode_of, net_rule};
 ghost use Rattle.aa_profile.specs.Profiles.{other_rule, profile_of, rules_of, rules_of_member, rules_of_members, rules_of_rule};
-ghost use Rattle.aa_profile.specs.code.FileReadingProgress.{IsRefusal, have_expansions};
 ghost use Rattle.aa_profile_errors.specs.ProfileError.{plain};
 ghost use Rattle.aa_profile_errors.specs.declared.profile_error.ProfileRefusal.TheVariants.{Memory};
 
 use crate::file_rules::push_file_rules;
 use crate::kept_rules::kept_text;
-use crate::patterns::read_patterns;
 use aa_bytes::Sequence;
 use aa_glob_pattern::Pattern;
 use aa_profile_data::{CapRule, Child, Mode, NetRule, OtherRule, Profile, Rule};
@@ -26,6 +25,7 @@ use aa_profile_grammar::{
     Child as WrittenChild, Flags, Head, Member, Profile as WrittenProfile, Qualifiers,
     Rule as WrittenRule, Sockets,
 };
+use aa_profile_patterns::read_patterns;
 use aa_text_splicing::Spliced;
 use aa_text_variables::ExpansionTable;
 use std::alloc::{AllocError, Global};

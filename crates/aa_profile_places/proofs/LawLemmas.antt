@@ -11,7 +11,7 @@ use Rattle.aa_profile_parsing.specs.declared.grammar_error.GrammarError.{Grammar
 use Rattle.aa_profile_rules.specs.Rules.{Rule as WrittenRule}
 use Rattle.aa_profile.specs.Assignments.{variables_of}
 use Rattle.aa_profile.specs.FileReading.{file_profiles, profiles_in, profiles_of, profiles_with, refusal_of_rules}
-use Rattle.aa_profile.specs.PatternTokens.{of_profiles}
+use Rattle.aa_profile_patterns.specs.PatternTokens.{of_profiles}
 use Rattle.aa_profile.specs.Profiles.{children_of, profile_of, rules_of, rules_of_members, rules_of_rule}
 use Rattle.aa_profile_errors.specs.ProfileError.{error_of_grammar, refusal_of_text}
 use Rattle.aa_profile_errors.specs.declared.profile_error.ProfileError.{ProfileError}

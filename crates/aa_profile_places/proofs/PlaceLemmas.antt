@@ -10,7 +10,7 @@ use Rattle.aa_profile_grammar.specs.Files.{File, file}
 use Rattle.aa_profile_rules.specs.Rules.{Rule}
 use Rattle.aa_profile.specs.Assignments.{all_assigned, cycle, undefined_name, variables_of}
 use Rattle.aa_profile.specs.FileReading.{file_profiles, profiles_in, profiles_of}
-use Rattle.aa_profile.specs.PatternTokens.{of_profiles}
+use Rattle.aa_profile_patterns.specs.PatternTokens.{of_profiles}
 use Rattle.aa_profile.specs.Profiles.{rules_of_rule}
 use Rattle.aa_profile_errors.specs.declared.profile_error.ProfileError.{ProfileError}
 use Rattle.aa_profile_places.specs.RulePlaces.{file_places, place_of_rule, places_in, places_of, places_of_profile, places_of_rule}

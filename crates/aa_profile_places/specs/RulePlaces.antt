@@ -11,7 +11,7 @@ use Rattle.aa_profile_rules.specs.Rules.{Kept, OnCapabilities, OnFile, OnNetwork
 use Rattle.aa_profile_grammar.specs.Blocks.{OfChild, OfRule, Member, Profile}
 use Rattle.aa_profile_grammar.specs.Files.{File, file}
 use Rattle.aa_profile.specs.Assignments.{variables_of}
-use Rattle.aa_profile.specs.PatternTokens.{of_profiles}
+use Rattle.aa_profile_patterns.specs.PatternTokens.{of_profiles}
 use Rattle.aa_profile.specs.Profiles.{rules_of_rule}
 use Rattle.aa_profile_places.specs.declared.places.ProfilePlaces.{ProfilePlaces}
 

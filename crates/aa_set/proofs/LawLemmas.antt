@@ -14,7 +14,7 @@ use Rattle.aa_set_changes.specs.Changes.{changed as change_of_set, parts_of}
 use Rattle.aa_decide_slots.specs.Named.{have_distinct_names}
 use Rattle.aa_set_lines.specs.Limits.{longest_line}
 use Rattle.aa_set_lines.specs.Lines.{lines}
-use Rattle.aa_set_listing.specs.List.{list_lines}
+use Rattle.aa_set_answers.specs.List.{list_lines}
 use Rattle.aa_set.specs.Laws.{AreDistinct, GivesBack, NoneFlagged, NoneGoes, PiecesChangeNoReply, StepsAdd, StepsReturn, changes, command_in, goes, is_change}
 use Rattle.aa_set.specs.Manager.{Managed, after_change, back_at, is_mark_name, marking, new_manager, next, redone, undone}
 use Rattle.aa_set.specs.Reply.{is_refusal}

@@ -7,7 +7,7 @@ use Rattle.aa_set_commands.specs.declared.refusal.RefusalKind.TheVariants.{LineT
 use Rattle.aa_text_files.specs.Files.{File}
 use Rattle.aa_set_lines.specs.Limits.{longest_line}
 use Rattle.aa_set_answers.specs.Answers.{asks_absent, reply_lines, shown, shows_absent}
-use Rattle.aa_set_listing.specs.List.{list_lines}
+use Rattle.aa_set_answers.specs.List.{list_lines}
 use Rattle.aa_set.specs.Laws.{OtherLineLeavesAll, RefusedLineLeavesAll, SetDecidesAnswer, command_in, goes, is_change, is_question, marks}
 use Rattle.aa_set.specs.Manager.{Managed, back_at, made, marking, redone, undone}
 use Rattle.aa_set.specs.Reply.{is_refusal}

@@ -6,7 +6,7 @@ use Rattle.std.specs.List.{flat_map}
 use Rattle.std.specs.Io.KnownBytes.{Appends, Consumes}
 use Rattle.aa_set_answers.specs.Answers.{asks_absent, reply_lines, shown, shows_absent}
 use Rattle.aa_set_changes.specs.Changes.{change_takes_memory}
-use Rattle.aa_set_listing.specs.List.{list_lines}
+use Rattle.aa_set_answers.specs.List.{list_lines}
 use Rattle.aa_text_files.specs.Files.{File}
 use Rattle.aa_set_commands.specs.Command.{Command, Make, Undo, Redo, Mark, Back, Ask, Listed, Show, line_command}
 use Rattle.aa_set.specs.Manager.{Managed, back_at, is_mark_name, made, marking, new_manager, redone, undone}

@@ -8,7 +8,7 @@ ghost use Rattle.aa_set_commands.specs.Command.{Add, Remove, Replace};
 ghost use Rattle.aa_set_commands.specs.Question.{IsWellFormed, seen_question};
 ghost use Rattle.aa_set_commands.specs.Refusal.{IsRefusalOf, plain};
 ghost use Rattle.aa_set_commands.specs.declared.refusal.RefusalKind.TheVariants.{Memory};
-ghost use Rattle.aa_set_listing.specs.List.{list_lines};
+ghost use Rattle.aa_set_answers.specs.List.{list_lines};
 ghost use Rattle.aa_set.specs.Manager.{is_mark_name};
 ghost use Rattle.aa_set.specs.code.Making.{Makes};
 ghost use Rattle.aa_profile_data.specs.declared.profile.Mode.TheVariants.{Complain, Enforce};
@@ -20,12 +20,11 @@ use aa_history::{
 };
 use aa_profile::read_file;
 use aa_profile_data::Mode;
-use aa_set_answers::{access_lines, exec_lines, find_asker, shown_lines};
+use aa_set_answers::{access_lines, exec_lines, find_asker, list_lines, shown_lines};
 use aa_set_changes::{
     PolicySet, adding, disabling, removing, replacing, switching, what_changes_keep,
 };
 use aa_set_commands::{Question, Refusal, RefusalKind, plain};
-use aa_set_listing::list_lines;
 use aa_set_parts::{Exchange, Indexing, Remembering, Slots, fingerprint};
 use aa_text_files::Files;
 use std::alloc::Global;

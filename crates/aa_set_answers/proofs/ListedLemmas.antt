@@ -19,7 +19,7 @@ use Rattle.aa_profile_data.specs.declared.profile.Child.{Child}
 use Rattle.aa_profile_data.specs.declared.profile.Profile.{Profile}
 use Rattle.aa_profile_names.specs.FullNames.{FullName, full_name}
 use Rattle.aa_profile_names.specs.Names.{is_name, is_name_byte, is_top_name, slashes_are_within}
-use Rattle.aa_set_listing.specs.ProfileNames.{behind_profile, full_name_at}
+use Rattle.aa_set_answers.specs.ProfileNames.{behind_profile, full_name_at}
 use Rattle.aa_set_answers.specs.Askers.{asker, entry_asker, named_asker}
 use Rattle.aa_set_answers.specs.Laws.{HasFileNames, IsListed, ListedNamesLeadBack, StandsAt}
 

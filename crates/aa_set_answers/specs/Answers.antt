@@ -17,8 +17,8 @@ use Rattle.aa_decide_audit.specs.declared.verdict.Verdict.{Verdict}
 use Rattle.aa_profile_data.specs.declared.profile.Profile.{Profile}
 use Rattle.aa_quoting.specs.Texts.{written_text}
 use Rattle.aa_profile_names.specs.FullNames.{full_name}
-use Rattle.aa_set_listing.specs.ProfileNames.{full_name_at}
-use Rattle.aa_set_listing.specs.Show.{show_lines}
+use Rattle.aa_set_answers.specs.ProfileNames.{full_name_at}
+use Rattle.aa_set_answers.specs.Show.{show_lines}
 use Rattle.aa_set_answers.specs.Askers.{asker, confinement, named_asker}
 
 -- a line: a text, and a line feed

@@ -9,7 +9,7 @@ use Rattle.aa_profile_data.specs.declared.profile.Child.{Child}
 use Rattle.aa_profile_data.specs.declared.profile.Profile.{Profile}
 use Rattle.aa_profile_names.specs.FullNames.{full_name}
 use Rattle.aa_profile_names.specs.Names.{is_top_name}
-use Rattle.aa_set_listing.specs.ProfileNames.{full_name_at}
+use Rattle.aa_set_answers.specs.ProfileNames.{full_name_at}
 use Rattle.aa_set_answers.specs.Askers.{asker, named_asker}
 
 -- a profile has a child or a hat at a place; at none it stands itself

@@ -2,3 +2,9 @@ pub mod Answers
 pub mod Askers
 pub mod Laws
 pub mod code
+pub mod Children
+pub mod List
+pub mod ProfileNames
+pub mod RuleLines
+pub mod Show
+pub mod States

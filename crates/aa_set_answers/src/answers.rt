@@ -13,6 +13,8 @@ ghost use Rattle.aa_set_answers.specs.Answers.{scrub_text, shown, shows_absent, 
 ghost use Rattle.aa_set_answers.specs.code.SeenTexts.{seen_text};
 
 use crate::asker::{confinement, find_asker, find_loaded};
+use crate::names::full_name;
+use crate::show::show_lines;
 use aa_decide::{
     Confinement, ExecTo, ExecVerdict, IndexedSlots, Request, Steps, entry_at, exec_by, exec_line,
     log_line,
@@ -20,7 +22,6 @@ use aa_decide::{
 use aa_profile_data::Profile;
 use aa_quoting::push_text;
 use aa_set_commands::{Refusal, RefusalKind, plain};
-use aa_set_listing::{full_name, show_lines};
 use std::alloc::{AllocError, Global};
 
 // The line of a text, and what stands behind it.

@@ -3,8 +3,8 @@
 #![tactic(auto)]
 
 use aa_set::{FromRead, ToWrite};
-use aaset_exit::Fault;
 use aaset_gather::RuntimeFiles;
+use aaset_program::Fault;
 use std::process::ExitCode;
 use std::rt::Env;
 use std::{env, io};
@@ -13,7 +13,7 @@ use std::{env, io};
 fn words_of_start<R: Env + AllocGlobal>(rt: &R) -> Result<Vec<String>, Fault> {
     match env::args(rt) {
         Ok(words) => words.collect(rt.alloc()).map_err(|_| Fault::NoMemory),
-        Err(error) => Err(aaset_exit::fault_of_words(&error)),
+        Err(error) => Err(aaset_program::fault_of_words(&error)),
     }
 }
 

@@ -1,3 +1,5 @@
 pub mod Prepared
 pub mod Program
 pub mod Streams
+pub mod Fault
+pub mod Stop

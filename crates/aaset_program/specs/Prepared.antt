@@ -2,10 +2,10 @@
 use Rattle.std.specs.Prelude.{◌≡◌, ℕ, List, Option, Result, Ok, Err, Vec, String, drop, All}
 use Rattle.aa_text_files.specs.Files.{File}
 use Rattle.aaset_arguments.specs.Arguments.{Asked, ForHelp, ForRun, ForVersion, Nothing, Run, asked}
-use Rattle.aaset_exit.specs.declared.fault.Fault.{Fault}
-use Rattle.aaset_exit.specs.declared.fault.Fault.TheVariants.{BadArguments, NoMemory, Untaken}
-use Rattle.aaset_exit.specs.declared.stop.Stop.{Stop}
-use Rattle.aaset_exit.specs.declared.stop.Stop.TheVariants.{Failed, Shown}
+use Rattle.aaset_program.specs.declared.fault.Fault.{Fault}
+use Rattle.aaset_program.specs.declared.fault.Fault.TheVariants.{BadArguments, NoMemory, Untaken}
+use Rattle.aaset_program.specs.declared.stop.Stop.{Stop}
+use Rattle.aaset_program.specs.declared.stop.Stop.TheVariants.{Failed, Shown}
 use Rattle.aaset_gather.specs.Gathering.{IsFirstFault, IsReadBelow, IsTakable, names_of, texts_of}
 use Rattle.aaset_gather.specs.Names.{AreGoodNames}
 use Rattle.aaset_gather.specs.declared.gathering.GatherFault.TheVariants as files

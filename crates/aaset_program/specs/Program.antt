@@ -6,11 +6,11 @@ use Rattle.aa_set.specs.Run.{HasGiven, HoldsOfRead, IsAnsweredSoFar, IsFrontAnsw
 use Rattle.aa_set.specs.declared.session.RunFault.{RunFault}
 use Rattle.aa_set.specs.declared.session.RunFault.TheVariants as run
 use Rattle.aa_set.specs.declared.session.Summary.{Summary}
-use Rattle.aaset_exit.specs.Fault.{fault_of_run, status_of, text_of}
-use Rattle.aaset_exit.specs.declared.fault.Fault.{Fault}
-use Rattle.aaset_exit.specs.declared.fault.Fault.TheVariants.{Write}
-use Rattle.aaset_exit.specs.declared.stop.Stop.{Stop}
-use Rattle.aaset_exit.specs.declared.stop.Stop.TheVariants.{Failed, Shown}
+use Rattle.aaset_program.specs.Fault.{fault_of_run, status_of, text_of}
+use Rattle.aaset_program.specs.declared.fault.Fault.{Fault}
+use Rattle.aaset_program.specs.declared.fault.Fault.TheVariants.{Write}
+use Rattle.aaset_program.specs.declared.stop.Stop.{Stop}
+use Rattle.aaset_program.specs.declared.stop.Stop.TheVariants.{Failed, Shown}
 use Rattle.aaset_program.specs.Streams.{IsUnread, IsUnwritten, IsWritten, Reads, Writes}
 use Rattle.aaset_program.specs.declared.ready.Ready.{Ready}
 

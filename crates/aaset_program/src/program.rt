@@ -1,15 +1,17 @@
 //! What the program does, from the words of its start to its exit status.
 ghost use Rattle.std.specs.Prelude.{◌≡◌, ◌^◌, ◌≤◌, false, Result};
-ghost use Rattle.aaset_exit.specs.declared.stop.Stop.{Stop};
+ghost use Rattle.aaset_program.specs.declared.stop.Stop.{Stop};
 ghost use Rattle.aaset_program.specs.declared.ready.Ready.{Ready};
 ghost use Rattle.aaset_program.specs.Prepared.{ArePrepared};
 ghost use Rattle.aaset_program.specs.Program.{IsPerformed, IsRun};
 ghost use Rattle.aaset_program.specs.Streams.{read_from, written_to};
 
+use crate::fault::Fault;
+use crate::outcome::status;
 use crate::ready::{Ready, prepare};
 use crate::reporting::{report, show};
+use crate::stop::Stop;
 use aa_set::{Sink, Source};
-use aaset_exit::{Fault, Stop};
 use aaset_gather::FileSystem;
 use std::alloc::Global;
 
@@ -32,7 +34,7 @@ fn answer<S: Source, W: Sink, E: Sink>(
 {
     let outcome = aa_set::run(alloc, &ready.files, ready.force_complain, input, output);
     match &outcome {
-        Ok(_) => aaset_exit::status(&outcome),
+        Ok(_) => status(&outcome),
         Err(fault) => report(alloc, errors, &Fault::from(*fault)),
     }
 }

@@ -4,9 +4,10 @@ ghost use Rattle.aaset_arguments.specs.Arguments.{ForRun, asked};
 ghost use Rattle.aaset_arguments.specs.Plan.{run_of};
 ghost use Rattle.aaset_program.specs.Prepared.{ArePrepared, IsPrepared};
 
+use crate::fault::Fault;
+use crate::stop::Stop;
 use aa_text_files::Files;
 use aaset_arguments::Plan;
-use aaset_exit::{Fault, Stop};
 use aaset_gather::FileSystem;
 use std::alloc::Global;
 

@@ -1,12 +1,12 @@
 //! What is reported apart from replies: faults, and texts that were asked for.
 ghost use Rattle.std.specs.Prelude.{◌≡◌, OnOk, OnErr, true, string_bytes};
 ghost use Rattle.std.specs.Io.KnownBytes.{Appends};
-ghost use Rattle.aaset_exit.specs.Fault.{joined};
+ghost use Rattle.aaset_program.specs.Fault.{joined};
 ghost use Rattle.aaset_program.specs.Streams.{written_to};
 ghost use Rattle.aaset_program.specs.Program.{IsReported, IsShown, line_of};
 
+use crate::fault::{Fault, FaultText, fault_status, fault_text};
 use aa_set::{Failed, Sink};
-use aaset_exit::{Fault, FaultText};
 use std::alloc::Global;
 
 // Writes a text, in as many calls as the sink needs, and without memory.
@@ -35,8 +35,8 @@ fn write_line<E: Sink>(alloc: Global, errors: &mut E, text: FaultText<'_>) -> Re
 pub fn report<E: Sink>(alloc: Global, errors: &mut E, fault: &Fault) -> u8
     ensures { IsReported fault.now (written_to (E.written errors.old) (E.written errors.new) (E.failed errors.new)) result }
 {
-    let _ = write_line(alloc, errors, aaset_exit::fault_text(fault));
-    aaset_exit::fault_status(fault)
+    let _ = write_line(alloc, errors, fault_text(fault));
+    fault_status(fault)
 }
 
 // Shows a text that was asked for.

@@ -3,9 +3,9 @@ use Rattle.std.specs.Prelude.{ℕ, Bool, true, false, ◌==◌, if◌then◌else
 use Rattle.aa_decide_verdict.specs.Verdict.{covers}
 use Rattle.aa_profile_access.specs.Request.{Request}
 use Rattle.aa_profile_data.specs.declared.profile.Rule.{Rule}
-use Rattle.aa_set_listing.specs.RuleLines.{rule_text}
-use Rattle.aa_set_listing.specs.Show.{attachment_text}
-use Rattle.aa_set_listing.specs.States.{mode_word}
+use Rattle.aa_set_answers.specs.RuleLines.{rule_text}
+use Rattle.aa_set_answers.specs.Show.{attachment_text}
+use Rattle.aa_set_answers.specs.States.{mode_word}
 use Rattle.aa_text_files.specs.declared.text_error.Place.{Place}
 use Rattle.aatry_changes.specs.declared.lines.Line.{Line}
 use Rattle.aatry_profiles.specs.Parts.{Part}

@@ -11,7 +11,7 @@ use aa_glob_pattern::Pattern;
 use aa_profile_access::Request;
 use aa_profile_data::Rule;
 use aa_profile_places::Place;
-use aa_set_listing::{mode_word, push_attachment, push_rule};
+use aa_set_answers::{mode_word, push_attachment, push_rule};
 use aatry_profiles::Part;
 use aatry_why::covers;
 use bitflags::Flags;

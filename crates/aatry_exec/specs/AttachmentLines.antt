@@ -5,7 +5,7 @@ use Rattle.aa_bytes.specs.Bytes.{line_feed}
 use Rattle.aa_bytes.specs.Texts.{is_empty}
 use Rattle.aa_decide_attachment.specs.StandingOut.{greatest, standing_out}
 use Rattle.aa_quoting.specs.Texts.{written_text}
-use Rattle.aa_set_listing.specs.ProfileNames.{full_name_at}
+use Rattle.aa_set_answers.specs.ProfileNames.{full_name_at}
 use Rattle.aatry_exec.specs.Candidates.{Candidate, best_pattern, patterns_of, rank_of}
 use Rattle.aatry_exec.specs.declared.attachment.Standing.{Standing}
 use Rattle.aatry_exec.specs.declared.attachment.Standing.TheVariants.{Attached, Lost, Tied}

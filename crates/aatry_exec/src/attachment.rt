@@ -16,7 +16,7 @@ use aa_decide_attachment::standing_out;
 use aa_decide_verdict::Entry;
 use aa_glob_pattern::Pattern;
 use aa_quoting::push_text;
-use aa_set_listing::full_name;
+use aa_set_answers::full_name;
 use aatry_record::{Form, Record, push_heading};
 use std::alloc::{AllocError, Global};
 

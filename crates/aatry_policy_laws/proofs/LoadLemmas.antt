@@ -23,7 +23,7 @@ use Rattle.aa_set_commands.specs.Command.{Add}
 use Rattle.aa_set_commands.specs.Refusal.{plain, refusal_of_profile}
 use Rattle.aa_set_commands.specs.declared.refusal.Refusal.{Refusal}
 use Rattle.aa_set_commands.specs.declared.refusal.RefusalKind.TheVariants.{Exists}
-use Rattle.aa_set_listing.specs.ProfileNames.{full_name_at}
+use Rattle.aa_set_answers.specs.ProfileNames.{full_name_at}
 use Rattle.aa_text_files.specs.Files.{File}
 use Rattle.aatry_policy_laws.proofs.PartLemmas.{HasAll, IsOf, IsPlaced, are-files, contains-mapped, has-files, profiles_in, rules-of, taken}
 use Rattle.aatry_policy_laws.proofs.ReadLemmas.{IsRead, all-read, placed, read-named}

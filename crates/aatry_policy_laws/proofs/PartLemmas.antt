@@ -15,7 +15,7 @@ use Rattle.aa_profile_places.specs.Laws.{AreProfilesMadeAt, AreRelated, IsChildM
 use Rattle.aa_profile_places.specs.declared.places.ProfilePlaces.{ProfilePlaces}
 use Rattle.aa_set_answers.specs.Laws.{IsListed, StandsAt}
 use Rattle.aa_set_changes.specs.Changes.{loaded}
-use Rattle.aa_set_listing.specs.ProfileNames.{full_name_at}
+use Rattle.aa_set_answers.specs.ProfileNames.{full_name_at}
 use Rattle.aa_text_files.specs.declared.text_error.Place.{Place}
 use Rattle.aa_text_variables.specs.Variables.{Variable}
 use Rattle.aatry_policy_laws.specs.Laws.{HasOwnRules}

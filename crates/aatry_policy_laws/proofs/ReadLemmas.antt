@@ -6,7 +6,7 @@ use Rattle.std.proofs.lemmas.List.Elements.{All-append, All-cons, All-nil}
 use Rattle.std.specs.List.{All, list_all}
 use Rattle.aa_profile.specs.Assignments.{variables_of}
 use Rattle.aa_profile.specs.FileReading.{file_profiles, profiles_in, profiles_of}
-use Rattle.aa_profile.specs.PatternTokens.{of_profiles}
+use Rattle.aa_profile_patterns.specs.PatternTokens.{of_profiles}
 use Rattle.aa_profile.specs.ProfileNames.{has_distinct_children, is_child_named_well, is_named_well}
 use Rattle.aa_profile_data.specs.declared.profile.Profile.{Profile}
 use Rattle.aa_profile_errors.specs.ProfileError.{error_of_grammar, refusal_of_text}

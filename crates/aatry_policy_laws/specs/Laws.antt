@@ -2,7 +2,7 @@
 use Rattle.std.specs.Prelude.{◌≡◌, List, Some}
 use Rattle.aa_decide.specs.Exec.{Asker}
 use Rattle.aa_decide_verdict.specs.Ready.{audits, rules_at}
-use Rattle.aa_set_listing.specs.ProfileNames.{full_name_at}
+use Rattle.aa_set_answers.specs.ProfileNames.{full_name_at}
 use Rattle.aatry_profiles.specs.Parts.{Part, part_of}
 
 -- the first part of the full name of a profile, child or hat has the rules by which it decides, and is audited as it is

@@ -6,7 +6,7 @@ use Rattle.aa_profile_data.specs.declared.profile.Mode.{Mode}
 use Rattle.aa_profile_data.specs.declared.profile.Profile.{Profile}
 use Rattle.aa_profile_data.specs.declared.profile.Rule.{Rule}
 use Rattle.aa_profile_places.specs.declared.places.ProfilePlaces.{ProfilePlaces}
-use Rattle.aa_set_listing.specs.ProfileNames.{full_name_at}
+use Rattle.aa_set_answers.specs.ProfileNames.{full_name_at}
 use Rattle.aa_text_files.specs.declared.text_error.Place.{Place}
 use Rattle.aatry_profiles.specs.Profiles.{FileProfiles}
 

@@ -9,7 +9,7 @@ use aa_bytes::Sequence;
 use aa_glob_pattern::Pattern;
 use aa_profile_data::{Child, Mode, Profile, Rule};
 use aa_profile_places::{Place, ProfilePlaces};
-use aa_set_listing::full_name;
+use aa_set_answers::full_name;
 use std::alloc::{AllocError, Global};
 
 /// A profile, or a child or hat of one, with the places of its rules.

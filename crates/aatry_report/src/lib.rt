@@ -11,5 +11,5 @@ mod words;
 pub use faults::{push_fault, push_fault_at, push_place, put_fault, put_fault_at};
 pub use places::{path_below, put_place};
 pub use shown::push_shown;
-pub use taken::{kept_rules, push_taken};
+pub use taken::push_taken;
 pub use words::words_of;

@@ -46,9 +46,9 @@ fn add_kept_in_children(kept: usize, children: &[Child]) -> usize
     sum
 }
 
-/// How many rules of these profiles, of their children and hats, are kept as they are written and decide nothing here; where they are more than
-/// a `usize` counts, the most that it does.
-pub fn kept_rules(profiles: &[Profile]) -> usize
+// How many rules of these profiles, of their children and hats, are kept as they are written and decide nothing here; where they are more than
+// a `usize` counts, the most that it does.
+fn kept_rules(profiles: &[Profile]) -> usize
     ensures { result ≡ counted (kept_rules profiles.now) }
 {
     let mut sum: usize = 0;

@@ -15,7 +15,7 @@ use Rattle.aa_set_commands.specs.Refusal.{plain}
 use Rattle.aa_set_commands.specs.declared.refusal.Refusal.{Refusal}
 use Rattle.aa_set_commands.specs.declared.refusal.RefusalKind.TheVariants.{BadRequest, LineTooLong, Memory, NoMark, NothingToRedo, NothingToUndo}
 use Rattle.aa_set_lines.specs.Limits.{longest_line}
-use Rattle.aa_set_listing.specs.List.{list_lines}
+use Rattle.aa_set_answers.specs.List.{list_lines}
 use Rattle.aa_text_files.specs.Files.{File}
 use Rattle.aatry_session.specs.History.{change_in, change_text}
 use Rattle.aatry_session.specs.Turns.{Kept, depth, texts_behind}

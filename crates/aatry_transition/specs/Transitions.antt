@@ -9,8 +9,8 @@ use Rattle.aa_profile_access.specs.declared.exec_word.Destination.{Destination}
 use Rattle.aa_profile_access.specs.declared.exec_word.Destination.TheVariants as to
 use Rattle.aa_profile_data.specs.declared.profile.Transition.{Transition}
 use Rattle.aa_quoting.specs.Texts.{written_text}
-use Rattle.aa_set_listing.specs.ProfileNames.{full_name_at}
-use Rattle.aa_set_listing.specs.RuleLines.{exec_text}
+use Rattle.aa_set_answers.specs.ProfileNames.{full_name_at}
+use Rattle.aa_set_answers.specs.RuleLines.{exec_text}
 use Rattle.aatry_record.specs.Headings.{heading_line}
 use Rattle.aatry_record.specs.Records.{record_line, record_of, with_text}
 use Rattle.aatry_record.specs.declared.form.Form.{Form}

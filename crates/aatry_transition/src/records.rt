@@ -1,7 +1,7 @@
 //! The records of transitions.
 
 ghost use Rattle.std.specs.Prelude.{◌≡◌, IfOk, OnOk, Some, codes};
-ghost use Rattle.aa_set_listing.specs.RuleLines.{exec_text};
+ghost use Rattle.aa_set_answers.specs.RuleLines.{exec_text};
 ghost use Rattle.aatry_record.specs.Records.{with_text};
 ghost use Rattle.aatry_record.specs.SeenRecord.{seen_record};
 ghost use Rattle.aatry_transition.specs.SeenLeads.{seen_lead, seen_leads};
@@ -10,7 +10,7 @@ ghost use Rattle.aatry_transition.specs.Transitions.{lack_of, started_name, tran
 use crate::leads::Lead;
 use crate::transition::{push_exec, push_lack};
 use aa_profile_data::Transition;
-use aa_set_listing::full_name;
+use aa_set_answers::full_name;
 use aatry_record::Record;
 use std::alloc::{AllocError, Global};
 

@@ -5,7 +5,7 @@ ghost use Rattle.aa_decide_verdict.specs.Confinement.{found};
 ghost use Rattle.aa_profile_access.specs.SeenRequests.{request_of};
 ghost use Rattle.aa_decide_verdict.specs.Slots.{filled};
 ghost use Rattle.aa_set_answers.specs.Answers.{confined_answer};
-ghost use Rattle.aa_set_listing.specs.Children.{lines_of_children};
+ghost use Rattle.aa_set_answers.specs.Children.{lines_of_children};
 ghost use Rattle.aatry_profiles.specs.Folders.{seen_folder};
 ghost use Rattle.aatry_profiles.specs.SeenProfiles.{seen_part};
 ghost use Rattle.aatry_record.specs.SeenRecord.{seen_record};
@@ -16,8 +16,8 @@ ghost use Rattle.aatry_why_lines.specs.Written.{seen_rules};
 
 use aa_decide::{Answer, Confinement, Entry, Request, Steps};
 use aa_profile_data::Child;
+use aa_set_answers::full_name;
 use aa_set_changes::PolicySet;
-use aa_set_listing::full_name;
 use aatry_profiles::{FolderParts, Part, part_of};
 use aatry_record::{Form, Record};
 use aatry_report::push_shown;

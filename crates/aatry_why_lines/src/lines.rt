@@ -1,7 +1,7 @@
 //! The lines and the records that tell rules with the places where they are written.
 
 ghost use Rattle.std.specs.Prelude.{◌≡◌, ◌++◌, IfOk, OnOk, codes, flat_map};
-ghost use Rattle.aa_set_listing.specs.RuleLines.{rule_text};
+ghost use Rattle.aa_set_answers.specs.RuleLines.{rule_text};
 ghost use Rattle.aatry_record.specs.Records.{with_text};
 ghost use Rattle.aatry_record.specs.SeenRecord.{seen_record};
 ghost use Rattle.aatry_why_lines.specs.Lines.{group_lines, line_at, missing_line, missing_record, place_at, told_line};
@@ -10,7 +10,7 @@ ghost use Rattle.aatry_why_lines.specs.Written.{seen_rules};
 
 use crate::written::WrittenRules;
 use aa_profile_data::Rule;
-use aa_set_listing::push_rule;
+use aa_set_answers::push_rule;
 use aa_text_files::{Files, Place};
 use aatry_record::{Form, Record, push_heading};
 use aatry_report::{path_below, push_place, push_shown, put_place};

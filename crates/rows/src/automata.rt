@@ -82,18 +82,6 @@ fn ask_automaton(
     tally.settle("matching")
 }
 
-// Asks an automaton and its copy.
-fn ask_copies(
-    tally: &mut Tally,
-    automaton: &Automaton,
-    path: &[u8],
-    answer: &[u8],
-) -> Result<(), RowError> {
-    ask_automaton(tally, automaton, path, answer)?;
-    let copy = automaton.try_copy(tally.alloc())?;
-    ask_automaton(tally, &copy, path, answer)
-}
-
 // How often an automaton is asked of a path that it remembers more and more of: what is missed once is only noted.
 const TIMES_REMEMBERED: usize = 3;
 
@@ -123,7 +111,7 @@ fn ask_matching(
     put_matches(&mut tally.answered, &patterns, path)?;
     tally.settle("matches of each pattern")?;
     let mut automaton = Automaton::build(tally.alloc(), &patterns)?;
-    ask_copies(tally, &automaton, path, answer)?;
+    ask_automaton(tally, &automaton, path, answer)?;
     ask_remembering(tally, &mut automaton, path, answer)
 }
 

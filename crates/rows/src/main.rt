@@ -1,8 +1,12 @@
-//! Asks the rows of patterns, automata, tokens, splicings, variables, files and tables.
+//! Asks the rows of patterns, automata, work, tokens, splicings, variables, files, gatherings, journals and tables; or measures
+//! patterns: `--measure PATTERNS PATHS ROUNDS`.
 #![tactic(auto)]
 
 mod automata;
 mod files;
+mod gatherings;
+mod journals;
+mod measuring;
 mod overlaps;
 mod patterns;
 mod splicings;
@@ -27,10 +31,13 @@ impl Asks for Texts {
         match kind {
             "patterns" | "overlaps" => patterns::ask(tally, parts),
             "automata" => automata::ask(tally, parts),
+            "work" => measuring::ask(tally, parts),
             "tokens" => tokens::ask(tally, parts),
             "splicings" => splicings::ask(tally, common, parts),
             "variables" => variables::ask(tally, parts),
             "files" => files::ask(tally, parts),
+            "gatherings" => gatherings::ask(tally, parts),
+            "journals" => journals::ask(tally, parts),
             "tables" => tables::ask(tally, parts),
             _ => Err(RowError::NoSuchKind),
         }
@@ -38,5 +45,8 @@ impl Asks for Texts {
 }
 
 fn main(rt: HostRuntime) -> Result<()> {
+    if measuring::measures(&rt)? {
+        return Ok(());
+    }
     ask_files(&rt, &Texts)
 }

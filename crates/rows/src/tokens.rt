@@ -1,7 +1,9 @@
 //! Rows of tokens.
 
 use aa_text::{CutFault, Token, TokenKind, tokens};
-use row_texts::{Part, RowError, Tally, put_each, put_lines, put_number_word, put_word};
+use row_texts::{
+    Part, RowError, Tally, find, number_of, put_each, put_lines, put_number_word, put_word,
+};
 
 // The word for a kind of tokens.
 fn kind_word(kind: TokenKind) -> &'static str {
@@ -55,13 +57,36 @@ fn put_answer(answered: &mut Vec<u8>, source: &[u8]) -> Result<(), RowError> {
     }
 }
 
+// How many tokens a text has.
+fn put_count(answered: &mut Vec<u8>, source: &[u8]) -> Result<(), RowError> {
+    match tokens(*answered.allocator(), source) {
+        Ok(found) => put_number_word(answered, found.len()),
+        Err(fault) => put_fault(answered, fault),
+    }
+}
+
+// Asks how many tokens a text has.
+fn ask_count(tally: &mut Tally, source: &[u8], count: &str) -> Result<(), RowError> {
+    put_number_word(&mut tally.wanted, number_of(count)?)?;
+    put_count(&mut tally.answered, source)?;
+    tally.settle("count")
+}
+
+// Asks for the tokens of a text.
+fn ask_tokens(tally: &mut Tally, source: &[u8], lines: &[Part<'_>]) -> Result<(), RowError> {
+    put_lines(&mut tally.wanted, lines)?;
+    put_answer(&mut tally.answered, source)?;
+    tally.settle("tokens")
+}
+
 /// Asks the row that a paragraph is.
 pub fn ask(tally: &mut Tally, parts: &[Part<'_>]) -> Result<(), RowError> {
     let [source, lines @ ..] = parts else {
         return Ok(());
     };
     tally.begin(source.line);
-    put_lines(&mut tally.wanted, lines)?;
-    put_answer(&mut tally.answered, &source.bytes)?;
-    tally.settle("tokens")
+    if let Ok((count, _)) = find(lines, "count ") {
+        return ask_count(tally, &source.bytes, count);
+    }
+    ask_tokens(tally, &source.bytes, lines)
 }

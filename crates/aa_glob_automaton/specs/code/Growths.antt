@@ -9,7 +9,7 @@ use Rattle.aa_glob_syntax.specs.Elements.{Element}
 use Rattle.aa_glob_nfa.specs.declared.entry.Entry.{Entry}
 use Rattle.aa_glob_prefixes.specs.Beginnings.{Begun}
 use Rattle.aa_glob_prefixes.specs.Trails.{Trail}
-use Rattle.aa_glob_trie.specs.Ways.{HasOneMore, places}
+use Rattle.aa_glob_automaton.specs.Tree.{HasOneMore, places}
 
 -- what has grown stands for these trails: the beginnings of patterns, and those of a trail to which one more pattern has led so far
 pub record IsGrowing (patterns : List (List ℕ)) (trail : Trail) (g : Growing) (trails : List Trail) : Type 0 where

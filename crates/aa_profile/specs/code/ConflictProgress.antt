@@ -12,7 +12,7 @@ use Rattle.aa_profile_grammar.specs.Blocks.{Member}
 use Rattle.aa_profile_parsing.specs.Tokens.{place_of, text_of}
 use Rattle.aa_profile_rules.specs.Rules.{Rule as WrittenRule}
 use Rattle.aa_profile.specs.Conflicts.{conflict_in_members, conflict_in_rule, conflict_in_rules}
-use Rattle.aa_profile.specs.Limits.{most_rules}
+use Rattle.aa_profile_patterns.specs.Limits.{most_rules}
 use Rattle.aa_profile.specs.Profiles.{rules_of, rules_of_members, rules_of_rule}
 
 -- a token has expansions, and no more than a file may have rules

@@ -1,9 +1,6 @@
 -- How far the reading of a file has come, told by what is there.
-use Rattle.std.specs.Prelude.{◌≡◌, ◌≢◌, Bool, List, [], ◌∷◌, is_none, Option, None, Some, Result, Err, IfErr}
-use Rattle.std.specs.List.{list_all}
+use Rattle.std.specs.Prelude.{◌≡◌, ◌≢◌, Bool, List, [], ◌∷◌, Option, None, Some, Result, Err, IfErr}
 use Rattle.aa_bytes.specs.Texts.{is_empty}
-use Rattle.aa_text_variables.specs.Expansions.{expansion_refusal}
-use Rattle.aa_text_splicing.specs.Splicing.{Placed}
 use Rattle.aa_text_variables.specs.Variables.{Variable}
 use Rattle.aa_text_files.specs.declared.text_error.Place.{Place}
 use Rattle.aa_profile.specs.Assignments.{first_undefined}
@@ -11,11 +8,7 @@ use Rattle.aa_profile_errors.specs.ProfileError.{plain}
 use Rattle.aa_profile_errors.specs.declared.profile_error.ProfileError.{ProfileError}
 use Rattle.aa_profile_errors.specs.declared.profile_error.ProfileRefusal.TheVariants.{Memory}
 use Rattle.aa_profile_grammar.specs.Preamble.{Assignment}
-use Rattle.aa_profile_parsing.specs.Tokens.{place_of, text_of}
-
--- none of the tokens leads to a name that isn't defined, or to a cycle
-abbrev pub have_expansions : List Variable → List Placed → Bool
-have_expansions variables tokens = list_all (λ token. is_none (expansion_refusal variables (text_of token))) tokens
+use Rattle.aa_profile_parsing.specs.Tokens.{place_of}
 
 -- the place of the first of assignments' values that names a variable that isn't defined
 abbrev pub first_undefined_value : List Variable → List Assignment → Option Place
@@ -29,10 +22,6 @@ first_undefined_value variables (assignment ∷ assignments) = elim (first_undef
 abbrev pub has_no_value : Assignment → Bool
 has_no_value assignment = is_empty assignment.values
 
--- an error of the code is the refusal that the definitions tell, unless memory ran out
-abbrev pub IsRefusal : {X : Type 0} → Option ProfileError → Result X ProfileError → Type 0
-IsRefusal refusal result = IfErr result (λ error. error ≢ plain Memory → refusal ≡ Some error)
-
--- the same where the definitions tell a refusal or something else
+-- an error of the code is the refusal that the definitions tell instead of something else, unless memory ran out
 abbrev pub IsRefusalOf : {X Y : Type 0} → Result Y ProfileError → Result X ProfileError → Type 0
 IsRefusalOf given result = IfErr result (λ error. error ≢ plain Memory → given ≡ Err error)

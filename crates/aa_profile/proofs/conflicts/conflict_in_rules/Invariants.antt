@@ -1,6 +1,6 @@
 use Rattle.std.proofs.Common.{◌≡◌, length, map, true}
 use Rattle.aa_profile_rules.specs.SeenRules.{seen_rule}
-use Rattle.aa_profile.specs.PatternTokens.{of_rules}
+use Rattle.aa_profile_patterns.specs.PatternTokens.{of_rules}
 use Rattle.aa_profile.specs.code.ConflictProgress.{are_counted, ReachesRules}
 use Rattle.aa_profile.proofs.conflicts.conflict_in_rules.Given as goal
 

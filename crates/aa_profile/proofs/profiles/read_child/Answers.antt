@@ -2,7 +2,7 @@ use Rattle.std.proofs.Common.{◌∙◌, sym, ap, map, Some}
 use Rattle.std.proofs.lemmas.Result.{err_from_is_err_and}
 use Rattle.aa_profile_grammar.specs.SeenFiles.{seen_head}
 use Rattle.aa_profile_rules.specs.SeenRules.{seen_rule}
-use Rattle.aa_profile.specs.PatternTokens.{of_head, of_rules}
+use Rattle.aa_profile_patterns.specs.PatternTokens.{of_head, of_rules}
 use Rattle.aa_profile.proofs.ProfileLemmas.{first_bad_front}
 use Rattle.aa_profile.proofs.profiles.read_child.Goals as goal
 

@@ -1,10 +1,9 @@
 use Rattle.std.proofs.Common.{◌∙◌, ◌++◌, ◌-◌, sym, ap, map, take, drop, length, Some}
 use Rattle.std.proofs.lemmas.Result.{err_from_is_err_and}
 use Rattle.aa_profile_grammar.specs.SeenFiles.{seen_member}
-use Rattle.aa_profile.specs.PatternTokens.{of_member, of_members}
-use Rattle.aa_profile.specs.Patterns.{first_bad}
+use Rattle.aa_profile_patterns.specs.PatternTokens.{of_member, of_members}
+use Rattle.aa_profile_patterns.specs.Patterns.{first_bad, have_expansions}
 use Rattle.aa_profile.specs.Profiles.{children_of, children_of_member, rules_of_member, rules_of_members}
-use Rattle.aa_profile.specs.code.FileReadingProgress.{have_expansions}
 use Rattle.aa_profile.proofs.ProfileLemmas.{expand_behind, expand_front, first_bad_behind, first_bad_front, more_items, parts_of}
 use Rattle.aa_profile.proofs.profiles.read_members.Goals as goal
 

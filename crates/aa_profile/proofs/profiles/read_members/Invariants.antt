@@ -1,9 +1,8 @@
 use Rattle.std.proofs.Common.{◌≡◌, ◌++◌, length, map, true}
 use Rattle.aa_profile_grammar.specs.SeenFiles.{seen_member}
-use Rattle.aa_profile.specs.PatternTokens.{of_members}
+use Rattle.aa_profile_patterns.specs.PatternTokens.{of_members}
 use Rattle.aa_profile.specs.Profiles.{children_of, rules_of_members}
-use Rattle.aa_profile.specs.Patterns.{first_bad}
-use Rattle.aa_profile.specs.code.FileReadingProgress.{have_expansions}
+use Rattle.aa_profile_patterns.specs.Patterns.{first_bad, have_expansions}
 use Rattle.aa_profile.proofs.profiles.read_members.Given as goal
 
 -- what was made so far, and what the rest makes, are all, and the rest decides

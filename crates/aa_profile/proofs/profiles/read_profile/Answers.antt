@@ -5,7 +5,7 @@ use Rattle.aa_profile_grammar.specs.SeenFiles.{seen_head, seen_member, seen_prof
 use Rattle.aa_profile_data.specs.declared.profile.Child.{Child}
 use Rattle.aa_profile_data.specs.declared.profile.Mode.{Mode}
 use Rattle.aa_profile_data.specs.declared.profile.Rule.{Rule}
-use Rattle.aa_profile.specs.PatternTokens.{of_head, of_members}
+use Rattle.aa_profile_patterns.specs.PatternTokens.{of_head, of_members}
 use Rattle.aa_profile.specs.Profiles.{attachments_of, children_of, mode_of, profile_of, rules_of_members}
 use Rattle.aa_profile.proofs.ProfileLemmas.{first_bad_front}
 use Rattle.aa_text_variables.specs.Variables.{Variable}

@@ -1,9 +1,8 @@
 use Rattle.std.proofs.Common.{◌≡◌, ◌++◌, length, map, true}
 use Rattle.aa_profile_rules.specs.SeenRules.{seen_rule}
-use Rattle.aa_profile.specs.PatternTokens.{of_rules}
+use Rattle.aa_profile_patterns.specs.PatternTokens.{of_rules}
 use Rattle.aa_profile.specs.Profiles.{rules_of}
-use Rattle.aa_profile.specs.Patterns.{first_bad}
-use Rattle.aa_profile.specs.code.FileReadingProgress.{have_expansions}
+use Rattle.aa_profile_patterns.specs.Patterns.{first_bad, have_expansions}
 use Rattle.aa_profile.proofs.profiles.read_rules.Given as goal
 
 -- what was made so far, and what the rest makes, are all, and the rest decides

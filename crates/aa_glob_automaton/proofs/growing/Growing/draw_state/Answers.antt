@@ -2,7 +2,7 @@ use Rattle.aa_glob_automaton.proofs.GrowthLemmas.{adds_state, ways_fit}
 use Rattle.aa_glob_automaton.specs.Walks.{source_states}
 use Rattle.aa_glob_syntax.specs.Cursor.{meaning}
 use Rattle.std.proofs.Common.{ap, ◌∙◌, refl, subst, ℕ}
-use Rattle.aa_glob_trie.specs.Ways.{HasOneMore}
+use Rattle.aa_glob_automaton.specs.Tree.{HasOneMore}
 use Rattle.aa_glob_automaton.proofs.growing.Growing.draw_state.Goals as goal
 
 pub draw_to-requires-clause-from : goal.draw_to-requires-clause-from

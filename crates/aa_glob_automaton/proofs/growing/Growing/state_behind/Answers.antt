@@ -2,7 +2,7 @@ use Rattle.aa_glob_automaton.proofs.GrowthLemmas.{follows-met, follows-numbered}
 use Rattle.aa_glob_syntax.specs.Cursor.{meaning}
 use Rattle.std.proofs.Common.{◌∙◌, ap, sym}
 use Rattle.std.proofs.lemmas.Result.{IfOk-weaker}
-use Rattle.aa_glob_trie.specs.Ways.{next}
+use Rattle.aa_glob_automaton.specs.Tree.{next}
 use Rattle.aa_glob_automaton.proofs.growing.Growing.state_behind.Goals as goal
 
 pub new_state-requires-clause-walked : goal.new_state-requires-clause-walked

@@ -1,4 +1,0 @@
-pub mod PlaceLemmas
-pub mod PassLemmas
-pub mod PlainLemmas
-pub mod UnreadLemmas

@@ -1,2 +1,0 @@
-pub mod code
-pub mod Active

@@ -1,4 +1,0 @@
-pub mod OverlapLemmas
-pub mod ReadLemmas
-pub mod SharedLemmas
-pub mod TestLemmas

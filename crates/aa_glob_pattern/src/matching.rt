@@ -1,0 +1,62 @@
+//! Matching of a path, from its first byte to its last, by the beginnings of a pattern's text that it reads.
+
+ghost use Rattle.std.specs.Prelude.{◌≡◌, ◌<◌, ◌≤◌, ◌+◌, ◌*◌, length, None, Ok};
+ghost use Rattle.aa_glob_syntax.specs.Matching.{matches};
+ghost use Rattle.aa_glob_syntax.specs.Reading.{items_of, reading};
+ghost use Rattle.aa_glob_pattern.specs.Active.{AreActive};
+
+use crate::pass::pass;
+use aa_glob_prefixes::what_reads_to_the_end_matches;
+
+// How many beginnings there may be: two elements for each byte of the longest pattern, and the empty beginning.
+const MOST_PREFIXES: usize = 8_193;
+
+/// Whether a path, of any bytes, matches the pattern that a text reads as (`docs/policy.md`, "Patterns"). A directory's path has to end with
+/// `/`, which the caller writes. It takes no memory. The text is read again for each byte of the path, until none of its beginnings is read
+/// by the bytes so far: so the work grows with the length of the path times that of the text, and an automaton answers the same sooner.
+pub fn matches_text(text: &[u8], path: &[u8]) -> bool
+    requires { reading text.now ≡ Ok (items_of text.now) }
+    ensures { result ≡ matches (items_of text.now) path.now }
+{
+    // The room is cleared at each call, so a text gets one of about its size.
+    match text.len() {
+        0..=31 => matches_within::<64>(text, path),
+        32..=63 => matches_within::<128>(text, path),
+        64..=127 => matches_within::<256>(text, path),
+        128..=255 => matches_within::<512>(text, path),
+        256..=511 => matches_within::<1_024>(text, path),
+        512..=1_023 => matches_within::<2_048>(text, path),
+        1_024..=2_047 => matches_within::<4_096>(text, path),
+        _ => matches_within::<MOST_PREFIXES>(text, path),
+    }
+}
+
+// The same, with room for so many beginnings on the stack, which is cleared: at most four for each byte of the text, or 64.
+fn matches_within<const ROOM: usize>(text: &[u8], path: &[u8]) -> bool
+    requires reads { reading text.now ≡ Ok (items_of text.now) }
+    requires room { 2 * length text.now < ROOM }
+    requires near { ROOM ≤ 4 * length text.now + 64 }
+    ensures { result ≡ matches (items_of text.now) path.now }
+{
+    let mut room = [false; ROOM];
+    matches_in(text, path, &mut room)
+}
+
+// The same, in this room for what is active, in which nothing is yet.
+fn matches_in(text: &[u8], path: &[u8], active: &mut [bool]) -> bool
+    requires reads { reading text.now ≡ Ok (items_of text.now) }
+    requires room { 2 * length text.now < length active.old }
+    requires unset { AreActive text.now None active.old }
+    ensures { result ≡ matches (items_of text.now) path.now }
+{
+    what_reads_to_the_end_matches();
+    let mut passed = pass(true, 0, text, active);
+    for byte in path {
+        // What reads no beginning reads none with more bytes.
+        if !passed.some {
+            return false;
+        }
+        passed = pass(false, *byte, text, active);
+    }
+    passed.whole
+}

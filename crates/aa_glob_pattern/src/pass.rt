@@ -1,0 +1,50 @@
+//! Passes over a pattern's text, of which each writes what is active behind one byte of the path more.
+
+ghost use Rattle.std.specs.Prelude.{◌≡◌, ◌<◌, ◌*◌, ◌||◌, length, false, Ok};
+ghost use Rattle.aa_glob_syntax.specs.Reading.{items_of, reading};
+ghost use Rattle.aa_glob_pattern.specs.Active.{AreUnset, ActiveGoesOn, TellsWhole};
+
+use crate::places::Places;
+use aa_glob_prefixes::Elements;
+
+/// What a pass tells of its past.
+#[derive(Clone, Copy, Debug)]
+pub struct Passed {
+    /// Whether it reads the whole text.
+    pub whole: bool,
+    /// Whether it reads some beginning of the text.
+    pub some: bool,
+}
+
+/// Writes what is active for the past that has this byte more over what is for the past without it. The first past, which is empty, has no byte
+/// more: the byte that is given for it is not looked at, and nothing is active before.
+pub fn pass(first: bool, byte: u8, text: &[u8], active: &mut [bool]) -> Passed
+    requires reads { reading text.now ≡ Ok (items_of text.now) }
+    requires room { 2 * length text.now < length active.old }
+    ensures active { ActiveGoesOn text.now first byte active.old active.new }
+    ensures whole { TellsWhole text.now first byte active.old result.whole }
+    ensures some { result.some ≡ false → AreUnset text.now active.new }
+{
+    let mut places = Places::beginning(active[0], first);
+    let mut some = first;
+    active[0] = first;
+    let mut at = 0;
+    let mut elements = Elements::of(text);
+    while let Some(element) = elements.next() {
+        at += 1;
+        places = places.behind(byte, element, active[at]);
+        let here = places.here();
+        some = either(some, here);
+        active[at] = here;
+    }
+    Passed {
+        whole: places.here(),
+        some,
+    }
+}
+
+fn either(first: bool, second: bool) -> bool
+    ensures { result ≡ (first || second) }
+{
+    first || second
+}

@@ -1,0 +1,4 @@
+pub mod Limits
+pub mod PatternTokens
+pub mod Patterns
+pub mod Refusals

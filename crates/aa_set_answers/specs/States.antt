@@ -1,0 +1,24 @@
+-- The states of loaded profiles, as they are written (docs/commands.md, "What is loaded").
+use Rattle.std.specs.Prelude.{ℕ, List, ◌++◌, Option, codes}
+use Rattle.aa_profile_data.specs.declared.profile.Mode.{Mode}
+use Rattle.aa_profile_data.specs.declared.profile.Mode.TheVariants.{Complain, Enforce}
+use Rattle.aa_quoting.specs.Texts.{written_text}
+use Rattle.aa_decide_verdict.specs.Confinement.{mode_at}
+use Rattle.aa_decide_verdict.specs.Entries.{Loaded}
+use Rattle.aa_decide_verdict.specs.declared.entry.State.{State}
+use Rattle.aa_decide_verdict.specs.declared.entry.State.TheVariants.{Disabled, Modes}
+use Rattle.aa_set_answers.specs.ProfileNames.{full_name_at}
+
+-- the word of a mode
+abbrev pub mode_word : Mode → List ℕ
+mode_word Enforce = codes "enforce"
+mode_word Complain = codes "complain"
+
+-- the word of a profile's state, or of that of its child or hat at a place: its mode, or `disabled` where the profile is
+abbrev pub state_word : State → Option ℕ → List ℕ
+state_word Disabled child = codes "disabled"
+state_word (Modes modes) child = mode_word (mode_at modes child)
+
+-- a profile, or its child or hat at a place, by its full name and its state
+abbrev pub written_state : Loaded → Option ℕ → List ℕ
+written_state loaded child = written_text (full_name_at loaded.profile child) ++ codes " " ++ state_word loaded.state child

@@ -1,0 +1,45 @@
+//! The states of loaded profiles, as they are written.
+
+ghost use Rattle.std.specs.Prelude.{◌≡◌, ◌++◌, OnOk};
+ghost use Rattle.aa_set_answers.specs.States.{mode_word, state_word, written_state};
+
+use crate::names::full_name;
+use aa_decide_verdict::{Confinement, Entry};
+use aa_profile_data::Mode;
+use aa_quoting::push_text;
+use std::alloc::{AllocError, Global};
+
+/// The word of a mode.
+pub fn mode_word(mode: Mode) -> &'static str
+    ensures { result.now ≡ mode_word mode }
+{
+    match mode {
+        Mode::Enforce => "enforce",
+        Mode::Complain => "complain",
+    }
+}
+
+// The word of a profile's state, or of that of its child or hat at a place.
+fn state_word(entry: &Entry, child: Option<usize>) -> &'static str
+    ensures { result.now ≡ state_word entry.now.state child }
+{
+    match entry.confinement(child) {
+        Confinement::Unconfined => "disabled",
+        Confinement::By { mode, .. } => mode_word(mode),
+    }
+}
+
+// Puts the full name and the state of a profile, or of its child or hat at a place, behind a text.
+pub fn push_state(
+    text: &mut Vec<u8>,
+    alloc: Global,
+    entry: &Entry,
+    child: Option<usize>,
+) -> Result<(), AllocError>
+    ensures { OnOk result (text.new.items ≡ text.old.items ++ written_state entry.now child) }
+{
+    let name = full_name(alloc, entry.profile(), child)?;
+    push_text(text, name.as_slice())?;
+    text.push(b' ')?;
+    text.extend_from_slice(state_word(entry, child).as_bytes())
+}

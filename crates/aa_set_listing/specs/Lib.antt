@@ -1,6 +1,0 @@
-pub mod Children
-pub mod List
-pub mod ProfileNames
-pub mod RuleLines
-pub mod Show
-pub mod States

@@ -1,0 +1,105 @@
+//! Calls of the libraries whose answers no row can tell: the copy of a profile, the slots that may attach a path, and the start of a
+//! program by one of whom the slot is known.
+
+ghost use Rattle.std.specs.Prelude.{◌≡◌, true, IfSome};
+ghost use Rattle.aa_profile_data.specs.Conflicts.{profile_agrees};
+
+use crate::given::{files, last_profile, managed};
+use aa_decide::{Answer, ExecTo, Who, exec, find_named};
+use aa_profile::Profile;
+use aa_set::{Manager, Question};
+use std::alloc::Global;
+
+fn read(alloc: Global, text: &[u8]) -> Option<Profile>
+    ensures { IfSome result (λ profile. profile_agrees profile ≡ true) }
+{
+    let files = files(alloc, &[(b"all", text)])?;
+    last_profile(alloc, &files, b"all")
+}
+
+fn is_web(profile: &Profile) -> bool {
+    let children = profile.children.as_slice();
+    profile.name.as_slice() == b"web".as_slice()
+        && profile.attachments.as_slice().len() == 1
+        && profile.rules.as_slice().len() == 2
+        && children.len() == 1
+        && children[0].hat
+}
+
+fn copies(alloc: Global) -> Option<bool> {
+    let profile = read(
+        alloc,
+        b"profile web /usr/sbin/httpd { /srv/** r, owner /srv/up/* w, hat up { } }",
+    )?;
+    let copy = profile.try_copy(alloc).ok()?;
+    Some(is_web(&profile) && is_web(&copy))
+}
+
+#[test]
+fn a_profile_is_copied(rt: HostRuntime) {
+    assert!(rt; copies(rt.alloc()) == Some(true));
+}
+
+// Asks under what a program starts, again and again, so that its path is remembered.
+fn remember(manager: &mut Manager, path: &[u8]) {
+    let question = Question::Exec {
+        who: b"unconfined",
+        owned: false,
+        path,
+    };
+    for _ in 0..4 {
+        manager.remember(&question);
+    }
+}
+
+// Whether these slots may attach a path.
+fn are_attaching(alloc: Global, manager: &Manager, path: &[u8], slots: &[usize]) -> bool {
+    let found = manager.policy_set().slots().attaching(alloc, path);
+    match found {
+        Ok(found) => found.as_slice() == slots,
+        Err(_) => false,
+    }
+}
+
+// Every slot may attach a path, until it is kept beside them which do.
+fn attach(alloc: Global) -> Option<bool> {
+    let path = b"/usr/bin/y".as_slice();
+    let mut manager = managed(
+        alloc,
+        b"profile g /usr/** { } profile h /usr/bin/{x,y} { } profile e /usr/bin/x { }",
+    )?;
+    let all = are_attaching(alloc, &manager, path, &[0, 1, 2]);
+    remember(&mut manager, path);
+    Some(all && are_attaching(alloc, &manager, path, &[0, 1]))
+}
+
+#[test]
+fn slots_attach_what_is_remembered(rt: HostRuntime) {
+    assert!(rt; attach(rt.alloc()) == Some(true));
+}
+
+// Whether the profile `web` starts PHP under its own child.
+fn starts_child(alloc: Global, manager: &Manager) -> Option<bool> {
+    let slots = &manager.policy_set().slots();
+    let (slot, _) = find_named(slots, b"web")?;
+    let who = Who::Entry { slot, child: None };
+    let found = exec(alloc, slots, who, false, b"/usr/bin/php").ok()?;
+    let to = ExecTo::Profile {
+        slot,
+        child: Some(0),
+    };
+    Some(found.verdict.answer == Answer::Allow && found.to == to && found.scrub)
+}
+
+fn starts(alloc: Global) -> Option<bool> {
+    let manager = managed(
+        alloc,
+        b"profile web { /usr/bin/php Px -> web//php, profile php { } }",
+    )?;
+    starts_child(alloc, &manager)
+}
+
+#[test]
+fn a_program_is_started_by_its_slot(rt: HostRuntime) {
+    assert!(rt; starts(rt.alloc()) == Some(true));
+}
