@@ -4,17 +4,17 @@
 use aa_set_lines::{FromRead, ToWrite};
 use aaset_gather::RuntimeFiles;
 use aatry_folder::RuntimeFolders;
-use aatry_program::Streams;
+use aatry_program::{Fault, Streams};
 use std::io::IsTerminal;
 use std::process::ExitCode;
 use std::rt::Env;
 use std::{env, io};
 
-// The words that the program was started with, its own name first; none where they can't be had.
-fn words_of_start<R: Env + AllocGlobal>(rt: &R) -> Vec<String> {
+// The words that the program was started with, its own name first.
+fn words_of_start<R: Env + AllocGlobal>(rt: &R) -> Result<Vec<String>, Fault> {
     match env::args(rt) {
-        Ok(words) => words.collect(rt.alloc()).unwrap_or(Vec::new(rt.alloc())),
-        Err(_) => Vec::new(rt.alloc()),
+        Ok(words) => words.collect(rt.alloc()).map_err(|_| Fault::NoMemory),
+        Err(error) => Err(aatry_program::fault_of_words(&error)),
     }
 }
 
@@ -34,7 +34,7 @@ fn main(rt: HostRuntime) -> ExitCode {
     };
     let status = aatry_program::start(
         rt.alloc(),
-        &words,
+        words,
         &RuntimeFolders::new(&rt),
         &RuntimeFiles::new(&rt),
         prompt,

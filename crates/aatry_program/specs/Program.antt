@@ -1,10 +1,10 @@
 -- What is seen of the program: its standard output and its exit status.
-use Rattle.std.specs.Prelude.{◌≡◌, ◌⊎◌, ℕ, Bool, true, List, Option, Result, Ok, Err, string_bytes}
+use Rattle.std.specs.Prelude.{◌≡◌, ◌⊎◌, ℕ, Bool, true, List, Option, Result, Ok, Err, String, Vec, drop, map, string_bytes}
 use Rattle.std.specs.Io.KnownBytes.{Appends}
 use Rattle.aa_set_lines.specs.Streams.{AppendsFront}
 use Rattle.aatry_arguments.specs.Arguments.{CommandAsked, ForCheck, ForDiff, ForSession, ForTest, ForWho, ForWhy}
 use Rattle.aatry_arguments.specs.Asked.{Asked, ForThis, ForHelp, ForVersion, Nothing}
-use Rattle.aatry_arguments.specs.Forms.{CallAsked}
+use Rattle.aatry_arguments.specs.Forms.{CallAsked, asked_call}
 use Rattle.aatry_arguments.specs.declared.arguments.ArgumentFault.{ArgumentFault}
 use Rattle.aatry_arguments.specs.declared.arguments.ArgumentFault.TheVariants.{Help, Version, Bad, Memory}
 use Rattle.aatry_commands.specs.Asking.{IsWhoToldBelow, IsWhyToldBelow}
@@ -81,6 +81,11 @@ IsDone members_at bytes_at input (ForThis call) output status = IsDoneBy call.fo
 IsDone members_at bytes_at input ForHelp output status = ((text : List ℕ) × IsShown text 0 output status) ⊎ IsReported NoMemory output status
 IsDone members_at bytes_at input ForVersion output status = ((text : List ℕ) × IsShown text 0 output status) ⊎ IsReported NoMemory output status
 IsDone members_at bytes_at input Nothing output status = IsReported BadArguments output status ⊎ IsReported NoMemory output status
+
+-- The words of the start ask for it, all but the first, which is the program's own name. Where they can't be had, that fault is reported.
+abbrev pub IsStarted : {A B : Type 0} → (List ℕ → Option (List (List ℕ))) → (List ℕ → Option (List ℕ)) → Input → Result (Vec (String A) B) Fault → Output → ℕ → Type 0
+IsStarted members_at bytes_at input (Ok words) output status = IsDone members_at bytes_at input (asked_call (drop 1 (map string_bytes words.items))) output status
+IsStarted members_at bytes_at input (Err fault) output status = IsReported fault output status
 
 -- the output of a stream, by what was written to it before and after, and whether it failed
 abbrev pub output_of : Option (List ℕ) → Option (List ℕ) → Bool → Output

@@ -1,5 +1,7 @@
 -- The exit status.
 use Rattle.std.specs.Prelude.{◌==◌, ℕ, if◌then◌else◌}
+use Rattle.std.specs.declared.io.ErrorKind.{ErrorKind}
+use Rattle.std.specs.declared.io.ErrorKind.TheVariants as kind
 use Rattle.aatry_commands.specs.declared.fault.Fault.{Fault}
 use Rattle.aatry_commands.specs.declared.fault.Fault.TheVariants.{BadArguments, BadQuestion, Unreadable, TooMany, NoMemory, Read, Write}
 
@@ -16,3 +18,8 @@ status_of TooMany = 2
 status_of NoMemory = 3
 status_of Read = 3
 status_of Write = 3
+
+-- a fault at the words that the program was started with: those that are no text are bad arguments
+abbrev pub fault_of_words : ErrorKind → Fault
+fault_of_words kind.OutOfMemory = NoMemory
+fault_of_words _ = BadArguments

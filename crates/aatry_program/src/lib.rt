@@ -6,5 +6,7 @@ mod reporting;
 mod status;
 mod streams;
 
+pub use aatry_commands::Fault;
 pub use program::start;
+pub use status::fault_of_words;
 pub use streams::Streams;

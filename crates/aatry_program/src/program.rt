@@ -3,7 +3,7 @@
 ghost use Rattle.std.specs.Prelude.{◌≡◌, ◌≤◌, ◌^◌, MatchResult, drop, map, string_bytes};
 ghost use Rattle.aatry_arguments.specs.Forms.{asked_call};
 ghost use Rattle.aatry_arguments.specs.Given.{meant_command};
-ghost use Rattle.aatry_program.specs.Program.{IsDone, IsDoneBy, IsFaultShown, IsOutcomeShown, IsSessionDone, IsShown, input_of, output_of};
+ghost use Rattle.aatry_program.specs.Program.{IsDone, IsDoneBy, IsFaultShown, IsOutcomeShown, IsSessionDone, IsShown, IsStarted, input_of, output_of};
 ghost use Rattle.aatry_program.specs.Status.{status_of};
 
 use crate::reporting::report;
@@ -150,13 +150,8 @@ fn show_fault<S, W: Sink, E: Sink>(
     }
 }
 
-/// Does what the words of the program's start ask for, and gives the exit status. The first word is the program's own name. What is told stands on
-/// standard output; a fault is reported on standard error, on a line of its own. A session takes its lines from standard input, and writes `prompt`
-/// before it reads one. The status is 0 where each file that was checked was taken, each transcript that was tested passed, a question has an
-/// answer, somebody would be let through, nothing differs between two folders, a session ended, or a text was asked for and shown; 1 where one of
-/// these isn't so; 2 where the arguments or a question are no good, or a folder of policy or another file can't be read; and 3 where a stream or
-/// memory failed.
-pub fn start<F: Folders, D: FileSystem, S: Source, W: Sink, E: Sink>(
+// Does what words ask for, of which the first is the program's own name.
+fn do_asked<F: Folders, D: FileSystem, S: Source, W: Sink, E: Sink>(
     alloc: Global,
     words: &[String],
     folders: &F,
@@ -172,5 +167,29 @@ pub fn start<F: Folders, D: FileSystem, S: Source, W: Sink, E: Sink>(
     match call_of(alloc, words) {
         Ok(call) => perform(alloc, call, folders, disk, prompt, streams),
         Err(fault) => show_fault(alloc, fault, streams),
+    }
+}
+
+/// Does what the words of the program's start ask for, and gives the exit status. The first word is the program's own name; where the words
+/// can't be had, `words` is the fault to be reported. What is told stands on standard output; a fault is reported on standard error, on a line of
+/// its own. A session takes its lines from standard input, and writes `prompt` before it reads one. The status is 0 where each file that was checked
+/// was taken, each transcript that was tested passed, a question has an answer, somebody would be let through, nothing differs between two folders, a
+/// session ended, or a text was asked for and shown; 1 where one of these isn't so; 2 where the arguments or a question are no good, or a folder of
+/// policy or another file can't be read; and 3 where a stream or memory failed.
+pub fn start<F: Folders, D: FileSystem, S: Source, W: Sink, E: Sink>(
+    alloc: Global,
+    words: Result<Vec<String>, Fault>,
+    folders: &F,
+    disk: &D,
+    prompt: &[u8],
+    streams: &mut Streams<S, W, E>,
+) -> u8
+    requires { S.reads streams.old.input ≤ 2 ^ 62 }
+    ensures { IsStarted (F.members_at folders.now) (D.bytes_at disk.now) (input_of (S.left streams.old.input) prompt.now) words
+        (output_of (W.written streams.old.output) (W.written streams.new.output) (W.failed streams.new.output)) result }
+{
+    match words {
+        Ok(words) => do_asked(alloc, &words, folders, disk, prompt, streams),
+        Err(fault) => report(alloc, &mut streams.errors, &fault),
     }
 }

@@ -1,9 +1,11 @@
 //! The exit status.
 
 ghost use Rattle.std.specs.Prelude.{◌≡◌};
-ghost use Rattle.aatry_program.specs.Status.{failure_status, status_of};
+ghost use Rattle.std.specs.IoError.{error_kind};
+ghost use Rattle.aatry_program.specs.Status.{failure_status, fault_of_words, status_of};
 
 use aatry_commands::Fault;
+use std::io;
 
 // The exit status of a command, by how much of it failed.
 pub fn failure_status(failed: usize) -> u8
@@ -19,5 +21,15 @@ pub fn status_of(fault: &Fault) -> u8
     match fault {
         Fault::BadArguments | Fault::BadQuestion | Fault::Unreadable(_) | Fault::TooMany => 2,
         Fault::NoMemory | Fault::Read | Fault::Write => 3,
+    }
+}
+
+/// The fault where the words that the program was started with can't be had.
+pub fn fault_of_words(error: &io::Error) -> Fault
+    ensures { result ≡ fault_of_words (error_kind error.now) }
+{
+    match error.kind() {
+        io::ErrorKind::OutOfMemory => Fault::NoMemory,
+        _ => Fault::BadArguments,
     }
 }

@@ -2,7 +2,7 @@ use Rattle.std.proofs.Common.{drop, map, string_bytes}
 use Rattle.aatry_arguments.specs.Forms.{asked_call}
 use Rattle.aatry_program.proofs.ProgramLemmas.{done_by_command, done_by_fault}
 use Rattle.aatry_program.specs.Program.{input_of, output_of}
-use Rattle.aatry_program.proofs.program.start.Goals as goal
+use Rattle.aatry_program.proofs.program.do_asked.Goals as goal
 
 pub returns-in-Ok : goal.returns-in-Ok
 returns-in-Ok g c =
