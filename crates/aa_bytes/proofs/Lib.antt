@@ -1,1 +1,2 @@
 mod BitLemmas
+mod NameMapLemmas

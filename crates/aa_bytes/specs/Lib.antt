@@ -2,4 +2,5 @@ pub mod Bits
 pub mod ByteMaps
 pub mod ByteSets
 pub mod Bytes
+pub mod NameMaps
 pub mod Texts

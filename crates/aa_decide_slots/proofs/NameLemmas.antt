@@ -1,13 +1,14 @@
 -- The first slot of each name, slot by slot.
 use Rattle.std.proofs.Common.{◌≡◌, ℕ, suc, ◌+◌, ◌<◌, Bool, true, false, cond, List, [], ◌∷◌, ◌++◌, length, take, slice_index_or, Option, None, Some, refl, sym, ap, ◌∙◌, arith}
-use Rattle.std.specs.Prelude.{Vec}
+use Rattle.std.specs.Prelude.{if◌then◌else◌}
 use Rattle.std.specs.List.{position_from}
-use Rattle.std.specs.Map.{lookup}
 use Rattle.std.specs.Option.{is_some}
 use Rattle.std.specs.Str.{bytes_eq}
 use Rattle.std.proofs.lemmas.Iterator.Adapters.{position_from-zero}
 use Rattle.std.proofs.lemmas.List.{length-take-le, take_more}
 use Rattle.std.proofs.lemmas.Slice.Eq.{bytes_eq-Decides}
+use Rattle.aa_bytes.specs.NameMaps.{GivesNumber, number_of}
+use Rattle.aa_bytes.specs.declared.name_map.NameMap.{NameMap}
 use Rattle.aa_decide_verdict.specs.Entries.{Loaded}
 use Rattle.aa_decide_slots.specs.SlotNames.{holds, slot_named}
 use Rattle.aa_decide_slots.specs.Indexes.{first_of}
@@ -45,57 +46,29 @@ pub not_some : (slot : Option ℕ) → is_some slot ≡ false → slot ≡ None
 not_some None h = refl
 not_some (Some slot) h = absurd (cc)
 
--- which of two texts is compared with the other is the same
-turned : (one other : List ℕ) → bytes_eq one other ≡ bytes_eq other one
-turned one other = by (bytes_eq one other) refl (bytes_eq other one) refl
+-- a name that had no slot is noted with one
+pub noted-new : (old new : NameMap) (entry : Loaded) (place : ℕ) → number_of old entry.profile.name ≡ None → GivesNumber old entry.profile.name place new
+    → (name : List ℕ) → number_of new name ≡ first_of (number_of old name) (cond (holds name (Some entry)) (Some place) None)
+noted-new old new entry place none gives name = gives name ∙ by (bytes_eq entry.profile.name name) refl
   where
-    by : (a : Bool) → bytes_eq one other ≡ a → (b : Bool) → bytes_eq other one ≡ b → a ≡ b
-    by true e true f = refl
-    by false e false f = refl
-    by true e false f = sym ((bytes_eq-Decides other one).1 (sym ((bytes_eq-Decides one other).0 e))) ∙ f
-    by false e true f = sym e ∙ (bytes_eq-Decides one other).1 (sym ((bytes_eq-Decides other one).0 f))
+    by : (same : Bool) → bytes_eq entry.profile.name name ≡ same
+        → (if same then Some place else number_of old name) ≡ first_of (number_of old name) (cond same (Some place) None)
+    by true is = rw (← (bytes_eq-Decides entry.profile.name name).0 is, none) refl
+    by false is = first-none (number_of old name)
 
-module _ {A : Type 0} where
-  -- the slot that stands with a name among some
-  abbrev pub found : List ℕ → List (Vec ℕ A × ℕ) → Option ℕ
-  found name entries = lookup (λ other. bytes_eq name other.items) entries
+-- an empty slot notes nothing
+pub noted-none : (old : NameMap) (name : List ℕ) (place : ℕ) → number_of old name ≡ first_of (number_of old name) (cond (holds name None) (Some place) None)
+noted-none old name place = first-none (number_of old name)
 
-  -- a name more among the last
-  found-push : (name : List ℕ) (entries : List (Vec ℕ A × ℕ)) (key : Vec ℕ A) (place : ℕ)
-      → found name (entries ++ (key, place) ∷ []) ≡ first_of (found name entries) (cond (bytes_eq name key.items) (Some place) None)
-  found-push name [] key place = by (bytes_eq name key.items) refl
-    where
-      by : (same : Bool) → bytes_eq name key.items ≡ same → found name ((key, place) ∷ []) ≡ cond (bytes_eq name key.items) (Some place) None
-      by true is = rw is refl
-      by false is = rw is refl
-  found-push name (entry ∷ entries) key place = by (bytes_eq name entry.0.items) refl (found-push name entries key place)
-    where
-      by : (same : Bool) → bytes_eq name entry.0.items ≡ same
-          → found name (entries ++ (key, place) ∷ []) ≡ first_of (found name entries) (cond (bytes_eq name key.items) (Some place) None)
-          → found name ((entry ∷ entries) ++ (key, place) ∷ []) ≡ first_of (found name (entry ∷ entries)) (cond (bytes_eq name key.items) (Some place) None)
-      by true is rest = rw is refl
-      by false is rest = rw is rest
+-- nor does one whose name has a slot
+pub noted-before : (old : NameMap) (name : List ℕ) (entry : Loaded) (place : ℕ) → is_some (number_of old entry.profile.name) ≡ true
+    → number_of old name ≡ first_of (number_of old name) (cond (holds name (Some entry)) (Some place) None)
+noted-before old name entry place h = by (bytes_eq entry.profile.name name) refl
+  where
+    there : (slot : Option ℕ) → is_some slot ≡ true → slot ≡ first_of slot (Some place)
+    there None e = absurd (cc)
+    there (Some slot) e = refl
 
-  -- a name that had no slot is noted with one
-  pub noted-new : (name : List ℕ) (entries : List (Vec ℕ A × ℕ)) (key : Vec ℕ A) (entry : Loaded) (place : ℕ) → key.items ≡ entry.profile.name
-      → found name (entries ++ (key, place) ∷ []) ≡ first_of (found name entries) (cond (holds name (Some entry)) (Some place) None)
-  noted-new name entries key entry place own =
-      found-push name entries key place
-      ∙ ap (λ same. first_of (found name entries) (cond same (Some place) None)) (turned name key.items ∙ ap (λ own. bytes_eq own name) own)
-
-  -- an empty slot notes nothing
-  pub noted-none : (name : List ℕ) (entries : List (Vec ℕ A × ℕ)) (place : ℕ) → found name entries ≡ first_of (found name entries) (cond (holds name None) (Some place) None)
-  noted-none name entries place = first-none (found name entries)
-
-  -- nor does one whose name has a slot
-  pub noted-before : (name : List ℕ) (entries : List (Vec ℕ A × ℕ)) (entry : Loaded) (place : ℕ) → is_some (found entry.profile.name entries) ≡ true
-      → found name entries ≡ first_of (found name entries) (cond (holds name (Some entry)) (Some place) None)
-  noted-before name entries entry place h = by (bytes_eq entry.profile.name name) refl
-    where
-      there : (slot : Option ℕ) → is_some slot ≡ true → slot ≡ first_of slot (Some place)
-      there None e = absurd (cc)
-      there (Some slot) e = refl
-
-      by : (same : Bool) → bytes_eq entry.profile.name name ≡ same → found name entries ≡ first_of (found name entries) (cond same (Some place) None)
-      by true is = there (found name entries) (ap (λ name. is_some (found name entries)) (sym ((bytes_eq-Decides entry.profile.name name).0 is)) ∙ h)
-      by false is = first-none (found name entries)
+    by : (same : Bool) → bytes_eq entry.profile.name name ≡ same → number_of old name ≡ first_of (number_of old name) (cond same (Some place) None)
+    by true is = there (number_of old name) (ap (λ name. is_some (number_of old name)) (sym ((bytes_eq-Decides entry.profile.name name).0 is)) ∙ h)
+    by false is = first-none (number_of old name)

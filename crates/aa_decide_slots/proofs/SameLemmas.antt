@@ -1,11 +1,11 @@
 -- Indexes go by the profiles in slots, and not by their states.
-use Rattle.std.proofs.Common.{◌≡◌, ℕ, suc, ◌+◌, Bool, cond, List, [], ◌∷◌, ◌++◌, length, map, Option, None, Some, refl, sym, ap, subst, ◌∙◌}
+use Rattle.std.proofs.Common.{◌≡◌, ℕ, suc, ◌+◌, cond, List, [], ◌∷◌, ◌++◌, length, map, Option, None, Some, refl, sym, ap, subst, ◌∙◌}
 use Rattle.std.specs.Prelude.{replicate}
 use Rattle.std.specs.Option.{option_map}
 use Rattle.std.specs.Str.{bytes_eq}
 use Rattle.aa_decide_slots.specs.Indexes.{HoldSame, IsAttachmentIndexOf, IsNameIndexOf, all_attachments, owners_from, profile_in}
 use Rattle.aa_decide_slots.specs.SlotAttachments.{attachments_in}
-use Rattle.aa_decide_slots.specs.SlotNames.{holds, slot_named}
+use Rattle.aa_decide_slots.specs.SlotNames.{holds}
 use Rattle.aa_decide_slots.specs.declared.attachments.AttachmentIndex.{AttachmentIndex}
 use Rattle.aa_decide_slots.specs.declared.names.NameIndex.{NameIndex}
 use Rattle.aa_decide_slots.proofs.FindLemmas.{found, found-is}

@@ -1,7 +1,6 @@
 -- What is kept beside slots, so that they needn't be gone over.
 use Rattle.std.specs.Prelude.{◌≡◌, ℕ, ◌+◌, ◌<◌, cond, List, [], ◌∷◌, ◌++◌, length, map, replicate, slice_index, Option, None, Some}
-use Rattle.std.specs.Map.{lookup}
-use Rattle.std.specs.Str.{bytes_eq}
+use Rattle.aa_bytes.specs.NameMaps.{number_of}
 use Rattle.aa_decide_verdict.specs.Entries.{Loaded}
 use Rattle.aa_glob_automaton.specs.Automata.{IsAutomatonOf}
 use Rattle.aa_profile_data.specs.declared.profile.Profile.{Profile}
@@ -12,7 +11,7 @@ use Rattle.aa_decide_slots.specs.declared.names.NameIndex.{NameIndex}
 
 -- the slot that stands with a name
 abbrev pub slot_of : List ℕ → NameIndex → Option ℕ
-slot_of name index = lookup (λ other. bytes_eq name other.items) index.slots.entries
+slot_of name index = number_of index.slots name
 
 -- the first of two, if there is one, and else the second
 abbrev pub first_of : Option ℕ → Option ℕ → Option ℕ

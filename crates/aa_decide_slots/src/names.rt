@@ -5,14 +5,14 @@ ghost use Rattle.aa_decide_verdict.specs.Entries.{Loaded};
 ghost use Rattle.aa_decide_slots.specs.SlotNames.{slot_named};
 ghost use Rattle.aa_decide_slots.specs.Indexes.{IsNameIndexOf, NotesSlot};
 
+use aa_bytes::NameMap;
 use aa_decide_verdict::Entry;
-use indexmap::IndexMap;
 use std::alloc::{AllocError, Global};
 
 /// Each name of a profile in some slots, with the first of these that holds it. Contracts see of which slots it was made (`IsNameIndexOf`).
 #[derive(Debug, Drop)]
 pub struct NameIndex {
-    slots: IndexMap<Vec<u8>, usize>,
+    slots: NameMap,
 }
 
 impl NameIndex {
@@ -25,7 +25,7 @@ impl NameIndex {
         ensures { IfOk result (λ index. IsNameIndexOf index slots.now) }
     {
         let mut index = NameIndex {
-            slots: IndexMap::new(alloc),
+            slots: NameMap::new(alloc),
         };
         for (place, slot) in slots.iter().enumerate() {
             index.note(alloc, slot, place)?;
@@ -39,8 +39,8 @@ impl NameIndex {
     {
         if let Some(entry) = slot {
             let name = entry.profile().name.as_slice();
-            if !self.slots.contains_key(name) {
-                self.slots.insert(Vec::from_slice(alloc, name)?, place)?;
+            if self.slots.get(name).is_none() {
+                self.slots.insert(alloc, name, place)?;
             }
         }
         Ok(())
@@ -50,6 +50,6 @@ impl NameIndex {
     pub fn slot(&self, name: &[u8]) -> Option<usize>
         ensures { (slots : List (Option Loaded)) → IsNameIndexOf self.now slots → result ≡ slot_named name.now slots }
     {
-        self.slots.get(name).copied()
+        self.slots.get(name)
     }
 }

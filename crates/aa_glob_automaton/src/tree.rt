@@ -4,8 +4,8 @@ ghost use Rattle.std.specs.Prelude.{◌≡◌, ◌<◌, ◌+◌, length, None, I
 ghost use Rattle.aa_glob_automaton.specs.Tree.{HasNoWay, HasOneMore, key, next, nowhere, places};
 ghost use Rattle.aa_glob_automaton.specs.code.Noted.{NotesOthers};
 
-use indexmap::IndexMap;
 use std::alloc::{AllocError, Global};
+use std::collections::HashMap;
 use std::marker::Model;
 
 // The number by which no place is found.
@@ -29,7 +29,7 @@ pub struct Tree {
     // For each place, by which number the place behind it is found that was added directly after it, or that none is.
     on: Vec<u16>,
     // The other places, by the place that they stand behind and their number.
-    others: IndexMap<u64, u32>,
+    others: HashMap<u64, u32>,
 }
 
 impl Model for Tree {
@@ -54,7 +54,7 @@ impl Tree {
         on.push(NOTHING)?;
         Ok(Tree {
             on,
-            others: IndexMap::new(alloc),
+            others: HashMap::new(alloc),
         })
     }
 

@@ -1,15 +1,12 @@
--- What the calls of the map say, in the words of the files.
-use Rattle.std.proofs.Common.{◌≡◌, ℕ, Bool, true, false, List, [], ◌∷◌, ◌++◌, refl, sym, ap, ◌∙◌}
-use Rattle.std.specs.Prelude.{Vec, Option, None, Some, option_map, is_some, Result, Ok, Err, OnOk, OnErr}
+-- Files with one more, and their places.
+use Rattle.std.proofs.Common.{◌≡◌, ℕ, suc, ◌+◌, Bool, true, false, List, [], ◌∷◌, ◌++◌, length, refl, sym, ap, ◌∙◌, arith}
+use Rattle.std.specs.Prelude.{if◌then◌else◌, Option, None, Some, option_map, is_some, Result, Ok, Err, OnOk, OnErr}
 use Rattle.std.specs.Str.{bytes_eq}
-use Rattle.std.specs.Map.{lookup}
 use Rattle.std.proofs.lemmas.Slice.Eq.{bytes_eq-Decides}
-use Rattle.aa_text_files.specs.Files.{AreTaken, File, are_good, as_files, file_named, has_file, have_names_of_their_own, is_bad_file}
-
--- nothing is found where the map says so
-pub none-lookup : {X : Type 0} (found : Option X) → false ≡ is_some found → found ≡ None
-none-lookup None h = refl
-none-lookup (Some x) h = cc
+use Rattle.aa_bytes.specs.NameMaps.{GivesNumber}
+use Rattle.aa_bytes.specs.declared.name_map.NameMap.{NameMap}
+use Rattle.aa_text_files.specs.Files.{AreTaken, File, are_good, bytes_at, file_named, has_file, have_names_of_their_own, index_from, is_bad_file}
+use Rattle.aa_text_files.specs.code.Places.{ArePlaces}
 
 -- where one text isn't another, neither is that one it
 other-text : (one two : List ℕ) → bytes_eq one two ≡ false → bytes_eq two one ≡ false
@@ -55,39 +52,69 @@ pub taken-push : (files : List File) (name bytes : List ℕ) → AreTaken files 
 taken-push files name bytes taken fine none = (names-push files name bytes taken.0 none, good-push files name bytes taken.1 fine)
 
 -- what holds both after an Ok and after an Err
-pub either-way : {X E After Before Goal : Type 0} (result : Result X E) → OnOk result After → OnErr result Before → (After → Goal) → (Before → Goal) → Goal
-either-way (Ok x) after before on_ok on_err = on_ok after
-either-way (Err e) after before on_ok on_err = on_err before
+pub either-way : {X E After Noted Before Same Goal : Type 0} (result : Result X E) → OnOk result After → OnOk result Noted → OnErr result Before → OnErr result Same
+    → (After → Noted → Goal) → (Before → Same → Goal) → Goal
+either-way (Ok x) after noted before same on_ok on_err = on_ok after noted
+either-way (Err e) after noted before same on_ok on_err = on_err before same
 
-module _ {A B : Type 0} where
-  -- a look-up by the bytes of a name in the map's entries
-  abbrev pub entry_named : List ℕ → List (Vec ℕ A × Vec ℕ B) → Option (Vec ℕ B)
-  entry_named name entries = lookup (λ k. bytes_eq name k.items) entries
+-- a place counted from one more
+index_from-suc : (at : ℕ) (name : List ℕ) (files : List File) → index_from (at + 1) name files ≡ option_map (λ place. suc place) (index_from at name files)
+index_from-suc at name [] = refl
+index_from-suc at name (file ∷ files) = by (bytes_eq name file.0) (index_from-suc (at + 1) name files)
+  where
+    by : (here : Bool) → index_from (at + 1 + 1) name files ≡ option_map (λ place. suc place) (index_from (at + 1) name files)
+        → (if here then Some (at + 1) else index_from (at + 1 + 1) name files) ≡ option_map (λ place. suc place) (if here then Some at else index_from (at + 1) name files)
+    by true rest = ap Some (omega arith)
+    by false rest = rest
 
-  -- A look-up by bytes in the map is the look-up among the files.
-  pub file_named-lookup : (name : List ℕ) (entries : List (Vec ℕ A × Vec ℕ B))
-      → option_map (λ v. v.items) (entry_named name entries) ≡ file_named (as_files entries) name
-  file_named-lookup name [] = refl
-  file_named-lookup name (e ∷ es) = by (bytes_eq name e.0.items) refl (file_named-lookup name es)
-    where
-      by : (b : Bool) → bytes_eq name e.0.items ≡ b
-          → option_map (λ v. v.items) (entry_named name es) ≡ file_named (as_files es) name
-          → option_map (λ v. v.items) (entry_named name (e ∷ es)) ≡ file_named (as_files (e ∷ es)) name
-      by true h rest = rw h refl
-      by false h rest = rw h rest
+-- a file has the bytes that stand at its place
+pub file_named-at : (name : List ℕ) (files : List File) → file_named files name ≡ option_map (bytes_at files) (index_from 0 name files)
+file_named-at name [] = refl
+file_named-at name (file ∷ files) = by (bytes_eq name file.0) (file_named-at name files)
+  where
+    behind : (place : Option ℕ) → option_map (bytes_at files) place ≡ option_map (bytes_at (file ∷ files)) (option_map (λ place. suc place) place)
+    behind None = refl
+    behind (Some place) = refl
 
-  -- The map has the name where the files do.
-  pub has_file-lookup : (name : List ℕ) (entries : List (Vec ℕ A × Vec ℕ B))
-      → is_some (entry_named name entries) ≡ has_file (as_files entries) name
-  has_file-lookup name entries = by (entry_named name entries) (file_named-lookup name entries)
-    where
-      by : (found : Option (Vec ℕ B)) → option_map (λ v. v.items) found ≡ file_named (as_files entries) name
-          → is_some found ≡ has_file (as_files entries) name
-      by None h = ap is_some h
-      by (Some v) h = ap is_some h
+    by : (here : Bool) → file_named files name ≡ option_map (bytes_at files) (index_from 0 name files)
+        → (if here then Some file.1 else file_named files name) ≡ option_map (bytes_at (file ∷ files)) (if here then Some 0 else index_from 1 name files)
+    by true rest = refl
+    by false rest = rest ∙ behind (index_from 0 name files) ∙ ap (option_map (bytes_at (file ∷ files))) (sym (index_from-suc 0 name files))
 
-  -- The file that comes last in the map comes last among the files.
-  pub as_files-push : (entries : List (Vec ℕ A × Vec ℕ B)) (name : Vec ℕ A) (bytes : Vec ℕ B)
-      → as_files (entries ++ (name, bytes) ∷ []) ≡ as_files entries ++ (name.items, bytes.items) ∷ []
-  as_files-push [] name bytes = refl
-  as_files-push (e ∷ es) name bytes = ap (◌∷◌ (e.0.items, e.1.items)) (as_files-push es name bytes)
+-- a name has a file where it has a place
+pub has_file-at : (name : List ℕ) (files : List File) → has_file files name ≡ is_some (index_from 0 name files)
+has_file-at name files = ap is_some (file_named-at name files) ∙ some (index_from 0 name files)
+  where
+    some : (place : Option ℕ) → is_some (option_map (bytes_at files) place) ≡ is_some place
+    some None = refl
+    some (Some place) = refl
+
+-- one more file of a new name: its place is behind all others, and theirs stay
+pub index_from-push : (at : ℕ) (files : List File) (name bytes other : List ℕ) → has_file files name ≡ false
+    → index_from at other (files ++ (name, bytes) ∷ []) ≡ (if bytes_eq name other then Some (at + length files) else index_from at other files)
+index_from-push at [] name bytes other none = by (bytes_eq name other) refl
+  where
+    by : (b : Bool) → bytes_eq name other ≡ b → index_from at other ((name, bytes) ∷ []) ≡ (if b then Some (at + 0) else None)
+    by true e = rw (← (bytes_eq-Decides name other).0 e, (bytes_eq-Decides name name).1 refl) (ap Some (omega arith))
+    by false e = rw (other-text name other e) refl
+index_from-push at (file ∷ files) name bytes other none = by (bytes_eq other file.0) refl (bytes_eq name file.0) refl (index_from-push (at + 1) files name bytes other)
+  where
+    on : at + 1 + length files ≡ at + length (file ∷ files)
+    on = omega arith
+
+    by : (here : Bool) → bytes_eq other file.0 ≡ here → (same : Bool) → bytes_eq name file.0 ≡ same
+        → (has_file files name ≡ false → index_from (at + 1) other (files ++ (name, bytes) ∷ []) ≡ (if bytes_eq name other then Some (at + 1 + length files) else index_from (at + 1) other files))
+        → index_from at other ((file ∷ files) ++ (name, bytes) ∷ []) ≡ (if bytes_eq name other then Some (at + length (file ∷ files)) else index_from at other (file ∷ files))
+    by here e true f rest = let there : true ≡ false = rw f at none in absurd cc
+    by true e false f rest = rw (e, (bytes_eq-Decides other file.0).0 e, f) refl
+    by false e false f rest = rw e (rest (rw f at none) ∙ ap (λ place. if bytes_eq name other then Some place else index_from (at + 1) other files) on)
+
+-- so with each name stands its place, as before
+pub places-push : (old new : NameMap) (files : List File) (name bytes : List ℕ) → ArePlaces old files → has_file files name ≡ false → GivesNumber old name (length files) new
+    → ArePlaces new (files ++ (name, bytes) ∷ [])
+places-push old new files name bytes before none gives other =
+    gives other ∙ ap (λ place. if bytes_eq name other then Some (length files) else place) (before other)
+    ∙ ap (λ place. if bytes_eq name other then Some place else index_from 0 other files) here ∙ sym (index_from-push 0 files name bytes other none)
+  where
+    here : length files ≡ 0 + length files
+    here = omega arith

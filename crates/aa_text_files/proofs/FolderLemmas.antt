@@ -1,20 +1,18 @@
--- The order of a folder's members, and the places of files by their names.
-use Rattle.std.proofs.Common.{◌≡◌, ℕ, ◌+◌, ◌-◌, ◌<◌, ◌≤◌, Bool, true, false, List, [], ◌∷◌, ◌++◌, length, map, drop, refl, sym, ap, subst, ◌∙◌, arith, cond}
-use Rattle.std.specs.Prelude.{Vec, if◌then◌else◌}
+-- The order of a folder's members.
+use Rattle.std.proofs.Common.{◌≡◌, ℕ, ◌+◌, ◌-◌, ◌<◌, ◌≤◌, Bool, true, false, List, [], ◌∷◌, ◌++◌, length, drop, refl, sym, ap, subst, ◌∙◌, arith}
+use Rattle.std.specs.Prelude.{if◌then◌else◌}
 use Rattle.std.specs.Cmp.{IsStrictWeakOrder}
 use Rattle.std.specs.Cmp.Lexicographic.{slice_cmp}
-use Rattle.std.specs.List.{filter, position, position_from}
+use Rattle.std.specs.List.{filter}
 use Rattle.std.specs.List.Sorted.{IsSortedBy, IsStableBy, ties}
 use Rattle.std.specs.Ordering.{is_lt, nat_cmp}
 use Rattle.std.specs.declared.cmp.Ordering.{Ordering}
-use Rattle.std.specs.Str.{bytes_eq}
 use Rattle.std.proofs.lemmas.Bool.Decides.{nat_tests}
 use Rattle.std.proofs.lemmas.Cmp.{nat_list_cmp_total, same_from_slice_cmp}
 use Rattle.std.proofs.lemmas.List.{at_drop_all, drop_more}
 use Rattle.std.proofs.lemmas.List.Elements.{filter-append}
 use Rattle.std.proofs.lemmas.List.Sorted.{ranks_by}
-use Rattle.std.proofs.lemmas.Iterator.Adapters.{position_from-zero}
-use Rattle.aa_text_files.specs.Files.{File, as_files, index_from, name_at}
+use Rattle.aa_text_files.specs.Files.{File, name_at}
 use Rattle.aa_text_files.specs.Folder.{comes_before, in_order, is_before, is_member, members, members_from}
 use Rattle.aa_text_files.specs.code.Gathered.{with_member}
 use Rattle.aa_text_files.proofs.OrderLemmas.{SameTies, Up, Up-put, Up-sorted, put, put-ties, same-in_order}
@@ -90,14 +88,3 @@ pub AreGathered-sorted : (files : List File) (folder found sorted : List ℕ) �
 AreGathered-sorted files folder found sorted gathered in_place stable =
     let order = comes_before-order files in
     same-in_order (comes_before files) order sorted (members files folder) (Up-sorted (comes_before files) order sorted in_place) (Up-members_from files 0 folder files) (λ x. stable x ∙ gathered x)
-
-module _ {A B : Type 0} where
-  index_from-position : (at : ℕ) (name : List ℕ) (entries : List (Vec ℕ A × Vec ℕ B))
-      → position_from (λ k. bytes_eq name k.items) at (map (λ e. e.0) entries) ≡ index_from at name (as_files entries)
-  index_from-position at name [] = refl
-  index_from-position at name (e ∷ es) = ap (cond (bytes_eq name e.0.items) _) (index_from-position (at + 1) name es)
-
-  -- the place of a name in the map is its place among the files
-  pub index_from-keys : (name : List ℕ) (entries : List (Vec ℕ A × Vec ℕ B))
-      → position (λ k. bytes_eq name k.items) (map (λ e. e.0) entries) ≡ index_from 0 name (as_files entries)
-  index_from-keys name entries = position_from-zero (λ k. bytes_eq name k.items) (map (λ e. e.0) entries) ∙ index_from-position 0 name entries

@@ -64,7 +64,7 @@ name_at files file = (slice_index_or files file ([], [])).0
 abbrev pub bytes_at : List File → ℕ → List ℕ
 bytes_at files file = (slice_index_or files file ([], [])).1
 
--- the entries of a map over byte vectors, without their capacities
+-- files whose names and bytes stand in vectors, without the capacities
 abbrev pub as_files : {A B : Type 0} → List (Vec ℕ A × Vec ℕ B) → List File
 as_files entries = map (λ e. (e.0.items, e.1.items)) entries
 

@@ -1,9 +1,10 @@
 //! The files that a set of profiles is read from, handed in by name.
 ghost use Rattle.std.specs.Prelude.{◌≡◌, ◌++◌, ◌∷◌, [], ◌↔◌, ◌&&◌, not, IsTrue, IsErrOf, OnOk, OnErr, length, option_map, slice_get};
-ghost use Rattle.aa_text_files.specs.Files.{bytes_at, bytes_of, described, file_at, has_control_byte, has_file, is_bad_file, is_folder_name, name_at};
+ghost use Rattle.aa_bytes.specs.NameMaps.{GivesNumber, HaveSameNumbers};
+ghost use Rattle.aa_text_files.specs.Files.{as_files, bytes_at, bytes_of, described, file_at, has_control_byte, has_file, is_bad_file, is_folder_name, name_at};
 
-use indexmap::IndexMap;
-use std::alloc::Global;
+use aa_bytes::NameMap;
+use std::alloc::{AllocError, Global};
 use std::marker::Model;
 use thiserror::Error;
 
@@ -13,7 +14,10 @@ use thiserror::Error;
 /// A name whose last byte is `/` declares a folder, which has no bytes.
 #[derive(Drop)]
 pub struct Files {
-    by_name: IndexMap<Vec<u8>, Vec<u8>>,
+    // In the order in which they came.
+    entries: Vec<(Vec<u8>, Vec<u8>)>,
+    // How many came before the file of a name.
+    places: NameMap,
 }
 
 impl Model for Files {
@@ -22,11 +26,12 @@ impl Model for Files {
     ghost Value = { List (List ℕ × List ℕ) };
 
     ghost use Rattle.aa_text_files.specs.Files.{AreTaken, as_files};
+    ghost use Rattle.aa_text_files.specs.code.Places.{ArePlaces};
 
-    ghost view = { λ f. as_files f.by_name.entries };
+    ghost view = { λ f. as_files f.entries.items };
 
-    // No name comes twice, and a folder has no bytes.
-    ghost invariant = { λ f. AreTaken (as_files f.by_name.entries) };
+    // No name comes twice, and a folder has no bytes; with each name stands how many files came before it.
+    ghost invariant = { λ f. AreTaken (as_files f.entries.items) × ArePlaces f.places (as_files f.entries.items) };
 }
 
 /// Why a file was not taken. Nothing of it is kept, and the files before it stay as they were.
@@ -81,13 +86,38 @@ fn is_bad(name: &[u8], bytes: &[u8]) -> bool
     name.is_empty() || has_control(name) || (Files::is_folder(name) && !bytes.is_empty())
 }
 
+// Puts a file behind others, and notes how many came before it.
+fn put(
+    entries: &mut Vec<(Vec<u8>, Vec<u8>)>,
+    places: &mut NameMap,
+    name: Vec<u8>,
+    bytes: Vec<u8>,
+) -> Result<(), AllocError>
+    ensures entries { OnOk result (as_files entries.new.items ≡ as_files entries.old.items ++ (name.items, bytes.items) ∷ []) }
+    ensures places { OnOk result (GivesNumber places.old name.items (length entries.old.items) places.new) }
+    ensures same_entries { OnErr result (entries.new.items ≡ entries.old.items) }
+    ensures same_places { OnErr result (HaveSameNumbers places.old places.new) }
+{
+    let alloc = *entries.allocator();
+    let place = entries.len();
+    entries.push((name, bytes))?;
+    match places.insert(alloc, entries[place].0.as_slice(), place) {
+        Ok(()) => Ok(()),
+        Err(_) => {
+            entries.pop();
+            Err(AllocError)
+        }
+    }
+}
+
 impl Files {
     /// No files, on an allocator from which each later file takes its memory.
     pub fn new(alloc: Global) -> Files
         ensures { result ≡ [] }
     {
         Files {
-            by_name: IndexMap::new(alloc),
+            entries: Vec::new(alloc),
+            places: NameMap::new(alloc),
         }
     }
 
@@ -118,11 +148,11 @@ impl Files {
         if is_bad(name.as_slice(), bytes.as_slice()) {
             return Err(FilesError::BadFile);
         }
-        if self.by_name.contains_key(&name) {
+        if self.has(name.as_slice()) {
             return Err(FilesError::Twice);
         }
-        match self.by_name.insert(name, bytes) {
-            Ok(_) => Ok(()),
+        match put(&mut self.entries, &mut self.places, name, bytes) {
+            Ok(()) => Ok(()),
             Err(_) => Err(FilesError::Memory),
         }
     }
@@ -134,8 +164,8 @@ impl Files {
         if Files::is_folder(name) {
             return None;
         }
-        match self.by_name.get(name) {
-            Some(bytes) => Some(bytes.as_slice()),
+        match self.places.get(name) {
+            Some(place) => Some(self.bytes_at(place)),
             None => None,
         }
     }
@@ -144,14 +174,14 @@ impl Files {
     pub fn len(&self) -> usize
         ensures { result ≡ length self.now }
     {
-        self.by_name.len()
+        self.entries.len()
     }
 
     /// Whether a file or folder of that name is there.
     pub fn has(&self, name: &[u8]) -> bool
         ensures { result ≡ has_file self.now name.now }
     {
-        self.by_name.contains_key(name)
+        self.places.get(name).is_some()
     }
 
     /// How many files and folders came before the file of that name, or nothing where no file has it or it declares a folder.
@@ -159,7 +189,7 @@ impl Files {
         ensures { result ≡ file_at self.now name.now }
     {
         if !Files::is_folder(name) {
-            return self.by_name.get_index_of(name);
+            return self.places.get(name);
         }
         None
     }
@@ -168,7 +198,7 @@ impl Files {
     pub fn bytes_at(&self, at: usize) -> &[u8]
         ensures { result.now ≡ bytes_at self.now at }
     {
-        match self.by_name.get_index(at) {
+        match self.entries.get(at) {
             Some((_, bytes)) => bytes.as_slice(),
             None => &[],
         }
@@ -178,7 +208,7 @@ impl Files {
     pub fn name_at(&self, at: usize) -> &[u8]
         ensures { result.now ≡ name_at self.now at }
     {
-        match self.by_name.get_index(at) {
+        match self.entries.get(at) {
             Some((name, _)) => name.as_slice(),
             None => &[],
         }
@@ -188,7 +218,7 @@ impl Files {
     pub fn name(&self, file: usize) -> Option<&[u8]>
         ensures { option_map (λ n. n.now) result ≡ option_map (λ f. f.0) (slice_get self.now file) }
     {
-        match self.by_name.get_index(file) {
+        match self.entries.get(file) {
             Some((name, _)) => Some(name.as_slice()),
             None => None,
         }

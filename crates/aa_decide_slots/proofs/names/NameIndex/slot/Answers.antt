@@ -2,4 +2,4 @@ use Rattle.std.proofs.Common.{◌∙◌}
 use Rattle.aa_decide_slots.proofs.names.NameIndex.slot.Goals as goal
 
 pub returns : goal.returns
-returns c = λ slots is. c.copied.ensures ∙ c.get.ensures.value ∙ is c.args.name.now
+returns c = λ slots is. c.get.ensures ∙ is c.args.name.now

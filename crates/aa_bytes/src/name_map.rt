@@ -1,0 +1,44 @@
+//! Numbers by names.
+
+ghost use Rattle.std.specs.Prelude.{◌≡◌, ℕ, List, None, OnOk, OnErr};
+ghost use Rattle.aa_bytes.specs.NameMaps.{GivesNumber, HaveSameNumbers, number_of};
+
+use std::alloc::{AllocError, Global};
+use std::collections::HashMap;
+
+/// A number for each of some names, which are texts of bytes.
+#[derive(Debug, Drop)]
+pub struct NameMap {
+    by_name: HashMap<Vec<u8>, usize>,
+}
+
+impl NameMap {
+    /// No name has a number. It takes no memory.
+    pub fn new(alloc: Global) -> NameMap
+        ensures { (name : List ℕ) → number_of result name ≡ None }
+    {
+        NameMap {
+            by_name: HashMap::new(alloc),
+        }
+    }
+
+    /// The number of a name, or nothing where it has none. It takes no memory, and a time that doesn't grow with the number of names.
+    pub fn get(&self, name: &[u8]) -> Option<usize>
+        ensures { result ≡ number_of self.now name.now }
+    {
+        self.by_name.get(name).copied()
+    }
+
+    /// Gives a name a number, in place of the one that it had, if any. It takes a copy of the name, and some 50 bytes more.
+    ///
+    /// # Errors
+    ///
+    /// Where memory runs out. All names then have what they had.
+    pub fn insert(&mut self, alloc: Global, name: &[u8], number: usize) -> Result<(), AllocError>
+        ensures ok { OnOk result (GivesNumber self.old name.now number self.new) }
+        ensures err { OnErr result (HaveSameNumbers self.old self.new) }
+    {
+        self.by_name.insert(Vec::from_slice(alloc, name)?, number)?;
+        Ok(())
+    }
+}
