@@ -14,7 +14,7 @@ use Rattle.aatry_asking.specs.Questions.{letting_words}
 use Rattle.aatry_asking.specs.Rules.{TellsRules, asker_file, is_lacking}
 use Rattle.aatry_policy.specs.Folders.{Folder, left_out_in, outcomes_in, policy_in}
 use Rattle.aatry_policy.specs.LeftOut.{refusal_text}
-use Rattle.aatry_policy.specs.Parts.{by_parts}
+use Rattle.aatry_policy.specs.FolderParts.{by_parts}
 use Rattle.aatry_record.specs.Records.{record_line, record_of, with_number, with_text}
 use Rattle.aatry_record.specs.declared.form.Form.{Form}
 use Rattle.aatry_record.specs.declared.form.Form.TheVariants.{Lines, Records}

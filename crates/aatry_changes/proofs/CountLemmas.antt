@@ -9,8 +9,8 @@ use Rattle.aa_bytes.specs.Texts.{is_empty}
 use Rattle.aatry_changes.specs.Changes.{below_text, change_lines, changed_by, changed_count, differ, headed, headed_record, is_gone_or_changed}
 use Rattle.aatry_changes.specs.Changes.{is_gone_or_changed_by, is_new, lines_alone, new_text, new_text_by, old_text, old_text_by}
 use Rattle.aatry_changes.specs.declared.lines.Line.{Line}
-use Rattle.aatry_profiles.specs.Folders.{FolderParts}
-use Rattle.aatry_profiles.specs.Parts.{Part, part_of}
+use Rattle.aatry_policy.specs.FolderParts.{FolderParts}
+use Rattle.aatry_policy.specs.Parts.{Part, part_of}
 use Rattle.aatry_record.specs.declared.form.Form.{Form}
 use Rattle.aatry_record.specs.declared.form.Form.TheVariants.{Lines, Records}
 use Rattle.aatry_report.specs.Shown.{shown}

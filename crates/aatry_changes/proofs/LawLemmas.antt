@@ -8,8 +8,8 @@ use Rattle.aatry_changes.specs.Lacking.{has_text, lacking}
 use Rattle.aatry_changes.specs.Laws.{HaveAlike, texts_of}
 use Rattle.aatry_changes.specs.Lines.{lines_of}
 use Rattle.aatry_changes.specs.declared.lines.Line.{Line}
-use Rattle.aatry_profiles.specs.Folders.{FolderParts}
-use Rattle.aatry_profiles.specs.Parts.{Part}
+use Rattle.aatry_policy.specs.FolderParts.{FolderParts}
+use Rattle.aatry_policy.specs.Parts.{Part}
 use Rattle.aatry_record.specs.declared.form.Form.{Form}
 
 -- a text is one of some

@@ -9,8 +9,8 @@ use Rattle.aatry_changes.specs.Lacking.{lacking}
 use Rattle.aatry_changes.specs.Lines.{lines_of}
 use Rattle.aatry_changes.specs.declared.lines.Line.{Line}
 use Rattle.aatry_changes.specs.declared.side.Side.TheVariants.{New, Old}
-use Rattle.aatry_profiles.specs.Folders.{FolderParts}
-use Rattle.aatry_profiles.specs.Parts.{Part, part_of}
+use Rattle.aatry_policy.specs.FolderParts.{FolderParts}
+use Rattle.aatry_policy.specs.Parts.{Part, part_of}
 use Rattle.aatry_record.specs.Records.{record_line, record_of, with_text}
 use Rattle.aatry_record.specs.declared.form.Form.{Form}
 use Rattle.aatry_record.specs.declared.form.Form.TheVariants.{Lines, Records}

@@ -5,8 +5,8 @@ use Rattle.aa_bytes.specs.Bytes.{line_feed}
 use Rattle.aatry_changes.specs.Sides.{kind, sign}
 use Rattle.aatry_changes.specs.declared.lines.Line.{Line}
 use Rattle.aatry_changes.specs.declared.side.Side.{Side}
-use Rattle.aatry_profiles.specs.Folders.{FolderParts}
-use Rattle.aatry_profiles.specs.Parts.{Part}
+use Rattle.aatry_policy.specs.FolderParts.{FolderParts}
+use Rattle.aatry_policy.specs.Parts.{Part}
 use Rattle.aatry_record.specs.Records.{record_line, record_of, with_text}
 use Rattle.aatry_record.specs.declared.form.Form.{Form}
 use Rattle.aatry_record.specs.declared.form.Form.TheVariants.{Lines, Records}

@@ -1,7 +1,7 @@
 -- What the law on changes speaks of: folders with parts alike.
 use Rattle.std.specs.Prelude.{◌≡◌, ℕ, List, [], ◌∷◌, map, Some}
 use Rattle.aatry_changes.specs.Lines.{lines_of}
-use Rattle.aatry_profiles.specs.Parts.{Part, part_of}
+use Rattle.aatry_policy.specs.Parts.{Part, part_of}
 
 -- what the lines of a part tell
 abbrev pub texts_of : Part → List (List ℕ)

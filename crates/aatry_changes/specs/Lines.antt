@@ -8,7 +8,7 @@ use Rattle.aa_set_answers.specs.Show.{attachment_text}
 use Rattle.aa_set_answers.specs.States.{mode_word}
 use Rattle.aa_text_files.specs.declared.text_error.Place.{Place}
 use Rattle.aatry_changes.specs.declared.lines.Line.{Line}
-use Rattle.aatry_profiles.specs.Parts.{Part}
+use Rattle.aatry_policy.specs.Parts.{Part}
 
 -- the line of a word at the head of a part
 abbrev pub head_line : List ℕ → Line

@@ -3,15 +3,15 @@
 ghost use Rattle.std.specs.Prelude.{◌≡◌, ◌++◌, IfOk, OnOk, Some, option_map};
 ghost use Rattle.aa_profile_access.specs.SeenRequests.{request_of};
 ghost use Rattle.aatry_changes.specs.Causes.{cause_lines, causes_of, covering_of};
-ghost use Rattle.aatry_profiles.specs.Folders.{seen_folder};
-ghost use Rattle.aatry_profiles.specs.SeenProfiles.{seen_part};
+ghost use Rattle.aatry_policy.specs.FolderParts.{seen_folder};
+ghost use Rattle.aatry_policy.specs.SeenProfiles.{seen_part};
 
 use crate::differing::push_lines;
 use crate::lacking::lacking;
 use crate::lines::{Line, covering_lines};
 use crate::side::Side;
 use aa_profile_access::Request;
-use aatry_profiles::{FolderParts, Part, part_of};
+use aatry_policy::{FolderParts, Part, part_of};
 use aatry_record::Form;
 use std::alloc::{AllocError, Global};
 

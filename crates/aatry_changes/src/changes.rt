@@ -5,8 +5,8 @@ ghost use Rattle.aatry_changes.specs.Changes.{below_text, change_lines, changed_
 ghost use Rattle.aatry_changes.specs.Changes.{headed_record, is_changed, is_gone_or_changed, is_new, new_text, old_text};
 ghost use Rattle.aatry_changes.specs.Lacking.{lacking};
 ghost use Rattle.aatry_changes.specs.SeenLines.{seen_lines};
-ghost use Rattle.aatry_profiles.specs.Folders.{seen_folder};
-ghost use Rattle.aatry_profiles.specs.SeenProfiles.{seen_part};
+ghost use Rattle.aatry_policy.specs.FolderParts.{seen_folder};
+ghost use Rattle.aatry_policy.specs.SeenProfiles.{seen_part};
 ghost use Rattle.aatry_record.specs.SeenRecord.{seen_record};
 ghost use Rattle.aatry_report.specs.Taken.{counted};
 
@@ -14,7 +14,7 @@ use crate::differing::push_lines;
 use crate::lacking::lacking;
 use crate::lines::{Line, lines_of};
 use crate::side::Side;
-use aatry_profiles::{FolderParts, Part, part_of};
+use aatry_policy::{FolderParts, Part, part_of};
 use aatry_record::{Form, Record};
 use aatry_report::push_shown;
 use std::alloc::{AllocError, Global};

@@ -4,8 +4,8 @@ ghost use Rattle.std.specs.Prelude.{◌≡◌, ◌==◌, [], not};
 ghost use Rattle.aa_bytes.specs.Texts.{is_empty};
 ghost use Rattle.aatry_changes.specs.Changes.{change_lines, changed_count, is_gone_or_changed, is_new, new_text, old_text};
 ghost use Rattle.aatry_changes.specs.Laws.{HaveAlike};
-ghost use Rattle.aatry_profiles.specs.Folders.{FolderParts};
-ghost use Rattle.aatry_profiles.specs.Parts.{Part};
+ghost use Rattle.aatry_policy.specs.FolderParts.{FolderParts};
+ghost use Rattle.aatry_policy.specs.Parts.{Part};
 ghost use Rattle.aatry_record.specs.declared.form.Form.{Form};
 
 /// Nothing is told of two folders, in either form, where each part of either has one of its full name in the other that is told by the same lines,

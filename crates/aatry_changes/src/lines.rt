@@ -4,7 +4,7 @@ ghost use Rattle.std.specs.Prelude.{◌≡◌, ◌++◌, IfOk, OnOk};
 ghost use Rattle.aa_profile_access.specs.SeenRequests.{request_of};
 ghost use Rattle.aatry_changes.specs.Lines.{attachment_line, attachment_lines, covering_lines, flag_lines, head_line, head_lines};
 ghost use Rattle.aatry_changes.specs.Lines.{line_if_covering, lines_of, rule_line, rule_lines};
-ghost use Rattle.aatry_profiles.specs.SeenProfiles.{seen_part};
+ghost use Rattle.aatry_policy.specs.SeenProfiles.{seen_part};
 
 use aa_bytes::Sequence;
 use aa_glob_pattern::Pattern;
@@ -12,7 +12,7 @@ use aa_profile_access::Request;
 use aa_profile_data::Rule;
 use aa_profile_places::Place;
 use aa_set_answers::{mode_word, push_attachment, push_rule};
-use aatry_profiles::Part;
+use aatry_policy::Part;
 use aatry_why::covers;
 use bitflags::Flags;
 use std::alloc::{AllocError, Global};

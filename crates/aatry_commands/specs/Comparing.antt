@@ -2,7 +2,7 @@
 use Rattle.std.specs.Prelude.{◌≡◌, ℕ, List, [], ◌∷◌, Option, None, Some}
 use Rattle.aa_text_files.specs.Files.{File}
 use Rattle.aatry_arguments.specs.DiffWords.{ComparisonAsked, LogAt, QuestionsAt, SourceAsked}
-use Rattle.aatry_comparing.specs.Comparing.{are_alike, diff_text}
+use Rattle.aatry_diff.specs.Comparing.{are_alike, diff_text}
 use Rattle.aatry_commands.specs.Checking.{AreBelow}
 use Rattle.aatry_commands.specs.Folders.{folder_at}
 use Rattle.aatry_commands.specs.Testing.{IsFileAt, failed_by}

@@ -7,8 +7,8 @@ ghost use Rattle.aatry_commands.specs.Comparing.{IsComparedBelow, IsGathered, fo
 ghost use Rattle.aatry_commands.specs.Folders.{folder_with};
 ghost use Rattle.aatry_commands.specs.Testing.{failed_by};
 ghost use Rattle.aatry_commands.specs.code.Requests.{gathered_of};
-ghost use Rattle.aatry_comparing.specs.Comparing.{are_alike, diff_text};
-ghost use Rattle.aatry_comparing.specs.Sources.{seen_source};
+ghost use Rattle.aatry_diff.specs.Comparing.{are_alike, diff_text};
+ghost use Rattle.aatry_diff.specs.Sources.{seen_source};
 
 use crate::asking::{PolicyFiles, folder_at, policy_below};
 use crate::checking::Report;
@@ -17,7 +17,7 @@ use crate::testing::{failed_by, file_at};
 use aa_text_files::Files;
 use aaset_gather::FileSystem;
 use aatry_arguments::{Comparison, RequestSource};
-use aatry_comparing::{Compared, diff};
+use aatry_diff::{Compared, diff};
 use aatry_folder::Folders;
 use aatry_record::Form;
 use aatry_requests::Source;
@@ -96,7 +96,7 @@ fn compare(
 }
 
 /// Compares two folders of policy, and by the requests of a log or the questions of a file too, where one is given: finds and reads all files below each
-/// as `check_folder` does, and tells what `aatry_comparing::diff` tells, over the files at their tops. One failed where something differs.
+/// as `check_folder` does, and tells what `aatry_diff::diff` tells, over the files at their tops. One failed where something differs.
 ///
 /// # Errors
 ///

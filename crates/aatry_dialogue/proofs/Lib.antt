@@ -1,2 +1,3 @@
+mod InputLemmas
 mod SessionLemmas
 mod WritingLemmas

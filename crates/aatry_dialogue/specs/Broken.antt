@@ -6,7 +6,7 @@ use Rattle.aatry_commands.specs.Fault.{IsOfFolder}
 use Rattle.aatry_commands.specs.declared.fault.Fault.{Fault}
 use Rattle.aatry_commands.specs.declared.fault.Fault.TheVariants.{NoMemory, Read, Write}
 use Rattle.aatry_dialogue.specs.Session.{Answers, IsLoaded, IsTurn, Standing, State, at_first_line}
-use Rattle.aatry_line_input.specs.Inputs.{GivesLine}
+use Rattle.aatry_dialogue.specs.Inputs.{GivesLine}
 
 -- how many lines a session answers at most
 abbrev pub most_lines : ℕ

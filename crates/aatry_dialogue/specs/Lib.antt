@@ -1,3 +1,4 @@
 pub mod Broken
+pub mod Inputs
 pub mod Session
 pub mod code

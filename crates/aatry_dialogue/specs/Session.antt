@@ -11,7 +11,7 @@ use Rattle.aatry_commands.specs.Checking.{AreBelow, top_names}
 use Rattle.aatry_commands.specs.Fault.{told_line}
 use Rattle.aatry_commands.specs.Folders.{folder_at}
 use Rattle.aatry_commands.specs.declared.fault.Fault.{Fault}
-use Rattle.aatry_line_input.specs.Inputs.{GivesLine}
+use Rattle.aatry_dialogue.specs.Inputs.{GivesLine}
 use Rattle.aatry_record.specs.declared.form.Form.TheVariants.{Lines}
 use Rattle.aatry_report.specs.Shown.{shown}
 use Rattle.aatry_session.specs.History.{ok_line}

@@ -1,6 +1,7 @@
 //! A session over a folder of policy: lines of an input, answered as they come.
 #![tactic(auto)]
 
+mod input;
 mod session;
 mod writing;
 

@@ -9,10 +9,11 @@ ghost use Rattle.aatry_dialogue.specs.Broken.{IsBrokenRun, IsBrokenSession, IsBr
 ghost use Rattle.aatry_dialogue.specs.Session.{IsLastStep, IsLoaded, IsReadAnew, IsRun, IsSession, IsStep, IsTold, IsTurn, LoadsEach, LoadsOne};
 ghost use Rattle.aatry_dialogue.specs.Session.{add_line, goes_on, left_out_line, loading_text};
 ghost use Rattle.aatry_dialogue.specs.code.Sessions.{AreAtTop, seen_table, standing};
-ghost use Rattle.aatry_line_input.specs.Inputs.{GivesLine, most_reads};
+ghost use Rattle.aatry_dialogue.specs.Inputs.{GivesLine, most_reads};
 ghost use Rattle.aatry_session.specs.SeenTurns.{IsAskable, seen_turn};
 ghost use Rattle.aatry_session.specs.Turns.{Told};
 
+use crate::input::LineInput;
 use crate::writing::write;
 use aa_set_lines::{LineBuffer, Sink, Source};
 use aa_text_files::Files;
@@ -20,7 +21,6 @@ use aaset_gather::FileSystem;
 use aatry_asking::push_answer_of;
 use aatry_commands::{Fault, PolicyFiles, folder_at, policy_below, push_told};
 use aatry_folder::Folders;
-use aatry_line_input::LineInput;
 use aatry_record::Form;
 use aatry_report::push_shown;
 use aatry_session::{Session, Turn};

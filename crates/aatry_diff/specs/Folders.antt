@@ -1,6 +1,6 @@
 -- Two folders of policy that are compared, by their profiles, children and hats.
 use Rattle.aatry_diff.specs.declared.folders.BothFolders.{BothFolders as CodeFolders}
-use Rattle.aatry_profiles.specs.Folders.{FolderParts, seen_folder}
+use Rattle.aatry_policy.specs.FolderParts.{FolderParts, seen_folder}
 
 pub record BothFolders : Type 0 where
   pub old : FolderParts

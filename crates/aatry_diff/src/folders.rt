@@ -1,6 +1,6 @@
 //! Two folders of policy that are compared.
 
-use aatry_profiles::FolderParts;
+use aatry_policy::FolderParts;
 
 /// Two folders of policy that are compared, by their profiles, children and hats.
 #[derive(Clone, Copy)]

@@ -1,15 +1,35 @@
-//! What holds of what is told of questions, as a law over the definitions that the calls are proved to follow.
+//! What holds of what is told of two folders, as laws over the definitions that the calls are proved to follow.
 
-ghost use Rattle.std.specs.Prelude.{◌≡◌, ◌==◌, List, length};
+ghost use Rattle.std.specs.Prelude.{◌≡◌, ◌==◌, ◌&&◌, List, Option, length};
 ghost use Rattle.aa_bytes.specs.Texts.{is_empty};
 ghost use Rattle.aa_decide_verdict.specs.Entries.{Loaded};
+ghost use Rattle.aatry_changes.specs.Changes.{change_lines};
+ghost use Rattle.aatry_diff.specs.Comparing.{are_alike, both};
 ghost use Rattle.aatry_diff.specs.Differences.{difference_lines, differing};
 ghost use Rattle.aatry_diff.specs.Folders.{BothFolders};
+ghost use Rattle.aatry_diff.specs.Sources.{differences_text};
+ghost use Rattle.aatry_policy.specs.Folders.{Folder, policy_in};
+ghost use Rattle.aatry_policy.specs.FolderParts.{by_parts};
 ghost use Rattle.aatry_record.specs.declared.form.Form.{Form};
+ghost use Rattle.aatry_requests.specs.Gathering.{Gathered};
 ghost use Rattle.aatry_requests.specs.Tallies.{Tally};
+
+use aatry_changes::what_is_counted_is_told;
 
 /// Something is told of questions, in either form, exactly where two policy sets answer one of them otherwise.
 pub fn what_differs_is_told()
     ensures { (form : Form) (folders : BothFolders) (old new : List Loaded) (tallies : List Tally)
         → is_empty (difference_lines form folders old new tallies) ≡ (length (differing old new tallies) == 0) }
 {}
+
+/// Two folders are alike, by which `aatry diff` has its exit status, exactly where nothing is told of them but the files that are left out and what
+/// sums up: of no profile, child or hat, and of no question.
+pub fn what_is_alike_is_not_told()
+    ensures { (form : Form) (old new : Folder) (requests : Option Gathered)
+        → are_alike old new requests
+        ≡ (is_empty (change_lines form (by_parts old) (by_parts new))
+        && is_empty (differences_text form (both old new) (policy_in old) (policy_in new) requests)) }
+{
+    what_is_counted_is_told();
+    what_differs_is_told();
+}

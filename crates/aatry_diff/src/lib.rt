@@ -1,14 +1,13 @@
-//! Two policy sets, compared by what they answer to the same questions.
+//! Two folders of policy, compared by their profiles and by what they answer to the same questions.
 #![tactic(auto)]
 
 mod answers;
+mod comparing;
 mod differences;
 mod folders;
 mod laws;
 mod numbers;
 mod summary;
 
-pub use differences::push_differences;
-pub use folders::BothFolders;
-pub use laws::what_differs_is_told;
-pub use summary::push_summary;
+pub use comparing::{Compared, diff};
+pub use laws::{what_differs_is_told, what_is_alike_is_not_told};

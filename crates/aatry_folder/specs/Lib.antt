@@ -1,3 +1,4 @@
+pub mod Includes
 pub mod Links
 pub mod Members
 pub mod NamesBelow

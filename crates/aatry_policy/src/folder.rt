@@ -3,10 +3,11 @@
 ghost use Rattle.std.specs.Prelude.{◌≡◌, ◌++◌, IfOk, OnOk};
 ghost use Rattle.aatry_policy.specs.Folders.{left_out_in, loaded_in, outcomes_in, seen_folder};
 
+use crate::folder_parts::FolderParts;
 use crate::left_out::push_left_out;
+use crate::parts::Part;
 use crate::policy::{Policy, load};
 use aa_text_files::Files;
-use aatry_profiles::{FolderParts, Part};
 use aatry_record::Form;
 use std::alloc::{AllocError, Global};
 

@@ -1,0 +1,3 @@
+mod CompareLemmas
+mod LineLemmas
+mod PartLemmas

@@ -1,1 +1,5 @@
+pub mod Differences
+pub mod Laws
+pub mod Replies
 pub mod Tests
+pub mod Transcripts

@@ -3,8 +3,8 @@ use Rattle.std.specs.Prelude.{◌≡◌, ℕ, Bool, false, List}
 use Rattle.aa_set.specs.Run.{output}
 use Rattle.aa_set_lines.specs.Lines.{lines}
 use Rattle.aa_text_files.specs.Files.{File}
-use Rattle.aatry_transcript.specs.Differences.{are_same, comparison}
-use Rattle.aatry_transcript.specs.Transcripts.{input_of, wanted_in}
+use Rattle.aatry_test.specs.Differences.{are_same, comparison}
+use Rattle.aatry_test.specs.Transcripts.{input_of, wanted_in}
 
 -- the lines that a run over these files writes for the commands of a transcript, from the empty policy set on, for these flags on commands that found
 -- no memory

@@ -1,6 +1,13 @@
-//! Tests transcripts over files of policy, and tells what is found.
+//! Transcripts of the machine, and their test: the commands that they hold, and how what a run tells differs from what they want.
 #![tactic(auto)]
 
+mod comparing;
+mod differences;
+mod laws;
+mod lines;
+mod replies;
 mod testing;
+mod transcripts;
 
+pub use laws::{what_a_comparison_says, what_parts_are};
 pub use testing::test;

@@ -4,12 +4,14 @@ ghost use Rattle.std.specs.Prelude.{◌≡◌, ◌++◌, ℕ, Bool, List, IfOk, 
 ghost use Rattle.aa_set.specs.Run.{output};
 ghost use Rattle.aa_set_lines.specs.Lines.{lines};
 ghost use Rattle.aatry_test.specs.Tests.{IsTested};
-ghost use Rattle.aatry_transcript.specs.Differences.{are_same, comparison};
-ghost use Rattle.aatry_transcript.specs.Transcripts.{input_of, texts, wanted_in};
+ghost use Rattle.aatry_test.specs.Differences.{are_same, comparison};
+ghost use Rattle.aatry_test.specs.Transcripts.{input_of, texts, wanted_in};
 
+use crate::comparing::compare;
+use crate::lines::lines_of;
+use crate::transcripts::input_of;
 use aa_set::{FromRead, ToWrite, run};
 use aa_text_files::Files;
-use aatry_transcript::{compare, input_of, lines_of};
 use std::alloc::{AllocError, Global};
 
 // What a run over these files writes for an input. Where none can be had memory ran out, as neither the input nor the output can fail otherwise.

@@ -14,8 +14,8 @@ use Rattle.aa_profile_data.specs.declared.profile.Child.{Child}
 use Rattle.aa_set_answers.specs.Answers.{confined_answer}
 use Rattle.aa_set_answers.specs.Children.{lines_of_children}
 use Rattle.aa_set_answers.specs.ProfileNames.{full_name_at}
-use Rattle.aatry_profiles.specs.Folders.{FolderParts}
-use Rattle.aatry_profiles.specs.Parts.{Part, part_of}
+use Rattle.aatry_policy.specs.FolderParts.{FolderParts}
+use Rattle.aatry_policy.specs.Parts.{Part, part_of}
 use Rattle.aatry_record.specs.Records.{record_line, record_of, with_text}
 use Rattle.aatry_record.specs.declared.form.Form.{Form}
 use Rattle.aatry_record.specs.declared.form.Form.TheVariants.{Lines, Records}

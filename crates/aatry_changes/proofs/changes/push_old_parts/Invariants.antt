@@ -1,8 +1,8 @@
 use Rattle.std.proofs.Common.{◌≡◌, ◌≤◌, ◌+◌, ◌++◌, filter, flat_map, length, map}
 use Rattle.aatry_changes.specs.Changes.{is_gone_or_changed, old_text}
 use Rattle.aatry_changes.proofs.changes.push_old_parts.Given as goal
-use Rattle.aatry_profiles.specs.Folders.{seen_folder}
-use Rattle.aatry_profiles.specs.SeenProfiles.{seen_part}
+use Rattle.aatry_policy.specs.FolderParts.{seen_folder}
+use Rattle.aatry_policy.specs.SeenProfiles.{seen_part}
 
 -- what was told so far, with what is told of the parts that are left, is all; and so is how many these are
 abbrev pub invariant-loop-rest : goal.invariant-loop-rest

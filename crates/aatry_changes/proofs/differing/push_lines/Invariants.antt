@@ -2,8 +2,8 @@ use Rattle.std.proofs.Common.{◌≡◌, ◌++◌, length}
 use Rattle.aatry_changes.specs.Differing.{told_lines}
 use Rattle.aatry_changes.specs.SeenLines.{seen_lines}
 use Rattle.aatry_changes.proofs.differing.push_lines.Given as goal
-use Rattle.aatry_profiles.specs.Folders.{seen_folder}
-use Rattle.aatry_profiles.specs.SeenProfiles.{seen_part}
+use Rattle.aatry_policy.specs.FolderParts.{seen_folder}
+use Rattle.aatry_policy.specs.SeenProfiles.{seen_part}
 
 -- the text so far, with what is told of the lines that are left, is all
 abbrev pub invariant-loop-rest : goal.invariant-loop-rest

@@ -2,7 +2,7 @@ use Rattle.std.proofs.Common.{◌≡◌, ◌≤◌, ◌+◌, ℕ, List, length}
 use Rattle.std.specs.Prelude.{◌*◌}
 use Rattle.aatry_dialogue.specs.Session.{Answers}
 use Rattle.aatry_dialogue.specs.code.Sessions.{AreAtTop, standing}
-use Rattle.aatry_line_input.specs.Inputs.{most_reads}
+use Rattle.aatry_dialogue.specs.Inputs.{most_reads}
 use Rattle.aatry_dialogue.proofs.session.run.Given as goal
 
 -- as many lines as were counted were answered one behind the other, each with no more reads than a line may take

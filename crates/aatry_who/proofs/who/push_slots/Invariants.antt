@@ -1,7 +1,7 @@
 use Rattle.std.proofs.Common.{◌≡◌, ◌++◌, length}
 use Rattle.aa_decide_verdict.specs.Slots.{filled}
 use Rattle.aa_profile_access.specs.SeenRequests.{request_of}
-use Rattle.aatry_profiles.specs.Folders.{seen_folder}
+use Rattle.aatry_policy.specs.FolderParts.{seen_folder}
 use Rattle.aatry_who.specs.Who.{who_lines}
 use Rattle.aatry_who.proofs.who.push_slots.Given as goal
 

@@ -1,2 +1,0 @@
-pub mod MissingLemmas
-pub mod StandingLemmas

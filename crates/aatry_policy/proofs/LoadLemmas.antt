@@ -1,0 +1,160 @@
+-- The policy set of a folder: the profiles of the files that are read, in their order.
+use Rattle.std.proofs.Common.{◌≡◌, ℕ, Bool, true, false, List, [], ◌∷◌, ◌++◌, length, map, Option, None, Some, Ok, Err, Result, refl, sym, ap, subst, ◌∙◌, cond}
+use Rattle.std.specs.Prelude.{IfOk}
+use Rattle.std.proofs.lemmas.List.{append-nil, append_assoc, map-append}
+use Rattle.std.proofs.lemmas.List.Elements.{All-append, All-contains, All-head, All-map, All-nil, All-tail, All-weaker}
+use Rattle.std.specs.List.{All, Contains, list_all}
+use Rattle.aa_decide.specs.Exec.{Asker}
+use Rattle.aa_decide_slots.specs.Named.{have_distinct_names}
+use Rattle.aa_decide_verdict.specs.Entries.{Loaded}
+use Rattle.aa_profile.specs.FileReading.{file_profiles}
+use Rattle.aa_profile.specs.ProfileNames.{has_distinct_children, is_named_well}
+use Rattle.aa_profile_data.specs.declared.profile.Profile.{Profile}
+use Rattle.aa_profile_errors.specs.declared.profile_error.ProfileError.{ProfileError}
+use Rattle.aa_profile_places.specs.Laws.{AreProfilesMadeAt}
+use Rattle.aa_profile_places.specs.RulePlaces.{file_places}
+use Rattle.aa_profile_places.specs.declared.places.ProfilePlaces.{ProfilePlaces}
+use Rattle.aa_set.specs.Manager.{Managed, after_change, after_commit, made, new_manager}
+use Rattle.aa_set_answers.specs.Askers.{asker}
+use Rattle.aa_set_answers.specs.Laws.{HasFileNames, IsListed, ListedNamesLeadBack}
+use Rattle.aa_set_changes.specs.ChangeLaws.{ChangesKeepNamesApart}
+use Rattle.aa_set_changes.specs.Changes.{are_there, by_file, changed, loaded as taken_by, parts_of as parts_of_change, profile_count, with_added}
+use Rattle.aa_set_commands.specs.Command.{Add}
+use Rattle.aa_set_commands.specs.Refusal.{plain, refusal_of_profile}
+use Rattle.aa_set_commands.specs.declared.refusal.Refusal.{Refusal}
+use Rattle.aa_set_commands.specs.declared.refusal.RefusalKind.TheVariants.{Exists}
+use Rattle.aa_set_answers.specs.ProfileNames.{full_name_at}
+use Rattle.aa_text_files.specs.Files.{File}
+use Rattle.aatry_policy.proofs.PartLemmas.{HasAll, IsOf, IsPlaced, are-files, contains-mapped, has-files, profiles_in, rules-of, taken}
+use Rattle.aatry_policy.proofs.ReadLemmas.{IsRead, all-read, placed, read-named}
+use Rattle.aatry_policy.specs.Laws.{HasOwnRules}
+use Rattle.aatry_policy.specs.Folders.{Folder, outcomes_in, policy_in}
+use Rattle.aatry_policy.specs.FolderParts.{parts_in}
+use Rattle.aatry_policy.specs.Policies.{loaded, made_or, outcomes, refusal_of, with_file}
+use Rattle.aatry_policy.specs.Parts.{parts_of}
+use Rattle.aatry_policy.specs.Profiles.{FileProfiles, file_at, file_if_taken, read_profiles}
+
+-- what files load: the profiles of those that are read, behind what there was
+abbrev Loads : List File → List (List ℕ) → Managed → Type 0
+Loads files names managed =
+    (loaded files managed names).machine.now
+    ≡ managed.machine.now ++ map (taken_by managed.force_complain) (profiles_in (read_profiles files names (outcomes files managed names)))
+
+-- the same, where the first came out so
+abbrev LoadsFrom : List File → Managed → List ℕ → List (List ℕ) → Result Managed Refusal → Type 0
+LoadsFrom files managed name names came =
+    (loaded files (made_or managed came) names).machine.now
+    ≡ managed.machine.now ++ map (taken_by managed.force_complain)
+    (profiles_in (file_if_taken files name (refusal_of came) ++ read_profiles files names (outcomes files (made_or managed came) names)))
+
+-- how a file comes out, by its profiles
+abbrev came_by : Managed → Result (List Profile) ProfileError → Result Managed Refusal
+came_by managed read = after_change managed (profile_count read) (by_file (with_added managed.force_complain managed.machine.now) read)
+
+-- the set with some profiles more, or the refusal where one is there
+abbrev added_if : Managed → List Profile → Bool → Result Managed Refusal
+added_if managed profiles there =
+    after_change managed (length profiles)
+    (cond there (Err (plain Exists)) (Ok (managed.machine.now ++ map (taken_by managed.force_complain) profiles)))
+
+file-is : (files : List File) (name : List ℕ) (profiles : List Profile) (places : List ProfilePlaces)
+    → file_profiles files name ≡ Ok profiles → file_places files name ≡ Some places
+    → file_at files name ≡ record { name = name; profiles = profiles; places = places } ∷ []
+file-is files name profiles places read there =
+    ap (λ (own : Result (List Profile) ProfileError). elim own [
+      | Err error ↦ []
+      | Ok profiles ↦ elim (file_places files name) [ None ↦ [] | Some places ↦ record { name = name; profiles = profiles; places = places } ∷ [] ]
+    ]) read
+    ∙ ap (λ (own : Option (List ProfilePlaces)). elim own [
+      | None ↦ []
+      | Some places ↦ record { name = name; profiles = profiles; places = places } ∷ []
+    ]) there
+
+step : (files : List File) (managed : Managed) (name : List ℕ) (names : List (List ℕ)) → ((next : Managed) → Loads files names next)
+    → LoadsFrom files managed name names (made files managed (Add name))
+step files managed name names rest = by (file_profiles files name) refl
+  where
+    by_profiles : (profiles : List Profile) → file_profiles files name ≡ Ok profiles
+        → (there : Bool) → are_there profiles managed.machine.now ≡ there → LoadsFrom files managed name names (made files managed (Add name))
+    by_profiles profiles read true h =
+        let came : made files managed (Add name) ≡ Err (plain Exists) = ap (came_by managed) read ∙ ap (added_if managed profiles) h in
+        subst (LoadsFrom files managed name names) (sym came) (rest managed)
+    by_profiles profiles read false h =
+        let (places, there) = placed files name profiles read in
+        let now = managed.machine.now in
+        let load = taken_by managed.force_complain in
+        let next = after_commit managed (now ++ map load profiles) (length profiles) in
+        let others = read_profiles files names (outcomes files next names) in
+        let came : made files managed (Add name) ≡ Ok next = ap (came_by managed) read ∙ ap (added_if managed profiles) h in
+        let all : LoadsFrom files managed name names (Ok next) =
+        rest next
+        ∙ append_assoc now (map load profiles) (map load (profiles_in others))
+        ∙ ap (λ l. now ++ l) (sym (map-append load profiles (profiles_in others)))
+        ∙ ap (λ (own : List FileProfiles). now ++ map load (profiles_in (own ++ others))) (sym (file-is files name profiles places read there)) in
+        subst (LoadsFrom files managed name names) (sym came) all
+
+    by : (read : Result (List Profile) ProfileError) → file_profiles files name ≡ read
+        → LoadsFrom files managed name names (made files managed (Add name))
+    by (Err error) e =
+        let came : made files managed (Add name) ≡ Err (refusal_of_profile error) = ap (came_by managed) e in
+        subst (LoadsFrom files managed name names) (sym came) (rest managed)
+    by (Ok profiles) e = by_profiles profiles e (are_there profiles managed.machine.now) refl
+
+loads : (files : List File) (names : List (List ℕ)) (managed : Managed) → Loads files names managed
+loads files [] managed = sym (append-nil managed.machine.now)
+loads files (name ∷ names) managed = step files managed name names (loads files names)
+
+-- no two profiles that are loaded have one name
+distinct : (files : List File) (names : List (List ℕ)) (managed : Managed) → ChangesKeepNamesApart → have_distinct_names managed.machine.now ≡ true
+    → have_distinct_names (loaded files managed names).machine.now ≡ true
+distinct files [] managed keeps apart = apart
+distinct files (name ∷ names) managed keeps apart =
+    distinct files names (with_file files managed name) keeps
+    (by (changed files managed.force_complain managed.machine.now (Add name)) (keeps files managed.force_complain managed.machine.now (Add name) apart))
+  where
+    by : (came : Result (List Loaded) Refusal) → IfOk came (λ set. have_distinct_names set ≡ true)
+        → have_distinct_names (made_or managed (after_change managed (parts_of_change files (Add name)) came)).machine.now ≡ true
+    by (Ok set) h = h
+    by (Err refusal) h = apart
+
+-- what the laws say of the files that are read
+abbrev HaveNames : (Profile → Bool) → Type 0
+HaveNames test = (files : List File) (name : List ℕ) → IfOk (file_profiles files name) (λ profiles. list_all test profiles ≡ true)
+
+abbrev HavePlaces : Type 0
+HavePlaces =
+    (files : List File) (name : List ℕ) (profiles : List Profile) (places : List ProfilePlaces)
+    → file_profiles files name ≡ Ok profiles → file_places files name ≡ Some places → AreProfilesMadeAt profiles places
+
+all-named : (files : List File) (read : List FileProfiles) → HaveNames is_named_well → HaveNames has_distinct_children
+    → All (IsRead files) read → All HasFileNames (profiles_in read)
+all-named files [] well apart is = All-nil HasFileNames
+all-named files (file ∷ read) well apart is =
+    All-append HasFileNames file.profiles (profiles_in read)
+    (read-named files file (well files file.name) (apart files file.name) (All-head (IsRead files) file read is))
+    (all-named files read well apart (All-tail (IsRead files) file read is))
+
+-- the part of the full name of who is loaded has its rules
+pub which-rules : ChangesKeepNamesApart → ListedNamesLeadBack → HavePlaces → HaveNames is_named_well → HaveNames has_distinct_children
+    → (folder : Folder) (who : Asker) → IsListed (policy_in folder) who → HasOwnRules (parts_in folder) who
+which-rules keeps lead stand well apart folder =
+    let files = folder.files in
+    let read = read_profiles files folder.names (outcomes_in folder) in
+    let entries = map taken (profiles_in read) in
+    let parts = parts_of read in
+    let are_read : All (IsRead files) read = all-read files folder.names (outcomes_in folder) in
+    let is : policy_in folder ≡ entries = loads files folder.names (new_manager false) in
+    let names : have_distinct_names entries ≡ true =
+    subst (λ entries. have_distinct_names entries ≡ true) is (distinct files folder.names (new_manager false) keeps refl) in
+    let named : All (λ entry. HasFileNames entry.profile) entries =
+    All-map (λ entry. HasFileNames entry.profile) taken (profiles_in read) (all-named files read well apart are_read) in
+    let stands : All IsPlaced read =
+    All-weaker (IsRead files) IsPlaced (λ file own. stand files file.name file.profiles file.places own.0 own.1) read are_read in
+    let has : All (λ entry. HasAll parts entry.profile) entries =
+    All-map (λ entry. HasAll parts entry.profile) taken (profiles_in read) (has-files read stands) in
+    let are : All (IsOf entries) parts =
+    are-files entries read
+    (λ profile. All-contains (λ profile. Contains entries (taken profile)) (profiles_in read) profile (contains-mapped (profiles_in read))) in
+    let leads : (who : Asker) → IsListed entries who → asker entries (full_name_at who.entry.profile who.child) ≡ Some (Some who) =
+    λ who listed. (lead entries who names (All-contains (λ entry. HasFileNames entry.profile) entries who.entry named listed.0) listed).0 in
+    subst (λ entries. (who : Asker) → IsListed entries who → HasOwnRules parts who) (sym is) (rules-of (asker entries) entries parts leads has are)

@@ -1,0 +1,26 @@
+-- Folders of policy by their parts.
+use Rattle.std.specs.Prelude.{ℕ, List, map}
+use Rattle.aa_text_files.specs.Files.{File}
+use Rattle.aatry_policy.specs.Folders.{Folder, outcomes_in}
+use Rattle.aatry_policy.specs.Parts.{Part, parts_of}
+use Rattle.aatry_policy.specs.Profiles.{read_profiles}
+use Rattle.aatry_policy.specs.SeenProfiles.{seen_part}
+use Rattle.aatry_policy.specs.declared.folder_parts.FolderParts.{FolderParts as CodeFolder}
+
+-- a folder of policy: all that lies below it, its path, and its profiles, children and hats
+pub record FolderParts : Type 0 where
+  pub files : List File
+  pub base : List ℕ
+  pub parts : List Part
+
+-- a folder of the code
+abbrev pub seen_folder : CodeFolder → FolderParts
+seen_folder folder = record { files = folder.files.now; base = folder.base.now; parts = map seen_part folder.parts.now }
+
+-- the profiles, children and hats of the files of a folder that are taken
+abbrev pub parts_in : Folder → List Part
+parts_in folder = parts_of (read_profiles folder.files folder.names (outcomes_in folder))
+
+-- a folder by these
+abbrev pub by_parts : Folder → FolderParts
+by_parts folder = record { files = folder.files; base = folder.base; parts = parts_in folder }

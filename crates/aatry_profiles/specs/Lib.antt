@@ -1,4 +1,0 @@
-pub mod Folders
-pub mod Parts
-pub mod Profiles
-pub mod SeenProfiles

@@ -1,0 +1,96 @@
+-- How the lines that a run tells differ from those that a transcript wants.
+use Rattle.std.specs.Prelude.{ℕ, ◌+◌, Bool, true, false, ◌&&◌, ◌||◌, not, if◌then◌else◌, List, [], ◌∷◌, ◌++◌, codes, count_by, drop, flat_map, length}
+use Rattle.std.specs.Fmt.{decimal}
+use Rattle.std.specs.List.{filter, list_all, list_any}
+use Rattle.std.specs.Str.{bytes_eq}
+use Rattle.aa_bytes.specs.Bytes.{line_feed}
+use Rattle.aatry_report.specs.Shown.{shown}
+use Rattle.aatry_test.specs.Replies.{told_next}
+use Rattle.aatry_test.specs.Transcripts.{before_command, is_command, wanted_in}
+
+-- lines are the same as others, in the same order
+abbrev pub are_same : List (List ℕ) → List (List ℕ) → Bool
+are_same [] [] = true
+are_same [] (other ∷ others) = false
+are_same (line ∷ lines) [] = false
+are_same (line ∷ lines) (other ∷ others) = bytes_eq line other && are_same lines others
+
+-- a line is one of these
+abbrev pub is_among : List (List ℕ) → List ℕ → Bool
+is_among lines line = list_any (bytes_eq line) lines
+
+-- lines differ from others in their order or number alone
+abbrev pub are_reordered : List (List ℕ) → List (List ℕ) → Bool
+are_reordered lines others = list_all (is_among others) lines && list_all (is_among lines) others
+
+-- a line, behind a sign, as it is shown
+abbrev pub marked_line : List ℕ → List ℕ → List ℕ
+marked_line sign line = sign ++ shown line ++ line_feed ∷ []
+
+-- those of these lines that aren't among others, or all of them, each behind a sign
+abbrev pub marked_lines : List ℕ → Bool → List (List ℕ) → List (List ℕ) → List ℕ
+marked_lines sign all others lines = flat_map (marked_line sign) (filter (λ line. all || not (is_among others line)) lines)
+
+-- A command with what is wanted and what is told as its reply. Its number is that of its line, from 1.
+pub record Part : Type 0 where
+  pub number : ℕ
+  pub line : List ℕ
+  pub wanted : List (List ℕ)
+  pub told : List (List ℕ)
+
+abbrev pub seen_part : ℕ → List ℕ → List (List ℕ) → List (List ℕ) → Part
+seen_part number line wanted told = record { number = number; line = line; wanted = wanted; told = told }
+
+-- the command of a line, if it holds one, with what the lines behind it want, and what is told
+abbrev pub part_of : ℕ → List ℕ → List (List ℕ) → List (List ℕ) → List Part
+part_of number line behind told =
+    if is_command line then seen_part number line (wanted_in (before_command behind)) told ∷ [] else []
+
+-- the commands of lines, of which the first has this number, with what is told from there on
+abbrev pub parts : ℕ → List (List ℕ) → List (List ℕ) → List Part
+parts number [] told = []
+parts number (line ∷ behind) told =
+    part_of number line behind (told_next line behind told) ++ parts (number + 1) behind (drop (length (told_next line behind told)) told)
+
+abbrev pub differs : Part → Bool
+differs part = not (are_same part.told part.wanted)
+
+-- the lines of a part that differ: those that are wanted and not told behind `- `, those that are told and not wanted behind `+ `
+abbrev pub differing_lines : List (List ℕ) → List (List ℕ) → List ℕ
+differing_lines wanted told =
+    marked_lines (codes "- ") (are_reordered wanted told) told wanted ++ marked_lines (codes "+ ") (are_reordered wanted told) wanted told
+
+-- the line that stands above them
+abbrev pub heading : List ℕ → ℕ → List ℕ → List ℕ
+heading path number line = shown path ++ codes ":" ++ decimal number ++ codes ": " ++ shown line ++ line_feed ∷ []
+
+-- what is told of a part: nothing, where the reply is the one that is wanted
+abbrev pub part_text : List ℕ → Part → List ℕ
+part_text path part = if differs part then heading path part.number part.line ++ differing_lines part.wanted part.told else []
+
+-- what is told of a line that is wanted and stands ahead of the first command: no command is answered by it
+abbrev pub ahead_line : List ℕ → List ℕ → List ℕ
+ahead_line path line = shown path ++ codes ": ahead of the first command: " ++ shown line ++ line_feed ∷ []
+
+abbrev pub front_text : List ℕ → List (List ℕ) → List ℕ
+front_text path wanted = flat_map (ahead_line path) wanted
+
+-- the line that tells how a transcript came out that is as it is wanted
+abbrev pub passed_line : List ℕ → ℕ → List ℕ
+passed_line path commands = shown path ++ codes ": passed: commands " ++ decimal commands ++ line_feed ∷ []
+
+-- and of one that isn't
+abbrev pub failed_line : List ℕ → ℕ → ℕ → List ℕ
+failed_line path commands differing =
+    shown path ++ codes ": failed: commands " ++ decimal commands ++ codes ", differing " ++ decimal differing ++ line_feed ∷ []
+
+-- what is told of a transcript that isn't as it is wanted
+abbrev pub failure : List ℕ → List (List ℕ) → List (List ℕ) → List ℕ
+failure path lines told =
+    front_text path (wanted_in (before_command lines)) ++ flat_map (part_text path) (parts 1 lines told)
+    ++ failed_line path (count_by is_command lines) (count_by differs (parts 1 lines told))
+
+-- what is told of a transcript, by its lines and those that the run tells
+abbrev pub comparison : List ℕ → List (List ℕ) → List (List ℕ) → List ℕ
+comparison path lines told =
+    if are_same told (wanted_in lines) then passed_line path (count_by is_command lines) else failure path lines told

@@ -1,0 +1,167 @@
+//! A transcript, compared with what the run of its commands tells.
+
+ghost use Rattle.std.specs.Prelude.{◌≡◌, ◌++◌, ◌∷◌, [], IfOk, OnOk, ◌+◌, ◌<◌, ◌≤◌, count_by, drop, flat_map, length};
+ghost use Rattle.aatry_test.specs.Differences.{are_same, comparison, differs, failed_line, failure};
+ghost use Rattle.aatry_test.specs.Differences.{part_of, part_text, parts, passed_line, seen_part};
+ghost use Rattle.aatry_test.specs.Transcripts.{texts, wanted_in};
+
+use crate::differences::{are_same, push_differing_lines, push_front, push_heading, push_number};
+use crate::replies::told_size;
+use crate::transcripts::{command_count, is_command, wanted_in, wanted_next};
+use aatry_report::push_shown;
+use std::alloc::{AllocError, Global};
+
+// Puts how a transcript came out that is as it is wanted behind a text.
+fn push_passed(out: &mut Vec<u8>, path: &[u8], commands: usize) -> Result<(), AllocError>
+    ensures { OnOk result (out.new.items ≡ out.old.items ++ passed_line path.now commands) }
+{
+    push_shown(out, path)?;
+    push_number(out, ": passed: commands ", commands)?;
+    out.push(b'\n')?;
+    Ok(())
+}
+
+// Puts how one came out that isn't behind a text.
+fn push_failed(
+    out: &mut Vec<u8>,
+    path: &[u8],
+    commands: usize,
+    differing: usize,
+) -> Result<(), AllocError>
+    ensures { OnOk result (out.new.items ≡ out.old.items ++ failed_line path.now commands differing) }
+{
+    push_shown(out, path)?;
+    push_number(out, ": failed: commands ", commands)?;
+    push_number(out, ", differing ", differing)?;
+    out.push(b'\n')?;
+    Ok(())
+}
+
+// Puts what is told of a reply behind a text, and says how many differ: one or none.
+fn push_reply(
+    path: &[u8],
+    number: usize,
+    line: &[u8],
+    wanted: &[&[u8]],
+    told: &[&[u8]],
+    out: &mut Vec<u8>,
+) -> Result<usize, AllocError>
+    ensures told { OnOk result
+        (out.new.items ≡ out.old.items ++ flat_map (part_text path.now) (seen_part number line.now (texts wanted.now) (texts told.now) ∷ [])) }
+    ensures counted { IfOk result (λ count. count ≡ count_by differs (seen_part number line.now (texts wanted.now) (texts told.now) ∷ [])) }
+    ensures few { IfOk result (λ count. count ≤ 1) }
+{
+    if are_same(told, wanted) {
+        return Ok(0);
+    }
+    push_heading(out, path, number, line)?;
+    push_differing_lines(out, wanted, told)?;
+    Ok(1)
+}
+
+// Puts what is told of a line behind a text, and says how many replies differ: one or none.
+fn push_line(
+    alloc: Global,
+    path: &[u8],
+    number: usize,
+    line: &[u8],
+    behind: &[&[u8]],
+    told: &[&[u8]],
+    out: &mut Vec<u8>,
+) -> Result<usize, AllocError>
+    ensures told { OnOk result
+        (out.new.items ≡ out.old.items ++ flat_map (part_text path.now) (part_of number line.now (texts behind.now) (texts told.now))) }
+    ensures counted { IfOk result (λ count. count ≡ count_by differs (part_of number line.now (texts behind.now) (texts told.now))) }
+    ensures few { IfOk result (λ count. count ≤ 1) }
+{
+    if !is_command(line) {
+        return Ok(0);
+    }
+    let wanted = wanted_next(alloc, behind)?;
+    push_reply(path, number, line, &wanted, told, out)
+}
+
+// The line that stands behind so many.
+fn line_at<'a>(at: usize, lines: &[&'a [u8]]) -> &'a [u8]
+    requires { at < length lines.now }
+    ensures { texts (drop at lines.now) ≡ result.now ∷ texts (drop (at + 1) lines.now) }
+{
+    lines[at]
+}
+
+// The lines that stand behind so many.
+fn lines_behind<'l, 'a>(size: usize, lines: &'l [&'a [u8]]) -> &'l [&'a [u8]]
+    requires { size ≤ length lines.now }
+    ensures { result.now ≡ drop size lines.now }
+{
+    let (_, behind) = lines.split_at(size);
+    behind
+}
+
+// Puts what is told of each command behind a text, and says how many replies differ.
+fn push_parts(
+    alloc: Global,
+    path: &[u8],
+    lines: &[&[u8]],
+    told: &[&[u8]],
+    out: &mut Vec<u8>,
+) -> Result<usize, AllocError>
+    ensures told { OnOk result (out.new.items ≡ out.old.items ++ flat_map (part_text path.now) (parts 1 (texts lines.now) (texts told.now))) }
+    ensures counted { IfOk result (λ count. count ≡ count_by differs (parts 1 (texts lines.now) (texts told.now))) }
+{
+    let mut differing = 0;
+    let mut left = told;
+    for at in 0..lines.len() {
+        let line = line_at(at, lines);
+        let behind = lines_behind(at + 1, lines);
+        let size = told_size(line, behind, left);
+        differing += push_line(alloc, path, at + 1, line, behind, &left[..size], out)?;
+        left = lines_behind(size, left);
+    }
+    Ok(differing)
+}
+
+// Puts what is told of a transcript that isn't as it is wanted behind a text.
+fn push_failure(
+    alloc: Global,
+    path: &[u8],
+    lines: &[&[u8]],
+    told: &[&[u8]],
+    out: &mut Vec<u8>,
+) -> Result<(), AllocError>
+    ensures { OnOk result (out.new.items ≡ out.old.items ++ failure path.now (texts lines.now) (texts told.now)) }
+{
+    let front = wanted_next(alloc, lines)?;
+    push_front(out, path, &front)?;
+    let differing = push_parts(alloc, path, lines, told, out)?;
+    push_failed(out, path, command_count(lines), differing)
+}
+
+/// Compares a transcript with what the run of its commands tells, puts what is found behind a text, and says whether the transcript is as it is
+/// wanted: all lines that are told are those that it wants, in their order. `lines` are those of the transcript, which is told by `path`, and
+/// `told` those of all that the run writes.
+///
+/// Of a transcript that is as it is wanted one line is put. Of another each command is told whose reply differs, with the number of its line,
+/// and below it the lines that are wanted and not told, and those that are told and not wanted.
+///
+/// # Errors
+///
+/// Where memory runs out. A beginning may have been put then.
+pub fn compare(
+    alloc: Global,
+    path: &[u8],
+    lines: &[&[u8]],
+    told: &[&[u8]],
+    out: &mut Vec<u8>,
+) -> Result<bool, AllocError>
+    ensures passed { IfOk result (λ passed. passed ≡ are_same (texts told.now) (wanted_in (texts lines.now))) }
+    ensures told { OnOk result (out.new.items ≡ out.old.items ++ comparison path.now (texts lines.now) (texts told.now)) }
+{
+    let wanted = wanted_in(alloc, lines)?;
+    if are_same(told, &wanted) {
+        push_passed(out, path, command_count(lines))?;
+        return Ok(true);
+    }
+    push_failure(alloc, path, lines, told, out)?;
+    Ok(false)
+}

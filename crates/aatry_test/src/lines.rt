@@ -1,0 +1,38 @@
+//! The lines of a text.
+
+ghost use Rattle.std.specs.Prelude.{◌≡◌, ◌++◌, ◌∷◌, [], IfOk, OnOk, if◌then◌else◌};
+ghost use Rattle.aa_bytes.specs.Texts.{is_empty};
+ghost use Rattle.aa_set_lines.specs.Lines.{lines};
+ghost use Rattle.aatry_test.specs.Transcripts.{texts};
+
+use aa_set_lines::first_line;
+use std::alloc::{AllocError, Global};
+
+// Puts a last line behind others, where it isn't empty.
+fn push_last<'a>(lines: &mut Vec<&'a [u8]>, last: &'a [u8]) -> Result<(), AllocError>
+    ensures { OnOk result (texts lines.new.items ≡ texts lines.old.items ++ (if is_empty last.now then [] else last.now ∷ [])) }
+{
+    if last.is_empty() {
+        return Ok(());
+    }
+    lines.push(last)?;
+    Ok(())
+}
+
+/// The lines of a text, each without its line feed: what stands between these, the last one only where it isn't empty.
+///
+/// # Errors
+///
+/// Where memory runs out.
+pub fn lines_of<'a>(alloc: Global, text: &'a [u8]) -> Result<Vec<&'a [u8]>, AllocError>
+    ensures { IfOk result (λ found. texts found.items ≡ lines text.now) }
+{
+    let mut found = Vec::new(alloc);
+    let mut rest = text;
+    while let Some((line, after)) = first_line(rest) {
+        found.push(line)?;
+        rest = after;
+    }
+    push_last(&mut found, rest)?;
+    Ok(found)
+}

@@ -1,3 +1,0 @@
-mod CompareLemmas
-mod LineLemmas
-mod PartLemmas

@@ -1,4 +1,0 @@
-pub mod Differences
-pub mod Laws
-pub mod Replies
-pub mod Transcripts
