@@ -8,8 +8,8 @@ use Rattle.aa_profile_data.specs.declared.profile.Rule.TheVariants.{Cap, File, N
 use Rattle.aa_decide_verdict.proofs.VerdictLemmas.{verdict-matching}
 use Rattle.aa_profile_data.specs.Matching.{is_matching}
 use Rattle.aa_decide_verdict.specs.Verdict.{allows, allows_aloud, covers, denied, denies, denies_aloud, granted, loud, verdict, with_covered}
-use Rattle.aa_decide_verdict.specs.code.Found.{covers_found, found_mask, found_verdict, put_if}
-use Rattle.aa_decide_verdict.specs.code.Masks.{verdict_by}
+use Rattle.aa_decide_verdict.specs.Found.{covers_found, found_mask, found_verdict, put_if}
+use Rattle.aa_decide_verdict.specs.Found.{verdict_by}
 use Rattle.aa_profile_data.specs.Picked.{picked}
 
 module _ (letters : ℕ) (owned : Bool) (path : List ℕ) where

@@ -16,7 +16,7 @@ use Rattle.aa_profile_data.specs.declared.profile.Rule.{Rule}
 use Rattle.aa_profile_data.specs.declared.profile.Rule.TheVariants.{Cap, File, Net, Other}
 use Rattle.aa_profile_data.specs.Matching.{is_matching}
 use Rattle.aa_decide_verdict.specs.Verdict.{allows, allows_aloud, applies, audited, covers, denied, denies, denies_aloud, granted, letters_among, loud, mask, missing, needs, verdict, with_covered, with_rule}
-use Rattle.aa_decide_verdict.specs.code.Masks.{verdict_by}
+use Rattle.aa_decide_verdict.specs.Found.{verdict_by}
 use Rattle.aa_profile_data.specs.Picked.{picked}
 use Rattle.aa_decide_verdict.specs.VerdictLaws.{HaveSameRules, in_complain}
 use Rattle.aa_decide_audit.specs.declared.verdict.Answer.TheVariants.{Allow, Complain as Complained, Deny, Refuse}

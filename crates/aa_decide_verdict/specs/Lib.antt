@@ -1,5 +1,6 @@
 pub mod Confinement
 pub mod Entries
+pub mod Found
 pub mod Ready
 pub mod Slots
 pub mod Verdict

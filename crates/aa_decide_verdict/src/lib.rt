@@ -2,6 +2,7 @@
 #![tactic(auto)]
 
 mod confinement;
+mod cover;
 mod entry;
 mod laws;
 mod part;
@@ -10,7 +11,9 @@ mod verdict;
 
 pub use aa_glob_automaton::Steps;
 pub use confinement::Confinement;
+pub use cover::{applies, covers, denies, is_audited, needs};
 pub use entry::{Entry, State};
-pub use laws::what_rules_decide;
+pub use laws::{what_matching_rules_decide, what_rules_decide};
 pub use part::picked;
 pub use ready::Ready;
+pub use verdict::{found_verdict, rules_verdict};

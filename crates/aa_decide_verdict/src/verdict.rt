@@ -1,16 +1,16 @@
 //! What rules say of a request, and how that is logged.
 
-ghost use Rattle.std.specs.Prelude.{◌≡◌, false};
-ghost use Rattle.aa_decide_verdict.specs.Verdict.{allows, allows_aloud, applies, audited, covered_by_file, covers, denied, denies, denies_aloud};
-ghost use Rattle.aa_decide_verdict.specs.Verdict.{granted, is_audited, is_for_file, letters_among, logged, loud, needs, the_need, verdict, with_rule};
-ghost use Rattle.aa_decide_verdict.specs.code.Masks.{verdict_by};
-ghost use Rattle.aa_decide_verdict.specs.code.Found.{covers_found, found_mask, found_verdict, put_if};
+ghost use Rattle.std.specs.Prelude.{◌≡◌};
+ghost use Rattle.aa_decide_verdict.specs.Verdict.{allows, allows_aloud, audited, denied, denies, denies_aloud};
+ghost use Rattle.aa_decide_verdict.specs.Verdict.{granted, letters_among, logged, loud, verdict, with_rule};
+ghost use Rattle.aa_decide_verdict.specs.Found.{covers_found, found_mask, found_verdict, put_if, verdict_by};
 ghost use Rattle.aa_profile_data.specs.Picked.{picked};
 ghost use Rattle.aa_profile_access.specs.SeenRequests.{request_of};
 
+use crate::cover::{covered_by_file, covers, denies, is_audited, needs};
 use aa_decide_audit::{Answer, Tag, Verdict};
 use aa_profile_access::{Perms, Request};
-use aa_profile_data::{FileRule, Mode, Rule};
+use aa_profile_data::{Mode, Rule};
 use bitflags::Flags;
 
 // The needs that rules cover.
@@ -22,24 +22,6 @@ struct Masks {
     // Those that allow rules do, and those that audited ones do.
     granted: Perms,
     audited: Perms,
-}
-
-// The need of a request that isn't for a file: there is one, and it is no letter.
-fn the_need() -> Perms
-    ensures { result.0 ≡ the_need }
-{
-    Perms::from_bits_retain(128)
-}
-
-// What a request needs.
-fn needs(request: &Request<'_>) -> Perms
-    ensures { result.0 ≡ needs (request_of request.entry.now) }
-{
-    match request {
-        Request::File { needs, .. } => *needs,
-        Request::Cap(_) => the_need(),
-        Request::Net { .. } => the_need(),
-    }
 }
 
 // The letters among some needs.
@@ -78,17 +60,16 @@ fn verdict_by(mode: Mode, masks: Masks, request: &Request<'_>) -> Verdict
     }
 }
 
-/// What rules say of a request that isn't for a file, in a mode. `audit` says whether each of the rules is audited, whatever its own words
-/// are: that is the flag of their profile. It goes over the rules once, and takes no memory.
+/// What rules say of a request, in a mode. `audit` says whether each of the rules is audited, whatever its own words are: that is the flag of their
+/// profile. It goes over the rules once, tries the pattern of each on files where the request is for one, and takes no memory.
 pub fn rules_verdict(mode: Mode, audit: bool, rules: &[Rule], request: &Request<'_>) -> Verdict
-    requires { is_for_file (request_of request.now) ≡ false }
     ensures { result ≡ verdict mode audit rules.now (request_of request.entry.now) }
 {
     verdict_by(mode, masks_of(audit, rules, request), request)
 }
 
-/// The same of a request for a file, by the rules at some places alone, of which it is known that their pattern matches
-/// the file's path: no pattern is tried.
+/// What the rules at some places say of a request for a file, where it is known that their pattern matches the file's path and that of no other rule
+/// does: no pattern is tried, and the path isn't looked at (`what_matching_rules_decide`). It takes no memory.
 pub fn found_verdict(
     mode: Mode,
     audit: bool,
@@ -118,9 +99,8 @@ fn no_masks() -> Masks
     }
 }
 
-// The needs that rules cover of a request that isn't for a file.
+// The needs that rules cover of a request.
 fn masks_of(audit: bool, rules: &[Rule], request: &Request<'_>) -> Masks
-    requires { is_for_file (request_of request.now) ≡ false }
     ensures denied { result.denied.0 ≡ denied (request_of request.entry.now) rules.now }
     ensures loud { result.loud.0 ≡ loud audit (request_of request.entry.now) rules.now }
     ensures granted { result.granted.0 ≡ granted (request_of request.entry.now) rules.now }
@@ -153,13 +133,12 @@ fn found_masks(audit: bool, rules: &[Rule], places: &[usize], needs: Perms, owne
 
 // The same with one rule more.
 fn with_rule(masks: Masks, audit: bool, rule: &Rule, request: &Request<'_>) -> Masks
-    requires { is_for_file (request_of request.now) ≡ false }
     ensures denied { result.denied.0 ≡ with_rule (request_of request.entry.now) denies masks.denied.0 rule.now }
     ensures loud { result.loud.0 ≡ with_rule (request_of request.entry.now) (denies_aloud audit) masks.loud.0 rule.now }
     ensures granted { result.granted.0 ≡ with_rule (request_of request.entry.now) allows masks.granted.0 rule.now }
     ensures audited { result.audited.0 ≡ with_rule (request_of request.entry.now) (allows_aloud audit) masks.audited.0 rule.now }
 {
-    with_covered(masks, audit, rule, covers(rule, request))
+    with_covered(masks, audit, rule, covers(request, rule))
 }
 
 // The same with the needs that one rule more covers.
@@ -197,64 +176,5 @@ fn covers_found(rule: &Rule, needs: Perms, owned: bool) -> Perms
             }
         }
         _ => Perms::empty(),
-    }
-}
-
-// The need of a request that isn't for a file, if a rule covers it: none, where it doesn't apply.
-fn covers(rule: &Rule, request: &Request<'_>) -> Perms
-    requires { is_for_file (request_of request.now) ≡ false }
-    ensures { result.0 ≡ covers (request_of request.entry.now) rule.now }
-{
-    if is_applying(rule, request) {
-        the_need()
-    } else {
-        Perms::empty()
-    }
-}
-
-// Whether a rule covers the capability or the sockets that are asked for.
-fn is_applying(rule: &Rule, request: &Request<'_>) -> bool
-    requires { is_for_file (request_of request.now) ≡ false }
-    ensures { result ≡ applies (request_of request.entry.now) rule.now }
-{
-    match (request, rule) {
-        (Request::Cap(number), Rule::Cap(rule)) => rule.covers(*number),
-        (Request::Net { domain, kind }, Rule::Net(rule)) => rule.covers(*domain, *kind),
-        _ => false,
-    }
-}
-
-// The needs that a file rule covers.
-fn covered_by_file(rule: &FileRule) -> Perms
-    ensures { result.0 ≡ covered_by_file rule.now }
-{
-    let covered = rule.access.covered();
-    if rule.exec.is_some() {
-        covered.union(Perms::EXEC)
-    } else {
-        covered
-    }
-}
-
-fn denies(rule: &Rule) -> bool
-    ensures { result ≡ denies rule.now }
-{
-    match rule {
-        Rule::File(rule) => rule.deny,
-        Rule::Cap(rule) => rule.deny,
-        Rule::Net(rule) => rule.deny,
-        Rule::Other(rule) => rule.deny,
-    }
-}
-
-// Whether a rule is audited, by a word of its own or by the flag of its profile.
-fn is_audited(audit: bool, rule: &Rule) -> bool
-    ensures { result ≡ is_audited audit rule.now }
-{
-    match rule {
-        Rule::File(rule) => audit || rule.audit,
-        Rule::Cap(rule) => audit || rule.audit,
-        Rule::Net(rule) => audit || rule.audit,
-        Rule::Other(rule) => audit || rule.audit,
     }
 }

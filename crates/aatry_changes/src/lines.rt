@@ -7,13 +7,13 @@ ghost use Rattle.aatry_changes.specs.Lines.{line_if_covering, lines_of, rule_lin
 ghost use Rattle.aatry_policy.specs.SeenProfiles.{seen_part};
 
 use aa_bytes::Sequence;
+use aa_decide_verdict::covers;
 use aa_glob_pattern::Pattern;
 use aa_profile_access::Request;
 use aa_profile_data::Rule;
 use aa_profile_places::Place;
 use aa_set_answers::{mode_word, push_attachment, push_rule};
 use aatry_policy::Part;
-use aatry_why::covers;
 use bitflags::Flags;
 use std::alloc::{AllocError, Global};
 

@@ -4,7 +4,8 @@ ghost use Rattle.std.specs.Prelude.{◌≡◌, IfOk};
 ghost use Rattle.aa_profile_access.specs.SeenRequests.{request_of};
 ghost use Rattle.aatry_why.specs.Told.{near, told, told_rule};
 
-use crate::cover::{applies, covers, denies, is_audited, is_near};
+use crate::near::is_near;
+use aa_decide_verdict::{applies, covers, denies, is_audited};
 use aa_profile_access::{Perms, Request};
 use aa_profile_data::Rule;
 use std::alloc::{AllocError, Global};

@@ -1,6 +1,6 @@
 use Rattle.std.proofs.Common.{◌≡◌, length}
 use Rattle.aa_decide_verdict.specs.Verdict.{allows, allows_aloud, denies, denies_aloud}
-use Rattle.aa_decide_verdict.specs.code.Found.{found_mask}
+use Rattle.aa_decide_verdict.specs.Found.{found_mask}
 use Rattle.aa_profile_data.specs.Picked.{picked}
 use Rattle.aa_decide_verdict.proofs.verdict.found_masks.Given as goal
 

@@ -1,22 +1,21 @@
-//! What a rule covers of a request, as verdicts are found by it.
+//! What a request needs, and what a rule covers of it.
 
 ghost use Rattle.std.specs.Prelude.{◌≡◌};
 ghost use Rattle.aa_profile_access.specs.SeenRequests.{request_of};
 ghost use Rattle.aa_decide_verdict.specs.Verdict.{applies, covered_by, covered_by_file, covers, denies, is_audited, needs, the_need};
-ghost use Rattle.aatry_why.specs.Told.{is_near, lets_at};
 
 use aa_profile_access::{Perms, Request};
 use aa_profile_data::{FileRule, Rule};
 use bitflags::Flags;
 
-// The need of a request that isn't for a file, which is no letter.
+// The need of a request that isn't for a file: there is one, and it is no letter.
 fn the_need() -> Perms
     ensures { result.0 ≡ the_need }
 {
     Perms::from_bits_retain(128)
 }
 
-/// What a request needs.
+/// What a request needs: the letters of one for a file, and of any other its one need, which is no letter.
 pub fn needs(request: &Request<'_>) -> Perms
     ensures { result.0 ≡ needs (request_of request.entry.now) }
 {
@@ -42,8 +41,8 @@ pub fn applies(request: &Request<'_>, rule: &Rule) -> bool
     }
 }
 
-// The needs that a file rule covers.
-fn covered_by_file(rule: &FileRule) -> Perms
+/// The needs that a rule on files covers: those of its letters, and with an exec word `x`.
+pub fn covered_by_file(rule: &FileRule) -> Perms
     ensures { result.0 ≡ covered_by_file rule.now }
 {
     let covered = rule.access.covered();
@@ -99,21 +98,4 @@ pub fn is_audited(audit: bool, rule: &Rule) -> bool
         Rule::Net(rule) => audit || rule.audit,
         Rule::Other(rule) => audit || rule.audit,
     }
-}
-
-// Whether a rule is an allow rule on files whose pattern matches the path that is asked for.
-fn lets_at(request: &Request<'_>, rule: &Rule) -> bool
-    ensures { result ≡ lets_at (request_of request.entry.now) rule.now }
-{
-    match (request, rule) {
-        (Request::File { path, .. }, Rule::File(rule)) => !rule.deny && rule.pattern.matches(path),
-        _ => false,
-    }
-}
-
-/// Whether a rule lets something be done at the path that is asked for, but nothing of what is asked for.
-pub fn is_near(request: &Request<'_>, rule: &Rule) -> bool
-    ensures { result ≡ is_near (request_of request.entry.now) rule.now }
-{
-    lets_at(request, rule) && covers(request, rule).is_empty()
 }

@@ -1,13 +1,22 @@
--- What rules say of a request for a file of which it is known that their pattern matches its path.
-use Rattle.std.specs.Prelude.{ℕ, Bool, not, ◌||◌, if◌then◌else◌, List, fold}
-use Rattle.aa_profile_access.specs.Access.{common, union}
+-- What rules say of a request for a file of which it is known that their pattern matches its path: a verdict by the rules that match, whatever the path.
+use Rattle.std.specs.Prelude.{ℕ, Bool, not, ◌||◌, ◌==◌, if◌then◌else◌, List, fold}
+use Rattle.aa_profile_access.specs.Access.{common, union, without}
 use Rattle.aa_profile_access.specs.Request.{Request}
 use Rattle.aa_profile_data.specs.declared.profile.Mode.{Mode}
 use Rattle.aa_profile_data.specs.declared.profile.Rule.{Rule}
 use Rattle.aa_profile_data.specs.declared.profile.Rule.TheVariants.{Cap, File, Net, Other}
-use Rattle.aa_decide_verdict.specs.Verdict.{allows, allows_aloud, covered_by_file, denies, denies_aloud, needs}
-use Rattle.aa_decide_verdict.specs.code.Masks.{verdict_by}
+use Rattle.aa_decide_verdict.specs.Verdict.{allows, allows_aloud, covered_by_file, denies, denies_aloud, logged, needs, when_missing}
+use Rattle.aa_decide_audit.specs.declared.verdict.Answer.TheVariants.{Allow, Deny}
+use Rattle.aa_decide_audit.specs.declared.verdict.Tag.TheVariants.{Audit, Denied}
 use Rattle.aa_decide_audit.specs.declared.verdict.Verdict.{Verdict}
+
+-- the verdict where deny rules cover these needs, audited ones those, and allow rules and audited ones these
+abbrev pub verdict_by : Mode → Request → ℕ → ℕ → ℕ → ℕ → Verdict
+verdict_by mode request denied loud granted audited =
+    let missing = without (needs request) (union denied (without granted denied)) in
+    if not (denied == 0) then logged Deny Denied (union loud missing) else
+    if not (missing == 0) then when_missing mode missing else
+    logged Allow Audit audited
 
 -- a set, and these needs, if a rule passes a test
 abbrev pub put_if : (Rule → Bool) → ℕ → ℕ → Rule → ℕ
