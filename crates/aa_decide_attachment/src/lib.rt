@@ -6,5 +6,5 @@ mod patterns;
 mod ranks;
 
 pub use laws::{exact_patterns_rank_highest, which_rank_stands_out};
-pub use patterns::best_rank;
-pub use ranks::standing_out;
+pub use patterns::{best_rank, rank, rank_of_best};
+pub use ranks::{greatest, standing_out};

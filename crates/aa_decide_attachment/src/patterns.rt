@@ -1,7 +1,7 @@
 //! How well patterns of attachments fit a path.
 
 ghost use Rattle.std.specs.Prelude.{◌≡◌, ℕ, List};
-ghost use Rattle.aa_decide_attachment.specs.Ranks.{best_rank, greater};
+ghost use Rattle.aa_decide_attachment.specs.Ranks.{best_rank, greater, rank};
 ghost use Rattle.aa_decide_attachment.specs.code.MatchingRanks.{best_among, matching_rank};
 ghost use Rattle.aa_glob_syntax.specs.Patterns.{AreMatching};
 
@@ -47,4 +47,28 @@ pub fn best_rank(patterns: &[Pattern], places: &[usize]) -> u128
     ensures { (path : List ℕ) → AreMatching patterns.now path places.now → result ≡ best_rank path patterns.now }
 {
     best_among(patterns, places)
+}
+
+/// The rank of a pattern on a path: 0 where it doesn't match, and else as in [`best_rank`]. It takes no memory.
+pub fn rank(path: &[u8], pattern: &Pattern) -> u128
+    ensures { result ≡ rank path.now pattern.now }
+{
+    if pattern.matches(path) {
+        matching_rank(pattern)
+    } else {
+        0
+    }
+}
+
+/// The same as [`best_rank`] where it isn't known which patterns match: each is tried by itself. It takes no memory.
+pub fn rank_of_best(path: &[u8], patterns: &[Pattern]) -> u128
+    ensures { result ≡ best_rank path.now patterns.now }
+{
+    let mut best = 0;
+    let mut rest = patterns;
+    while let [pattern, behind @ ..] = rest {
+        best = greater(best, rank(path, pattern));
+        rest = behind;
+    }
+    best
 }

@@ -4,8 +4,8 @@ ghost use Rattle.std.specs.Prelude.{◌≡◌, ◌==◌};
 ghost use Rattle.std.specs.List.{list_any};
 ghost use Rattle.aa_decide_attachment.specs.StandingOut.{greatest, has_rank, place_of_only, standing_out};
 
-// The greatest of some ranks.
-fn greatest(ranks: &[u128]) -> u128
+/// The greatest of some ranks, 0 where there is none. It takes no memory.
+pub fn greatest(ranks: &[u128]) -> u128
     ensures { result ≡ greatest ranks.now }
 {
     let mut best = 0;

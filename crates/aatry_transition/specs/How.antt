@@ -13,9 +13,9 @@ use Rattle.aa_profile_access.specs.declared.exec_word.Destination.{Destination}
 use Rattle.aa_profile_access.specs.declared.exec_word.Destination.TheVariants as to
 use Rattle.aa_profile_data.specs.declared.profile.Transition.{Transition}
 use Rattle.aa_set_answers.specs.Askers.{asker}
-use Rattle.aatry_exec.specs.AttachmentLines.{attachment_lines}
-use Rattle.aatry_exec.specs.Candidates.{Candidate, child_candidates, profile_candidates}
-use Rattle.aatry_exec.specs.Leading.{lead_of}
+use Rattle.aatry_transition.specs.AttachmentLines.{attachment_lines}
+use Rattle.aa_explain.specs.Candidates.{Candidate, child_candidates, profile_candidates}
+use Rattle.aa_explain.specs.Leading.{lead_of}
 use Rattle.aatry_record.specs.Headings.{heading_line}
 use Rattle.aatry_record.specs.Records.{record_line, record_of, with_text}
 use Rattle.aatry_record.specs.declared.form.Form.{Form}

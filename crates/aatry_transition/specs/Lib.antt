@@ -1,3 +1,4 @@
+pub mod AttachmentLines
 pub mod How
 pub mod SeenLeads
 pub mod Transitions

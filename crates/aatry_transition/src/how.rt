@@ -6,22 +6,23 @@ ghost use Rattle.aa_decide.specs.SeenExec.{seen_asker};
 ghost use Rattle.aa_decide_exec_rules.specs.Choices.{choice};
 ghost use Rattle.aa_decide_verdict.specs.Ready.{audits, rules_at};
 ghost use Rattle.aa_decide_verdict.specs.Slots.{filled};
-ghost use Rattle.aatry_exec.specs.Candidates.{seen_candidates};
+ghost use Rattle.aa_explain.specs.Candidates.{seen_candidates};
 ghost use Rattle.aatry_record.specs.SeenRecord.{seen_record};
 ghost use Rattle.aatry_transition.specs.How.{asked_candidates, asked_lines, confined_lines, confinement_of, how_lines, led_lines};
 ghost use Rattle.aatry_transition.specs.How.{lines_or_none, none_attached, none_line, none_record, own_children, profile_lines};
-ghost use Rattle.aatry_exec.specs.Leading.{lead_of};
+ghost use Rattle.aa_explain.specs.Leading.{lead_of};
 
+use crate::attachment::push_attachment;
 use crate::transition::push_transition;
 use aa_decide::{Asker, Confinement, IndexedSlots, Ready};
+use aa_explain::{
+    Candidate, child_candidates, first_transition, leading_rules, profile_candidates,
+    which_rules_lead,
+};
 use aa_profile_access::Destination;
 use aa_profile_data::Transition;
 use aa_set_answers::find_asker;
 use aa_shared_bytes::SharedBytes;
-use aatry_exec::{
-    Candidate, child_candidates, first_transition, leading_rules, profile_candidates,
-    push_attachment, which_rules_lead,
-};
 use aatry_record::{Form, Record, push_heading};
 use std::alloc::{AllocError, Global};
 

@@ -8,11 +8,11 @@ ghost use Rattle.aa_decide_verdict.specs.Slots.{filled};
 ghost use Rattle.aatry_transition.specs.SeenLeads.{seen_leads};
 
 use aa_decide::{Asker, Entry, IndexedSlots, attach, entry_at};
+use aa_explain::attached_child;
 use aa_profile_access::Destination;
 use aa_profile_data::child_place;
 use aa_profile_names::cut_full_name;
 use aa_shared_bytes::SharedBytes;
-use aatry_exec::attached_child;
 use std::alloc::{AllocError, Global};
 
 /// Under what a program runs.

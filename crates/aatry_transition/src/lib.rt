@@ -1,6 +1,7 @@
 //! How the answer to the start of a program came about: where the rules lead, and what the program's path may be attached to.
 #![tactic(auto)]
 
+mod attachment;
 mod how;
 mod leads;
 mod records;

@@ -1,8 +1,8 @@
 -- The rules behind an answer by what they do.
 use Rattle.std.specs.Prelude.{ℕ, Bool, not, ◌&&◌, ◌==◌, List, codes}
 use Rattle.std.specs.List.{filter}
-use Rattle.aatry_why.specs.Laws.{places_of}
-use Rattle.aatry_why.specs.declared.told.ToldRule.{ToldRule}
+use Rattle.aa_explain.specs.Laws.{places_of}
+use Rattle.aa_explain.specs.declared.told.ToldRule.{ToldRule}
 use Rattle.aatry_why_lines.specs.declared.groups.Group.{Group}
 use Rattle.aatry_why_lines.specs.declared.groups.Group.TheVariants.{Allowing, Auditing, Denying}
 

@@ -3,7 +3,7 @@
 ghost use Rattle.std.specs.Prelude.{◌≡◌, IfOk};
 ghost use Rattle.aatry_why_lines.specs.Groups.{does, does_something, heading, is_in, places_in};
 
-use aatry_why::ToldRule;
+use aa_explain::ToldRule;
 use bitflags::Flags;
 use std::alloc::{AllocError, Global};
 

@@ -9,20 +9,19 @@ ghost use Rattle.aatry_why_lines.specs.Askers.{HasNoAsker, IsAsker};
 ghost use Rattle.aatry_why_lines.specs.Why.{TellWhy, allowing_lines, audits_in, deciding, deciding_lines, lacking_lines, lines_of};
 ghost use Rattle.aatry_why_lines.specs.Why.{missing_lines, nearest_lines, rules_in, stands_in, told_lines, why_lines};
 ghost use Rattle.aatry_why_lines.specs.Written.{seen_rules};
-ghost use Rattle.aatry_why.specs.Missing.{missing_rule};
-ghost use Rattle.aatry_why.specs.Told.{told};
+ghost use Rattle.aa_explain.specs.Missing.{missing_rule};
+ghost use Rattle.aa_explain.specs.Told.{told};
 
 use crate::asker::asker_in;
 use crate::groups::{Group, heading, places_in};
 use crate::lines::{push_group, push_lines, push_missing};
 use crate::written::WrittenRules;
+use aa_explain::{ToldRule, leading_rules, missing_rule, near_rules, told_rules};
 use aa_profile::{Profile, ProfileError, Rule, read_file};
 use aa_profile_access::{Perms, Request};
 use aa_profile_places::{Place, ProfilePlaces, rule_places};
 use aa_text_files::Files;
-use aatry_exec::leading_rules;
 use aatry_record::Form;
-use aatry_why::{ToldRule, missing_rule, near_rules, told_rules};
 use bitflags::Flags;
 use std::alloc::{AllocError, Global};
 
@@ -274,7 +273,7 @@ fn push_read(
 
 /// Puts the rules behind the answer to a request behind a text, as who asks by a full name decides it, a profile of a file or a child or hat of one: the
 /// rules that deny, that allow and that audit what is asked for, those that decide where a program runs, where its start is asked for, each group below
-/// its words, and, where `lacking` says that something of it isn't allowed, the rule that is missing (`aatry_why::missing_rule`) and those that are near.
+/// its words, and, where `lacking` says that something of it isn't allowed, the rule that is missing (`aa_explain::missing_rule`) and those that are near.
 /// A rule that is in two groups is told in both. Each has a line of its own: `base` with the file's name, the line and the column where it is written,
 /// and the rule as `show` tells it. As records, of the kind `rule`, these are `file`, `line` and `column`, and `rule`, with the words of the group,
 /// `group`, in each and none above; the missing rule, of the kind `missing`, has `rule` alone. It says whether the file has who asks; where it hasn't,

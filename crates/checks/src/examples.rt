@@ -2,6 +2,7 @@
 
 mod bytes;
 mod decide;
+mod explain;
 mod glob;
 mod history;
 mod places;
@@ -11,6 +12,7 @@ mod set;
 mod text;
 
 use crate::given::{first_wrong, managed};
+use aa_decide::find_named;
 use std::alloc::Global;
 
 // A file that the examples hand in.
@@ -64,6 +66,20 @@ fn is_not_let_write(alloc: Global) -> bool {
     }
 }
 
+fn rule_denies(alloc: Global) -> bool {
+    let Some(manager) = managed(alloc, WEB) else {
+        return false;
+    };
+    let slots = manager.policy_set().slots();
+    let Some((_, web)) = find_named(&slots, b"web") else {
+        return false;
+    };
+    match explain::denying_places(alloc, web.ready().rules_at(None), b"/srv/www/private") {
+        Ok(places) => places.as_slice() == [1].as_slice(),
+        Err(_) => false,
+    }
+}
+
 fn is_answered(alloc: Global) -> bool {
     match set::replies(alloc, WEB, b"add web\nlist\nundo\n") {
         Ok(replies) => { replies.as_slice() == b"ok\nprofiles 1\n\"web\" enforce\nok\n".as_slice() }
@@ -86,13 +102,14 @@ fn place_is_marked(alloc: Global) -> bool {
 }
 
 // The families' examples, and whether each gives what it should.
-fn rows(alloc: Global) -> [(&'static str, bool); 9] {
+fn rows(alloc: Global) -> [(&'static str, bool); 10] {
     [
         ("aa_quoting", names_are_written(alloc)),
         ("aa_glob", patterns_match(alloc)),
         ("aa_text", is_expanded(alloc)),
         ("aa_profile", is_refused(alloc)),
         ("aa_decide", is_not_let_write(alloc)),
+        ("aa_explain", rule_denies(alloc)),
         ("aa_history", history::number_after_undo(alloc) == Some(2)),
         ("aa_set", is_answered(alloc)),
         ("aaset", folder_is_planned(alloc)),

@@ -1,0 +1,5 @@
+mod AttachmentLemmas
+mod DecidingLemmas
+mod LeadingLemmas
+mod MissingLemmas
+mod PlaceLemmas

@@ -1,2 +1,0 @@
-mod AttachmentLemmas
-mod LeadingLemmas

@@ -1,3 +1,0 @@
-pub mod AttachmentLines
-pub mod Candidates
-pub mod Leading

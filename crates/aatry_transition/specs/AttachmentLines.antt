@@ -1,0 +1,58 @@
+-- What is told of those that a path may be attached to.
+use Rattle.std.specs.Prelude.{ℕ, ◌+◌, if◌then◌else◌, List, [], ◌∷◌, ◌++◌, map, Option, None, Some, codes}
+use Rattle.serde_json.specs.Data.{Members}
+use Rattle.aa_bytes.specs.Bytes.{line_feed}
+use Rattle.aa_bytes.specs.Texts.{is_empty}
+use Rattle.aa_quoting.specs.Texts.{written_text}
+use Rattle.aa_set_answers.specs.ProfileNames.{full_name_at}
+use Rattle.aa_explain.specs.Candidates.{Candidate, best_pattern, patterns_of, rank_of}
+use Rattle.aa_explain.specs.Standings.{standing_of}
+use Rattle.aa_explain.specs.declared.standing.Standing.{Standing}
+use Rattle.aa_explain.specs.declared.standing.Standing.TheVariants.{Attached, Lost, Tied}
+use Rattle.aatry_record.specs.Headings.{heading_line}
+use Rattle.aatry_record.specs.Records.{record_line, record_of, with_text}
+use Rattle.aatry_record.specs.declared.form.Form.{Form}
+use Rattle.aatry_record.specs.declared.form.Form.TheVariants.{Lines, Records}
+
+-- the words that tell how it comes out
+abbrev pub standing_words : Standing → List ℕ
+standing_words Attached = codes "attached"
+standing_words Tied = codes "equally near"
+standing_words Lost = codes "not attached"
+
+-- a record with the full name of a candidate
+abbrev pub with_name : Candidate → Members → Members
+with_name candidate members = with_text (codes "name") (full_name_at candidate.entry.profile candidate.child) members
+
+-- the record of a candidate, by the pattern that fits the path best
+abbrev pub attachment_record : Standing → Candidate → List ℕ → Members
+attachment_record standing candidate pattern =
+    with_text (codes "pattern") pattern (with_name candidate (with_text (codes "standing") (standing_words standing) (record_of (codes "attachment"))))
+
+-- the line of a candidate, by the pattern that fits the path best; without one that matches it has none
+abbrev pub line_by : Form → Standing → Candidate → Option (List ℕ) → List ℕ
+line_by form standing candidate None = []
+line_by Lines standing candidate (Some pattern) =
+    codes "  " ++ standing_words standing ++ codes ": "
+    ++ written_text (full_name_at candidate.entry.profile candidate.child)
+    ++ codes " by " ++ written_text pattern ++ line_feed ∷ []
+line_by Records standing candidate (Some pattern) = record_line (attachment_record standing candidate pattern)
+
+-- the line of the candidate at a place among those of some ranks
+abbrev pub candidate_line : Form → List ℕ → List ℕ → ℕ → Candidate → List ℕ
+candidate_line form path ranks place candidate =
+    line_by form (standing_of ranks place (rank_of path candidate)) candidate (best_pattern path (patterns_of candidate))
+
+-- the line of each, where the first stands at this place
+abbrev pub lines_from : Form → List ℕ → List ℕ → ℕ → List Candidate → List ℕ
+lines_from form path ranks place [] = []
+lines_from form path ranks place (candidate ∷ candidates) =
+    candidate_line form path ranks place candidate ++ lines_from form path ranks (place + 1) candidates
+
+-- lines below a heading; where there is no line, nothing
+abbrev pub headed : Form → List ℕ → List ℕ → List ℕ
+headed form words lines = if is_empty lines then [] else heading_line form words ++ lines
+
+-- the lines of all candidates that have a pattern which matches the path, below a heading
+abbrev pub attachment_lines : Form → List ℕ → List Candidate → List ℕ
+attachment_lines form path candidates = headed form (codes "attachment") (lines_from form path (map (rank_of path) candidates) 0 candidates)

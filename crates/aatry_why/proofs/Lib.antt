@@ -1,3 +1,0 @@
-pub mod DecidingLemmas
-pub mod MissingLemmas
-pub mod PlaceLemmas
