@@ -10,5 +10,5 @@ mod words;
 pub use laws::quoted_words_read_back;
 pub use line::{LONGEST_LINE, LineBuffer, first_line};
 pub use stream::{Failed, FromRead, Sink, Source, ToWrite, comes_to_end};
-pub use waiting::{flush, write_behind};
+pub use waiting::{flush, write_all, write_behind};
 pub use words::{BadWords, Words};

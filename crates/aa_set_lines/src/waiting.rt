@@ -5,8 +5,12 @@ ghost use Rattle.aa_set_lines.specs.Streams.{AppendsFront, WritesBehind};
 
 use crate::stream::{Failed, Sink};
 
-// Writes all of the bytes, in as many calls as the sink needs.
-fn write_all<W: Sink>(writer: &mut W, bytes: &[u8]) -> Result<(), Failed>
+/// Writes all of the bytes, in as many calls as the sink needs. It takes no memory.
+///
+/// # Errors
+///
+/// `Failed` where the sink has a fault. Some front of the bytes is then written.
+pub fn write_all<W: Sink>(writer: &mut W, bytes: &[u8]) -> Result<(), Failed>
     ensures ok { OnOk result (Appends (W.written writer.old) (W.written writer.new) bytes.now) }
     ensures flag { OnOk result (W.failed writer.new ≡ W.failed writer.old) }
     ensures err { OnErr result (AppendsFront (W.written writer.old) (W.written writer.new) bytes.now) }

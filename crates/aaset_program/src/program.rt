@@ -35,7 +35,7 @@ fn answer<S: Source, W: Sink, E: Sink>(
     let outcome = aa_set::run(alloc, &ready.files, ready.force_complain, input, output);
     match &outcome {
         Ok(_) => status(&outcome),
-        Err(fault) => report(alloc, errors, &Fault::from(*fault)),
+        Err(fault) => report(errors, &Fault::from(*fault)),
     }
 }
 
@@ -58,8 +58,8 @@ fn perform<S: Source, W: Sink, E: Sink>(
 {
     match prepared {
         Ok(ready) => answer(alloc, &ready, input, output, errors),
-        Err(Stop::Shown(text)) => show(alloc, text.as_str(), output, errors),
-        Err(Stop::Failed(fault)) => report(alloc, errors, &fault),
+        Err(Stop::Shown(text)) => show(text.as_str(), output, errors),
+        Err(Stop::Failed(fault)) => report(errors, &fault),
     }
 }
 

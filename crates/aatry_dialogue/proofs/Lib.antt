@@ -1,3 +1,2 @@
 mod InputLemmas
 mod SessionLemmas
-mod WritingLemmas

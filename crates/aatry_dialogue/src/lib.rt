@@ -3,7 +3,5 @@
 
 mod input;
 mod session;
-mod writing;
 
 pub use session::session_over;
-pub use writing::write;

@@ -14,8 +14,7 @@ ghost use Rattle.aatry_session.specs.SeenTurns.{IsAskable, seen_turn};
 ghost use Rattle.aatry_session.specs.Turns.{Told};
 
 use crate::input::LineInput;
-use crate::writing::write;
-use aa_set_lines::{LineBuffer, Sink, Source};
+use aa_set_lines::{LineBuffer, Sink, Source, write_all};
 use aa_text_files::Files;
 use aaset_gather::FileSystem;
 use aatry_asking::push_answer_of;
@@ -209,13 +208,13 @@ fn answer_line<F: Folders, D: FileSystem>(
 }
 
 // Writes a text.
-fn show<W: Sink>(alloc: Global, writer: &mut W, text: &[u8]) -> Result<(), Fault>
+fn show<W: Sink>(writer: &mut W, text: &[u8]) -> Result<(), Fault>
     ensures ok { OnOk result (Appends (W.written writer.old) (W.written writer.new) text.now) }
     ensures err { OnErr result (AppendsFront (W.written writer.old) (W.written writer.new) text.now) }
     ensures fault { IfErr result (λ told. told ≡ fault.Write) }
     ensures failed { OnErr result (W.failed writer.new ≡ true) }
 {
-    match write(alloc, writer, text) {
+    match write_all(writer, text) {
         Ok(()) => Ok(()),
         Err(_) => Err(Fault::Write),
     }
@@ -259,13 +258,13 @@ fn step<F: Folders, D: FileSystem, S: Source, W: Sink>(
     ensures top { AreAtTop table.new.policy }
     ensures bound { S.reads reader.new ≤ S.reads reader.old + most_reads }
 {
-    show(alloc, writer, setting.prompt)?;
+    show(writer, setting.prompt)?;
     if !next_line(reader, lines)? {
         return Ok(false);
     }
     let mut text = Vec::new(alloc);
     let goes = answer_line(alloc, setting, table, lines.line.as_slice(), &mut text)?;
-    show(alloc, writer, &text)?;
+    show(writer, &text)?;
     Ok(goes)
 }
 
@@ -367,6 +366,6 @@ pub fn session_over<F: Folders, D: FileSystem, S: Source, W: Sink>(
     let mut text = Vec::new(alloc);
     let mut table = begin(alloc, &setting, &mut text)?;
     let mut lines = all_lines(alloc)?;
-    show(alloc, writer, &text)?;
+    show(writer, &text)?;
     run(alloc, &setting, &mut table, reader, &mut lines, writer)
 }

@@ -9,13 +9,13 @@ ghost use Rattle.aatry_program.specs.Status.{status_of};
 use crate::reporting::report;
 use crate::status::failure_status;
 use crate::streams::Streams;
-use aa_set_lines::{Sink, Source};
+use aa_set_lines::{Sink, Source, write_all};
 use aaset_gather::FileSystem;
 use aatry_arguments::{ArgumentFault, Call, Command, call_of};
 use aatry_commands::{
     Fault, Report, check_folder, diff_folders, test_folder, who_folder, why_folder,
 };
-use aatry_dialogue::{session_over, write};
+use aatry_dialogue::session_over;
 use aatry_folder::Folders;
 use std::alloc::Global;
 
@@ -28,7 +28,7 @@ fn show<S, W: Sink, E: Sink>(
 ) -> u8
     ensures { IsShown text.now fine (output_of (W.written streams.old.output) (W.written streams.new.output) (W.failed streams.new.output)) result }
 {
-    match write(alloc, &mut streams.output, text) {
+    match write_all(&mut streams.output, text) {
         Ok(()) => fine,
         Err(_) => report(alloc, &mut streams.errors, &Fault::Write),
     }

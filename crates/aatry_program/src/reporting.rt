@@ -4,9 +4,8 @@ ghost use Rattle.std.specs.Prelude.{◌≡◌};
 ghost use Rattle.aatry_program.specs.Status.{status_of};
 
 use crate::status::status_of;
-use aa_set_lines::{Failed, Sink};
+use aa_set_lines::{Failed, Sink, write_all};
 use aatry_commands::{Fault, name_of, words_of};
-use aatry_dialogue::write;
 use aatry_report::push_shown;
 use std::alloc::Global;
 
@@ -19,9 +18,9 @@ fn shown_name(alloc: Global, told: &Fault) -> Vec<u8> {
 
 // Writes what is told of a fault on a line of its own.
 fn write_fault<E: Sink>(alloc: Global, errors: &mut E, told: &Fault) -> Result<(), Failed> {
-    write(alloc, errors, words_of(told).as_bytes())?;
-    write(alloc, errors, shown_name(alloc, told).as_slice())?;
-    write(alloc, errors, b"\n")
+    write_all(errors, words_of(told).as_bytes())?;
+    write_all(errors, shown_name(alloc, told).as_slice())?;
+    write_all(errors, b"\n")
 }
 
 // Reports a fault on standard error, and gives its exit status, which alone reports it where that can't be written.

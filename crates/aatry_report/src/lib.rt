@@ -9,6 +9,7 @@ mod taken;
 mod words;
 
 pub use faults::{push_fault, push_fault_at, push_place, put_fault, put_fault_at};
+pub use numbers::push_number;
 pub use places::{path_below, put_place};
 pub use shown::push_shown;
 pub use taken::push_taken;

@@ -5,10 +5,10 @@ ghost use Rattle.aatry_test.specs.Differences.{are_same, comparison, differs, fa
 ghost use Rattle.aatry_test.specs.Differences.{part_of, part_text, parts, passed_line, seen_part};
 ghost use Rattle.aatry_test.specs.Transcripts.{texts, wanted_in};
 
-use crate::differences::{are_same, push_differing_lines, push_front, push_heading, push_number};
+use crate::differences::{are_same, push_differing_lines, push_front, push_heading};
 use crate::replies::told_size;
 use crate::transcripts::{command_count, is_command, wanted_in, wanted_next};
-use aatry_report::push_shown;
+use aatry_report::{push_number, push_shown};
 use std::alloc::{AllocError, Global};
 
 // Puts how a transcript came out that is as it is wanted behind a text.

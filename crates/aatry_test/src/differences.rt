@@ -1,14 +1,12 @@
 //! What is told of lines that differ.
 
 ghost use Rattle.std.specs.Prelude.{◌≡◌, ◌++◌, OnOk};
-ghost use Rattle.std.specs.Fmt.{decimal};
 ghost use Rattle.std.specs.List.{list_all};
 ghost use Rattle.aatry_test.specs.Differences.{ahead_line, are_reordered, are_same, differing_lines, front_text};
 ghost use Rattle.aatry_test.specs.Differences.{heading, is_among, marked_line, marked_lines};
 ghost use Rattle.aatry_test.specs.Transcripts.{texts};
 
-use aatry_report::push_shown;
-use itoa::Buffer;
+use aatry_report::{push_number, push_shown};
 use std::alloc::AllocError;
 
 /// Whether lines are the same as others, in the same order.
@@ -104,20 +102,6 @@ pub fn push_differing_lines(
     let all = are_reordered(wanted, told);
     push_marked_lines(out, "- ", all, told, wanted)?;
     push_marked_lines(out, "+ ", all, wanted, told)
-}
-
-/// Puts words and a number behind a text.
-///
-/// # Errors
-///
-/// Where memory runs out.
-pub fn push_number(out: &mut Vec<u8>, words: &str, number: usize) -> Result<(), AllocError>
-    ensures { OnOk result (out.new.items ≡ out.old.items ++ words.now ++ decimal number) }
-{
-    let mut digits = Buffer::new();
-    out.extend_from_slice(words.as_bytes())?;
-    out.extend_from_slice(digits.format(number).as_bytes())?;
-    Ok(())
 }
 
 /// Puts the line that stands above lines that differ behind a text.
