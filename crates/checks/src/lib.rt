@@ -1,5 +1,5 @@
 //! Tests that no row can state: of streams, readers and writers of the standard library that fail, runs over those of few bytes a call, the
-//! words of arguments and the whole program; of the libraries' calls, how much a manager keeps, automata of very many patterns and the visits that
+//! words of arguments and the whole program; of the libraries' calls, why requests are answered so, how much a manager keeps, automata of very many patterns and the visits that
 //! they take; and the examples of the families' pages.
 #![tactic(auto)]
 
@@ -11,6 +11,8 @@ mod automata;
 mod calls;
 #[cfg(test)]
 mod examples;
+#[cfg(test)]
+mod explain;
 #[cfg(test)]
 mod fakes;
 #[cfg(test)]

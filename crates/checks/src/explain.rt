@@ -1,0 +1,120 @@
+//! Why requests are answered as they are: the calls whose findings no row tells.
+
+use crate::given::{first_wrong, managed};
+use aa_decide::{Entry, Request, find_named};
+use aa_explain::{
+    attached_child, child_candidates, leading_rules, missing_rule, near_rules, profile_candidates,
+    ranks_of, told_rules,
+};
+use aa_profile::{Perms, Rule};
+use std::alloc::Global;
+
+// Two profiles that fit one path, and a child.
+const WEB: &[u8] =
+    b"profile web /usr/bin/web* { /srv/** r, deny /srv/x w, /usr/bin/* px, /usr/bin/vi ux, profile php /usr/bin/php { } } profile other /usr/bin/web { }";
+
+fn write(path: &[u8]) -> Request<'_> {
+    Request::File {
+        needs: Perms::WRITE,
+        owned: false,
+        path,
+    }
+}
+
+// A rule that reads the path applies to its being written, and one denies it.
+fn are_told(alloc: Global, rules: &[Rule]) -> bool {
+    match told_rules(alloc, false, rules, &write(b"/srv/x")) {
+        Ok(found) => match found.as_slice() {
+            [read, denied] => read.place == 0 && !read.denies && denied.place == 1 && denied.denies,
+            _ => false,
+        },
+        Err(_) => false,
+    }
+}
+
+fn are_near(alloc: Global, rules: &[Rule]) -> bool {
+    match near_rules(alloc, rules, &write(b"/srv/y")) {
+        Ok(places) => places.as_slice() == [0].as_slice(),
+        Err(_) => false,
+    }
+}
+
+fn is_missing(alloc: Global, rules: &[Rule]) -> bool {
+    match missing_rule(alloc, rules, &write(b"/srv/y")) {
+        Ok(Some(Rule::File(rule))) => {
+            rule.access == Perms::WRITE && rule.pattern.text() == b"/srv/y".as_slice()
+        }
+        _ => false,
+    }
+}
+
+// Whether this rule alone leads the program of a path.
+fn leads(alloc: Global, rules: &[Rule], path: &[u8], place: usize) -> bool {
+    match leading_rules(alloc, false, path, rules) {
+        Ok(places) => places.as_slice() == [place].as_slice(),
+        Err(_) => false,
+    }
+}
+
+// A pattern ranks by its beginning, and an exact one above all others.
+fn are_ranked(alloc: Global, slots: &[Option<Entry>]) -> bool {
+    let Ok(candidates) = profile_candidates(alloc, slots) else {
+        return false;
+    };
+    match ranks_of(alloc, b"/usr/bin/web", &candidates) {
+        Ok(ranks) => ranks.as_slice() == [13, 4_098].as_slice(),
+        Err(_) => false,
+    }
+}
+
+fn has_child(alloc: Global, entry: &Entry) -> bool {
+    match child_candidates(alloc, entry) {
+        Ok(children) => children.len() == 1,
+        Err(_) => false,
+    }
+}
+
+fn is_attached(alloc: Global, entry: &Entry) -> bool {
+    match attached_child(alloc, entry, b"/usr/bin/php") {
+        Ok(child) => child == Some(0),
+        Err(_) => false,
+    }
+}
+
+// What is found of a request, and whether that is what it should be.
+fn rows(alloc: Global, rules: &[Rule]) -> [(&'static str, bool); 5] {
+    [
+        ("told_rules", are_told(alloc, rules)),
+        ("near_rules", are_near(alloc, rules)),
+        ("missing_rule", is_missing(alloc, rules)),
+        ("leading_rules", leads(alloc, rules, b"/usr/bin/ls", 2)),
+        (
+            "leading_rules, exact",
+            leads(alloc, rules, b"/usr/bin/vi", 3),
+        ),
+    ]
+}
+
+fn wrong(alloc: Global) -> Option<&'static str> {
+    let Some(manager) = managed(alloc, WEB) else {
+        return Some("add");
+    };
+    let slots = manager.policy_set().slots();
+    let Some((_, web)) = find_named(&slots, b"web") else {
+        return Some("find_named");
+    };
+    let attachments = [
+        ("ranks_of", are_ranked(alloc, slots.as_slice())),
+        ("child_candidates", has_child(alloc, web)),
+        ("attached_child", is_attached(alloc, web)),
+    ];
+    match first_wrong(&rows(alloc, web.ready().rules_at(None))) {
+        None => first_wrong(&attachments),
+        found => found,
+    }
+}
+
+#[test]
+fn answers_are_explained(rt: HostRuntime) {
+    assert_eq!(rt; wrong(rt.alloc()), None);
+}
