@@ -20,7 +20,7 @@ use Rattle.aatry_record.specs.declared.form.Form.{Form}
 use Rattle.aatry_record.specs.declared.form.Form.TheVariants.{Lines, Records}
 use Rattle.aatry_requests.specs.Questions.{rule_request}
 use Rattle.aatry_transition.specs.How.{how_lines}
-use Rattle.aatry_who.specs.Who.{who_lines}
+use Rattle.aatry_asking.specs.Who.{who_lines}
 
 -- of files of which none is left out, there is no refusal
 abbrev pub none_refused : List (List ℕ) → List (Option Refusal)

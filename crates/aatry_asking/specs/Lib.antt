@@ -1,3 +1,4 @@
 pub mod Asking
 pub mod Questions
 pub mod Rules
+pub mod Who

@@ -10,6 +10,7 @@ ghost use Rattle.aatry_asking.specs.Rules.{TellsRules, asker_file};
 ghost use Rattle.aatry_policy.specs.Folders.{loaded_in, outcomes_in, seen_folder};
 ghost use Rattle.aatry_requests.specs.Questions.{rule_request};
 
+use crate::letting::who_lines;
 use crate::question::{QuestionFault, letting_question, question_by};
 use crate::replies::{push_refused, push_reply};
 use crate::rules::{is_lacking, push_rules};
@@ -19,7 +20,6 @@ use aatry_policy::{Folder, Policy, by_parts, load_folder, parts_of, read_profile
 use aatry_record::Form;
 use aatry_requests::{rule_request, who_asks};
 use aatry_transition::push_how;
-use aatry_who::who_lines;
 use std::alloc::{AllocError, Global};
 
 /// What a question came to.
@@ -214,7 +214,7 @@ fn let_by(
 }
 
 /// Which profiles, children and hats of a folder would let a request for a file through, by its access, its owner's word and its path, as
-/// `aatry_who::who_lines` tells them in a form. First come the files that are left out (`aatry_policy::load_folder`).
+/// `aatry_asking::who_lines` tells them in a form. First come the files that are left out (`aatry_policy::load_folder`).
 ///
 /// # Errors
 ///

@@ -2,6 +2,7 @@
 #![tactic(auto)]
 
 mod asking;
+mod letting;
 mod question;
 mod replies;
 mod rules;

@@ -10,8 +10,8 @@ ghost use Rattle.aatry_policy.specs.FolderParts.{seen_folder};
 ghost use Rattle.aatry_policy.specs.SeenProfiles.{seen_part};
 ghost use Rattle.aatry_record.specs.SeenRecord.{seen_record};
 ghost use Rattle.aatry_record.specs.declared.form.Form.TheVariants as form;
-ghost use Rattle.aatry_who.specs.Who.{answer_lines, answer_of, by_rules, child_lines, entry_lines, let_line, let_record, lets_through};
-ghost use Rattle.aatry_who.specs.Who.{lines_of, rule_lines, who_lines, written_of};
+ghost use Rattle.aatry_asking.specs.Who.{answer_lines, answer_of, by_rules, child_lines, entry_lines, let_line, let_record, lets_through};
+ghost use Rattle.aatry_asking.specs.Who.{lines_of, rule_lines, who_lines, written_of};
 ghost use Rattle.aatry_why_lines.specs.Written.{seen_rules};
 
 use aa_decide::{Answer, Confinement, Entry, Request, Steps};

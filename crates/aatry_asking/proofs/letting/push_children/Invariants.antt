@@ -2,8 +2,8 @@ use Rattle.std.proofs.Common.{◌≡◌, ◌++◌, drop}
 use Rattle.aa_profile_access.specs.SeenRequests.{request_of}
 use Rattle.aa_set_answers.specs.Children.{lines_from}
 use Rattle.aatry_policy.specs.FolderParts.{seen_folder}
-use Rattle.aatry_who.specs.Who.{child_lines}
-use Rattle.aatry_who.proofs.who.push_children.Given as goal
+use Rattle.aatry_asking.specs.Who.{child_lines}
+use Rattle.aatry_asking.proofs.letting.push_children.Given as goal
 
 -- the text so far, with the lines of what is left, is all
 abbrev pub invariant-loop-place : goal.invariant-loop-place

@@ -2,8 +2,8 @@ use Rattle.std.proofs.Common.{◌≡◌, ◌++◌, length}
 use Rattle.aa_decide_verdict.specs.Slots.{filled}
 use Rattle.aa_profile_access.specs.SeenRequests.{request_of}
 use Rattle.aatry_policy.specs.FolderParts.{seen_folder}
-use Rattle.aatry_who.specs.Who.{who_lines}
-use Rattle.aatry_who.proofs.who.push_slots.Given as goal
+use Rattle.aatry_asking.specs.Who.{who_lines}
+use Rattle.aatry_asking.proofs.letting.push_slots.Given as goal
 
 -- the text so far, with the lines of what is left, is all
 abbrev pub invariant-loop-rest : goal.invariant-loop-rest
