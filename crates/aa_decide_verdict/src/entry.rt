@@ -20,10 +20,19 @@ pub enum State {
 }
 
 /// A loaded profile with its state, which has a mode for the profile and for each of its children and hats.
-#[derive(Debug, Drop)]
+#[derive(Debug)]
 pub struct Entry {
     ready: Ready,
     state: State,
+}
+
+impl Drop for Entry {
+    // Proved here, once for all crates that own one.
+    fn drop(self) {
+        let Entry { ready, state } = self;
+        drop(ready);
+        drop(state);
+    }
 }
 
 impl Model for Entry {

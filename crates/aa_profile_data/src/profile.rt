@@ -115,7 +115,7 @@ pub struct Child {
 }
 
 /// A profile.
-#[derive(Debug, Drop)]
+#[derive(Debug)]
 pub struct Profile {
     /// The name.
     pub name: Sequence<u8>,
@@ -129,6 +129,24 @@ pub struct Profile {
     pub rules: Sequence<Rule>,
     /// The children and hats, in the order of the file.
     pub children: Sequence<Child>,
+}
+
+impl Drop for Profile {
+    // Proved here, once for all crates that own one.
+    fn drop(self) {
+        let Profile {
+            name,
+            attachments,
+            audit: _,
+            mode: _,
+            rules,
+            children,
+        } = self;
+        drop(name);
+        drop(attachments);
+        drop(rules);
+        drop(children);
+    }
 }
 
 // Whether two transitions name the same target, or both none.

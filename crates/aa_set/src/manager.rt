@@ -38,11 +38,22 @@ const LONGEST_MARK: usize = 255;
 /// Contracts see the machine that keeps whole policy sets: the set now, the earlier ones and the later ones, and the
 /// marks; and how many parts each change has. What is kept are the slots of the set now, and of each change the parts
 /// that it exchanges with them.
-#[derive(Drop)]
 pub struct Manager {
     alloc: Global,
     force_complain: bool,
     journal: Journal<Slots, Exchange>,
+}
+
+impl Drop for Manager {
+    // Proved here, once for all crates that own one.
+    fn drop(self) {
+        let Manager {
+            alloc: _,
+            force_complain: _,
+            journal,
+        } = self;
+        drop(journal);
+    }
 }
 
 impl Model for Manager {

@@ -11,10 +11,18 @@ use std::marker::Model;
 
 /// A change that exchanges parts with their slots, one behind the other, and becomes the one that leads back. Entries are moved, and none is copied.
 /// Contracts see the parts, and a number of slots that all of their slots are among.
-#[derive(Debug, Drop)]
+#[derive(Debug)]
 pub struct Exchange {
     parts: Vec<Part>,
     reach: usize,
+}
+
+impl Drop for Exchange {
+    // Proved here, once for all crates that own one.
+    fn drop(self) {
+        let Exchange { parts, reach: _ } = self;
+        drop(parts);
+    }
 }
 
 impl Model for Exchange {

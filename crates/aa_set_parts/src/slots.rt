@@ -17,7 +17,7 @@ use std::marker::Model;
 const SEVERAL: u8 = 3;
 
 /// Slots, each of which is empty or holds a loaded profile. Contracts see the list of the slots, with the empty ones.
-#[derive(Debug, Drop)]
+#[derive(Debug)]
 pub struct Slots {
     alloc: Global,
     slots: Vec<Option<Entry>>,
@@ -28,6 +28,24 @@ pub struct Slots {
     asked: u8,
     // Of whom something is remembered.
     remembered: Remembered,
+}
+
+impl Drop for Slots {
+    // Proved here, once for all crates that own one.
+    fn drop(self) {
+        let Slots {
+            alloc: _,
+            slots,
+            names,
+            attachments,
+            asked: _,
+            remembered,
+        } = self;
+        drop(slots);
+        drop(names);
+        drop(attachments);
+        drop(remembered);
+    }
 }
 
 impl Model for Slots {

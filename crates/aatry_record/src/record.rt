@@ -9,11 +9,18 @@ use serde_json::{Map, Value};
 use std::alloc::{AllocError, Global};
 
 /// A record: an object of JSON. Its members stand in the order of their names.
-#[derive(Drop)]
 pub struct Record {
     /// The members by their names; a name has one.
     members: Map<String, Value>,
     ghost whole: { members_have_float (members_view members.entries) ≡ false },
+}
+
+impl Drop for Record {
+    // Proved here, once for all crates that own one.
+    fn drop(self) {
+        let Record { members } = self;
+        drop(members);
+    }
 }
 
 impl Record {
@@ -97,7 +104,8 @@ impl Record {
         ensures ok { OnOk result (out.new.items ≡ out.old.items ++ record_line (seen_record self)) }
         ensures err { OnErr result (out.new.items ≡ out.old.items) }
     {
-        let mut line = Value::Object(self.members).to_vec(alloc)?;
+        let Record { members } = self;
+        let mut line = Value::Object(members).to_vec(alloc)?;
         line.push(b'\n')?;
         out.extend_from_slice(&line)?;
         Ok(())
