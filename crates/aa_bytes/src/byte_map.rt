@@ -6,7 +6,7 @@ ghost use Rattle.aa_bytes.specs.ByteMaps.{in_map};
 use crate::bits::{has_bit, set_bit};
 
 /// A set of bytes: a bit for each of the 256. Zero may be in it.
-#[derive(Clone, Copy, Debug, PartialEq, Eq)]
+#[derive(Clone, Copy)]
 pub struct ByteMap {
     words: [u64; 4],
 }

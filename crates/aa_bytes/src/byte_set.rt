@@ -15,7 +15,7 @@ pub struct ByteRange {
 }
 
 /// A set of bytes, in which zero never is.
-#[derive(Debug, Drop)]
+#[derive(Drop)]
 pub enum ByteSet {
     /// The bytes that may stand within a segment of a path: all but `/`.
     Inside,

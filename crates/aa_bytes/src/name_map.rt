@@ -4,12 +4,12 @@ ghost use Rattle.std.specs.Prelude.{◌≡◌, ℕ, List, None, OnOk, OnErr};
 ghost use Rattle.aa_bytes.specs.NameMaps.{GivesNumber, HaveSameNumbers, number_of};
 
 use std::alloc::{AllocError, Global};
-use std::collections::HashMap;
+use std::collections::BTreeMap;
 
 /// A number for each of some names, which are texts of bytes.
-#[derive(Debug, Drop)]
+#[derive(Drop)]
 pub struct NameMap {
-    by_name: HashMap<Vec<u8>, usize>,
+    by_name: BTreeMap<Vec<u8>, usize>,
 }
 
 impl NameMap {
@@ -18,11 +18,12 @@ impl NameMap {
         ensures { (name : List ℕ) → number_of result name ≡ None }
     {
         NameMap {
-            by_name: HashMap::new(alloc),
+            by_name: BTreeMap::new(alloc),
         }
     }
 
-    /// The number of a name, or nothing where it has none. It takes no memory, and a time that doesn't grow with the number of names.
+    /// The number of a name, or nothing where it has none. It takes no memory, and a time that grows with the logarithm of the
+    /// number of names, whatever they are.
     pub fn get(&self, name: &[u8]) -> Option<usize>
         ensures { result ≡ number_of self.now name.now }
     {

@@ -8,7 +8,7 @@ use aa_decide_slots::entry_at;
 use aa_decide_verdict::Entry;
 
 /// Who asks by a loaded profile, as long as this is in force.
-#[derive(Clone, Copy, Debug)]
+#[derive(Clone, Copy)]
 pub struct Asker<'a> {
     /// The profile.
     pub entry: &'a Entry,

@@ -13,7 +13,7 @@ use aa_profile_data::{Rule, Transition, which_rules_match};
 use std::alloc::{AllocError, Global};
 
 /// What rules say together of a program that is started.
-#[derive(Clone, Copy, Debug)]
+#[derive(Clone, Copy)]
 pub enum ExecChoice<'a> {
     /// A rule denies it.
     Denied {

@@ -12,7 +12,7 @@ use bitflags::Flags;
 use std::alloc::{AllocFailed, Global};
 
 /// What a rule says of a program that is started.
-#[derive(Clone, Copy, Debug)]
+#[derive(Clone, Copy)]
 pub enum ExecRule<'a> {
     /// That it may not be.
     Denying {

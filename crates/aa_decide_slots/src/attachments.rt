@@ -14,7 +14,7 @@ use std::alloc::{AllocError, Global};
 
 /// One automaton of the attachments of all profiles in some slots, whatever states these are in. Contracts see of which slots it was made
 /// (`IsAttachmentIndexOf`).
-#[derive(Debug, Drop)]
+#[derive(Drop)]
 pub struct AttachmentIndex {
     automaton: Automaton,
     // The slot of each attachment.

@@ -14,7 +14,7 @@ use std::marker::Model;
 
 /// Slots, each of which is empty or holds a loaded profile, with what is kept beside them to find names and attachments without going over all, where
 /// something is. Contracts see the list of the slots alone: whether something is kept changes no answer.
-#[derive(Debug, Drop)]
+#[derive(Drop)]
 pub struct IndexedSlots<'a> {
     slots: &'a [Option<Entry>],
     names: Option<&'a NameIndex>,

@@ -10,7 +10,7 @@ use aa_decide_verdict::Entry;
 use std::alloc::{AllocError, Global};
 
 /// Each name of a profile in some slots, with the first of these that holds it. Contracts see of which slots it was made (`IsNameIndexOf`).
-#[derive(Debug, Drop)]
+#[derive(Drop)]
 pub struct NameIndex {
     slots: NameMap,
 }

@@ -8,7 +8,7 @@ use crate::ready::Ready;
 use aa_profile_data::Mode;
 
 /// What confines a task.
-#[derive(Clone, Copy, Debug)]
+#[derive(Clone, Copy)]
 pub enum Confinement<'a> {
     /// Nothing.
     Unconfined,

@@ -11,7 +11,7 @@ use std::marker::Model;
 use std::mem;
 
 /// The state of a loaded profile.
-#[derive(Debug, Drop)]
+#[derive(Drop)]
 pub enum State {
     /// The profile and its children are out of force.
     Disabled,
@@ -20,7 +20,6 @@ pub enum State {
 }
 
 /// A loaded profile with its state, which has a mode for the profile and for each of its children and hats.
-#[derive(Debug)]
 pub struct Entry {
     ready: Ready,
     state: State,

@@ -20,7 +20,7 @@ use aa_profile_data::{Child, Rule, which_rules_match};
 use std::alloc::{AllocError, Global};
 
 /// The automata of a profile, or of a child or hat.
-#[derive(Debug, Drop)]
+#[derive(Drop)]
 pub struct Part {
     // That of the file rules' patterns, in the order of the rules.
     files: Automaton,

@@ -27,7 +27,7 @@ use std::alloc::{AllocError, Global};
 use std::marker::Model;
 
 /// A profile that requests are decided by, no two rules of which conflict, nor any two of a child or hat of it. Contracts see the profile alone.
-#[derive(Debug, Drop)]
+#[derive(Drop)]
 pub struct Ready {
     /// The profile.
     pub profile: Profile,

@@ -12,7 +12,7 @@ use aa_profile_data::Child;
 use std::alloc::{AllocError, Global};
 
 /// A profile or a child that a path may be attached to.
-#[derive(Clone, Copy, Debug)]
+#[derive(Clone, Copy)]
 pub struct Candidate<'a> {
     /// The loaded profile.
     pub entry: &'a Entry,

@@ -1,7 +1,9 @@
 -- What one more place changes.
-use Rattle.std.proofs.Common.{◌≡◌, ℕ, ◌+◌, ◌<◌, ◌≤◌, ◌==◌, ◌&&◌, true, false, cond, get_or, List, [], ◌∷◌, ◌++◌, length, nat_eq, refl, sym, ap, ◌∙◌, arith, inl, inr, ◌⊎◌, zero, suc}
-use Rattle.std.specs.Prelude.{Option, None, Some, if◌then◌else◌, nat_lt, not, slice_get, slice_set}
+use Rattle.std.proofs.Common.{◌≡◌, ℕ, ◌+◌, ◌<◌, ◌≤◌, ◌==◌, ◌&&◌, true, false, cond, get_or, List, [], ◌∷◌, ◌++◌, length, nat_eq, refl, sym, subst, ap, ◌∙◌, arith, inl, inr, ◌⊎◌, zero, suc}
+use Rattle.std.specs.Prelude.{Bool, Option, None, Some, if◌then◌else◌, nat_lt, not, slice_get, slice_set}
 use Rattle.std.specs.Map.{lookup}
+use Rattle.std.specs.Ordering.{is_eq, nat_cmp}
+use Rattle.std.proofs.Math.Path.{fun_ext}
 use Rattle.std.proofs.lemmas.Bool.{and_parts, cases_Bool, cond-true, eqb-true, eqb-false, eq-eqb, le-ltb, lt-ltb}
 use Rattle.std.proofs.lemmas.List.{length-append}
 use Rattle.aa_glob_automaton.specs.Tree.{HasOneMore, Ways, is_number, key, next, nothing, nowhere, others_alone, places}
@@ -12,6 +14,30 @@ same-false a b apart = elim (cases_Bool (a == b)) [
   | inl same ↦ absurd (apart (eqb-true a b same))
   | inr other ↦ other
 ]
+
+-- two numbers are alike in their order where they are the same
+order-same : (a b : ℕ) → is_eq (nat_cmp a b) ≡ nat_eq a b
+order-same a b = elim (cases_Bool (nat_lt a b)) [
+  | inl less ↦ rw less (sym (same-false a b (λ e. let never : true ≡ false = sym less ∙ le-ltb a b (omega (arith, e)) in absurd cc)))
+  | inr not_less ↦ rw not_less (elim (cases_Bool (a == b)) [
+    | inl same ↦ rw same refl
+    | inr other ↦ rw other refl
+  ])
+]
+
+order-is : (λ (a b : ℕ). is_eq (nat_cmp a b)) ≡ nat_eq
+order-is = fun_ext (λ a. fun_ext (λ b. order-same a b))
+
+-- what stands with a number is found by its order
+pub found-by-order : (others : List (ℕ × ℕ)) (q : ℕ) → lookup (λ k. is_eq (nat_cmp q k)) others ≡ lookup (nat_eq q) others
+found-by-order others q = ap (λ (same : ℕ → ℕ → Bool). lookup (same q) others) order-is
+
+-- and so is what one more changes
+pub changed-by-order : (old others : List (ℕ × ℕ)) (at added : ℕ)
+    → ((q : ℕ) → lookup (λ k. is_eq (nat_cmp q k)) others ≡ cond (is_eq (nat_cmp at q)) (Some added) (lookup (λ k. is_eq (nat_cmp q k)) old))
+    → (q : ℕ) → lookup (nat_eq q) others ≡ cond (nat_eq at q) (Some added) (lookup (nat_eq q) old)
+changed-by-order old others at added h =
+    subst (λ (same : ℕ → ℕ → Bool). (q : ℕ) → lookup (same q) others ≡ cond (same at q) (Some added) (lookup (same q) old)) order-is h
 
 -- a place and a number are told apart from others as one
 keys_apart : (place number p n : ℕ) → number < nowhere → n < nowhere → nat_eq (key place number) (key p n) ≡ (p == place && n == number)

@@ -22,7 +22,7 @@ use std::marker::Model;
 
 /// An automaton of some patterns, which finds all of them that match a path in one run over it. Contracts see of which patterns it was made
 /// (`IsAutomatonOf`).
-#[derive(Debug, Drop)]
+#[derive(Drop)]
 pub struct Automaton {
     // None where there are no patterns.
     nfa: Option<Nfa>,

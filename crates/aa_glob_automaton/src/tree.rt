@@ -5,7 +5,7 @@ ghost use Rattle.aa_glob_automaton.specs.Tree.{HasNoWay, HasOneMore, key, next, 
 ghost use Rattle.aa_glob_automaton.specs.code.Noted.{NotesOthers};
 
 use std::alloc::{AllocError, Global};
-use std::collections::HashMap;
+use std::collections::BTreeMap;
 use std::marker::Model;
 
 // The number by which no place is found.
@@ -29,7 +29,7 @@ pub struct Tree {
     // For each place, by which number the place behind it is found that was added directly after it, or that none is.
     on: Vec<u16>,
     // The other places, by the place that they stand behind and their number.
-    others: HashMap<u64, u32>,
+    others: BTreeMap<u64, u32>,
 }
 
 impl Model for Tree {
@@ -54,7 +54,7 @@ impl Tree {
         on.push(NOTHING)?;
         Ok(Tree {
             on,
-            others: HashMap::new(alloc),
+            others: BTreeMap::new(alloc),
         })
     }
 

@@ -3,7 +3,7 @@
 use aa_bytes::ByteMap;
 
 /// What it takes to come into a state from one that leads to it, and to stay there.
-#[derive(Clone, Copy, Debug, PartialEq, Eq)]
+#[derive(Clone, Copy)]
 pub enum Entry {
     /// No byte.
     Free,

@@ -8,7 +8,7 @@ use crate::state::Gate;
 use aa_bytes::{byte_has_bit, byte_with_bit};
 
 // A state: the byte that leads into it, or its gate's number; and its flags, a bit for each.
-#[derive(Clone, Copy, Debug)]
+#[derive(Clone, Copy)]
 pub struct PackedState {
     byte: u8,
     flags: u8,

@@ -9,7 +9,7 @@ use crate::entry::Entry;
 use aa_bytes::{ByteMap, is_inside};
 
 /// What it takes to come into a state: its entry, but for a class's set.
-#[derive(Clone, Copy, Debug)]
+#[derive(Clone, Copy)]
 pub enum Gate {
     Free,
     Byte(u8),
@@ -20,7 +20,7 @@ pub enum Gate {
 }
 
 /// A way from a state to another, but for one that leads on to the next.
-#[derive(Clone, Copy, Debug)]
+#[derive(Clone, Copy)]
 pub struct Way {
     pub from: u32,
     // The byte that leads into the other state, or a number that is no byte.
@@ -29,14 +29,14 @@ pub struct Way {
 }
 
 /// The set of a class, and the state that it leads into.
-#[derive(Clone, Copy, Debug)]
+#[derive(Clone, Copy)]
 pub struct ClassRow {
     pub state: u32,
     pub map: ByteMap,
 }
 
 /// An end of a pattern.
-#[derive(Clone, Copy, Debug)]
+#[derive(Clone, Copy)]
 pub struct End {
     pub state: u32,
     pub pattern: u32,

@@ -9,7 +9,7 @@ use std::alloc::{AllocError, Global};
 use std::marker::Model;
 
 /// States, of which each says where there is more of it in the other tables.
-#[derive(Debug, Drop)]
+#[derive(Drop)]
 pub struct States {
     packed: Vec<PackedState>,
 }

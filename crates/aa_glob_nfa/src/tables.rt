@@ -18,7 +18,7 @@ use aa_bytes::is_inside;
 use std::alloc::{AllocError, Global};
 
 /// The tables of a graph.
-#[derive(Debug, Drop)]
+#[derive(Drop)]
 pub struct Tables {
     pub states: States,
     pub ways: Vec<Way>,

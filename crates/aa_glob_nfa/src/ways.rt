@@ -17,7 +17,7 @@ const BLOCK: u32 = 8;
 const FEW: usize = 12;
 
 /// Ways that lead from a state when a byte comes, or none, maybe among others.
-#[derive(Clone, Copy, Debug)]
+#[derive(Clone, Copy)]
 pub struct Leaving<'a> {
     /// Those without a byte of their own.
     pub any: &'a [Way],

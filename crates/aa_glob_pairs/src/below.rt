@@ -4,7 +4,7 @@ ghost use Rattle.std.specs.Prelude.{◌≡◌};
 ghost use Rattle.aa_glob_pairs.specs.Below.{Covers, Includes, can_clash};
 
 /// The classes of the patterns that end at a state or behind it, as far as it matters whether two of them differ.
-#[derive(Clone, Copy, Debug)]
+#[derive(Clone, Copy)]
 pub enum Below {
     /// No pattern ends there.
     Nothing,

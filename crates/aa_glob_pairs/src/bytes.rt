@@ -6,7 +6,7 @@ ghost use Rattle.aa_glob_pairs.specs.Bytes.{BothHave, in_bytes, IsShared};
 use aa_bytes::{ByteMap, is_inside};
 
 /// The bytes of a step.
-#[derive(Clone, Copy, Debug)]
+#[derive(Clone, Copy)]
 pub enum Bytes {
     /// This one.
     One(u8),

@@ -10,7 +10,7 @@ use aa_glob_nfa::Tables;
 use std::alloc::{AllocError, Global};
 
 /// A pattern that ends at a state.
-#[derive(Clone, Copy, Debug)]
+#[derive(Clone, Copy)]
 pub struct Ending {
     /// Its place among the patterns.
     pub pattern: u32,

@@ -19,7 +19,7 @@ use aa_glob_nfa::{Gate, Tables, Way};
 use std::alloc::{AllocError, Global};
 
 /// The bytes that bring a state from another, or leave it as it is.
-#[derive(Clone, Copy, Debug)]
+#[derive(Clone, Copy)]
 pub struct Step {
     /// The state to which they lead.
     pub to: u32,
@@ -28,7 +28,7 @@ pub struct Step {
 }
 
 /// What leads away from a state.
-#[derive(Debug, Drop)]
+#[derive(Drop)]
 pub struct Moves {
     /// The states that are entered from it without a byte.
     pub free: Vec<u32>,

@@ -11,7 +11,7 @@ use aa_glob_nfa::Tables;
 use std::alloc::{AllocError, Global};
 
 /// What leads away from a state, and the patterns that end there.
-#[derive(Debug, Drop)]
+#[derive(Drop)]
 pub struct Node {
     pub moves: Moves,
     pub ends: Vec<Ending>,

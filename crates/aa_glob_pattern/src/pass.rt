@@ -8,7 +8,7 @@ use crate::places::Places;
 use aa_glob_prefixes::Elements;
 
 /// What a pass tells of its past.
-#[derive(Clone, Copy, Debug)]
+#[derive(Clone, Copy)]
 pub struct Passed {
     /// Whether it reads the whole text.
     pub whole: bool,

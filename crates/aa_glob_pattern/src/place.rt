@@ -5,7 +5,7 @@ ghost use Rattle.std.specs.Prelude.{◌≡◌, length};
 use aa_glob_syntax::{BitStack, Element};
 
 /// What is known of a past at a place of the text.
-#[derive(Clone, Copy, Debug)]
+#[derive(Clone, Copy)]
 pub struct Place {
     /// Whether the past reads the beginning up to here.
     here: bool,

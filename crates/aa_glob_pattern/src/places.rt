@@ -7,7 +7,7 @@ use aa_bytes::is_inside;
 use aa_glob_syntax::Element;
 
 /// What is known of two pasts at a place of the text, of which one has a byte more.
-#[derive(Clone, Copy, Debug)]
+#[derive(Clone, Copy)]
 pub struct Places {
     /// What is known of the past without the byte.
     before: Place,

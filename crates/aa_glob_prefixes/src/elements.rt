@@ -10,7 +10,7 @@ use crate::laws::which_elements_stand;
 use aa_glob_syntax::{Context, Element, Next, next_element};
 
 /// A text that reads as a pattern, as far as it is left to read.
-#[derive(Clone, Copy, Debug)]
+#[derive(Clone, Copy)]
 pub struct Elements<'a> {
     /// In how many groups the next element stands.
     depth: u32,

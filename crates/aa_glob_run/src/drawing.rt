@@ -11,7 +11,7 @@ use std::marker::Model;
 /// An automaton while it is made: states with their entries, ways from state to state, and ends of patterns. State 0 is the start.
 ///
 /// Contracts see the graph: its entries, ways and ends. It has at most 2^32 - 1 states.
-#[derive(Debug, Drop)]
+#[derive(Drop)]
 pub struct Drawing {
     tables: Tables,
 }

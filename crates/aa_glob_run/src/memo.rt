@@ -22,7 +22,7 @@ const MOST_MISSED: usize = 4096;
 const UNKNOWN_ROW: [u16; 256] = [0; 256];
 
 // Lists of states, and the moves between them that are known. A list that is found by a remainder is looked at.
-#[derive(Debug, Drop)]
+#[derive(Drop)]
 pub struct Memo {
     fronts: Vec<Vec<u32>>,
     // A row for each list, with a place for each byte: the number of the list behind it, and one more; 0 where it isn't known.

@@ -20,7 +20,7 @@ use std::alloc::{AllocError, Global};
 use std::marker::Model;
 
 /// A finished automaton, of the states, ways and ends that were drawn. Contracts see its graph.
-#[derive(Debug, Drop)]
+#[derive(Drop)]
 pub struct Nfa {
     tables: Tables,
     // What was remembered of runs. Contracts don't see it.

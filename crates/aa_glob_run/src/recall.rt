@@ -196,7 +196,7 @@ pub fn recall(
 }
 
 // A place of a text to which a run has come, and the number of the list of the states that live there.
-#[derive(Clone, Copy, Debug)]
+#[derive(Clone, Copy)]
 pub struct Far {
     pub place: usize,
     pub number: usize,

@@ -7,7 +7,7 @@ ghost use Rattle.aa_glob_syntax.specs.OpenGroups.{outer, with_innermost};
 use std::marker::Model;
 
 /// At most 16 bits, one on the other, as for groups that are open within each other. Contracts see a list, the topmost bit first.
-#[derive(Clone, Copy, Debug)]
+#[derive(Clone, Copy)]
 pub struct BitStack {
     len: u32,
     // The lowest bit is the topmost.

@@ -18,7 +18,7 @@ use aa_bytes::{begins_with_byte, has_byte};
 pub const LONGEST_PATTERN: usize = 4_096;
 
 /// What is known of a pattern once its text was checked.
-#[derive(Clone, Copy, Debug, PartialEq, Eq)]
+#[derive(Clone, Copy)]
 pub struct Facts {
     /// Whether all items are bytes that stand for themselves, so that one text alone matches the pattern.
     pub exact: bool,

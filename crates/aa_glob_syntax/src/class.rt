@@ -14,7 +14,7 @@ use aa_bytes::{ByteSet, Sequence};
 use std::alloc::{AllocError, Global};
 
 /// A class as it stands in a pattern's text, which is no copy of it.
-#[derive(Clone, Copy, Debug)]
+#[derive(Clone, Copy)]
 pub struct Class<'a> {
     text: &'a [u8],
     ghost reads: { is_ok (class (symbols text.now)) ≡ true },

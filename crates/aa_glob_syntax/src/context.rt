@@ -4,7 +4,7 @@ ghost use Rattle.std.specs.Prelude.{◌≡◌};
 ghost use Rattle.aa_glob_syntax.specs.Elements.{context_after};
 
 /// What stands directly before a symbol.
-#[derive(Clone, Copy, Debug, PartialEq, Eq)]
+#[derive(Clone, Copy)]
 pub enum Context {
     /// The byte `/`, also one behind a backslash.
     AfterSlash,

@@ -16,7 +16,7 @@ use crate::star::{begins_plain, behind_stars, is_whole_segment};
 use crate::symbol::{Symbol, first_symbol};
 
 /// An element of a pattern's text.
-#[derive(Clone, Copy, Debug)]
+#[derive(Clone, Copy)]
 pub enum Element<'a> {
     /// A byte that stands for itself.
     Byte(u8),
@@ -37,7 +37,7 @@ pub enum Element<'a> {
 }
 
 /// An element, and what is behind it.
-#[derive(Clone, Copy, Debug)]
+#[derive(Clone, Copy)]
 pub struct Next<'a> {
     /// The element.
     pub element: Element<'a>,

@@ -8,7 +8,7 @@ use crate::pattern_error::PatternError;
 const DEEPEST: u32 = 16;
 
 /// The open groups, the innermost on top: whether a comma of each has come.
-#[derive(Clone, Copy, Debug)]
+#[derive(Clone, Copy)]
 pub struct Groups {
     commas: BitStack,
 }

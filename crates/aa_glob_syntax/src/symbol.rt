@@ -4,7 +4,7 @@ ghost use Rattle.std.specs.Prelude.{◌≡◌, ◌∷◌, [], ◌<◌, length, M
 ghost use Rattle.aa_glob_syntax.specs.Symbols.{byte_of, is_broken, is_plain, symbols};
 
 /// A symbol of a pattern's text.
-#[derive(Clone, Copy, Debug, PartialEq, Eq)]
+#[derive(Clone, Copy)]
 pub enum Symbol {
     /// A byte.
     Plain(u8),

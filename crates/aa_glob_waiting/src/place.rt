@@ -4,7 +4,7 @@ ghost use Rattle.std.specs.Prelude.{ℕ, List};
 ghost use Rattle.aa_glob_waiting.specs.Places.{StandsAt};
 
 /// A place among the second states of a first one, which are gone through one after the other. It stays right when more come behind them.
-#[derive(Clone, Copy, Debug)]
+#[derive(Clone, Copy)]
 pub struct Place {
     /// How many second states stand before it.
     pub index: usize,

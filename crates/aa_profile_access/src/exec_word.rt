@@ -4,7 +4,7 @@ ghost use Rattle.std.specs.Prelude.{◌≡◌, false, true};
 ghost use Rattle.aa_profile_access.specs.ExecWords.{exec_word, row, same_word, seen_row, word_among};
 
 /// Where an exec word leads.
-#[derive(Clone, Copy, Debug, PartialEq, Eq)]
+#[derive(Clone, Copy)]
 pub enum Destination {
     /// To a profile: the one that the rule names, or else the one that is attached to the program.
     Profile,

@@ -10,7 +10,7 @@ use crate::exec_word::ExecWord;
 use bitflags::Flags;
 
 /// What the text of a file rule's access says.
-#[derive(Clone, Copy, Debug, PartialEq, Eq)]
+#[derive(Clone, Copy)]
 pub struct WrittenAccess {
     /// Its letters; a bare `x` is among them.
     pub letters: Perms,

@@ -16,7 +16,7 @@ use aa_text_splicing::Spliced;
 use aa_text_tokens::TokenKind;
 
 /// The flags of a profile, a child or a hat that decide something.
-#[derive(Clone, Copy, Debug, PartialEq, Eq)]
+#[derive(Clone, Copy)]
 pub struct Flags {
     /// What the rules don't allow is refused; this is so without the flag.
     pub enforce: bool,
@@ -27,7 +27,7 @@ pub struct Flags {
 }
 
 /// What of FLAGS was read.
-#[derive(Clone, Copy, Debug, PartialEq, Eq)]
+#[derive(Clone, Copy)]
 pub enum FlagsSoFar {
     /// Nothing.
     Absent,

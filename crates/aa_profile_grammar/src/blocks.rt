@@ -23,7 +23,7 @@ use aa_text_tokens::TokenKind;
 use std::alloc::Global;
 
 /// A child of a profile, or a hat.
-#[derive(Debug, Drop)]
+#[derive(Drop)]
 pub struct Child<'a> {
     /// Whether it is a hat.
     pub hat: bool,
@@ -34,7 +34,7 @@ pub struct Child<'a> {
 }
 
 /// What a profile's block holds.
-#[derive(Debug, Drop)]
+#[derive(Drop)]
 pub enum Member<'a> {
     /// A rule.
     OfRule(Rule<'a>),
@@ -43,7 +43,7 @@ pub enum Member<'a> {
 }
 
 /// A profile as it is written.
-#[derive(Debug, Drop)]
+#[derive(Drop)]
 pub struct Profile<'a> {
     /// Its head.
     pub head: Head<'a>,

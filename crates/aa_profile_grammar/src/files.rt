@@ -13,7 +13,7 @@ use aa_text_splicing::Spliced;
 use std::alloc::Global;
 
 /// A profile's file as it is written.
-#[derive(Debug, Drop)]
+#[derive(Drop)]
 pub struct File<'a> {
     /// The assignments before its profiles, in order.
     pub assignments: Vec<Assignment<'a>>,

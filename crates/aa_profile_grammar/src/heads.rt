@@ -16,7 +16,7 @@ use aa_text_splicing::Spliced;
 use aa_text_tokens::TokenKind;
 
 /// How a head begins.
-#[derive(Clone, Copy, Debug, PartialEq, Eq)]
+#[derive(Clone, Copy)]
 pub enum Form {
     /// With the word `profile`.
     Profile,
@@ -27,7 +27,7 @@ pub enum Form {
 }
 
 /// How a head begins, and its name.
-#[derive(Clone, Copy, Debug)]
+#[derive(Clone, Copy)]
 pub struct Named<'a> {
     /// How it begins.
     pub form: Form,
@@ -38,7 +38,7 @@ pub struct Named<'a> {
 }
 
 /// A head of a profile, a child or a hat.
-#[derive(Clone, Copy, Debug)]
+#[derive(Clone, Copy)]
 pub struct Head<'a> {
     /// The name, as it is written.
     pub name: &'a [u8],

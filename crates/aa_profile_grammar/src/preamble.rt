@@ -16,7 +16,7 @@ use aa_text_tokens::TokenKind;
 use std::alloc::Global;
 
 /// An assignment of a variable.
-#[derive(Clone, Copy, Debug)]
+#[derive(Clone, Copy)]
 pub struct Assignment<'a> {
     /// The token that names the variable, up to its sign.
     pub sign: Spliced<'a>,

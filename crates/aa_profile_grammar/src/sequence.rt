@@ -3,14 +3,14 @@
 use aa_text_splicing::Spliced;
 
 /// Tokens that weren't read yet.
-#[derive(Clone, Copy, Debug)]
+#[derive(Clone, Copy)]
 pub struct Rest<'a> {
     /// The tokens.
     pub tokens: &'a [Spliced<'a>],
 }
 
 /// What comes next in a row.
-#[derive(Debug, Drop)]
+#[derive(Drop)]
 pub enum Next<T> {
     /// An item of the row.
     Item(T),

@@ -25,7 +25,7 @@ use aa_text_variables::ExpansionTable;
 use std::alloc::{AllocError, Global};
 
 /// Where the rules of a profile stand, and those of its children and hats.
-#[derive(Debug, Drop)]
+#[derive(Drop)]
 pub struct ProfilePlaces {
     /// The place of each of its rules, in their order. A rule that is kept and has no token has none; of files there is no such.
     pub rules: Sequence<Option<Place>>,

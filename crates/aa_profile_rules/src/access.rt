@@ -11,7 +11,7 @@ use aa_text_tokens::TokenKind;
 use bitflags::Flags;
 
 /// What a file rule lets or denies.
-#[derive(Clone, Copy, Debug, PartialEq, Eq)]
+#[derive(Clone, Copy)]
 pub struct Access {
     /// Its letters; the bare `x` of a deny rule is among them, and no other rule has it.
     pub letters: Perms,

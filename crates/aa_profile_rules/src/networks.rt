@@ -10,7 +10,7 @@ use aa_text_splicing::Spliced;
 use aa_text_tokens::TokenKind;
 
 /// The sockets that a rule is about, by the numbers of `aa_profile_tables`.
-#[derive(Clone, Copy, Debug, PartialEq, Eq)]
+#[derive(Clone, Copy)]
 pub struct Sockets {
     /// Their domain; none where the rule is about all.
     pub domain: Option<u8>,

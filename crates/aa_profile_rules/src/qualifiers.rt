@@ -9,7 +9,7 @@ use aa_profile_parsing::{Fault, GrammarRefusal, is_word_of, refusal_at};
 use aa_text_splicing::Spliced;
 
 /// The words before a rule that say how it counts (apparmor.d(5)).
-#[derive(Clone, Copy, Debug, PartialEq, Eq)]
+#[derive(Clone, Copy)]
 pub struct Qualifiers {
     /// `audit`: what it decides is logged.
     pub audit: bool,

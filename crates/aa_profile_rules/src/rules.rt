@@ -21,7 +21,7 @@ use aa_text_splicing::Spliced;
 use aa_text_tokens::{Token, TokenKind};
 
 /// A rule as it is written.
-#[derive(Clone, Copy, Debug)]
+#[derive(Clone, Copy)]
 pub enum Rule<'a> {
     /// A rule on the files of a pattern.
     OnFile {

@@ -97,7 +97,7 @@ fn some_are_disabled_at(slots: &IndexedSlots<'_>, found: &[Option<usize>]) -> bo
 }
 
 /// A change by the profiles of a file.
-#[derive(Clone, Copy, Debug)]
+#[derive(Clone, Copy)]
 pub enum FileChange {
     /// They are added: none of their names is there.
     Add,

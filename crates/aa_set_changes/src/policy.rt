@@ -10,7 +10,7 @@ use std::marker::Model;
 
 /// A policy set: loaded profiles in the order in which they were loaded, no two of one name. It borrows the slots that
 /// they stand in. Contracts see the list of its entries.
-#[derive(Debug, Drop)]
+#[derive(Drop)]
 pub struct PolicySet<'a> {
     slots: &'a Slots,
 }

@@ -16,7 +16,7 @@ use aa_set_lines::Words;
 const MOST_DIGITS: usize = 9;
 
 /// A change of the policy set.
-#[derive(Clone, Copy, Debug, PartialEq, Eq)]
+#[derive(Clone, Copy)]
 pub enum PolicyChange<'a> {
     /// Adds the profiles of the file of this name.
     Add(&'a [u8]),
@@ -33,7 +33,7 @@ pub enum PolicyChange<'a> {
 }
 
 /// A command.
-#[derive(Clone, Copy, Debug, PartialEq, Eq)]
+#[derive(Clone, Copy)]
 pub enum Command<'a> {
     /// Changes the policy set.
     Change(PolicyChange<'a>),

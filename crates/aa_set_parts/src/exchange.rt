@@ -11,7 +11,6 @@ use std::marker::Model;
 
 /// A change that exchanges parts with their slots, one behind the other, and becomes the one that leads back. Entries are moved, and none is copied.
 /// Contracts see the parts, and a number of slots that all of their slots are among.
-#[derive(Debug)]
 pub struct Exchange {
     parts: Vec<Part>,
     reach: usize,

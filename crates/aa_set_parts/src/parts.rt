@@ -7,7 +7,7 @@ use aa_decide_verdict::{Entry, State};
 use std::mem;
 
 /// What a part holds for its slot.
-#[derive(Debug, Drop)]
+#[derive(Drop)]
 pub enum Content {
     /// All that the slot is to hold: an entry, or nothing.
     Whole(Option<Entry>),
@@ -16,7 +16,7 @@ pub enum Content {
 }
 
 /// A slot, and what is exchanged for what it holds.
-#[derive(Debug, Drop)]
+#[derive(Drop)]
 pub struct Part {
     /// The slot's number, from 0.
     pub slot: usize,

@@ -15,14 +15,14 @@ const FINGERPRINTS: usize = 4096;
 const MOST_PRINTED: usize = 256;
 
 /// A profile in a slot, or its child or hat at a place.
-#[derive(Clone, Copy, Debug, PartialEq, Eq)]
+#[derive(Clone, Copy, PartialEq, Eq)]
 pub(crate) struct Warm {
     pub slot: usize,
     pub child: Option<usize>,
 }
 
 /// Of whom something is remembered, and fingerprints of questions about paths of which all is.
-#[derive(Debug, Drop)]
+#[derive(Drop)]
 pub(crate) struct Remembered {
     alloc: Global,
     askers: Vec<Warm>,

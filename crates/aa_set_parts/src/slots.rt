@@ -17,7 +17,6 @@ use std::marker::Model;
 const SEVERAL: u8 = 3;
 
 /// Slots, each of which is empty or holds a loaded profile. Contracts see the list of the slots, with the empty ones.
-#[derive(Debug)]
 pub struct Slots {
     alloc: Global,
     slots: Vec<Option<Entry>>,

@@ -4,7 +4,7 @@ use crate::slots::Slots;
 use aa_history::Tend;
 
 /// What follows at the places of a path is remembered, of the profile in a slot or of its child or hat at a place.
-#[derive(Clone, Copy, Debug)]
+#[derive(Clone, Copy)]
 pub struct Remembering<'a> {
     /// The slot.
     pub slot: usize,
@@ -17,7 +17,7 @@ pub struct Remembering<'a> {
 }
 
 /// Names are found without going over the slots, and attachments if they are looked for (`Slots::index`).
-#[derive(Clone, Copy, Debug)]
+#[derive(Clone, Copy)]
 pub struct Indexing {
     /// Whether attachments are looked for.
     pub attachments: bool,

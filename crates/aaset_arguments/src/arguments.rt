@@ -1,7 +1,7 @@
 //! What the arguments ask for, and why they may ask for no run.
 
 /// What the arguments ask for.
-#[derive(Debug, Drop)]
+#[derive(Drop)]
 pub struct Plan {
     /// Whether each profile is taken as one in complain mode, whatever its flags say.
     pub force_complain: bool,
@@ -12,7 +12,7 @@ pub struct Plan {
 }
 
 /// Why the arguments give no plan.
-#[derive(Debug, Drop)]
+#[derive(Drop)]
 pub enum ArgFault {
     /// Help was asked for: its text, which ends its last line.
     Help(String),

@@ -7,7 +7,7 @@ use aa_set::RunFault;
 use std::io;
 
 /// What keeps the program from answering each command.
-#[derive(Debug, Drop)]
+#[derive(Drop)]
 pub enum Fault {
     /// The arguments ask for something that there isn't, or name no file.
     BadArguments,

@@ -7,7 +7,7 @@ use aaset_arguments::ArgFault;
 use aaset_gather::GatherFault;
 
 /// Why the program ends before it reads a command.
-#[derive(Debug, Drop)]
+#[derive(Drop)]
 pub enum Stop {
     /// Help or the version was asked for, and this is its text.
     Shown(String),

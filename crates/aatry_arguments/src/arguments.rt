@@ -3,7 +3,7 @@
 use aatry_record::Form;
 
 /// A command, and the form in which it tells what it finds.
-#[derive(Debug, Drop)]
+#[derive(Drop)]
 pub struct Call {
     /// The form: lines, unless records are asked for.
     pub form: Form,
@@ -12,7 +12,7 @@ pub struct Call {
 }
 
 /// A command, with what its arguments say.
-#[derive(Debug, Drop)]
+#[derive(Drop)]
 pub enum Command {
     /// Files of a folder of policy are to be checked.
     Check(Check),
@@ -29,7 +29,7 @@ pub enum Command {
 }
 
 /// Which files are to be checked.
-#[derive(Debug, Drop)]
+#[derive(Drop)]
 pub struct Check {
     /// The folder of policy.
     pub base: String,
@@ -38,7 +38,7 @@ pub struct Check {
 }
 
 /// Which transcripts are to be tested.
-#[derive(Debug, Drop)]
+#[derive(Drop)]
 pub struct Test {
     /// The folder of policy.
     pub base: String,
@@ -47,7 +47,7 @@ pub struct Test {
 }
 
 /// What is asked of a folder of policy.
-#[derive(Debug, Drop)]
+#[derive(Drop)]
 pub struct Asking {
     /// The folder of policy.
     pub base: String,
@@ -56,7 +56,7 @@ pub struct Asking {
 }
 
 /// Which folders of policy are to be compared, and by which requests beside their profiles.
-#[derive(Debug, Drop)]
+#[derive(Drop)]
 pub struct Comparison {
     /// The old folder of policy.
     pub old: String,
@@ -67,7 +67,7 @@ pub struct Comparison {
 }
 
 /// Where requests are told of.
-#[derive(Debug, Drop)]
+#[derive(Drop)]
 pub enum RequestSource {
     /// In a log, by its path.
     Log(String),
@@ -76,14 +76,14 @@ pub enum RequestSource {
 }
 
 /// Over which folder of policy commands are to be taken.
-#[derive(Debug, Drop)]
+#[derive(Drop)]
 pub struct Session {
     /// The folder of policy.
     pub base: String,
 }
 
 /// Why the arguments give no command.
-#[derive(Debug, Drop)]
+#[derive(Drop)]
 pub enum ArgumentFault {
     /// Help was asked for, on the program or on a command: its text, which ends its last line.
     Help(String),

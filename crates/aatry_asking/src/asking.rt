@@ -23,7 +23,7 @@ use aatry_transition::push_how;
 use std::alloc::{AllocError, Global};
 
 /// What a question came to.
-#[derive(Debug, Drop)]
+#[derive(Drop)]
 pub struct Answered {
     /// What is told, each line or record with its line feed.
     pub text: Vec<u8>,

@@ -9,7 +9,7 @@ use aa_set_commands::Question;
 use std::alloc::{AllocError, Global};
 
 /// Why a question has no answer.
-#[derive(Clone, Copy, Debug, PartialEq, Eq)]
+#[derive(Clone, Copy)]
 pub enum QuestionFault {
     /// The words ask no question.
     Bad,

@@ -18,7 +18,7 @@ use bitflags::Flags;
 use std::alloc::{AllocError, Global};
 
 /// A line that tells of a part: of its mode, a flag, an attachment or a rule.
-#[derive(Debug, Drop)]
+#[derive(Drop)]
 pub struct Line {
     /// What it tells.
     pub text: Sequence<u8>,

@@ -13,7 +13,7 @@ use aatry_report::{path_below, push_taken};
 use std::alloc::{AllocError, Global};
 
 /// How files came out that were checked.
-#[derive(Clone, Copy, Debug, PartialEq, Eq)]
+#[derive(Clone, Copy)]
 pub struct Checked {
     /// How many were taken.
     pub taken: usize,

@@ -12,7 +12,7 @@ use std::alloc::AllocError;
 
 /// What keeps the program from doing what it is asked for. The commands here give none but `BadQuestion`, `Unreadable`, `TooMany` and `NoMemory`; the others
 /// are those of the session and of the program, which tell all of them alike.
-#[derive(Debug, Drop)]
+#[derive(Drop)]
 pub enum Fault {
     /// The arguments ask for something that there isn't.
     BadArguments,

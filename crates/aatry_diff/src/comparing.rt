@@ -21,7 +21,7 @@ use aatry_requests::{Requests, Source, gather};
 use std::alloc::{AllocError, Global};
 
 /// How two folders of policy differ.
-#[derive(Debug, Drop)]
+#[derive(Drop)]
 pub struct Compared {
     /// What is told, each line or record with its line feed.
     pub text: Vec<u8>,

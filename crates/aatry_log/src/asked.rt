@@ -9,7 +9,7 @@ use aa_profile_access::Perms;
 use aa_set_commands::Question;
 
 // What is asked, with texts that may have been decoded.
-#[derive(Debug, Drop)]
+#[derive(Drop)]
 pub enum Asked<'a> {
     File {
         who: LoggedText<'a>,
@@ -34,7 +34,7 @@ pub enum Asked<'a> {
 }
 
 /// A question that a line asks. It holds the texts of it that had to be decoded, and borrows the others from the line.
-#[derive(Debug, Drop)]
+#[derive(Drop)]
 pub struct LoggedQuestion<'a> {
     asked: Asked<'a>,
     ghost well: { IsWellAsked asked } by { well_asked-prop asked },

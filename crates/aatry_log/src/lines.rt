@@ -14,7 +14,7 @@ use crate::values::{LoggedText, quoted_text, text_of};
 use std::alloc::{AllocError, Global};
 
 /// What a line of a kernel's log tells of.
-#[derive(Debug, Drop)]
+#[derive(Drop)]
 pub enum LogLine<'a> {
     /// A request, as this question asks it.
     Asks(LoggedQuestion<'a>),

@@ -9,7 +9,7 @@ use hex::{FromHexError, decode};
 use std::alloc::{AllocError, Global};
 
 /// A text of a line: as the line has it, or decoded.
-#[derive(Debug, Drop)]
+#[derive(Drop)]
 pub enum LoggedText<'a> {
     /// It stands in the line, between quotes.
     Written(&'a [u8]),

@@ -8,7 +8,7 @@ ghost use Rattle.aatry_places.specs.Lines.{line_feed_count, line_number};
 use crate::line::{before, before_in_line};
 
 /// A place in a text, as people tell it.
-#[derive(Clone, Copy, Debug, PartialEq, Eq)]
+#[derive(Clone, Copy)]
 pub struct LinePlace {
     /// The number of its line, from 1.
     pub line: usize,

@@ -1,7 +1,7 @@
 //! The forms in which what is found is told.
 
 /// The form in which what is found is told.
-#[derive(Clone, Copy, Debug, PartialEq, Eq)]
+#[derive(Clone, Copy)]
 pub enum Form {
     /// Lines for people at a terminal.
     Lines,

@@ -11,7 +11,7 @@ use aatry_log::{LogLine, LoggedQuestion, told_by};
 use std::alloc::{AllocError, Global};
 
 /// What the lines are from which requests are read.
-#[derive(Clone, Copy, Debug, PartialEq, Eq)]
+#[derive(Clone, Copy)]
 pub enum Source {
     /// Lines of a kernel's log, as audit.log or syslog has them.
     Log,

@@ -12,7 +12,7 @@ use aa_set_lines::{LONGEST_LINE, Words};
 const MOST_ASKED: usize = 5;
 
 /// What a line of a session says.
-#[derive(Clone, Copy, Debug)]
+#[derive(Clone, Copy)]
 pub enum Saying<'a> {
     /// Nothing to the session itself: it is for the machine over commands.
     Command,

@@ -18,7 +18,7 @@ use std::alloc::{AllocError, Global};
 use std::marker::Model;
 
 /// What a line of a session is answered.
-#[derive(Debug, Drop)]
+#[derive(Drop)]
 pub enum Turn<'a> {
     /// This is told of it: lines, each with its line feed, or nothing for a blank one.
     Told(Sequence<u8>),

@@ -16,7 +16,7 @@ use aa_shared_bytes::SharedBytes;
 use std::alloc::{AllocError, Global};
 
 /// Under what a program runs.
-#[derive(Clone, Copy, Debug)]
+#[derive(Clone, Copy)]
 pub enum Lead<'a> {
     /// Under a profile, or a child or hat of it.
     Under {

@@ -8,7 +8,7 @@ use bitflags::Flags;
 use std::alloc::{AllocError, Global};
 
 /// What rules do.
-#[derive(Clone, Copy, Debug, PartialEq, Eq)]
+#[derive(Clone, Copy)]
 pub enum Group {
     /// They deny what they cover.
     Denying,
