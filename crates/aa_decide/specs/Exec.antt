@@ -14,9 +14,9 @@ use Rattle.aa_profile_data.specs.declared.profile.Mode.TheVariants.{Complain, En
 use Rattle.aa_profile_data.specs.declared.profile.Profile.{Profile}
 use Rattle.aa_profile_data.specs.declared.profile.Transition.{Transition}
 use Rattle.aa_decide.specs.Attachment.{attached, attached_child}
-use Rattle.aa_decide_verdict.specs.Confinement.{By, Confinement, Unconfined as NotConfined, in_state}
-use Rattle.aa_decide_verdict.specs.Entries.{Loaded, is_in_force}
-use Rattle.aa_decide_verdict.specs.Ready.{audits, rules_at}
+use Rattle.aa_decide_entry.specs.Confinement.{By, Confinement, Unconfined as NotConfined, in_state}
+use Rattle.aa_decide_entry.specs.Entries.{Loaded, is_in_force}
+use Rattle.aa_decide_entry.specs.Ready.{audits, rules_at}
 use Rattle.aa_decide_audit.specs.declared.verdict.Answer.{Answer}
 use Rattle.aa_decide_audit.specs.declared.verdict.Answer.TheVariants.{Allow, Deny, Refuse, Complain as Complained}
 use Rattle.aa_decide_audit.specs.declared.verdict.Tag.{Tag}

@@ -8,7 +8,7 @@ use Rattle.aa_profile_access.specs.Request.{Request}
 use Rattle.aa_profile_data.specs.Picked.{picked}
 use Rattle.aa_profile_data.specs.declared.profile.Mode.{Mode}
 use Rattle.aa_profile_data.specs.declared.profile.Rule.{Rule}
-use Rattle.aa_decide_verdict.specs.Verdict.{allowed, allows, allows_aloud, applies, audited, covers, denied, denies, denies_aloud, granted, loud, mask, missing, verdict, with_covered, with_rule}
+use Rattle.aa_decide_rules.specs.Verdict.{allowed, allows, allows_aloud, applies, audited, covers, denied, denies, denies_aloud, granted, loud, mask, missing, verdict, with_covered, with_rule}
 use Rattle.aa_explain.specs.Laws.{but, is_told_to_allow, is_told_to_deny, places_of}
 use Rattle.aa_explain.specs.Told.{told}
 use Rattle.aa_explain.proofs.PlaceLemmas.{pick, told-places}

@@ -21,7 +21,7 @@ use Rattle.aa_profile_data.specs.declared.profile.Rule.{Rule}
 use Rattle.aa_profile_data.specs.declared.profile.Rule.TheVariants.{Cap, File, Net}
 use Rattle.aa_profile_tables.specs.Kinds.{is_protocol, type_of}
 use Rattle.aa_decide_audit.specs.declared.verdict.Answer.TheVariants.{Allow}
-use Rattle.aa_decide_verdict.specs.Verdict.{allows, applies, covered_by, covers, denied, denies, granted, mask, missing, needs, verdict, with_rule}
+use Rattle.aa_decide_rules.specs.Verdict.{allows, applies, covered_by, covers, denied, denies, granted, mask, missing, needs, verdict, with_rule}
 use Rattle.aa_explain.specs.Missing.{cap_rule_for, file_rule_for, lacked, letters_for, missing_rule, net_rule_for, rule_for, transition_for}
 
 -- what is missing where nothing is denied

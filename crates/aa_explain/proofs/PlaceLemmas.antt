@@ -6,7 +6,7 @@ use Rattle.std.specs.List.Sorted.{IsStrictlyIncreasing}
 use Rattle.aa_profile_access.specs.Request.{Request}
 use Rattle.aa_profile_data.specs.Picked.{picked}
 use Rattle.aa_profile_data.specs.declared.profile.Rule.{Rule}
-use Rattle.aa_decide_verdict.specs.Verdict.{applies}
+use Rattle.aa_decide_rules.specs.Verdict.{applies}
 use Rattle.aa_explain.specs.Laws.{AreAllWith, StandsAt, places_of}
 use Rattle.aa_explain.specs.Told.{places_where, told_from}
 

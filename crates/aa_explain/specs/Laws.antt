@@ -3,7 +3,7 @@ use Rattle.std.specs.Prelude.{◌≡◌, ◌↔◌, ℕ, Bool, true, not, ◌&&�
 use Rattle.std.specs.List.{Contains, filter}
 use Rattle.aa_profile_access.specs.Request.{Request}
 use Rattle.aa_profile_data.specs.declared.profile.Rule.{Rule}
-use Rattle.aa_decide_verdict.specs.Verdict.{allows, applies, denies}
+use Rattle.aa_decide_rules.specs.Verdict.{allows, applies, denies}
 use Rattle.aa_explain.specs.declared.told.ToldRule.{ToldRule}
 
 -- the places of rules that are told

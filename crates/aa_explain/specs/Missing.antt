@@ -12,7 +12,7 @@ use Rattle.aa_profile_data.specs.declared.profile.Rule.{Rule}
 use Rattle.aa_profile_data.specs.declared.profile.Rule.TheVariants.{Cap, File, Net}
 use Rattle.aa_profile_data.specs.declared.profile.Transition.{Transition}
 use Rattle.aa_profile_tables.specs.Kinds.{is_protocol}
-use Rattle.aa_decide_verdict.specs.Verdict.{denied, missing}
+use Rattle.aa_decide_rules.specs.Verdict.{denied, missing}
 
 -- The letters of a rule that lets some needs of a file. `w` lets `a` too, which can't stand beside it, and an exec word lets a program start.
 abbrev pub letters_for : ℕ → ℕ

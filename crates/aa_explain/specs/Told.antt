@@ -5,7 +5,7 @@ use Rattle.aa_glob_syntax.specs.Reading.{items_of}
 use Rattle.aa_profile_access.specs.Request.{Request, ForFile}
 use Rattle.aa_profile_data.specs.declared.profile.Rule.{Rule}
 use Rattle.aa_profile_data.specs.declared.profile.Rule.TheVariants.{File}
-use Rattle.aa_decide_verdict.specs.Verdict.{applies, covers, denies, is_audited}
+use Rattle.aa_decide_rules.specs.Verdict.{applies, covers, denies, is_audited}
 use Rattle.aa_explain.specs.declared.told.ToldRule.{ToldRule}
 
 -- what is told of a rule at a place that applies to a request. The flag says whether each rule of the profile is audited.

@@ -7,7 +7,7 @@ ghost use Rattle.aa_profile_access.specs.SeenRequests.{request_of};
 ghost use Rattle.aa_profile_data.specs.declared.profile.Rule.TheVariants.{File as ForFiles};
 ghost use Rattle.aa_explain.specs.Missing.{file_rule_for, lacked, letters_for, missing_rule, rule_for, transition_for};
 
-use aa_decide_verdict::{covers, denies, needs};
+use aa_decide_rules::{covers, denies, needs};
 use aa_glob_pattern::Pattern;
 use aa_profile_access::{ExecWord, Perms, Request};
 use aa_profile_data::{CapRule, FileRule, NetRule, Rule, Transition};

@@ -4,7 +4,7 @@ ghost use Rattle.std.specs.Prelude.{◌≡◌};
 ghost use Rattle.aa_profile_access.specs.SeenRequests.{request_of};
 ghost use Rattle.aa_explain.specs.Told.{is_near, lets_at};
 
-use aa_decide_verdict::covers;
+use aa_decide_rules::covers;
 use aa_profile_access::Request;
 use aa_profile_data::Rule;
 use bitflags::Flags;

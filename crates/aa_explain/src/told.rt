@@ -5,7 +5,7 @@ ghost use Rattle.aa_profile_access.specs.SeenRequests.{request_of};
 ghost use Rattle.aa_explain.specs.Told.{near, told, told_rule};
 
 use crate::near::is_near;
-use aa_decide_verdict::{applies, covers, denies, is_audited};
+use aa_decide_rules::{applies, covers, denies, is_audited};
 use aa_profile_access::{Perms, Request};
 use aa_profile_data::Rule;
 use std::alloc::{AllocError, Global};
@@ -35,7 +35,7 @@ fn told_rule(audit: bool, request: &Request<'_>, place: usize, rule: &Rule) -> T
     }
 }
 
-/// The rules that apply to a request, and what each of them does, in their order: those by which `aa_decide_verdict::Ready::decide` answers it.
+/// The rules that apply to a request, and what each of them does, in their order: those by which `aa_decide_entry::Ready::decide` answers it.
 /// `audit` says whether each of the rules is audited, whatever its own words are: that is the flag of their profile. Each pattern is tried by itself.
 ///
 /// # Errors

@@ -13,7 +13,7 @@ use Rattle.aa_bytes.specs.Bytes.{ampersand, colon, slash}
 use Rattle.aa_bytes.specs.Texts.{begins, begins_with}
 use Rattle.aa_decide.specs.Exec.{Asker}
 use Rattle.aa_decide_slots.specs.Named.{entry_named, have_distinct_names, is_named, profiles_of}
-use Rattle.aa_decide_verdict.specs.Entries.{Loaded}
+use Rattle.aa_decide_entry.specs.Entries.{Loaded}
 use Rattle.aa_profile_data.specs.Profile.{are_distinct, are_distinct_children, child_place, is_child_named, is_named as is_profile_named}
 use Rattle.aa_profile_data.specs.declared.profile.Child.{Child}
 use Rattle.aa_profile_data.specs.declared.profile.Profile.{Profile}

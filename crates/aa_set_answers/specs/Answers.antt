@@ -7,11 +7,11 @@ use Rattle.aa_set_commands.specs.Refusal.{plain}
 use Rattle.aa_set_commands.specs.declared.refusal.Refusal.{Refusal}
 use Rattle.aa_set_commands.specs.declared.refusal.RefusalKind.TheVariants.{Absent}
 use Rattle.aa_decide_audit.specs.Answer.{answer_word}
-use Rattle.aa_decide_verdict.specs.Confinement.{By, Confinement, Unconfined}
-use Rattle.aa_decide_verdict.specs.Entries.{Loaded}
+use Rattle.aa_decide_entry.specs.Confinement.{By, Confinement, Unconfined}
+use Rattle.aa_decide_entry.specs.Entries.{Loaded}
 use Rattle.aa_decide.specs.Exec.{Asker, ExecAnswer, Nowhere, Null, Started, Unconfined as Free, Under, exec_answer}
 use Rattle.aa_decide_audit.specs.LogLines.{exec_line, log_line}
-use Rattle.aa_decide_verdict.specs.Ready.{decided}
+use Rattle.aa_decide_entry.specs.Ready.{decided}
 use Rattle.aa_decide_audit.specs.declared.verdict.Answer.{Answer}
 use Rattle.aa_decide_audit.specs.declared.verdict.Verdict.{Verdict}
 use Rattle.aa_profile_data.specs.declared.profile.Profile.{Profile}

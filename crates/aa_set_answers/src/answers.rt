@@ -4,8 +4,8 @@ ghost use Rattle.std.specs.Prelude.{◌≡◌, ◌++◌, Ok, Err, IfOk, IfErr, O
 ghost use Rattle.aa_set_commands.specs.Question.{OfAccess, OfExec};
 ghost use Rattle.aa_set_commands.specs.Refusal.{IsRefusalOf, plain};
 ghost use Rattle.aa_set_commands.specs.declared.refusal.RefusalKind.TheVariants.{Memory};
-ghost use Rattle.aa_decide_verdict.specs.Slots.{filled};
-ghost use Rattle.aa_decide_verdict.specs.Confinement.{found};
+ghost use Rattle.aa_decide_entry.specs.Slots.{filled};
+ghost use Rattle.aa_decide_entry.specs.Confinement.{found};
 ghost use Rattle.aa_profile_access.specs.SeenRequests.{request_of};
 ghost use Rattle.aa_decide_audit.specs.LogLines.{exec_line};
 ghost use Rattle.aa_set_answers.specs.Answers.{asks_absent, confined_lines, line_with, reply_lines};

@@ -3,9 +3,9 @@
 ghost use Rattle.std.specs.Prelude.{◌≡◌, IfSome};
 ghost use Rattle.std.specs.Option.{option_copied, option_map};
 ghost use Rattle.aa_decide.specs.SeenExec.{IsIn, seen_asker};
-ghost use Rattle.aa_decide_verdict.specs.Slots.{filled};
+ghost use Rattle.aa_decide_entry.specs.Slots.{filled};
 ghost use Rattle.aa_profile_names.specs.FullNames.{full_name};
-ghost use Rattle.aa_decide_verdict.specs.Confinement.{found};
+ghost use Rattle.aa_decide_entry.specs.Confinement.{found};
 ghost use Rattle.aa_set_answers.specs.Askers.{asker, confinement, entry_asker, named_asker};
 
 use aa_decide::{Asker, Confinement, Entry, IndexedSlots, find_named};

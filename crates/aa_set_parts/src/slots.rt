@@ -8,8 +8,8 @@ ghost use Rattle.aa_set_parts.specs.Slots.{trimmed};
 
 use crate::parts::{Content, Part};
 use crate::remembered::{Remembered, Warm};
+use aa_decide_entry::Entry;
 use aa_decide_slots::{AttachmentIndex, IndexedSlots, NameIndex};
-use aa_decide_verdict::Entry;
 use std::alloc::{AllocError, Global};
 use std::marker::Model;
 
@@ -50,7 +50,7 @@ impl Drop for Slots {
 impl Model for Slots {
     ghost use Rattle.std.specs.Prelude.{List, Option, IfSome};
     ghost use Rattle.aa_decide_slots.specs.Indexes.{IsAttachmentIndexOf, IsNameIndexOf};
-    ghost use Rattle.aa_decide_verdict.specs.Entries.{Loaded};
+    ghost use Rattle.aa_decide_entry.specs.Entries.{Loaded};
 
     ghost Value = { List (Option Loaded) };
 

@@ -1,6 +1,6 @@
 -- The lines that tell of a part: of its mode, its flags, its attachments and its rules.
 use Rattle.std.specs.Prelude.{ℕ, Bool, true, false, ◌==◌, if◌then◌else◌, List, [], ◌∷◌, ◌++◌, codes, map, Option, None}
-use Rattle.aa_decide_verdict.specs.Verdict.{covers}
+use Rattle.aa_decide_rules.specs.Verdict.{covers}
 use Rattle.aa_profile_access.specs.Request.{Request}
 use Rattle.aa_profile_data.specs.declared.profile.Rule.{Rule}
 use Rattle.aa_set_answers.specs.RuleLines.{rule_text}

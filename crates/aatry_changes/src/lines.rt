@@ -7,7 +7,7 @@ ghost use Rattle.aatry_changes.specs.Lines.{line_if_covering, lines_of, rule_lin
 ghost use Rattle.aatry_policy.specs.SeenProfiles.{seen_part};
 
 use aa_bytes::Sequence;
-use aa_decide_verdict::covers;
+use aa_decide_rules::covers;
 use aa_glob_pattern::Pattern;
 use aa_profile_access::Request;
 use aa_profile_data::Rule;

@@ -2,7 +2,7 @@
 
 ghost use Rattle.std.specs.Prelude.{◌≡◌, ◌++◌, IfOk, OnOk, Some};
 ghost use Rattle.aa_decide.specs.SeenExec.{seen_asker};
-ghost use Rattle.aa_decide_verdict.specs.Slots.{filled};
+ghost use Rattle.aa_decide_entry.specs.Slots.{filled};
 ghost use Rattle.aa_profile_access.specs.declared.exec_word.Destination.TheVariants as to;
 ghost use Rattle.aa_set_answers.specs.RuleLines.{exec_text, target_text};
 ghost use Rattle.aatry_record.specs.declared.form.Form.TheVariants.{Lines};

@@ -1,6 +1,6 @@
 use Rattle.std.proofs.Common.{sym, subst}
 use Rattle.std.specs.List.Sorted.{IsStrictlyIncreasing}
-use Rattle.aa_decide_verdict.specs.Verdict.{applies}
+use Rattle.aa_decide_rules.specs.Verdict.{applies}
 use Rattle.aa_explain.specs.Laws.{AreAllWith}
 use Rattle.aa_explain.specs.Told.{is_near}
 use Rattle.aa_explain.proofs.PlaceLemmas.{are-all, rise, told-places}

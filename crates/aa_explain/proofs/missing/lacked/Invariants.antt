@@ -1,6 +1,6 @@
 use Rattle.std.proofs.Common.{◌≡◌, length}
 use Rattle.aa_profile_access.specs.SeenRequests.{request_of}
-use Rattle.aa_decide_verdict.specs.Verdict.{allows, denied, denies, granted, with_covered}
+use Rattle.aa_decide_rules.specs.Verdict.{allows, denied, denies, granted, with_covered}
 use Rattle.aa_explain.proofs.missing.lacked.Given as goal
 
 -- what the rules so far cover and what the others do is what all do

@@ -1,0 +1,10 @@
+//! What rules say of a request: which apply, what they cover, and the verdict.
+#![tactic(auto)]
+
+mod cover;
+mod laws;
+mod verdict;
+
+pub use cover::{applies, covers, denies, is_audited, needs};
+pub use laws::{what_matching_rules_decide, what_rules_decide};
+pub use verdict::{found_verdict, rules_verdict};

@@ -1,4 +1,0 @@
-pub mod AgreementLemmas
-pub mod FoundLemmas
-pub mod PartLemmas
-pub mod VerdictLemmas
