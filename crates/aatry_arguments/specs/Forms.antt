@@ -3,8 +3,8 @@ use Rattle.std.specs.Prelude.{ℕ, Bool, false, ◌||◌, if◌then◌else◌, L
 use Rattle.std.specs.Str.{bytes_eq}
 use Rattle.aatry_arguments.specs.Arguments.{CommandAsked, ForCheck, ForDiff, ForSession, ForTest, ForWho, ForWhy, asked}
 use Rattle.aatry_arguments.specs.Asked.{Asked, ForThis, Nothing, asked_as, asked_then}
-use Rattle.aatry_record.specs.declared.form.Form.{Form}
-use Rattle.aatry_record.specs.declared.form.Form.TheVariants.{Lines, Records}
+use Rattle.aatry_report.specs.declared.form.Form.{Form}
+use Rattle.aatry_report.specs.declared.form.Form.TheVariants.{Lines, Records}
 
 -- a command that is asked for, and the form in which it tells
 pub record CallAsked : Type 0 where

@@ -1,6 +1,6 @@
 //! What the arguments ask for, and why they may ask for no command.
 
-use aatry_record::Form;
+use aatry_report::Form;
 
 /// A command, and the form in which it tells what it finds.
 #[derive(Drop)]

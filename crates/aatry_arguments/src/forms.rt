@@ -5,11 +5,11 @@ ghost use Rattle.aatry_arguments.specs.Arguments.{asked};
 ghost use Rattle.aatry_arguments.specs.Asked.{asked_as, asked_then};
 ghost use Rattle.aatry_arguments.specs.Forms.{asked_call, call_with, ends_options, in_records, is_json_word, wants_records, without_json};
 ghost use Rattle.aatry_arguments.specs.Given.{IsGivenFor, meant_call, meant_command};
-ghost use Rattle.aatry_record.specs.declared.form.Form.TheVariants as form;
+ghost use Rattle.aatry_report.specs.declared.form.Form.TheVariants as form;
 
 use crate::arguments::{ArgumentFault, Call, Command};
 use crate::reading::command_behind;
-use aatry_record::Form;
+use aatry_report::Form;
 use std::alloc::{AllocError, Global};
 
 // Whether behind a word none is an option.

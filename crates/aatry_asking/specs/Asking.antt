@@ -15,12 +15,12 @@ use Rattle.aatry_asking.specs.Rules.{TellsRules, asker_file, is_lacking}
 use Rattle.aatry_policy.specs.Folders.{Folder, left_out_in, outcomes_in, policy_in}
 use Rattle.aatry_policy.specs.LeftOut.{refusal_text}
 use Rattle.aatry_policy.specs.FolderParts.{by_parts}
-use Rattle.aatry_record.specs.Records.{record_line, record_of, with_number, with_text}
-use Rattle.aatry_record.specs.declared.form.Form.{Form}
-use Rattle.aatry_record.specs.declared.form.Form.TheVariants.{Lines, Records}
 use Rattle.aatry_requests.specs.Questions.{rule_request}
 use Rattle.aatry_transition.specs.How.{how_lines}
 use Rattle.aatry_asking.specs.Who.{who_lines}
+use Rattle.aatry_report.specs.Records.{record_line, record_of, with_number, with_text}
+use Rattle.aatry_report.specs.declared.form.Form.{Form}
+use Rattle.aatry_report.specs.declared.form.Form.TheVariants.{Lines, Records}
 
 -- of files of which none is left out, there is no refusal
 abbrev pub none_refused : List (List ℕ) → List (Option Refusal)

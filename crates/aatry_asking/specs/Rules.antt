@@ -6,7 +6,7 @@ use Rattle.aa_profile_access.specs.Request.{Request}
 use Rattle.aa_set_commands.specs.declared.refusal.Refusal.{Refusal}
 use Rattle.aa_text_files.specs.Files.{File}
 use Rattle.aatry_policy.specs.Folders.{Folder}
-use Rattle.aatry_record.specs.declared.form.Form.{Form}
+use Rattle.aatry_report.specs.declared.form.Form.{Form}
 use Rattle.aatry_why_lines.specs.Askers.{IsAsker, asker_in}
 use Rattle.aatry_why_lines.specs.Why.{TellWhy}
 

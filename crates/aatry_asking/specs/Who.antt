@@ -16,10 +16,10 @@ use Rattle.aa_set_answers.specs.Children.{lines_of_children}
 use Rattle.aa_set_answers.specs.ProfileNames.{full_name_at}
 use Rattle.aatry_policy.specs.FolderParts.{FolderParts}
 use Rattle.aatry_policy.specs.Parts.{Part, part_of}
-use Rattle.aatry_record.specs.Records.{record_line, record_of, with_text}
-use Rattle.aatry_record.specs.declared.form.Form.{Form}
-use Rattle.aatry_record.specs.declared.form.Form.TheVariants.{Lines, Records}
+use Rattle.aatry_report.specs.Records.{record_line, record_of, with_text}
 use Rattle.aatry_report.specs.Shown.{shown}
+use Rattle.aatry_report.specs.declared.form.Form.{Form}
+use Rattle.aatry_report.specs.declared.form.Form.TheVariants.{Lines, Records}
 use Rattle.aatry_why_lines.specs.Why.{allowing_lines}
 use Rattle.aatry_why_lines.specs.Written.{Written}
 

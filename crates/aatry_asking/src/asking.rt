@@ -17,7 +17,7 @@ use crate::rules::{is_lacking, push_rules};
 use aa_set::Manager;
 use aa_set_commands::{Question, Refusal, RefusalKind};
 use aatry_policy::{Folder, Policy, by_parts, load_folder, parts_of, read_profiles};
-use aatry_record::Form;
+use aatry_report::Form;
 use aatry_requests::{rule_request, who_asks};
 use aatry_transition::push_how;
 use std::alloc::{AllocError, Global};

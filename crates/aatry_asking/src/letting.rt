@@ -8,10 +8,10 @@ ghost use Rattle.aa_set_answers.specs.Answers.{confined_answer};
 ghost use Rattle.aa_set_answers.specs.Children.{lines_of_children};
 ghost use Rattle.aatry_policy.specs.FolderParts.{seen_folder};
 ghost use Rattle.aatry_policy.specs.SeenProfiles.{seen_part};
-ghost use Rattle.aatry_record.specs.SeenRecord.{seen_record};
-ghost use Rattle.aatry_record.specs.declared.form.Form.TheVariants as form;
 ghost use Rattle.aatry_asking.specs.Who.{answer_lines, answer_of, by_rules, child_lines, entry_lines, let_line, let_record, lets_through};
 ghost use Rattle.aatry_asking.specs.Who.{lines_of, rule_lines, who_lines, written_of};
+ghost use Rattle.aatry_report.specs.SeenRecord.{seen_record};
+ghost use Rattle.aatry_report.specs.declared.form.Form.TheVariants as form;
 ghost use Rattle.aatry_why_lines.specs.Written.{seen_rules};
 
 use aa_decide::{Answer, Confinement, Entry, Request, Steps};
@@ -19,8 +19,7 @@ use aa_profile_data::Child;
 use aa_set_answers::full_name;
 use aa_set_changes::PolicySet;
 use aatry_policy::{FolderParts, Part, part_of};
-use aatry_record::{Form, Record};
-use aatry_report::push_shown;
+use aatry_report::{Form, Record, push_shown};
 use aatry_why_lines::{WrittenRules, push_allowing};
 use std::alloc::{AllocError, Global};
 

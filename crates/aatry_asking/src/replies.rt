@@ -4,13 +4,13 @@ ghost use Rattle.std.specs.Prelude.{◌≡◌, ◌++◌, IfOk, OnOk};
 ghost use Rattle.std.specs.List.{after_first};
 ghost use Rattle.aa_set_lines.specs.Lines.{is_line_feed};
 ghost use Rattle.aatry_asking.specs.Asking.{answer_line, audit_line, refused_record, refused_text, reply_record, reply_text};
-ghost use Rattle.aatry_record.specs.SeenRecord.{seen_record};
-ghost use Rattle.aatry_record.specs.declared.form.Form.TheVariants as form;
+ghost use Rattle.aatry_report.specs.SeenRecord.{seen_record};
+ghost use Rattle.aatry_report.specs.declared.form.Form.TheVariants as form;
 
 use aa_bytes::{behind, length_while};
 use aa_set_commands::Refusal;
 use aatry_policy::push_refusal;
-use aatry_record::{Form, Record};
+use aatry_report::{Form, Record};
 use std::alloc::{AllocError, Global};
 
 // The first of some lines.

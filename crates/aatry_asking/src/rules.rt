@@ -10,7 +10,7 @@ use aa_profile_access::Request;
 use aa_profile_errors::ProfileRefusal;
 use aa_set_commands::Refusal;
 use aatry_policy::Folder;
-use aatry_record::Form;
+use aatry_report::Form;
 use aatry_why_lines::push_why;
 use std::alloc::{AllocError, Global};
 

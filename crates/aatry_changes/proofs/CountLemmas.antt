@@ -11,9 +11,9 @@ use Rattle.aatry_changes.specs.Changes.{is_gone_or_changed_by, is_new, lines_alo
 use Rattle.aatry_changes.specs.declared.lines.Line.{Line}
 use Rattle.aatry_policy.specs.FolderParts.{FolderParts}
 use Rattle.aatry_policy.specs.Parts.{Part, part_of}
-use Rattle.aatry_record.specs.declared.form.Form.{Form}
-use Rattle.aatry_record.specs.declared.form.Form.TheVariants.{Lines, Records}
 use Rattle.aatry_report.specs.Shown.{shown}
+use Rattle.aatry_report.specs.declared.form.Form.{Form}
+use Rattle.aatry_report.specs.declared.form.Form.TheVariants.{Lines, Records}
 
 -- a text with another behind it is empty where both are
 empty-both : (text more : List ℕ) → is_empty (text ++ more) ≡ (is_empty text && is_empty more)

@@ -10,7 +10,7 @@ use Rattle.aatry_changes.specs.Lines.{lines_of}
 use Rattle.aatry_changes.specs.declared.lines.Line.{Line}
 use Rattle.aatry_policy.specs.FolderParts.{FolderParts}
 use Rattle.aatry_policy.specs.Parts.{Part}
-use Rattle.aatry_record.specs.declared.form.Form.{Form}
+use Rattle.aatry_report.specs.declared.form.Form.{Form}
 
 -- a text is one of some
 abbrev is_in : List (List ℕ) → List ℕ → Bool

@@ -9,7 +9,7 @@ use Rattle.aatry_changes.specs.declared.side.Side.{Side}
 use Rattle.aatry_changes.specs.declared.side.Side.TheVariants.{New, Old}
 use Rattle.aatry_policy.specs.FolderParts.{FolderParts}
 use Rattle.aatry_policy.specs.Parts.{Part, part_of}
-use Rattle.aatry_record.specs.declared.form.Form.{Form}
+use Rattle.aatry_report.specs.declared.form.Form.{Form}
 
 -- the lines of the rules of a part that cover something of what is asked for, if there is such a part
 abbrev pub covering_of : Request → Option Part → List Line

@@ -11,10 +11,10 @@ use Rattle.aatry_changes.specs.declared.lines.Line.{Line}
 use Rattle.aatry_changes.specs.declared.side.Side.TheVariants.{New, Old}
 use Rattle.aatry_policy.specs.FolderParts.{FolderParts}
 use Rattle.aatry_policy.specs.Parts.{Part, part_of}
-use Rattle.aatry_record.specs.Records.{record_line, record_of, with_text}
-use Rattle.aatry_record.specs.declared.form.Form.{Form}
-use Rattle.aatry_record.specs.declared.form.Form.TheVariants.{Lines, Records}
+use Rattle.aatry_report.specs.Records.{record_line, record_of, with_text}
 use Rattle.aatry_report.specs.Shown.{shown}
+use Rattle.aatry_report.specs.declared.form.Form.{Form}
+use Rattle.aatry_report.specs.declared.form.Form.TheVariants.{Lines, Records}
 
 -- the line of a part: a word, and its full name
 abbrev pub headed_line : List ℕ → List ℕ → List ℕ

@@ -12,7 +12,7 @@ use crate::lines::{Line, covering_lines};
 use crate::side::Side;
 use aa_profile_access::Request;
 use aatry_policy::{FolderParts, Part, part_of};
-use aatry_record::Form;
+use aatry_report::Form;
 use std::alloc::{AllocError, Global};
 
 // The lines of the rules of a part that cover something of what is asked for; none where there is no part.

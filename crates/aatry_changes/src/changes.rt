@@ -7,7 +7,7 @@ ghost use Rattle.aatry_changes.specs.Lacking.{lacking};
 ghost use Rattle.aatry_changes.specs.SeenLines.{seen_lines};
 ghost use Rattle.aatry_policy.specs.FolderParts.{seen_folder};
 ghost use Rattle.aatry_policy.specs.SeenProfiles.{seen_part};
-ghost use Rattle.aatry_record.specs.SeenRecord.{seen_record};
+ghost use Rattle.aatry_report.specs.SeenRecord.{seen_record};
 ghost use Rattle.aatry_report.specs.Taken.{counted};
 
 use crate::differing::push_lines;
@@ -15,8 +15,7 @@ use crate::lacking::lacking;
 use crate::lines::{Line, lines_of};
 use crate::side::Side;
 use aatry_policy::{FolderParts, Part, part_of};
-use aatry_record::{Form, Record};
-use aatry_report::push_shown;
+use aatry_report::{Form, Record, push_shown};
 use std::alloc::{AllocError, Global};
 
 // Puts the line of a part behind a text: a word, and its full name.

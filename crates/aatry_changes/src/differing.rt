@@ -5,12 +5,12 @@ ghost use Rattle.aatry_changes.specs.Differing.{line_record, line_text, told_lin
 ghost use Rattle.aatry_changes.specs.SeenLines.{seen_lines};
 ghost use Rattle.aatry_policy.specs.FolderParts.{seen_folder};
 ghost use Rattle.aatry_policy.specs.SeenProfiles.{seen_part};
-ghost use Rattle.aatry_record.specs.SeenRecord.{seen_record};
+ghost use Rattle.aatry_report.specs.SeenRecord.{seen_record};
 
 use crate::lines::Line;
 use crate::side::{Side, kind_of, sign_of};
 use aatry_policy::{FolderParts, Part};
-use aatry_record::{Form, Record};
+use aatry_report::{Form, Record};
 use aatry_why_lines::{push_where, put_where};
 use std::alloc::{AllocError, Global};
 

@@ -6,7 +6,7 @@ ghost use Rattle.aatry_changes.specs.Changes.{change_lines, changed_count, is_go
 ghost use Rattle.aatry_changes.specs.Laws.{HaveAlike};
 ghost use Rattle.aatry_policy.specs.FolderParts.{FolderParts};
 ghost use Rattle.aatry_policy.specs.Parts.{Part};
-ghost use Rattle.aatry_record.specs.declared.form.Form.{Form};
+ghost use Rattle.aatry_report.specs.declared.form.Form.{Form};
 
 /// Nothing is told of two folders, in either form, where each part of either has one of its full name in the other that is told by the same lines,
 /// wherever their rules are written.

@@ -3,8 +3,8 @@ use Rattle.std.proofs.Common.{◌≡◌, ◌∙◌, ◌<◌, ◌+◌, ℕ, List,
 use Rattle.std.proofs.Math.Seq.{take-suc}
 use Rattle.std.proofs.lemmas.List.{append-nil, map-append}
 use Rattle.aa_text_files.specs.Files.{File}
-use Rattle.aatry_record.specs.declared.form.Form.{Form}
 use Rattle.aatry_check.specs.Checks.{Tells, TellsEach}
+use Rattle.aatry_report.specs.declared.form.Form.{Form}
 
 -- lines that tell each of some files, and behind them lines that tell one more, tell each of all these
 pub tells_one_more : (form : Form) (files : List File) (base : List ℕ) (names : List (List ℕ)) (lines name more : List ℕ)

@@ -9,13 +9,13 @@ use Rattle.aa_profile.specs.FileReading.{file_profiles}
 use Rattle.aa_profile_data.specs.declared.profile.Profile.{Profile}
 use Rattle.aa_profile_errors.specs.ProfileError.{number_of}
 use Rattle.aa_profile_errors.specs.declared.profile_error.ProfileError.{ProfileError}
-use Rattle.aatry_record.specs.Records.{record_line, record_of, with_text}
-use Rattle.aatry_record.specs.declared.form.Form.{Form}
-use Rattle.aatry_record.specs.declared.form.Form.TheVariants.{Lines, Records}
 use Rattle.aatry_report.specs.Faults.{fault_lines, with_fault}
-use Rattle.aatry_report.specs.Places.{path_below}
+use Rattle.aatry_report.specs.FilePlaces.{path_below}
+use Rattle.aatry_report.specs.Records.{record_line, record_of, with_text}
 use Rattle.aatry_report.specs.Shown.{shown}
 use Rattle.aatry_report.specs.Taken.{taken_line}
+use Rattle.aatry_report.specs.declared.form.Form.{Form}
+use Rattle.aatry_report.specs.declared.form.Form.TheVariants.{Lines, Records}
 
 -- which file includes the one that a fault stands in, where it isn't that file itself
 abbrev pub included_line : List ℕ → List ℕ → List ℕ → List ℕ

@@ -1,15 +1,14 @@
 //! The check of files of policy, each by itself.
 
 ghost use Rattle.std.specs.Prelude.{◌≡◌, ◌≤◌, ◌+◌, ◌++◌, ℕ, List, IfOk, OnOk, length, map, string_bytes};
-ghost use Rattle.aatry_report.specs.Places.{path_below};
 ghost use Rattle.aatry_report.specs.Taken.{taken_line};
 ghost use Rattle.aatry_check.specs.Checks.{Tells, TellsEach, refused_count, refused_in};
+ghost use Rattle.aatry_report.specs.FilePlaces.{path_below};
 
 use crate::refusal::push_refusal;
 use aa_profile::{Profile, ProfileRefusal, read_file};
 use aa_text_files::Files;
-use aatry_record::Form;
-use aatry_report::{path_below, push_taken};
+use aatry_report::{Form, path_below, push_taken};
 use std::alloc::{AllocError, Global};
 
 /// How files came out that were checked.

@@ -4,14 +4,13 @@ ghost use Rattle.std.specs.Prelude.{◌≡◌, Some, IfOk, OnOk};
 ghost use Rattle.aa_profile_errors.specs.ProfileError.{number_of};
 ghost use Rattle.aa_text_files.specs.Files.{bytes_at, name_at};
 ghost use Rattle.aatry_check.specs.Checks.{refusal_record, with_included, with_refusal};
-ghost use Rattle.aatry_record.specs.SeenRecord.{seen_record};
 ghost use Rattle.aatry_report.specs.Faults.{with_fault};
-ghost use Rattle.aatry_report.specs.Places.{path_below};
+ghost use Rattle.aatry_report.specs.FilePlaces.{path_below};
+ghost use Rattle.aatry_report.specs.SeenRecord.{seen_record};
 
 use aa_profile::ProfileError;
 use aa_text_files::{Files, Place};
-use aatry_record::Record;
-use aatry_report::{path_below, put_fault, put_fault_at};
+use aatry_report::{Record, path_below, put_fault, put_fault_at};
 use std::alloc::{AllocError, Global};
 
 // Puts which file includes the one that a fault stands in into a record, where it isn't that file itself.

@@ -3,16 +3,15 @@
 ghost use Rattle.std.specs.Prelude.{◌≡◌, ◌++◌, ℕ, List, Some, OnOk};
 ghost use Rattle.aa_profile_errors.specs.ProfileError.{number_of};
 ghost use Rattle.aatry_check.specs.Checks.{included_line, refusal_lines};
-ghost use Rattle.aatry_record.specs.declared.form.Form.TheVariants as form;
 ghost use Rattle.aatry_report.specs.Faults.{fault_lines};
-ghost use Rattle.aatry_report.specs.Places.{path_below};
 ghost use Rattle.aa_text_files.specs.Files.{bytes_at, name_at};
+ghost use Rattle.aatry_report.specs.FilePlaces.{path_below};
+ghost use Rattle.aatry_report.specs.declared.form.Form.TheVariants as form;
 
 use crate::records::refusal_record;
 use aa_profile::ProfileError;
 use aa_text_files::{Files, Place};
-use aatry_record::Form;
-use aatry_report::{path_below, push_fault, push_fault_at, push_shown, words_of};
+use aatry_report::{Form, path_below, push_fault, push_fault_at, push_shown, words_of};
 use std::alloc::{AllocError, Global};
 
 // Puts which file includes the one that a fault stands in behind a text, where it isn't that file itself.

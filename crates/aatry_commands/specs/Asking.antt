@@ -5,7 +5,7 @@ use Rattle.aatry_asking.specs.Asking.{IsWhoTold, IsWhyTold}
 use Rattle.aatry_commands.specs.Checking.{AreBelow}
 use Rattle.aatry_commands.specs.Folders.{folder_at}
 use Rattle.aatry_commands.specs.Testing.{failed_by}
-use Rattle.aatry_record.specs.declared.form.Form.{Form}
+use Rattle.aatry_report.specs.declared.form.Form.{Form}
 
 -- The question was asked of the files at the top of the folder, with all that lies below it, and the text tells its answer and the rules behind it. It
 -- failed where nobody of the name is loaded.

@@ -6,7 +6,7 @@ use Rattle.aa_text_files.specs.Files.{File}
 use Rattle.aaset_gather.specs.Gathering.{IsReadBelow, IsTakable, names_of}
 use Rattle.aatry_check.specs.Checks.{TellsEach, refused_count}
 use Rattle.aatry_folder.specs.NamesBelow.{AreFound, IsClosed}
-use Rattle.aatry_record.specs.declared.form.Form.{Form}
+use Rattle.aatry_report.specs.declared.form.Form.{Form}
 
 -- a file at the top of the folder: no folder stands in its name
 abbrev pub is_at_top : List ℕ → Bool

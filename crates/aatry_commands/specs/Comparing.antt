@@ -6,7 +6,7 @@ use Rattle.aatry_diff.specs.Comparing.{are_alike, diff_text}
 use Rattle.aatry_commands.specs.Checking.{AreBelow}
 use Rattle.aatry_commands.specs.Folders.{folder_at}
 use Rattle.aatry_commands.specs.Testing.{IsFileAt, failed_by}
-use Rattle.aatry_record.specs.declared.form.Form.{Form}
+use Rattle.aatry_report.specs.declared.form.Form.{Form}
 use Rattle.aatry_requests.specs.Gathering.{Gathered, gathered}
 use Rattle.aatry_requests.specs.declared.sources.Source.{Source}
 use Rattle.aatry_requests.specs.declared.sources.Source.TheVariants.{Log, Questions}

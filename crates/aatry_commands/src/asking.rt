@@ -19,7 +19,7 @@ use aatry_arguments::Asking;
 use aatry_asking::{Answered, who, why};
 use aatry_folder::{Folders, names_below};
 use aatry_policy::Folder;
-use aatry_record::Form;
+use aatry_report::Form;
 use std::alloc::Global;
 
 /// All files below a folder of policy, and the names of those at its top.

@@ -12,7 +12,7 @@ use aaset_gather::{FileSystem, gather};
 use aatry_arguments::Check;
 use aatry_check::check;
 use aatry_folder::{Folders, names_below};
-use aatry_record::Form;
+use aatry_report::Form;
 use std::alloc::{AllocError, Global};
 
 /// What a command came to.

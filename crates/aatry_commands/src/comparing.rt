@@ -19,7 +19,7 @@ use aaset_gather::FileSystem;
 use aatry_arguments::{Comparison, RequestSource};
 use aatry_diff::{Compared, diff};
 use aatry_folder::Folders;
-use aatry_record::Form;
+use aatry_report::Form;
 use aatry_requests::Source;
 use std::alloc::{AllocError, Global};
 

@@ -5,8 +5,8 @@ use Rattle.aa_decide_entry.specs.Entries.{Loaded}
 use Rattle.aatry_requests.specs.Tallies.{Tally}
 use Rattle.aatry_diff.specs.Differences.{difference_lines, differing, differs}
 use Rattle.aatry_diff.specs.Folders.{BothFolders}
-use Rattle.aatry_record.specs.declared.form.Form.{Form}
 use Rattle.aatry_diff.specs.code.Steps.{count_at, count_of, lines_at, lines_of}
+use Rattle.aatry_report.specs.declared.form.Form.{Form}
 
 module _ (form : Form) (folders : BothFolders) (old new : List Loaded) where
   lines-first : (tally : Tally) (tallies : List Tally)

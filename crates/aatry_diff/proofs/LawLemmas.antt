@@ -10,8 +10,8 @@ use Rattle.aa_set_commands.specs.Question.{Question}
 use Rattle.aatry_diff.specs.Answers.{answer}
 use Rattle.aatry_diff.specs.Differences.{causes, difference_lines, difference_text, differing, question_record, times_text, told_question}
 use Rattle.aatry_diff.specs.Folders.{BothFolders}
-use Rattle.aatry_record.specs.declared.form.Form.{Form}
-use Rattle.aatry_record.specs.declared.form.Form.TheVariants.{Lines, Records}
+use Rattle.aatry_report.specs.declared.form.Form.{Form}
+use Rattle.aatry_report.specs.declared.form.Form.TheVariants.{Lines, Records}
 use Rattle.aatry_requests.specs.Tallies.{Tally}
 use Rattle.aatry_requests.specs.Texts.{question_text}
 

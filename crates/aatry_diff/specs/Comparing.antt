@@ -5,7 +5,7 @@ use Rattle.aatry_diff.specs.Sources.{differing_count, requests_text}
 use Rattle.aatry_diff.specs.Folders.{BothFolders}
 use Rattle.aatry_policy.specs.Folders.{Folder, left_out_in, policy_in}
 use Rattle.aatry_policy.specs.FolderParts.{by_parts}
-use Rattle.aatry_record.specs.declared.form.Form.{Form}
+use Rattle.aatry_report.specs.declared.form.Form.{Form}
 use Rattle.aatry_requests.specs.Gathering.{Gathered}
 
 -- both folders by their profiles, children and hats

@@ -9,13 +9,13 @@ use Rattle.aa_set_commands.specs.Question.{Question}
 use Rattle.aa_set_answers.specs.Answers.{who_asks}
 use Rattle.aatry_changes.specs.Causes.{cause_lines}
 use Rattle.aatry_diff.specs.Folders.{BothFolders}
-use Rattle.aatry_record.specs.Records.{record_line, record_of, with_number, with_text}
-use Rattle.aatry_record.specs.declared.form.Form.{Form}
-use Rattle.aatry_record.specs.declared.form.Form.TheVariants.{Lines, Records}
 use Rattle.aatry_requests.specs.Questions.{rule_request}
 use Rattle.aatry_requests.specs.Tallies.{Tally}
 use Rattle.aatry_requests.specs.Texts.{question_text}
 use Rattle.aatry_diff.specs.Answers.{answer}
+use Rattle.aatry_report.specs.Records.{record_line, record_of, with_number, with_text}
+use Rattle.aatry_report.specs.declared.form.Form.{Form}
+use Rattle.aatry_report.specs.declared.form.Form.TheVariants.{Lines, Records}
 
 -- the old and the new policy set answer a question otherwise
 abbrev pub differs : List Loaded → List Loaded → Tally → Bool

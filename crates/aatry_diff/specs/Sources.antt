@@ -5,7 +5,7 @@ use Rattle.aa_decide_entry.specs.Entries.{Loaded}
 use Rattle.aatry_diff.specs.Differences.{difference_lines, differing}
 use Rattle.aatry_diff.specs.Folders.{BothFolders}
 use Rattle.aatry_diff.specs.Summary.{summary_line}
-use Rattle.aatry_record.specs.declared.form.Form.{Form}
+use Rattle.aatry_report.specs.declared.form.Form.{Form}
 use Rattle.aatry_requests.specs.Gathering.{Gathered, gathered}
 use Rattle.aatry_requests.specs.declared.sources.Source.{Source}
 

@@ -16,7 +16,7 @@ use crate::summary::push_summary;
 use aa_set::Manager;
 use aatry_changes::push_changes;
 use aatry_policy::{Folder, Policy, by_parts, load_folder, parts_of, read_profiles};
-use aatry_record::Form;
+use aatry_report::Form;
 use aatry_requests::{Requests, Source, gather};
 use std::alloc::{AllocError, Global};
 

@@ -5,7 +5,7 @@ ghost use Rattle.aa_set_commands.specs.Question.{seen_question};
 ghost use Rattle.aatry_diff.specs.Differences.{causes, difference_lines, differing, line_of, question_record, times_text, told_question, with_answers};
 ghost use Rattle.aatry_diff.specs.Folders.{seen_folders};
 ghost use Rattle.aatry_diff.specs.code.Steps.{count_at, count_of, lines_at, lines_of};
-ghost use Rattle.aatry_record.specs.SeenRecord.{seen_record};
+ghost use Rattle.aatry_report.specs.SeenRecord.{seen_record};
 ghost use Rattle.aatry_requests.specs.SeenTallies.{seen_tally};
 ghost use Rattle.aatry_requests.specs.Texts.{question_text};
 
@@ -14,7 +14,7 @@ use crate::folders::BothFolders;
 use crate::numbers::push_number;
 use aa_set::{Manager, Question};
 use aatry_changes::push_causes;
-use aatry_record::{Form, Record};
+use aatry_report::{Form, Record};
 use aatry_requests::{Tallies, Tally, push_question, rule_request, who_asks};
 use std::alloc::{AllocError, Global};
 

@@ -10,7 +10,7 @@ ghost use Rattle.aatry_diff.specs.Folders.{BothFolders};
 ghost use Rattle.aatry_diff.specs.Sources.{differences_text};
 ghost use Rattle.aatry_policy.specs.Folders.{Folder, policy_in};
 ghost use Rattle.aatry_policy.specs.FolderParts.{by_parts};
-ghost use Rattle.aatry_record.specs.declared.form.Form.{Form};
+ghost use Rattle.aatry_report.specs.declared.form.Form.{Form};
 ghost use Rattle.aatry_requests.specs.Gathering.{Gathered};
 ghost use Rattle.aatry_requests.specs.Tallies.{Tally};
 

@@ -3,12 +3,12 @@
 ghost use Rattle.std.specs.Prelude.{◌≡◌, ◌++◌, IfOk, OnOk};
 ghost use Rattle.aatry_diff.specs.Summary.{lines_text, questions_text, rest_text, summary_line, summary_record};
 ghost use Rattle.aatry_diff.specs.Summary.{with_lines, with_questions, with_rest};
-ghost use Rattle.aatry_record.specs.SeenRecord.{seen_record};
-ghost use Rattle.aatry_record.specs.declared.form.Form.TheVariants.{Lines};
+ghost use Rattle.aatry_report.specs.SeenRecord.{seen_record};
+ghost use Rattle.aatry_report.specs.declared.form.Form.TheVariants.{Lines};
 ghost use Rattle.aatry_requests.specs.Gathering.{seen_requests};
 
 use crate::numbers::push_numbers;
-use aatry_record::{Form, Record};
+use aatry_report::{Form, Record};
 use aatry_requests::Requests;
 use std::alloc::{AllocError, Global};
 

@@ -7,7 +7,7 @@ use Rattle.aa_text_files.specs.Files.{File}
 use Rattle.aatry_policy.specs.LeftOut.{left_out_lines}
 use Rattle.aatry_policy.specs.Policies.{loaded, outcomes}
 use Rattle.aatry_policy.specs.declared.folder.Folder.{Folder as CodeFolder}
-use Rattle.aatry_record.specs.declared.form.Form.{Form}
+use Rattle.aatry_report.specs.declared.form.Form.{Form}
 
 -- a folder of policy: all that lies below it, its path, and the names of the files whose profiles are loaded
 pub record Folder : Type 0 where

@@ -5,11 +5,11 @@ use Rattle.serde_json.specs.Data.{Members}
 use Rattle.aa_bytes.specs.Bytes.{line_feed}
 use Rattle.aa_set_commands.specs.Refusal.{name_of, number_of}
 use Rattle.aa_set_commands.specs.declared.refusal.Refusal.{Refusal}
-use Rattle.aatry_record.specs.Records.{record_line, record_of, with_number, with_text}
-use Rattle.aatry_record.specs.declared.form.Form.{Form}
-use Rattle.aatry_record.specs.declared.form.Form.TheVariants.{Lines, Records}
-use Rattle.aatry_report.specs.Places.{path_below}
+use Rattle.aatry_report.specs.FilePlaces.{path_below}
+use Rattle.aatry_report.specs.Records.{record_line, record_of, with_number, with_text}
 use Rattle.aatry_report.specs.Shown.{shown}
+use Rattle.aatry_report.specs.declared.form.Form.{Form}
+use Rattle.aatry_report.specs.declared.form.Form.TheVariants.{Lines, Records}
 
 -- the number and the name of a refusal
 abbrev pub refusal_text : Refusal → List ℕ

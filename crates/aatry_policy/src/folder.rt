@@ -8,7 +8,7 @@ use crate::left_out::push_left_out;
 use crate::parts::Part;
 use crate::policy::{Policy, load};
 use aa_text_files::Files;
-use aatry_record::Form;
+use aatry_report::Form;
 use std::alloc::{AllocError, Global};
 
 /// A folder of policy.

@@ -2,12 +2,11 @@
 
 ghost use Rattle.std.specs.Prelude.{◌≡◌, ◌++◌, IfOk, OnOk, map, string_bytes};
 ghost use Rattle.aatry_policy.specs.LeftOut.{left_out_line, left_out_lines, left_out_record, left_out_text, refusal_text};
-ghost use Rattle.aatry_record.specs.SeenRecord.{seen_record};
-ghost use Rattle.aatry_record.specs.declared.form.Form.TheVariants as form;
+ghost use Rattle.aatry_report.specs.SeenRecord.{seen_record};
+ghost use Rattle.aatry_report.specs.declared.form.Form.TheVariants as form;
 
 use aa_set_commands::Refusal;
-use aatry_record::{Form, Record};
-use aatry_report::{path_below, push_shown};
+use aatry_report::{Form, Record, path_below, push_shown};
 use itoa::Buffer;
 use std::alloc::{AllocError, Global};
 

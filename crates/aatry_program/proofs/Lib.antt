@@ -1,1 +1,3 @@
+mod InputLemmas
 mod ProgramLemmas
+mod SessionLemmas

@@ -12,7 +12,7 @@ use Rattle.aatry_commands.specs.declared.fault.Fault.{Fault}
 use Rattle.aatry_commands.specs.declared.fault.Fault.TheVariants as fault
 use Rattle.aatry_program.specs.Program.{Input, IsCommandDone, IsDone, IsDoneBy, IsFaultShown, IsOutcomeShown, IsReported, Output}
 use Rattle.aatry_program.specs.Status.{status_of}
-use Rattle.aatry_record.specs.declared.form.Form.{Form}
+use Rattle.aatry_report.specs.declared.form.Form.{Form}
 
 -- a command that came to something is done, if that is shown
 pub command_done : (Tells : List ℕ → ℕ → Type 0) (output : Output) (status : ℕ) (outcome : Result Report Fault)

@@ -1,2 +1,6 @@
+pub mod Broken
+pub mod Inputs
 pub mod Program
+pub mod Session
 pub mod Status
+pub mod code

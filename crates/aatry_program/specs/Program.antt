@@ -14,10 +14,10 @@ use Rattle.aatry_commands.specs.Testing.{IsTestedBelow}
 use Rattle.aatry_commands.specs.declared.checking.Report.{Report}
 use Rattle.aatry_commands.specs.declared.fault.Fault.{Fault}
 use Rattle.aatry_commands.specs.declared.fault.Fault.TheVariants.{BadArguments, NoMemory}
-use Rattle.aatry_dialogue.specs.Broken.{IsBrokenSession}
-use Rattle.aatry_dialogue.specs.Session.{IsSession}
+use Rattle.aatry_program.specs.Broken.{IsBrokenSession}
+use Rattle.aatry_program.specs.Session.{IsSession}
 use Rattle.aatry_program.specs.Status.{failure_status, status_of}
-use Rattle.aatry_record.specs.declared.form.Form.{Form}
+use Rattle.aatry_report.specs.declared.form.Form.{Form}
 
 -- standard output: what stood there before and stands there now, where that is known, and whether a write failed
 pub record Output : Type 0 where

@@ -7,6 +7,7 @@ ghost use Rattle.aatry_program.specs.Program.{IsDone, IsDoneBy, IsFaultShown, Is
 ghost use Rattle.aatry_program.specs.Status.{status_of};
 
 use crate::reporting::report;
+use crate::session::session_over;
 use crate::status::failure_status;
 use crate::streams::Streams;
 use aa_set_lines::{Sink, Source, write_all};
@@ -15,7 +16,6 @@ use aatry_arguments::{ArgumentFault, Call, Command, call_of};
 use aatry_commands::{
     Fault, Report, check_folder, diff_folders, test_folder, who_folder, why_folder,
 };
-use aatry_dialogue::session_over;
 use aatry_folder::Folders;
 use std::alloc::Global;
 

@@ -3,11 +3,11 @@ use Rattle.std.specs.Prelude.{ℕ, List, [], ◌∷◌, ◌++◌, codes, Option,
 use Rattle.std.specs.Fmt.{decimal}
 use Rattle.serde_json.specs.Data.{Members}
 use Rattle.aa_bytes.specs.Bytes.{line_feed}
-use Rattle.aatry_places.specs.CaretLine.{caret_line}
-use Rattle.aatry_places.specs.Columns.{column}
-use Rattle.aatry_places.specs.Lines.{line_at, line_number}
-use Rattle.aatry_record.specs.Records.{with_number, with_text}
-use Rattle.aatry_report.specs.Places.{with_place}
+use Rattle.aatry_report.specs.CaretLine.{caret_line}
+use Rattle.aatry_report.specs.Columns.{column}
+use Rattle.aatry_report.specs.FilePlaces.{with_place}
+use Rattle.aatry_report.specs.Lines.{line_at, line_number}
+use Rattle.aatry_report.specs.Records.{with_number, with_text}
 use Rattle.aatry_report.specs.Shown.{shown}
 
 -- `PATH:LINE:COLUMN: `, of a place in a file's bytes

@@ -1,4 +1,11 @@
+pub mod CaretLine
+pub mod Characters
+pub mod Columns
 pub mod Faults
-pub mod Places
+pub mod FilePlaces
+pub mod Headings
+pub mod Lines
+pub mod Records
+pub mod SeenRecord
 pub mod Shown
 pub mod Taken

@@ -7,10 +7,10 @@ use Rattle.aa_profile_data.specs.declared.profile.Child.{Child}
 use Rattle.aa_profile_data.specs.declared.profile.Profile.{Profile}
 use Rattle.aa_profile_data.specs.declared.profile.Rule.{Rule}
 use Rattle.aa_profile_data.specs.declared.profile.Rule.TheVariants.{Other}
-use Rattle.aatry_record.specs.Records.{record_line, record_of, with_number, with_text, with_texts}
-use Rattle.aatry_record.specs.declared.form.Form.{Form}
-use Rattle.aatry_record.specs.declared.form.Form.TheVariants.{Lines, Records}
+use Rattle.aatry_report.specs.Records.{record_line, record_of, with_number, with_text, with_texts}
 use Rattle.aatry_report.specs.Shown.{shown}
+use Rattle.aatry_report.specs.declared.form.Form.{Form}
+use Rattle.aatry_report.specs.declared.form.Form.TheVariants.{Lines, Records}
 
 -- a rule that is kept as it is written, and decides nothing here
 abbrev pub is_kept : Rule → Bool

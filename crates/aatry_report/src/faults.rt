@@ -1,14 +1,16 @@
 //! What is told of a fault in a file of policy.
 
 ghost use Rattle.std.specs.Prelude.{◌≡◌, ◌++◌, [], None, OnOk, Some};
-ghost use Rattle.aatry_record.specs.SeenRecord.{seen_record};
 ghost use Rattle.aatry_report.specs.Faults.{fault_lines, marked_line, place_text, with_fault, with_words, words_text};
+ghost use Rattle.aatry_report.specs.SeenRecord.{seen_record};
 
+use crate::caret_line::push_caret_line;
+use crate::file_places::put_place;
+use crate::line::line_at;
 use crate::numbers::push_number;
-use crate::places::put_place;
+use crate::place::line_place;
+use crate::record::Record;
 use crate::shown::push_shown;
-use aatry_places::{line_at, line_place, push_caret_line};
-use aatry_record::Record;
 use std::alloc::{AllocError, Global};
 
 /// Puts a place in a file's bytes behind a text: `PATH:LINE:COLUMN: `. `path` is what the file is told by, `text` are its bytes, and `at` says how many of

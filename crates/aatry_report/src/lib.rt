@@ -1,16 +1,37 @@
 //! What people at a terminal, or programs, are told of a file of policy: that it was taken, or what is wrong with it, where, and the line that it stands in.
+//!
+//! A place is an offset in the text's bytes, from 0, as the readers of profiles' files tell where they refuse. People read it as the line and the column of
+//! that byte, with the line itself and what stands below it to point at the place. An offset at or beyond the text's end is the place behind its last byte.
+//! The text is any bytes, UTF-8 or not.
+//!
+//! Programs are told records of JSON, one a line.
 #![tactic(auto)]
 
+mod caret_line;
 mod faults;
+mod file_places;
+mod form;
+mod headings;
+mod laws;
+mod line;
 mod numbers;
-mod places;
+mod place;
+mod record;
 mod shown;
 mod taken;
+mod texts;
 mod words;
 
+pub use caret_line::push_caret_line;
 pub use faults::{push_fault, push_fault_at, push_place, put_fault, put_fault_at};
+pub use file_places::{path_below, put_place};
+pub use form::Form;
+pub use headings::push_heading;
+pub use laws::what_places_are;
+pub use line::line_at;
 pub use numbers::push_number;
-pub use places::{path_below, put_place};
+pub use place::{LinePlace, line_place};
+pub use record::Record;
 pub use shown::push_shown;
 pub use taken::push_taken;
 pub use words::words_of;

@@ -1,16 +1,17 @@
 //! What is told of a file of policy that was taken.
 
 ghost use Rattle.std.specs.Prelude.{◌≡◌, ◌+◌, ◌++◌, IfOk, OnOk, codes, map};
-ghost use Rattle.aatry_record.specs.Records.{with_number, with_texts};
-ghost use Rattle.aatry_record.specs.SeenRecord.{seen_record};
-ghost use Rattle.aatry_record.specs.declared.form.Form.TheVariants as form;
+ghost use Rattle.aatry_report.specs.Records.{with_number, with_texts};
+ghost use Rattle.aatry_report.specs.SeenRecord.{seen_record};
 ghost use Rattle.aatry_report.specs.Taken.{counted, is_kept, kept_in, kept_in_children, kept_rules, kept_text, kept_words, names_text};
 ghost use Rattle.aatry_report.specs.Taken.{profile_names, taken_line, taken_record};
+ghost use Rattle.aatry_report.specs.declared.form.Form.TheVariants as form;
 
+use crate::form::Form;
 use crate::numbers::push_number;
+use crate::record::Record;
 use crate::shown::push_shown;
 use aa_profile_data::{Child, Profile, Rule};
-use aatry_record::{Form, Record};
 use std::alloc::{AllocError, Global};
 
 // Whether a rule is kept as it is written, and decides nothing here.

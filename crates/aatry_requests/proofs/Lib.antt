@@ -1,3 +1,7 @@
 mod LineLemmas
+mod MaskLemmas
+mod PairLemmas
+mod QuoteLemmas
 mod TallyLemmas
 mod TextLemmas
+mod WrittenLemmas

@@ -18,9 +18,9 @@ use Rattle.aa_profile_tables.specs.Kinds.{kind_name, kind_number}
 use Rattle.aa_profile_tables.specs.Names.{name_or_none}
 use Rattle.aa_quoting.specs.Texts.{hexadecimal, is_shown, written_text}
 use Rattle.aa_set_commands.specs.Question.{OfAccess, OfExec, Question, owned_of}
-use Rattle.aatry_log.specs.Values.{text_of}
 use Rattle.aatry_requests.specs.Laws.{CanBeAsked}
 use Rattle.aatry_requests.specs.Texts.{is_same, owned_text, question_text}
+use Rattle.aatry_requests.specs.Values.{text_of}
 use Rattle.aatry_requests.proofs.LineLemmas.{none-pass}
 
 -- the words of a text of a question, between its spaces

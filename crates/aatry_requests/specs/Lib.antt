@@ -1,8 +1,14 @@
+pub mod Asked
 pub mod Gathering
 pub mod Laws
+pub mod Lines
+pub mod LoggedQuestions
+pub mod Masks
+pub mod Pairs
 pub mod Questions
 pub mod SeenTallies
 pub mod Sources
 pub mod Tallies
 pub mod Texts
+pub mod Values
 pub mod code

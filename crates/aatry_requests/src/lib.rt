@@ -1,14 +1,24 @@
 //! The requests of a kernel's log, or of a file of questions, each with how often it came.
+//!
+//! A line of a log is one of a kernel's, as audit.log and syslog have it.
 #![tactic(auto)]
 
+mod asked;
 mod laws;
+mod lines;
+mod logged_questions;
+mod masks;
+mod pairs;
 mod questions;
 mod requests;
 mod sources;
 mod tallies;
 mod texts;
+mod values;
 
-pub use laws::what_texts_tell;
+pub use asked::LoggedQuestion;
+pub use laws::{what_is_written_reads_back, what_texts_tell};
+pub use lines::{LogLine, told_by};
 pub use questions::{rule_request, who_asks};
 pub use requests::{Requests, gather};
 pub use sources::Source;

@@ -7,7 +7,7 @@ use Rattle.aa_set_commands.specs.declared.refusal.RefusalKind.TheVariants.{File,
 use Rattle.aa_text_files.specs.Files.{File as NamedFile, bytes_at, name_at}
 use Rattle.aa_text_files.specs.declared.text_error.Place.{Place}
 use Rattle.aatry_report.specs.Faults.{fault_lines}
-use Rattle.aatry_report.specs.Places.{path_below}
+use Rattle.aatry_report.specs.FilePlaces.{path_below}
 
 -- what is wrong, in words: that of a file in these
 abbrev pub words_for : RefusalKind → List ℕ → List ℕ

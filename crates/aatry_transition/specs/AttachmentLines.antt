@@ -9,10 +9,10 @@ use Rattle.aa_explain.specs.Candidates.{Candidate, best_pattern, patterns_of, ra
 use Rattle.aa_explain.specs.Standings.{standing_of}
 use Rattle.aa_explain.specs.declared.standing.Standing.{Standing}
 use Rattle.aa_explain.specs.declared.standing.Standing.TheVariants.{Attached, Lost, Tied}
-use Rattle.aatry_record.specs.Headings.{heading_line}
-use Rattle.aatry_record.specs.Records.{record_line, record_of, with_text}
-use Rattle.aatry_record.specs.declared.form.Form.{Form}
-use Rattle.aatry_record.specs.declared.form.Form.TheVariants.{Lines, Records}
+use Rattle.aatry_report.specs.Headings.{heading_line}
+use Rattle.aatry_report.specs.Records.{record_line, record_of, with_text}
+use Rattle.aatry_report.specs.declared.form.Form.{Form}
+use Rattle.aatry_report.specs.declared.form.Form.TheVariants.{Lines, Records}
 
 -- the words that tell how it comes out
 abbrev pub standing_words : Standing → List ℕ

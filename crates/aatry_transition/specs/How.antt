@@ -16,10 +16,10 @@ use Rattle.aa_set_answers.specs.Askers.{asker}
 use Rattle.aatry_transition.specs.AttachmentLines.{attachment_lines}
 use Rattle.aa_explain.specs.Candidates.{Candidate, child_candidates, profile_candidates}
 use Rattle.aa_explain.specs.Leading.{lead_of}
-use Rattle.aatry_record.specs.Headings.{heading_line}
-use Rattle.aatry_record.specs.Records.{record_line, record_of, with_text}
-use Rattle.aatry_record.specs.declared.form.Form.{Form}
-use Rattle.aatry_record.specs.declared.form.Form.TheVariants.{Lines, Records}
+use Rattle.aatry_report.specs.Headings.{heading_line}
+use Rattle.aatry_report.specs.Records.{record_line, record_of, with_text}
+use Rattle.aatry_report.specs.declared.form.Form.{Form}
+use Rattle.aatry_report.specs.declared.form.Form.TheVariants.{Lines, Records}
 use Rattle.aatry_transition.specs.Transitions.{transition_lines}
 
 -- the children and hats of who asks; a child or a hat has none

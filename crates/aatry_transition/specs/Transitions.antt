@@ -11,10 +11,10 @@ use Rattle.aa_profile_data.specs.declared.profile.Transition.{Transition}
 use Rattle.aa_quoting.specs.Texts.{written_text}
 use Rattle.aa_set_answers.specs.ProfileNames.{full_name_at}
 use Rattle.aa_set_answers.specs.RuleLines.{exec_text}
-use Rattle.aatry_record.specs.Headings.{heading_line}
-use Rattle.aatry_record.specs.Records.{record_line, record_of, with_text}
-use Rattle.aatry_record.specs.declared.form.Form.{Form}
-use Rattle.aatry_record.specs.declared.form.Form.TheVariants.{Lines, Records}
+use Rattle.aatry_report.specs.Headings.{heading_line}
+use Rattle.aatry_report.specs.Records.{record_line, record_of, with_text}
+use Rattle.aatry_report.specs.declared.form.Form.{Form}
+use Rattle.aatry_report.specs.declared.form.Form.TheVariants.{Lines, Records}
 
 -- under what a program runs that is started: its full name, or the word where that is no profile, as none is named
 abbrev pub started_name : Started → List ℕ

@@ -3,8 +3,8 @@
 ghost use Rattle.std.specs.Prelude.{◌≡◌, ◌++◌, IfOk, OnOk, Some};
 ghost use Rattle.std.specs.Option.{option_map};
 ghost use Rattle.aa_explain.specs.Candidates.{seen_candidate, seen_candidates};
-ghost use Rattle.aatry_record.specs.SeenRecord.{seen_record};
-ghost use Rattle.aatry_record.specs.declared.form.Form.TheVariants.{Lines};
+ghost use Rattle.aatry_report.specs.SeenRecord.{seen_record};
+ghost use Rattle.aatry_report.specs.declared.form.Form.TheVariants.{Lines};
 ghost use Rattle.aatry_transition.specs.AttachmentLines.{attachment_lines, attachment_record, candidate_line, headed};
 ghost use Rattle.aatry_transition.specs.AttachmentLines.{line_by, lines_from, standing_words, with_name};
 
@@ -12,7 +12,7 @@ use aa_explain::{Candidate, Standing, best_pattern, patterns_of, rank_of, ranks_
 use aa_glob_pattern::Pattern;
 use aa_quoting::push_text;
 use aa_set_answers::full_name;
-use aatry_record::{Form, Record, push_heading};
+use aatry_report::{Form, Record, push_heading};
 use std::alloc::{AllocError, Global};
 
 // The words that tell how it comes out.

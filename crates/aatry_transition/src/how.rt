@@ -7,10 +7,10 @@ ghost use Rattle.aa_decide_exec_rules.specs.Choices.{choice};
 ghost use Rattle.aa_decide_entry.specs.Ready.{audits, rules_at};
 ghost use Rattle.aa_decide_entry.specs.Slots.{filled};
 ghost use Rattle.aa_explain.specs.Candidates.{seen_candidates};
-ghost use Rattle.aatry_record.specs.SeenRecord.{seen_record};
 ghost use Rattle.aatry_transition.specs.How.{asked_candidates, asked_lines, confined_lines, confinement_of, how_lines, led_lines};
 ghost use Rattle.aatry_transition.specs.How.{lines_or_none, none_attached, none_line, none_record, own_children, profile_lines};
 ghost use Rattle.aa_explain.specs.Leading.{lead_of};
+ghost use Rattle.aatry_report.specs.SeenRecord.{seen_record};
 
 use crate::attachment::push_attachment;
 use crate::transition::push_transition;
@@ -23,7 +23,7 @@ use aa_profile_access::Destination;
 use aa_profile_data::Transition;
 use aa_set_answers::find_asker;
 use aa_shared_bytes::SharedBytes;
-use aatry_record::{Form, Record, push_heading};
+use aatry_report::{Form, Record, push_heading};
 use std::alloc::{AllocError, Global};
 
 // The children and hats of who asks.

@@ -2,8 +2,8 @@
 
 ghost use Rattle.std.specs.Prelude.{◌≡◌, IfOk, OnOk, Some, codes};
 ghost use Rattle.aa_set_answers.specs.RuleLines.{exec_text};
-ghost use Rattle.aatry_record.specs.Records.{with_text};
-ghost use Rattle.aatry_record.specs.SeenRecord.{seen_record};
+ghost use Rattle.aatry_report.specs.Records.{with_text};
+ghost use Rattle.aatry_report.specs.SeenRecord.{seen_record};
 ghost use Rattle.aatry_transition.specs.SeenLeads.{seen_lead, seen_leads};
 ghost use Rattle.aatry_transition.specs.Transitions.{lack_of, started_name, transition_record, with_fallback, with_lead};
 
@@ -11,7 +11,7 @@ use crate::leads::Lead;
 use crate::transition::{push_exec, push_lack};
 use aa_profile_data::Transition;
 use aa_set_answers::full_name;
-use aatry_record::Record;
+use aatry_report::Record;
 use std::alloc::{AllocError, Global};
 
 // Under what a program runs: the full name, or the word where that is no profile.

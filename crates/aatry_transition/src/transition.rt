@@ -5,7 +5,7 @@ ghost use Rattle.aa_decide.specs.SeenExec.{seen_asker};
 ghost use Rattle.aa_decide_entry.specs.Slots.{filled};
 ghost use Rattle.aa_profile_access.specs.declared.exec_word.Destination.TheVariants as to;
 ghost use Rattle.aa_set_answers.specs.RuleLines.{exec_text, target_text};
-ghost use Rattle.aatry_record.specs.declared.form.Form.TheVariants.{Lines};
+ghost use Rattle.aatry_report.specs.declared.form.Form.TheVariants.{Lines};
 ghost use Rattle.aatry_transition.specs.SeenLeads.{seen_lead, seen_leads};
 ghost use Rattle.aatry_transition.specs.Transitions.{fallback_leads, fallback_text, lack_of, lack_text, lead_text};
 ghost use Rattle.aatry_transition.specs.Transitions.{line_of, started_text, transition_lines, word_leads};
@@ -18,7 +18,7 @@ use aa_profile_data::Transition;
 use aa_quoting::push_text;
 use aa_set_answers::full_name;
 use aa_shared_bytes::SharedBytes;
-use aatry_record::{Form, push_heading};
+use aatry_report::{Form, push_heading};
 use std::alloc::{AllocError, Global};
 
 // Puts behind a text under what a program runs.

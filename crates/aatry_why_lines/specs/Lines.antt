@@ -7,13 +7,13 @@ use Rattle.aa_profile_data.specs.declared.profile.Rule.{Rule}
 use Rattle.aa_set_answers.specs.RuleLines.{rule_text}
 use Rattle.aa_text_files.specs.Files.{File, bytes_at, name_at}
 use Rattle.aa_text_files.specs.declared.text_error.Place.{Place}
-use Rattle.aatry_record.specs.Headings.{heading_line}
-use Rattle.aatry_record.specs.Records.{record_line, record_of, with_text}
-use Rattle.aatry_record.specs.declared.form.Form.{Form}
-use Rattle.aatry_record.specs.declared.form.Form.TheVariants.{Lines, Records}
 use Rattle.aatry_report.specs.Faults.{place_text}
-use Rattle.aatry_report.specs.Places.{path_below, with_place}
+use Rattle.aatry_report.specs.FilePlaces.{path_below, with_place}
+use Rattle.aatry_report.specs.Headings.{heading_line}
+use Rattle.aatry_report.specs.Records.{record_line, record_of, with_text}
 use Rattle.aatry_report.specs.Shown.{shown}
+use Rattle.aatry_report.specs.declared.form.Form.{Form}
+use Rattle.aatry_report.specs.declared.form.Form.TheVariants.{Lines, Records}
 use Rattle.aatry_why_lines.specs.Written.{Written}
 
 -- where a rule stands: its file, line and column, or the profile's file alone

@@ -11,10 +11,10 @@ use Rattle.aa_profile_places.specs.declared.places.ProfilePlaces.{ProfilePlaces}
 use Rattle.aa_text_files.specs.Files.{File}
 use Rattle.aa_text_files.specs.declared.text_error.Place.{Place}
 use Rattle.aa_explain.specs.Leading.{leading_places}
-use Rattle.aatry_record.specs.declared.form.Form.{Form}
 use Rattle.aa_explain.specs.Missing.{missing_rule}
 use Rattle.aa_explain.specs.Told.{near, told}
 use Rattle.aa_explain.specs.declared.told.ToldRule.{ToldRule}
+use Rattle.aatry_report.specs.declared.form.Form.{Form}
 use Rattle.aatry_why_lines.specs.Groups.{heading, places_in}
 use Rattle.aatry_why_lines.specs.Lines.{group_lines, line_at, missing_line}
 use Rattle.aatry_why_lines.specs.Written.{Written}

@@ -2,8 +2,8 @@
 
 ghost use Rattle.std.specs.Prelude.{◌≡◌, ◌++◌, IfOk, OnOk, codes, flat_map};
 ghost use Rattle.aa_set_answers.specs.RuleLines.{rule_text};
-ghost use Rattle.aatry_record.specs.Records.{with_text};
-ghost use Rattle.aatry_record.specs.SeenRecord.{seen_record};
+ghost use Rattle.aatry_report.specs.Records.{with_text};
+ghost use Rattle.aatry_report.specs.SeenRecord.{seen_record};
 ghost use Rattle.aatry_why_lines.specs.Lines.{group_lines, line_at, missing_line, missing_record, place_at, told_line};
 ghost use Rattle.aatry_why_lines.specs.Lines.{rule_record, where_text, with_where};
 ghost use Rattle.aatry_why_lines.specs.Written.{seen_rules};
@@ -12,8 +12,7 @@ use crate::written::WrittenRules;
 use aa_profile_data::Rule;
 use aa_set_answers::push_rule;
 use aa_text_files::{Files, Place};
-use aatry_record::{Form, Record, push_heading};
-use aatry_report::{path_below, push_place, push_shown, put_place};
+use aatry_report::{Form, Record, path_below, push_heading, push_place, push_shown, put_place};
 use std::alloc::{AllocError, Global};
 
 /// Puts where a rule stands behind a text: `base` with the name of the file, the line and the column where it is written. One without a place

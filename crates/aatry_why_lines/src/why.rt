@@ -21,7 +21,7 @@ use aa_profile::{Profile, ProfileError, Rule, read_file};
 use aa_profile_access::{Perms, Request};
 use aa_profile_places::{Place, ProfilePlaces, rule_places};
 use aa_text_files::Files;
-use aatry_record::Form;
+use aatry_report::Form;
 use bitflags::Flags;
 use std::alloc::{AllocError, Global};
 

@@ -1,26 +1,20 @@
-//! Asks the rows of patterns, automata, work, tokens, splicings, variables, files, gatherings, journals and tables; or measures
+//! Asks the rows of the files that its arguments name, each by its kind, the name of its file up to the first dot; or measures
 //! patterns: `--measure PATTERNS PATHS ROUNDS`.
 #![tactic(auto)]
 
-mod automata;
-mod files;
-mod gatherings;
-mod journals;
-mod measuring;
-mod overlaps;
-mod patterns;
-mod splicings;
-mod tables;
-mod tokens;
-mod variables;
-
 use anyhow::Result;
+use pattern_rows::{ask_automaton_rows, ask_pattern_rows, ask_work_rows, measures};
 use row_texts::{Asks, Part, RowError, Tally, ask_files};
+use run_rows::{ask_refusal_rows, ask_run_rows};
+use text_rows::{
+    ask_file_rows, ask_gathering_rows, ask_journal_rows, ask_splicing_rows, ask_table_rows,
+    ask_token_rows, ask_variable_rows,
+};
 
-// What asks rows of the texts of files and of patterns.
-struct Texts;
+// What asks rows of each kind.
+struct Kinds;
 
-impl Asks for Texts {
+impl Asks for Kinds {
     fn ask(
         &self,
         tally: &mut Tally,
@@ -29,24 +23,38 @@ impl Asks for Texts {
         parts: &[Part<'_>],
     ) -> Result<(), RowError> {
         match kind {
-            "patterns" | "overlaps" => patterns::ask(tally, parts),
-            "automata" => automata::ask(tally, parts),
-            "work" => measuring::ask(tally, parts),
-            "tokens" => tokens::ask(tally, parts),
-            "splicings" => splicings::ask(tally, common, parts),
-            "variables" => variables::ask(tally, parts),
-            "files" => files::ask(tally, parts),
-            "gatherings" => gatherings::ask(tally, parts),
-            "journals" => journals::ask(tally, parts),
-            "tables" => tables::ask(tally, parts),
+            "patterns" | "overlaps" => ask_pattern_rows(tally, parts),
+            "automata" => ask_automaton_rows(tally, parts),
+            "work" => ask_work_rows(tally, parts),
+            "tokens" => ask_token_rows(tally, parts),
+            "splicings" => ask_splicing_rows(tally, common, parts),
+            "variables" => ask_variable_rows(tally, parts),
+            "files" => ask_file_rows(tally, parts),
+            "gatherings" => ask_gathering_rows(tally, parts),
+            "journals" => ask_journal_rows(tally, parts),
+            "tables" => ask_table_rows(tally, parts),
+            "refusals" => ask_refusal_rows(tally, parts),
+            "changes"
+            | "commands"
+            | "profiles"
+            | "grammar"
+            | "decisions"
+            | "documents"
+            | "exec"
+            | "includes"
+            | "places"
+            | "lengths"
+            | "marks"
+            | "remembered"
+            | "streams" => ask_run_rows(tally, common, parts),
             _ => Err(RowError::NoSuchKind),
         }
     }
 }
 
 fn main(rt: HostRuntime) -> Result<()> {
-    if measuring::measures(&rt)? {
+    if measures(&rt)? {
         return Ok(());
     }
-    ask_files(&rt, &Texts)
+    ask_files(&rt, &Kinds)
 }

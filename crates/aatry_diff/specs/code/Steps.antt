@@ -4,7 +4,7 @@ use Rattle.aa_decide_entry.specs.Entries.{Loaded}
 use Rattle.aatry_requests.specs.Tallies.{Tally}
 use Rattle.aatry_diff.specs.Differences.{difference_text, differs}
 use Rattle.aatry_diff.specs.Folders.{BothFolders}
-use Rattle.aatry_record.specs.declared.form.Form.{Form}
+use Rattle.aatry_report.specs.declared.form.Form.{Form}
 
 -- what is told of it, where it is answered otherwise
 abbrev pub lines_of : Form → BothFolders → List Loaded → List Loaded → Tally → List ℕ

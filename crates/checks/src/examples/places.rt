@@ -1,6 +1,6 @@
 //! What stands below a line to point at a place in it.
 
-use aatry_places::{line_at, push_caret_line};
+use aatry_report::{line_at, push_caret_line};
 use std::alloc::{AllocError, Global};
 
 /// The line of a file that a place stands in, and below it a caret under the place.

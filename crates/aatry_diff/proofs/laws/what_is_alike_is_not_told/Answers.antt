@@ -4,9 +4,9 @@ use Rattle.aatry_diff.specs.Comparing.{both}
 use Rattle.aatry_diff.specs.Sources.{differences_text, differing_count}
 use Rattle.aatry_policy.specs.Folders.{Folder, policy_in}
 use Rattle.aatry_policy.specs.FolderParts.{by_parts}
-use Rattle.aatry_record.specs.declared.form.Form.{Form}
 use Rattle.aatry_requests.specs.Gathering.{Gathered}
 use Rattle.aatry_diff.proofs.laws.what_is_alike_is_not_told.Goals as goal
+use Rattle.aatry_report.specs.declared.form.Form.{Form}
 
 pub returns : goal.returns
 returns c = λ form old new requests.

@@ -1,5 +1,5 @@
-use Rattle.aatry_dialogue.specs.Broken.{IsBrokenSession}
-use Rattle.aatry_dialogue.specs.Session.{IsSession}
+use Rattle.aatry_program.specs.Broken.{IsBrokenSession}
+use Rattle.aatry_program.specs.Session.{IsSession}
 use Rattle.aatry_program.proofs.ProgramLemmas.{session_done}
 use Rattle.aatry_program.proofs.program.have_session.Goals as goal
 

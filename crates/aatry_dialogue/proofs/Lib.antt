@@ -1,2 +1,0 @@
-mod InputLemmas
-mod SessionLemmas

@@ -1,4 +1,0 @@
-pub mod Broken
-pub mod Inputs
-pub mod Session
-pub mod code

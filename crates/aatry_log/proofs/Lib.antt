@@ -1,4 +1,0 @@
-mod MaskLemmas
-mod PairLemmas
-mod QuoteLemmas
-mod WrittenLemmas

@@ -1,3 +1,0 @@
-mod CaretLemmas
-mod LineLemmas
-mod PlaceLemmas

@@ -1,4 +1,0 @@
-pub mod CaretLine
-pub mod Characters
-pub mod Columns
-pub mod Lines

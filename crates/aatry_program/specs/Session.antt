@@ -1,0 +1,132 @@
+-- What a session over a folder of policy comes to.
+use Rattle.std.specs.Prelude.{◌≡◌, ◌⊎◌, ℕ, Bool, true, false, if◌then◌else◌, List, [], ◌∷◌, ◌++◌, Option, codes}
+use Rattle.std.specs.Io.KnownBytes.{Appends}
+use Rattle.std.specs.Str.{bytes_eq}
+use Rattle.aa_bytes.specs.Bytes.{line_feed}
+use Rattle.aa_set_lines.specs.WordLaws.{in_quotes}
+use Rattle.aa_text_files.specs.Files.{File}
+use Rattle.aaset_gather.specs.Gathering.{names_of}
+use Rattle.aatry_asking.specs.Asking.{IsAnswered, none_refused}
+use Rattle.aatry_commands.specs.Checking.{AreBelow, top_names}
+use Rattle.aatry_commands.specs.Fault.{told_line}
+use Rattle.aatry_commands.specs.Folders.{folder_at}
+use Rattle.aatry_commands.specs.declared.fault.Fault.{Fault}
+use Rattle.aatry_program.specs.Inputs.{GivesLine}
+use Rattle.aatry_report.specs.Shown.{shown}
+use Rattle.aatry_report.specs.declared.form.Form.TheVariants.{Lines}
+use Rattle.aatry_session.specs.History.{ok_line}
+use Rattle.aatry_session.specs.Turns.{Answer, Kept, Told, Ended, Anew, Asked, begun, turn_outcome}
+
+-- a session over a folder of policy: all that lies below it, as it was read last, and the session itself
+pub record State : Type 0 where
+  pub files : List File
+  pub kept : Kept
+
+-- the line that adds the profiles of a file
+abbrev pub add_line : List ℕ → List ℕ
+add_line name = codes "add " ++ in_quotes name
+
+-- the line of a file that is left out
+abbrev pub left_out_line : List ℕ → List ℕ
+left_out_line name = codes "left out: " ++ shown name ++ line_feed ∷ []
+
+-- what is told of a file as it is loaded: that it is left out, and why; and nothing of one that is taken
+abbrev pub loading_text : List ℕ → Answer → List ℕ
+loading_text name (Told text) = if bytes_eq text ok_line then [] else left_out_line name ++ text
+loading_text name answer = []
+
+-- The profiles of a file were added, as a line of the session would add them, and the text tells whether it is left out.
+abbrev pub LoadsOne : List File → List ℕ → Kept → List ℕ → Kept → List ℕ → Type 0
+LoadsOne files base before name after text =
+    (answer : Answer) × (flag : Bool) × (words : List ℕ)
+    × (record { answer = answer; kept = after } ≡ turn_outcome files base words before (add_line name) flag)
+    × (text ≡ loading_text name answer)
+
+-- The same of each of these files in its turn.
+abbrev pub LoadsEach : List File → List ℕ → Kept → List (List ℕ) → Kept → List ℕ → Type 0
+LoadsEach files base before [] after text = (after ≡ before) × (text ≡ [])
+LoadsEach files base before (name ∷ names) after text =
+    (next : Kept) × (first rest : List ℕ) × (text ≡ first ++ rest)
+    × LoadsOne files base before name next first × LoadsEach files base next names after rest
+
+-- The files were read again, and the text tells so; or they couldn't be, which the text tells, and they are those that were read before.
+abbrev pub IsReadAnew : (List ℕ → Option (List (List ℕ))) → (List ℕ → Option (List ℕ)) → List ℕ → (before after : List File) → List ℕ → Type 0
+IsReadAnew members_at bytes_at base before after text =
+    (AreBelow members_at bytes_at base after × (text ≡ ok_line)) ⊎ ((after ≡ before) × ((fault : Fault) × (text ≡ told_line fault)))
+
+-- what is told of an answer, by the files before it and the session behind it, and what the files are behind it
+abbrev pub IsTold : (List ℕ → Option (List (List ℕ))) → (List ℕ → Option (List ℕ)) → List ℕ → State → Answer → (after : List File) → List ℕ → Type 0
+IsTold members_at bytes_at base state (Told told) after text = (after ≡ state.files) × (text ≡ told)
+IsTold members_at bytes_at base state Ended after text = (after ≡ state.files) × (text ≡ [])
+IsTold members_at bytes_at base state Anew after text = IsReadAnew members_at bytes_at base state.files after text
+IsTold members_at bytes_at base state (Asked question) after text =
+    (after ≡ state.files)
+    × ((found : Bool) × IsAnswered Lines (folder_at base state.files) (none_refused (top_names (names_of state.files)))
+    state.kept.managed.machine.now question text found)
+
+-- the session goes on behind an answer
+abbrev pub goes_on : Answer → Bool
+goes_on Ended = false
+goes_on answer = true
+
+-- A line was answered by the session's own definition: the text is what is told of it, and the session goes on or not.
+abbrev pub IsTurn : (List ℕ → Option (List (List ℕ))) → (List ℕ → Option (List ℕ)) → List ℕ → State → List ℕ → State → List ℕ → Bool → Type 0
+IsTurn members_at bytes_at base before line after text goes =
+    (answer : Answer) × (flag : Bool) × (words : List ℕ)
+    × (record { answer = answer; kept = after.kept } ≡ turn_outcome before.files base words before.kept line flag)
+    × (goes ≡ goes_on answer)
+    × IsTold members_at bytes_at base (record { files = before.files; kept = after.kept }) answer after.files text
+
+-- Where a session stands: the input that is left, the bytes of it that were read and wait, what is written so far, and its state.
+pub record Standing : Type 0 where
+  pub left : Option (List ℕ)
+  pub waits : List ℕ
+  pub written : Option (List ℕ)
+  pub state : State
+
+-- The prompt was written, the next line of the input was answered, and what is told of it was written.
+abbrev pub IsStep : (List ℕ → Option (List (List ℕ))) → (List ℕ → Option (List ℕ)) → List ℕ → List ℕ → Standing → List ℕ → Standing → Bool → Type 0
+IsStep members_at bytes_at base prompt before line after goes =
+    (text : List ℕ) × (prompted : Option (List ℕ))
+    × Appends before.written prompted prompt
+    × GivesLine before.left after.left before.waits after.waits line true
+    × IsTurn members_at bytes_at base before.state line after.state text goes
+    × Appends prompted after.written text
+
+-- These lines, the last one first, were answered one behind the other, and the session went on behind each.
+abbrev pub Answers : (List ℕ → Option (List (List ℕ))) → (List ℕ → Option (List ℕ)) → List ℕ → List ℕ → Standing → List (List ℕ) → Standing → Type 0
+Answers members_at bytes_at base prompt first [] now = now ≡ first
+Answers members_at bytes_at base prompt first (line ∷ lines) now =
+    (before : Standing) × Answers members_at bytes_at base prompt first lines before × IsStep members_at bytes_at base prompt before line now true
+
+-- The session ends: a line says so, or the prompt was written and the input has no line any more.
+abbrev pub IsLastStep : (List ℕ → Option (List (List ℕ))) → (List ℕ → Option (List ℕ)) → List ℕ → List ℕ → Standing → Standing → Type 0
+IsLastStep members_at bytes_at base prompt before after =
+    ((line : List ℕ) × IsStep members_at bytes_at base prompt before line after false)
+    ⊎ (Appends before.written after.written prompt × ((given : List ℕ) × GivesLine before.left after.left before.waits after.waits given false))
+
+-- The lines of the input were answered one behind the other, to the end of the session.
+abbrev pub IsRun : (List ℕ → Option (List (List ℕ))) → (List ℕ → Option (List ℕ)) → List ℕ → List ℕ → Standing → Standing → Type 0
+IsRun members_at bytes_at base prompt first last =
+    (lines : List (List ℕ)) × (before : Standing)
+    × Answers members_at bytes_at base prompt first lines before × IsLastStep members_at bytes_at base prompt before last
+
+-- All that lies below a folder was read, the profiles of the files at its top were added in their order, and the text tells of that.
+pub record IsLoaded (members_at : List ℕ → Option (List (List ℕ))) (bytes_at : List ℕ → Option (List ℕ)) (base : List ℕ) (state : State) (text : List ℕ) : Type 0 where
+  pub below : AreBelow members_at bytes_at base state.files
+  pub each : LoadsEach state.files base (begun false) (top_names (names_of state.files)) state.kept text
+
+-- where a session stands that has read no line
+abbrev pub at_first_line : Option (List ℕ) → Option (List ℕ) → State → Standing
+at_first_line left written state = record { left = left; waits = []; written = written; state = state }
+
+-- A session over a folder was had: it was loaded, what is told of that was written, and then the lines of the input were answered to the session's end.
+pub record IsSession (members_at : List ℕ → Option (List (List ℕ))) (bytes_at : List ℕ → Option (List ℕ)) (base prompt : List ℕ) (left before after : Option (List ℕ)) : Type 0 where
+  pub state : State
+  pub text : List ℕ
+  pub loaded : IsLoaded members_at bytes_at base state text
+  pub written : Option (List ℕ)
+  pub told : Appends before written text
+  pub last : Standing
+  pub run : IsRun members_at bytes_at base prompt (at_first_line left written state) last
+  pub ended : last.written ≡ after

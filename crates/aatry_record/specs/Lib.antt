@@ -1,3 +1,0 @@
-pub mod Headings
-pub mod Records
-pub mod SeenRecord

@@ -1,0 +1,4 @@
+mod CaretLemmas
+mod LineLemmas
+mod PlaceLemmas
+mod RecordLemmas

@@ -1,0 +1,44 @@
+//! Files of a folder of policy, and places in them.
+
+ghost use Rattle.std.specs.Prelude.{◌≡◌, IfOk, OnOk};
+ghost use Rattle.aatry_report.specs.FilePlaces.{path_below, with_place};
+ghost use Rattle.aatry_report.specs.SeenRecord.{seen_record};
+
+use crate::place::line_place;
+use crate::record::Record;
+use std::alloc::{AllocError, Global};
+
+/// The path that a file is told by: its name below the folder of policy, whose path is `base`, without a `/` at its end.
+///
+/// # Errors
+///
+/// Where memory runs out.
+pub fn path_below(alloc: Global, base: &[u8], name: &[u8]) -> Result<Vec<u8>, AllocError>
+    ensures { IfOk result (λ path. path.items ≡ path_below base.now name.now) }
+{
+    let mut path = Vec::from_slice(alloc, base)?;
+    path.push(b'/')?;
+    path.extend_from_slice(name)?;
+    Ok(path)
+}
+
+/// Puts a place in a file's bytes into a record: `file`, what the file is told by, and `line` and `column`, counted from 1. `at` says how many bytes of
+/// `text` stand before the place.
+///
+/// # Errors
+///
+/// Where memory runs out. A part of the place may have been put then.
+pub fn put_place(
+    alloc: Global,
+    path: &[u8],
+    text: &[u8],
+    at: usize,
+    into: &mut Record,
+) -> Result<(), AllocError>
+    ensures { OnOk result (seen_record into.new ≡ with_place path.now text.now at (seen_record into.old)) }
+{
+    let place = line_place(text, at);
+    into.put_text(alloc, "file", path)?;
+    into.put_number(alloc, "line", place.line)?;
+    into.put_number(alloc, "column", place.column)
+}
