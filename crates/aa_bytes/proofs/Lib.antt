@@ -1,2 +1,3 @@
 mod BitLemmas
+pub mod HexadecimalLemmas
 mod NameMapLemmas

@@ -12,7 +12,7 @@ use Rattle.aa_decide_attachment.specs.StandingOut.{standing_out}
 use Rattle.aa_profile_data.specs.Profile.{are_distinct, is_named}
 use Rattle.aa_decide.specs.Attachment.{attached, entry_rank}
 use Rattle.aa_decide_slots.specs.Named.{profiles_of}
-use Rattle.aa_decide_entry.specs.Entries.{Loaded}
+use Rattle.aa_decide_slots.specs.Entries.{Loaded}
 use Rattle.aa_decide.specs.ExecLaws.{DifferInOrder, FitsBest, HaveDistinctNames, HaveSameEntries}
 
 -- what stands at a place is there, and what is there stands at a place

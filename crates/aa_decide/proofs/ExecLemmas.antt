@@ -13,7 +13,7 @@ use Rattle.aa_profile_access.specs.declared.exec_word.Destination.TheVariants as
 use Rattle.aa_decide_attachment.specs.Ranks.{best_rank}
 use Rattle.aa_decide_exec_rules.specs.Choices.{Choice, Denied as DeniedByRule, Leads, Missing, choice, choice_of, denies}
 use Rattle.aa_decide_exec_rules.specs.ExecRules.{Denying, ExecRule, Leading, exec_rules, said_of}
-use Rattle.aa_profile_names.specs.FullNames.{full_name}
+use Rattle.aa_profile_access.specs.FullNames.{full_name}
 use Rattle.aa_profile_data.specs.Profile.{child_place}
 use Rattle.aa_profile_data.specs.declared.profile.Mode.{Mode}
 use Rattle.aa_profile_data.specs.declared.profile.Mode.TheVariants.{Complain, Enforce}
@@ -21,13 +21,13 @@ use Rattle.aa_profile_data.specs.declared.profile.Profile.{Profile}
 use Rattle.aa_profile_data.specs.declared.profile.Rule.{Rule}
 use Rattle.aa_profile_data.specs.declared.profile.Transition.{Transition}
 use Rattle.aa_decide.specs.Attachment.{attached}
-use Rattle.aa_decide_entry.specs.Confinement.{By, Confinement, Unconfined as NotConfined, in_state}
-use Rattle.aa_decide_entry.specs.Entries.{Loaded, is_in_force}
+use Rattle.aa_decide_slots.specs.Confinement.{By, Confinement, Unconfined as NotConfined, in_state}
+use Rattle.aa_decide_slots.specs.Entries.{Loaded, is_in_force}
 use Rattle.aa_decide.specs.Exec.{Asker, ExecAnswer, Nowhere, Null, Started, Unconfined, Under, by_choice, by_full_name, carried_out, confined_start, exec_answer, in_profile, is_named_in_force, led, led_by, missing, named_in_force, place_of_child, started, to_child, to_profile, unconfined_start}
 use Rattle.aa_decide.specs.ExecLaws.{DifferInOrder, SomeRuleDenies}
-use Rattle.aa_decide_entry.specs.Ready.{audits, rules_at}
-use Rattle.aa_decide_entry.specs.declared.entry.State.{State}
-use Rattle.aa_decide_entry.specs.declared.entry.State.TheVariants.{Disabled, Modes}
+use Rattle.aa_decide_slots.specs.Ready.{audits, rules_at}
+use Rattle.aa_decide_slots.specs.declared.entry.State.{State}
+use Rattle.aa_decide_slots.specs.declared.entry.State.TheVariants.{Disabled, Modes}
 use Rattle.aa_decide_audit.specs.declared.verdict.Answer.TheVariants.{Deny}
 use Rattle.aa_decide.proofs.AttachmentLemmas.{RankLaw, at-there, attached-holds, attached-order, one-named}
 

@@ -3,7 +3,7 @@ use Rattle.std.proofs.Common.{◌≡◌, ℕ, Bool, List, Option, None, Some, ap
 use Rattle.aa_profile_access.specs.ExecWords.{row}
 use Rattle.aa_profile_data.specs.declared.profile.Mode.{Mode}
 use Rattle.aa_profile_data.specs.declared.profile.Transition.{Transition}
-use Rattle.aa_decide_entry.specs.Entries.{Loaded}
+use Rattle.aa_decide_slots.specs.Entries.{Loaded}
 use Rattle.aa_decide.specs.Exec.{Asker, Started, carried_out, exec_verdict, led_by, missing, started, tag_if}
 use Rattle.aa_decide.specs.code.SeenExec.{IsDestination}
 use Rattle.aa_decide.specs.SeenExec.{IsAnswer, seen_to}

@@ -16,8 +16,8 @@ use Rattle.std.specs.Str.{bytes_eq}
 use Rattle.aa_decide.specs.Exec.{named_in_force}
 use Rattle.aa_decide_slots.specs.Named.{entry_named}
 use Rattle.aa_decide_slots.specs.SlotAttachments.{AreAttaching, Attaches}
-use Rattle.aa_decide_entry.specs.Entries.{Loaded, is_in_force}
-use Rattle.aa_decide_entry.specs.Slots.{Holds, entry_at, filled}
+use Rattle.aa_decide_slots.specs.Entries.{Loaded, is_in_force}
+use Rattle.aa_decide_slots.specs.Slots.{Holds, entry_at, filled}
 use Rattle.aa_glob_syntax.specs.Matching.{matches}
 use Rattle.aa_glob_syntax.specs.Patterns.{IsPatternAt}
 use Rattle.aa_glob_syntax.specs.Reading.{items_of}

@@ -3,7 +3,7 @@ use Rattle.std.specs.Prelude.{ℕ, if◌then◌else◌, List, map, Option, optio
 use Rattle.aa_decide_attachment.specs.Ranks.{best_rank}
 use Rattle.aa_decide_attachment.specs.StandingOut.{standing_out}
 use Rattle.aa_profile_data.specs.declared.profile.Child.{Child}
-use Rattle.aa_decide_entry.specs.Entries.{Loaded, is_in_force}
+use Rattle.aa_decide_slots.specs.Entries.{Loaded, is_in_force}
 
 -- the rank of a loaded profile on a path: that of the best of its attachments; 0 where none matches, and where it is disabled
 abbrev pub entry_rank : List ℕ → Loaded → ℕ

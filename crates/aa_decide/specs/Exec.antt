@@ -7,16 +7,16 @@ use Rattle.aa_profile_access.specs.ExecWords.{row}
 use Rattle.aa_profile_access.specs.declared.exec_word.Destination.{Destination}
 use Rattle.aa_profile_access.specs.declared.exec_word.Destination.TheVariants as to
 use Rattle.aa_decide_exec_rules.specs.Choices.{Choice, Denied as DeniedByRule, Leads, Missing, choice}
-use Rattle.aa_profile_names.specs.FullNames.{full_name}
+use Rattle.aa_profile_access.specs.FullNames.{full_name}
 use Rattle.aa_profile_data.specs.Profile.{child_place}
 use Rattle.aa_profile_data.specs.declared.profile.Mode.{Mode}
 use Rattle.aa_profile_data.specs.declared.profile.Mode.TheVariants.{Complain, Enforce}
 use Rattle.aa_profile_data.specs.declared.profile.Profile.{Profile}
 use Rattle.aa_profile_data.specs.declared.profile.Transition.{Transition}
 use Rattle.aa_decide.specs.Attachment.{attached, attached_child}
-use Rattle.aa_decide_entry.specs.Confinement.{By, Confinement, Unconfined as NotConfined, in_state}
-use Rattle.aa_decide_entry.specs.Entries.{Loaded, is_in_force}
-use Rattle.aa_decide_entry.specs.Ready.{audits, rules_at}
+use Rattle.aa_decide_slots.specs.Confinement.{By, Confinement, Unconfined as NotConfined, in_state}
+use Rattle.aa_decide_slots.specs.Entries.{Loaded, is_in_force}
+use Rattle.aa_decide_slots.specs.Ready.{audits, rules_at}
 use Rattle.aa_decide_audit.specs.declared.verdict.Answer.{Answer}
 use Rattle.aa_decide_audit.specs.declared.verdict.Answer.TheVariants.{Allow, Deny, Refuse, Complain as Complained}
 use Rattle.aa_decide_audit.specs.declared.verdict.Tag.{Tag}

@@ -7,8 +7,8 @@ use Rattle.aa_profile_data.specs.declared.profile.Profile.{Profile}
 use Rattle.aa_profile_data.specs.declared.profile.Rule.{Rule}
 use Rattle.aa_decide.specs.Attachment.{entry_rank}
 use Rattle.aa_decide_slots.specs.Named.{have_distinct_names}
-use Rattle.aa_decide_entry.specs.Entries.{Loaded}
-use Rattle.aa_decide_entry.specs.Ready.{audits, rules_at}
+use Rattle.aa_decide_slots.specs.Entries.{Loaded}
+use Rattle.aa_decide_slots.specs.Ready.{audits, rules_at}
 
 -- no two entries have one name
 abbrev pub HaveDistinctNames : List Loaded → Type 0

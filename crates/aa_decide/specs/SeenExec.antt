@@ -1,9 +1,9 @@
 -- Who asks to start a program, and what is answered, as the definitions see it: slots stand for the entries in them.
 use Rattle.std.specs.Prelude.{◌≡◌, List, Option, None, Some}
 use Rattle.std.specs.Option.{option_map}
-use Rattle.aa_decide_entry.specs.Entries.{Loaded}
+use Rattle.aa_decide_slots.specs.Entries.{Loaded}
 use Rattle.aa_decide.specs.Exec.{Asker, ExecAnswer, Nowhere, Null, Started, Unconfined, Under}
-use Rattle.aa_decide_entry.specs.Slots.{entry_at}
+use Rattle.aa_decide_slots.specs.Slots.{entry_at}
 use Rattle.aa_decide_audit.specs.declared.exec_verdict.ExecTo.{ExecTo}
 use Rattle.aa_decide_audit.specs.declared.exec_verdict.ExecTo.TheVariants as to
 use Rattle.aa_decide_audit.specs.declared.exec_verdict.ExecVerdict.{ExecVerdict}

@@ -4,8 +4,7 @@ ghost use Rattle.std.specs.Prelude.{◌≡◌, IfSome};
 ghost use Rattle.std.specs.Option.{option_map};
 ghost use Rattle.aa_decide.specs.SeenExec.{IsIn, asker_in, seen_asker};
 
-use aa_decide_entry::Entry;
-use aa_decide_slots::entry_at;
+use aa_decide_slots::{Entry, entry_at};
 
 /// Who asks by a loaded profile, as long as this is in force.
 #[derive(Clone, Copy)]

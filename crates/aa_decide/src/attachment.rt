@@ -3,13 +3,12 @@
 ghost use Rattle.std.specs.Prelude.{◌≡◌, IfOk, map, slice_get};
 ghost use Rattle.aa_decide_attachment.specs.Ranks.{best_rank};
 ghost use Rattle.aa_decide.specs.Attachment.{attached, attached_child, entry_rank};
-ghost use Rattle.aa_decide_entry.specs.Slots.{Holds, entry_at, filled};
-ghost use Rattle.aa_decide_entry.specs.Visits.{attachments_at};
+ghost use Rattle.aa_decide_slots.specs.Slots.{Holds, entry_at, filled};
+ghost use Rattle.aa_decide_slots.specs.Visits.{attachments_at};
 ghost use Rattle.aa_decide.specs.code.SlotRanks.{slot_rank};
 
 use aa_decide_attachment::{best_rank, standing_out, which_rank_stands_out};
-use aa_decide_entry::{Entry, Ready, Steps};
-use aa_decide_slots::{IndexedSlots, entry_at};
+use aa_decide_slots::{Entry, IndexedSlots, Ready, Steps, entry_at};
 use std::alloc::{AllocError, Global};
 
 // The rank of a profile on a path, or of its child or hat at a place.

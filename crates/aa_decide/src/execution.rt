@@ -4,26 +4,24 @@ ghost use Rattle.std.specs.Prelude.{◌≡◌, IfOk, IfSome, None, Some};
 ghost use Rattle.std.specs.Option.{option_copied, option_map};
 ghost use Rattle.aa_decide.specs.Exec.{by_choice, by_full_name, carried_out, exec_answer, exec_verdict, in_profile, led, led_by, missing};
 ghost use Rattle.aa_decide.specs.Exec.{place_of_child, stopped, tag_if, to_child, to_profile, unconfined_start};
-ghost use Rattle.aa_decide_entry.specs.Slots.{filled};
+ghost use Rattle.aa_decide_slots.specs.Slots.{filled};
 ghost use Rattle.aa_decide.specs.code.SeenExec.{IsAnswerAnywhere, IsDestination, IsDestinationFrom, IsDestinationOf};
 ghost use Rattle.aa_decide.specs.SeenExec.{IsAnswer, IsIn, asker_in, seen_asker};
 ghost use Rattle.aa_decide_audit.specs.declared.verdict.Answer.TheVariants.{Allow};
 ghost use Rattle.aa_decide_audit.specs.declared.verdict.Tag.TheVariants.{Audit};
-ghost use Rattle.aa_decide_entry.specs.Ready.{audits, rules_at};
+ghost use Rattle.aa_decide_slots.specs.Ready.{audits, rules_at};
 ghost use Rattle.aa_decide_exec_rules.specs.Choices.{choice};
 ghost use Rattle.aa_decide_exec_rules.specs.SeenChoices.{seen_choice};
 
 use crate::asker::{Asker, Who, asker_in};
 use crate::attachment::{attach, attached_child};
 use crate::slots::find_in_force;
+use aa_bytes::SharedBytes;
 use aa_decide_audit::{Answer, ExecTo, ExecVerdict, Tag, Verdict};
-use aa_decide_entry::{Confinement, Entry, Ready, Steps};
 use aa_decide_exec_rules::{ExecChoice, exec_choice};
-use aa_decide_slots::IndexedSlots;
-use aa_profile_access::{Destination, Perms};
+use aa_decide_slots::{Confinement, Entry, IndexedSlots, Ready, Steps};
+use aa_profile_access::{Destination, Perms, cut_full_name};
 use aa_profile_data::{Mode, Transition, child_place};
-use aa_profile_names::cut_full_name;
-use aa_shared_bytes::SharedBytes;
 use std::alloc::{AllocError, Global};
 
 // A verdict on the start of a program.

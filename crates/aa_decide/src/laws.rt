@@ -4,19 +4,19 @@ ghost use Rattle.std.specs.Prelude.{◌≡◌, ◌<◌, ◌^◌, ◌↔◌, ℕ,
 ghost use Rattle.std.specs.List.{All};
 ghost use Rattle.aa_profile_access.specs.Access.{EXEC};
 ghost use Rattle.aa_decide.specs.Attachment.{attached};
-ghost use Rattle.aa_decide_entry.specs.Confinement.{By, in_state};
-ghost use Rattle.aa_decide_entry.specs.Entries.{Loaded, is_in_force};
+ghost use Rattle.aa_decide_slots.specs.Confinement.{By, in_state};
+ghost use Rattle.aa_decide_slots.specs.Entries.{Loaded, is_in_force};
 ghost use Rattle.aa_decide.specs.Exec.{Asker, Under, exec_answer};
 ghost use Rattle.aa_decide.specs.ExecLaws.{DifferInOrder, FitsBest, HaveDistinctNames, SomeRuleDenies};
 ghost use Rattle.aa_decide_exec_rules.specs.Laws.{RulesLeadOneWay};
-ghost use Rattle.aa_decide_entry.specs.Ready.{rules_at};
+ghost use Rattle.aa_decide_slots.specs.Ready.{rules_at};
 ghost use Rattle.aa_decide_audit.specs.declared.verdict.Answer.TheVariants.{Deny};
 ghost use Rattle.aa_profile_data.specs.declared.profile.Mode.{Mode};
 ghost use Rattle.aa_profile_data.specs.declared.profile.Profile.{Profile};
 
 use aa_decide_attachment::which_rank_stands_out;
-use aa_decide_entry::Ready;
 use aa_decide_exec_rules::where_agreeing_rules_lead;
+use aa_decide_slots::Ready;
 
 /// A program never runs under a disabled profile, nor under a child or hat of one. Of profiles of different names a path is attached to one exactly
 /// where this has an attachment that matches and ranks above all others. The order of the profiles changes neither that nor any answer. A

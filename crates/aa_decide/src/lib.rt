@@ -8,9 +8,10 @@ mod laws;
 mod slots;
 
 pub use aa_decide_audit::{Answer, ExecTo, ExecVerdict, Tag, Verdict, exec_line, log_line};
-pub use aa_decide_entry::{Confinement, Entry, Ready, State, Steps};
 pub use aa_decide_rules::what_rules_decide;
-pub use aa_decide_slots::{IndexedSlots, entry_at, find_named};
+pub use aa_decide_slots::{
+    Confinement, Entry, IndexedSlots, Ready, State, Steps, entry_at, find_named,
+};
 pub use aa_profile_access::Request;
 pub use asker::{Asker, Who};
 pub use attachment::attach;

@@ -3,10 +3,9 @@
 ghost use Rattle.std.specs.Prelude.{◌≡◌, IfSome, Some};
 ghost use Rattle.std.specs.Option.{option_map};
 ghost use Rattle.aa_decide.specs.Exec.{is_named_in_force, named_in_force};
-ghost use Rattle.aa_decide_entry.specs.Slots.{entry_at, filled};
+ghost use Rattle.aa_decide_slots.specs.Slots.{entry_at, filled};
 
-use aa_decide_entry::Entry;
-use aa_decide_slots::{IndexedSlots, find_named};
+use aa_decide_slots::{Entry, IndexedSlots, find_named};
 
 // Whether a profile is in force and has this name.
 fn is_named_in_force(entry: &Entry, name: &[u8]) -> bool

@@ -9,7 +9,7 @@ use Rattle.aa_profile_tables.specs.Capabilities.{capability_name}
 use Rattle.aa_profile_tables.specs.Domains.{domain_name}
 use Rattle.aa_profile_tables.specs.Kinds.{kind_name}
 use Rattle.aa_profile_tables.specs.Names.{name_or_none}
-use Rattle.aa_quoting.specs.Texts.{quoted, written_text}
+use Rattle.aa_bytes.specs.Quoting.{quoted, written_text}
 use Rattle.aa_decide_audit.specs.declared.verdict.Tag.{Tag}
 use Rattle.aa_decide_audit.specs.declared.verdict.Tag.TheVariants.{Allowed, Audit, Denied}
 use Rattle.aa_decide_audit.specs.declared.verdict.Verdict.{Verdict}

@@ -6,15 +6,15 @@ ghost use Rattle.aa_decide_audit.specs.LogLines.{beginning, capability_subject, 
 ghost use Rattle.aa_decide_audit.specs.LogLines.{mask_key, operation, socket_subject, subject, tag_word};
 ghost use Rattle.aa_profile_access.specs.SeenRequests.{request_of};
 ghost use Rattle.aa_profile_tables.specs.Names.{name_or_none};
-ghost use Rattle.aa_quoting.specs.Texts.{quoted, written_text};
+ghost use Rattle.aa_bytes.specs.Quoting.{quoted, written_text};
 ghost use Rattle.std.specs.Fmt.{decimal};
 ghost use Rattle.std.specs.Option.{option_map};
 
 use crate::exec_verdict::ExecVerdict;
 use crate::verdict::{Tag, Verdict};
+use aa_bytes::{push_quoted, push_text, written_size};
 use aa_profile_access::{Perms, Request};
 use aa_profile_tables::{capability_name, domain_name, kind_name};
-use aa_quoting::{push_quoted, push_text, written_size};
 use itoa::Buffer;
 use std::alloc::{AllocError, Global};
 

@@ -10,8 +10,8 @@ use Rattle.aa_decide_exec_rules.proofs.SaidLemmas.{exec-before, said-before}
 use Rattle.aa_decide_exec_rules.specs.Choices.{dominates, first_lead, is_exact_lead}
 use Rattle.aa_decide_exec_rules.specs.ExecRules.{Denying, ExecRule, Leading, applies_to, covers_exec, exec_rules, said_by, said_of}
 use Rattle.aa_decide_exec_rules.specs.Laws.{AgreeingRulesLeadOneWay, LeadOneWay}
-use Rattle.aa_glob_prefixes.specs.Laws.{OverlapsAreTested}
-use Rattle.aa_glob_prefixes.specs.Shared.{overlaps}
+use Rattle.aa_glob_pattern.specs.Laws.{OverlapsAreTested}
+use Rattle.aa_glob_pattern.specs.Shared.{overlaps}
 use Rattle.aa_glob_syntax.specs.Exactness.{is_exact}
 use Rattle.aa_glob_syntax.specs.Matching.{matches}
 use Rattle.aa_glob_syntax.specs.Reading.{items_of, reading}

@@ -17,7 +17,7 @@ use Rattle.std.proofs.lemmas.Map.Keys.{IsStrictlyIncreasing-dedup}
 use Rattle.std.proofs.lemmas.Option.{get_or_from_slice_get, slice_get-get_or, slice_get_within}
 use Rattle.aa_profile_data.specs.Picked.{picked}
 use Rattle.aa_profile_data.proofs.PlaceLemmas.{Contains-from_get, picked-from, picked-has}
-use Rattle.aa_decide_entry.specs.Entries.{Loaded}
+use Rattle.aa_decide_slots.specs.Entries.{Loaded}
 use Rattle.aa_glob_syntax.specs.Patterns.{AreMatching}
 use Rattle.aa_decide_slots.specs.SlotAttachments.{AreAttaching, Attaches, attachments_in}
 use Rattle.aa_decide_slots.specs.Indexes.{ArePlaces, all_attachments, owners_from}

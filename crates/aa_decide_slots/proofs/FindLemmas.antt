@@ -5,8 +5,8 @@ use Rattle.std.specs.Option.{is_some, option_map}
 use Rattle.std.proofs.lemmas.Iterator.Adapters.{position_from-zero}
 use Rattle.aa_decide_slots.specs.Named.{entry_named, is_named}
 use Rattle.aa_decide_slots.specs.SlotNames.{holds, slot_named}
-use Rattle.aa_decide_entry.specs.Entries.{Loaded}
-use Rattle.aa_decide_entry.specs.Slots.{entry_at, filled}
+use Rattle.aa_decide_slots.specs.Entries.{Loaded}
+use Rattle.aa_decide_slots.specs.Slots.{entry_at, filled}
 
 -- the first slot of a name, slot by slot
 abbrev pub found : List ℕ → List (Option Loaded) → Option ℕ

@@ -9,7 +9,7 @@ use Rattle.std.proofs.lemmas.List.{length-take-le, take_more}
 use Rattle.std.proofs.lemmas.Slice.Eq.{bytes_eq-Decides}
 use Rattle.aa_bytes.specs.NameMaps.{GivesNumber, number_of}
 use Rattle.aa_bytes.specs.declared.name_map.NameMap.{NameMap}
-use Rattle.aa_decide_entry.specs.Entries.{Loaded}
+use Rattle.aa_decide_slots.specs.Entries.{Loaded}
 use Rattle.aa_decide_slots.specs.SlotNames.{holds, slot_named}
 use Rattle.aa_decide_slots.specs.Indexes.{first_of}
 

@@ -9,7 +9,7 @@ use Rattle.aa_decide_slots.specs.SlotNames.{holds}
 use Rattle.aa_decide_slots.specs.declared.attachments.AttachmentIndex.{AttachmentIndex}
 use Rattle.aa_decide_slots.specs.declared.names.NameIndex.{NameIndex}
 use Rattle.aa_decide_slots.proofs.FindLemmas.{found, found-is}
-use Rattle.aa_decide_entry.specs.Entries.{Loaded}
+use Rattle.aa_decide_slots.specs.Entries.{Loaded}
 use Rattle.aa_glob_automaton.specs.Automata.{IsAutomatonOf}
 use Rattle.aa_profile_data.specs.declared.profile.Profile.{Profile}
 

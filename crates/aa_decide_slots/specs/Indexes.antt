@@ -1,7 +1,7 @@
 -- What is kept beside slots, so that they needn't be gone over.
 use Rattle.std.specs.Prelude.{◌≡◌, ℕ, ◌+◌, ◌<◌, cond, List, [], ◌∷◌, ◌++◌, length, map, replicate, slice_index, Option, None, Some}
 use Rattle.aa_bytes.specs.NameMaps.{number_of}
-use Rattle.aa_decide_entry.specs.Entries.{Loaded}
+use Rattle.aa_decide_slots.specs.Entries.{Loaded}
 use Rattle.aa_glob_automaton.specs.Automata.{IsAutomatonOf}
 use Rattle.aa_profile_data.specs.declared.profile.Profile.{Profile}
 use Rattle.aa_decide_slots.specs.SlotAttachments.{attachments_in}

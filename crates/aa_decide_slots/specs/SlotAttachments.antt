@@ -1,7 +1,7 @@
 -- Slots by the attachments of the profiles in them.
 use Rattle.std.specs.Prelude.{◌≡◌, ℕ, true, ◌<◌, List, [], length, Contains, Option, None, Some, slice_index_or}
 use Rattle.std.specs.List.Sorted.{IsStrictlyIncreasing}
-use Rattle.aa_decide_entry.specs.Entries.{Loaded}
+use Rattle.aa_decide_slots.specs.Entries.{Loaded}
 use Rattle.aa_glob_syntax.specs.Matching.{matches}
 use Rattle.aa_glob_syntax.specs.Patterns.{IsPatternAt}
 use Rattle.aa_glob_syntax.specs.Reading.{items_of}

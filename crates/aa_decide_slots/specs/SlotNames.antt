@@ -1,6 +1,6 @@
 -- Slots by the names of the profiles in them.
 use Rattle.std.specs.Prelude.{ℕ, Bool, false, List, map, Option, None, Some, position}
-use Rattle.aa_decide_entry.specs.Entries.{Loaded}
+use Rattle.aa_decide_slots.specs.Entries.{Loaded}
 use Rattle.aa_decide_slots.specs.Named.{is_named}
 use Rattle.aa_profile_data.specs.declared.profile.Profile.{Profile}
 

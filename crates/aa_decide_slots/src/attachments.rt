@@ -1,14 +1,15 @@
 //! The slots of attachments.
 
 ghost use Rattle.std.specs.Prelude.{◌≡◌, ◌++◌, ℕ, IfOk, List, Option, OnOk, length, replicate};
-ghost use Rattle.aa_decide_entry.specs.Entries.{Loaded};
+ghost use Rattle.aa_decide_slots.specs.Entries.{Loaded};
 ghost use Rattle.aa_decide_slots.specs.SlotAttachments.{AreAttaching, attachments_in};
 ghost use Rattle.aa_decide_slots.specs.Indexes.{IsAttachmentIndexOf};
 ghost use Rattle.aa_glob_automaton.specs.Built.{IsBuilt};
 
+use crate::entry::Entry;
+use crate::part::picked;
 use aa_bytes::Sequence;
-use aa_decide_entry::{Entry, Steps, picked};
-use aa_glob_automaton::{Automaton, AutomatonBuilder};
+use aa_glob_automaton::{Automaton, AutomatonBuilder, Steps};
 use aa_glob_pattern::Pattern;
 use std::alloc::{AllocError, Global};
 

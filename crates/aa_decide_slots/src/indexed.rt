@@ -6,9 +6,9 @@ ghost use Rattle.aa_decide_slots.specs.SlotNames.{slot_named};
 ghost use Rattle.aa_decide_slots.specs.Indexes.{ArePlaces, IsAttachmentIndexOf, IsNameIndexOf};
 
 use crate::attachments::AttachmentIndex;
+use crate::entry::Entry;
 use crate::names::NameIndex;
 use crate::slots::slot_named;
-use aa_decide_entry::Entry;
 use std::alloc::{AllocError, Global};
 use std::marker::Model;
 
@@ -23,7 +23,7 @@ pub struct IndexedSlots<'a> {
 
 impl<'a> Model for IndexedSlots<'a> {
     ghost use Rattle.std.specs.Prelude.{List, Option, IfSome};
-    ghost use Rattle.aa_decide_entry.specs.Entries.{Loaded};
+    ghost use Rattle.aa_decide_slots.specs.Entries.{Loaded};
     ghost use Rattle.aa_decide_slots.specs.Indexes.{IsAttachmentIndexOf, IsNameIndexOf};
 
     ghost Value = { List (Option Loaded) };

@@ -1,12 +1,22 @@
-//! Slots with loaded profiles, and what is kept beside them to find names and attachments without going over all.
+//! Loaded profiles with their states, made ready to be asked; slots with these, and what is kept beside them to find names and
+//! attachments without going over all.
 #![tactic(auto)]
 
 mod attachments;
+mod confinement;
+mod entry;
 mod indexed;
 mod names;
+mod part;
+mod ready;
 mod slots;
 
+pub use aa_glob_automaton::Steps;
 pub use attachments::AttachmentIndex;
+pub use confinement::Confinement;
+pub use entry::{Entry, State};
 pub use indexed::IndexedSlots;
 pub use names::NameIndex;
+pub use part::picked;
+pub use ready::Ready;
 pub use slots::{entry_at, find_named, slots_named};

@@ -1,12 +1,12 @@
 //! The slots of names.
 
 ghost use Rattle.std.specs.Prelude.{◌≡◌, IfOk, OnOk, List, Option};
-ghost use Rattle.aa_decide_entry.specs.Entries.{Loaded};
+ghost use Rattle.aa_decide_slots.specs.Entries.{Loaded};
 ghost use Rattle.aa_decide_slots.specs.SlotNames.{slot_named};
 ghost use Rattle.aa_decide_slots.specs.Indexes.{IsNameIndexOf, NotesSlot};
 
+use crate::entry::Entry;
 use aa_bytes::NameMap;
-use aa_decide_entry::Entry;
 use std::alloc::{AllocError, Global};
 
 /// Each name of a profile in some slots, with the first of these that holds it. Contracts see of which slots it was made (`IsNameIndexOf`).

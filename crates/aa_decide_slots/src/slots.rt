@@ -5,12 +5,12 @@ ghost use Rattle.std.specs.Option.{option_copied, option_map};
 ghost use Rattle.aa_decide_slots.specs.Named.{entry_named};
 ghost use Rattle.aa_decide_slots.specs.SlotNames.{holds, slot_named, slots_named};
 ghost use Rattle.aa_decide_slots.specs.Indexes.{IsNameIndexOf};
-ghost use Rattle.aa_decide_entry.specs.Entries.{Loaded, fits};
-ghost use Rattle.aa_decide_entry.specs.Slots.{entry_at, filled};
+ghost use Rattle.aa_decide_slots.specs.Entries.{Loaded, fits};
+ghost use Rattle.aa_decide_slots.specs.Slots.{entry_at, filled};
 
+use crate::entry::Entry;
 use crate::indexed::IndexedSlots;
 use crate::names::NameIndex;
-use aa_decide_entry::Entry;
 use aa_profile_data::Profile;
 use std::alloc::{AllocError, Global};
 

@@ -20,7 +20,7 @@ ghost use Rattle.aa_decide.specs.Attachment.{attached, attached_child};
 ghost use Rattle.aa_decide_attachment.specs.StandingOut.{standing_out};
 ghost use Rattle.aa_decide_exec_rules.specs.Choices.{choice, denies, dominates, is_exact_lead};
 ghost use Rattle.aa_decide_exec_rules.specs.ExecRules.{exec_rules};
-ghost use Rattle.aa_decide_entry.specs.Entries.{Loaded};
+ghost use Rattle.aa_decide_slots.specs.Entries.{Loaded};
 ghost use Rattle.aa_explain.specs.Standings.{standing_of};
 ghost use Rattle.aa_explain.specs.Candidates.{child_candidates, profile_candidates, rank_of};
 ghost use Rattle.aa_explain.specs.declared.standing.Standing.TheVariants.{Attached};

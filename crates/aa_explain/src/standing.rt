@@ -7,7 +7,7 @@ ghost use Rattle.aa_explain.specs.Standings.{is_the_one, standing_of};
 use crate::candidates::{child_candidates, ranks_of};
 use crate::laws::which_is_attached;
 use aa_decide_attachment::{greatest, standing_out};
-use aa_decide_entry::Entry;
+use aa_decide_slots::Entry;
 use std::alloc::{AllocError, Global};
 
 /// How a candidate comes out among others on a path.

@@ -35,7 +35,7 @@ fn told_rule(audit: bool, request: &Request<'_>, place: usize, rule: &Rule) -> T
     }
 }
 
-/// The rules that apply to a request, and what each of them does, in their order: those by which `aa_decide_entry::Ready::decide` answers it.
+/// The rules that apply to a request, and what each of them does, in their order: those by which `aa_decide_slots::Ready::decide` answers it.
 /// `audit` says whether each of the rules is audited, whatever its own words are: that is the flag of their profile. Each pattern is tried by itself.
 ///
 /// # Errors

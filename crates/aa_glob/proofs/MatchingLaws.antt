@@ -14,7 +14,7 @@ use Rattle.aa_glob_syntax.specs.Classes.{class}
 use Rattle.aa_glob_syntax.specs.Reading.{Pieces, Cut, Ending, Ended, Closed, Refused, onto, behind_comma, group, deepest, pieces, whole, longest, begins_with_slash, has_zero, reading, items_read, items_of, HasNoFirstFault}
 use Rattle.aa_glob_syntax.specs.Matching.{matches, IsOf, Matches, SomeMatches}
 use Rattle.aa_glob.specs.Laws.{quoted, bytes_pattern, bytes_of}
-use Rattle.aa_glob_prefixes.specs.Laws.{MatchingIsBySplits}
+use Rattle.aa_glob_pattern.specs.Laws.{MatchingIsBySplits}
 use Rattle.aa_bytes.specs.declared.byte_set.ByteSet.{ByteSet}
 use Rattle.aa_bytes.specs.declared.byte_set.ByteSet.TheVariants.{Inside, Class}
 use Rattle.aa_glob_syntax.specs.declared.symbol.Symbol.{Symbol}

@@ -10,7 +10,7 @@ ghost use Rattle.aa_glob_syntax.specs.Matching.{matches};
 ghost use Rattle.aa_glob_syntax.specs.Reading.{HasNoFirstFault, has_zero, items_of, reading};
 ghost use Rattle.aa_glob_syntax.specs.declared.pattern_error.PatternError.{PatternError};
 
-use aa_glob_prefixes::matching_is_by_splits;
+use aa_glob_pattern::matching_is_by_splits;
 
 /// A text of bytes that need no backslash reads as these bytes, if it has none of the faults that are told first.
 pub fn plain_text_reads_as_itself()

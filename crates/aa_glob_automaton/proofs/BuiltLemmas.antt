@@ -12,15 +12,15 @@ use Rattle.aa_glob_automaton.specs.Built.{IsBuilt}
 use Rattle.aa_glob_automaton.specs.code.Followed.{EndsWhole}
 use Rattle.aa_glob_automaton.specs.declared.growing.Growing.{Growing}
 use Rattle.aa_glob_automaton.proofs.GrowthLemmas.{patterns-contain}
-use Rattle.aa_glob_nfa_laws.specs.Drawn.{trail_at}
-use Rattle.aa_glob_nfa_laws.specs.Laws.{ReachingTheEndIsMatching, SameIsDrawn, StartIsDrawn}
+use Rattle.aa_glob_automaton.specs.Drawn.{trail_at}
+use Rattle.aa_glob_automaton.specs.Laws.{ReachingTheEndIsMatching, SameIsDrawn, StartIsDrawn}
 use Rattle.aa_glob_syntax.specs.Elements.{Element}
 use Rattle.aa_glob_syntax.specs.Matching.{matches}
 use Rattle.aa_glob_syntax.specs.Reading.{items_of, reading}
 use Rattle.aa_glob_nfa.specs.Graphs.{AddsEnd, AreBytes, EndsAt, Graph, IsFound, SameGraph, start_alone}
-use Rattle.aa_glob_prefixes.specs.Beginnings.{AreBeginnings, Begun, HasStates, IsBeginning, IsSuffixOf}
-use Rattle.aa_glob_prefixes.specs.Laws.{FirstTextIsBegun, NextTextIsBegun, WholeTextIsThere}
-use Rattle.aa_glob_prefixes.specs.Trails.{Trail, trail_of}
+use Rattle.aa_glob_pattern.specs.Beginnings.{AreBeginnings, Begun, HasStates, IsBeginning, IsSuffixOf}
+use Rattle.aa_glob_pattern.specs.Laws.{FirstTextIsBegun, NextTextIsBegun, WholeTextIsThere}
+use Rattle.aa_glob_pattern.specs.Trails.{Trail, trail_of}
 use Rattle.aa_glob_automaton.specs.Tree.{HasNoWay, Ways, next, places}
 
 -- no pattern yet

@@ -7,11 +7,11 @@ use Rattle.std.proofs.lemmas.Option.{slice_get_within}
 use Rattle.aa_glob_automaton.proofs.GrowthLemmas.{patterns-contain}
 use Rattle.aa_glob_automaton.specs.Automata.{IsGraphOf}
 use Rattle.aa_glob_nfa.specs.Graphs.{AreBytes, EndsAt, Graph, Reaches}
-use Rattle.aa_glob_nfa_laws.specs.Drawn.{IsDrawn, trail_at}
-use Rattle.aa_glob_nfa_laws.specs.Laws.{ReachingTheEndIsMatching}
+use Rattle.aa_glob_automaton.specs.Drawn.{IsDrawn, trail_at}
+use Rattle.aa_glob_automaton.specs.Laws.{ReachingTheEndIsMatching}
 use Rattle.aa_glob_pairs.specs.Clashes.{IsLeast}
 use Rattle.aa_glob_pairs.specs.Graphs.{ClashesAt, IsLaid}
-use Rattle.aa_glob_prefixes.specs.Trails.{Trail, trail_of}
+use Rattle.aa_glob_pattern.specs.Trails.{Trail, trail_of}
 use Rattle.aa_glob_syntax.specs.Matching.{matches}
 use Rattle.aa_glob_syntax.specs.Overlap.{ClashesAmong, Overlap}
 use Rattle.aa_glob_syntax.specs.Patterns.{IsPatternAt}

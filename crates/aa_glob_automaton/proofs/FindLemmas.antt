@@ -6,10 +6,10 @@ use Rattle.std.proofs.lemmas.List.{get_or_append_left, get_or_at, get_or_default
 use Rattle.aa_glob_automaton.specs.Grown.{Finds, GoesOn}
 use Rattle.aa_glob_automaton.specs.Numbers.{AreKept, most_number, number_of}
 use Rattle.aa_glob_automaton.proofs.NumberLemmas.{numbers-apart}
-use Rattle.aa_glob_nfa_laws.specs.Drawn.{trail_at}
+use Rattle.aa_glob_automaton.specs.Drawn.{trail_at}
 use Rattle.aa_glob_syntax.specs.Elements.{Element}
-use Rattle.aa_glob_prefixes.specs.Beginnings.{AreApart}
-use Rattle.aa_glob_prefixes.specs.Trails.{Trail}
+use Rattle.aa_glob_pattern.specs.Beginnings.{AreApart}
+use Rattle.aa_glob_pattern.specs.Trails.{Trail}
 use Rattle.aa_glob_automaton.specs.Tree.{HasOneMore, Ways, next, places}
 
 -- one trail behind others leaves them as they are

@@ -7,9 +7,9 @@ use Rattle.aa_glob_automaton.specs.code.Growths.{Follows, GoesOver}
 use Rattle.aa_glob_automaton.specs.declared.growing.Growing.{Growing}
 use Rattle.aa_glob_automaton.proofs.StandLemmas.{stands_start}
 use Rattle.aa_glob_syntax.specs.Elements.{Element}
-use Rattle.aa_glob_prefixes.specs.Elements.{elements_of}
-use Rattle.aa_glob_prefixes.specs.Laws.{WholeTrailsAreElements}
-use Rattle.aa_glob_prefixes.specs.Trails.{Trail, trail_of}
+use Rattle.aa_glob_pattern.specs.Elements.{elements_of}
+use Rattle.aa_glob_pattern.specs.Laws.{WholeTrailsAreElements}
+use Rattle.aa_glob_pattern.specs.Trails.{Trail, trail_of}
 
 -- a walk begins where no text was followed yet
 pub follows-start : (patterns : List (List ℕ)) (g : Growing) (walk : Standing) → walk ≡ standing_at 0 [] → Between patterns g → Follows patterns [] g walk

@@ -14,14 +14,14 @@ use Rattle.aa_glob_automaton.specs.code.Growths.{Follows, FollowsTo, GrowsBy, Is
 use Rattle.aa_glob_automaton.specs.declared.growing.Growing.{Growing}
 use Rattle.aa_glob_automaton.proofs.FindLemmas.{finds_more, finds_numbered, found_is, goes_on-push, goes_on-same, last_trail, none_is}
 use Rattle.aa_glob_automaton.proofs.StandLemmas.{sources_named, sources_there, stands_entered, stands_kept}
-use Rattle.aa_glob_nfa_laws.specs.Drawn.{AddsState, HaveSources, trail_at}
-use Rattle.aa_glob_nfa_laws.specs.Laws.{AddedIsDrawn}
+use Rattle.aa_glob_automaton.specs.Drawn.{AddsState, HaveSources, trail_at}
+use Rattle.aa_glob_automaton.specs.Laws.{AddedIsDrawn}
 use Rattle.aa_glob_syntax.specs.Elements.{Element}
 use Rattle.aa_glob_nfa.specs.Graphs.{EndsAt, Graph, with_entry}
 use Rattle.aa_glob_nfa.specs.declared.entry.Entry.{Entry}
-use Rattle.aa_glob_prefixes.specs.Beginnings.{Begun}
-use Rattle.aa_glob_prefixes.specs.Laws.{KnownTrailIsMet, NewTrailIsAdded}
-use Rattle.aa_glob_prefixes.specs.Trails.{sources, Trail, trail_of}
+use Rattle.aa_glob_pattern.specs.Beginnings.{Begun}
+use Rattle.aa_glob_pattern.specs.Laws.{KnownTrailIsMet, NewTrailIsAdded}
+use Rattle.aa_glob_pattern.specs.Trails.{sources, Trail, trail_of}
 use Rattle.aa_glob_automaton.specs.Tree.{next}
 
 -- the ways to a state that is new are drawn between states

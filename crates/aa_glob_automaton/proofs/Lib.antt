@@ -1,11 +1,14 @@
 pub mod BuiltLemmas
 pub mod ClashLemmas
+pub mod EntryLemmas
 pub mod FindLemmas
 pub mod FollowLemmas
 pub mod GrowthLemmas
 pub mod NumberLemmas
+pub mod ReachLemmas
 pub mod SeenLemmas
 pub mod StandLemmas
+pub mod StepLemmas
+pub mod TreeLemmas
 pub mod VisitLemmas
 pub mod WayLemmas
-pub mod TreeLemmas

@@ -4,10 +4,10 @@ use Rattle.std.specs.List.{All}
 use Rattle.std.proofs.lemmas.List.Elements.{All-cons, All-head, All-nil, All-tail}
 use Rattle.aa_glob_automaton.specs.Grown.{GoesOn, IsThere, StandsAt, group_at}
 use Rattle.aa_glob_automaton.specs.Walks.{OpenStates, Standing, entered, source_states, standing_at}
-use Rattle.aa_glob_nfa_laws.specs.Drawn.{trail_at}
+use Rattle.aa_glob_automaton.specs.Drawn.{trail_at}
 use Rattle.aa_glob_syntax.specs.Elements.{Element, Single, Open, Comma, Close, Fault}
 use Rattle.aa_glob_syntax.specs.OpenGroups.{groups_behind, sources_behind}
-use Rattle.aa_glob_prefixes.specs.Trails.{sources, Trail, TrailGroup}
+use Rattle.aa_glob_pattern.specs.Trails.{sources, Trail, TrailGroup}
 
 -- the sources of a trail are those of the states from which its last element is reached
 

@@ -8,10 +8,10 @@ use Rattle.aa_glob_automaton.specs.Automata.{IsGraphOf}
 use Rattle.aa_glob_automaton.specs.Visits.{IsReadOf}
 use Rattle.aa_glob_nfa.proofs.ListLemmas.{Contains-map, Contains-map_cases}
 use Rattle.aa_glob_nfa.specs.Graphs.{AreBytes, begins, comes, Graph, Reaches, stays, takes}
-use Rattle.aa_glob_nfa_laws.specs.Drawn.{IsDrawn, trail_at}
-use Rattle.aa_glob_nfa_laws.specs.Laws.{ReachingIsReading}
-use Rattle.aa_glob_prefixes.specs.Reads.{reads}
-use Rattle.aa_glob_prefixes.specs.Trails.{Trail}
+use Rattle.aa_glob_automaton.specs.Drawn.{IsDrawn, trail_at}
+use Rattle.aa_glob_automaton.specs.Laws.{ReachingIsReading}
+use Rattle.aa_glob_pattern.specs.Reads.{reads}
+use Rattle.aa_glob_pattern.specs.Trails.{Trail}
 use Rattle.aa_glob_front.specs.Visits.{AreEach, AreVisits, CountsAllVisits, CountsFirstVisits}
 
 -- a state that is reached has a trail

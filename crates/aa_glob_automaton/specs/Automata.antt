@@ -2,11 +2,11 @@
 -- `IsAutomatonOf`; how many states they have, and so how many visits a path takes at most, is said of the patterns by `HasStates`.
 use Rattle.std.specs.Prelude.{◌≡◌, ◌↔◌, ℕ, ◌<◌, ◌≤◌, List, [], length, Ok, Option, None, Some}
 use Rattle.std.specs.List.{All}
-use Rattle.aa_glob_nfa_laws.specs.Drawn.{IsDrawn, trail_at}
+use Rattle.aa_glob_automaton.specs.Drawn.{IsDrawn, trail_at}
 use Rattle.aa_glob_syntax.specs.Reading.{items_of, reading}
 use Rattle.aa_glob_nfa.specs.Graphs.{EndsAt, Graph}
-use Rattle.aa_glob_prefixes.specs.Beginnings.{AreBeginnings}
-use Rattle.aa_glob_prefixes.specs.Trails.{Trail, trail_of}
+use Rattle.aa_glob_pattern.specs.Beginnings.{AreBeginnings}
+use Rattle.aa_glob_pattern.specs.Trails.{Trail, trail_of}
 use Rattle.aa_glob_syntax.specs.Patterns.{IsPatternAt}
 
 -- each text reads as a pattern

@@ -3,9 +3,9 @@ use Rattle.std.specs.Prelude.{◌≡◌, ℕ, ◌<◌, List, ◌∷◌, length, 
 use Rattle.std.specs.List.{All}
 use Rattle.aa_glob_automaton.specs.Numbers.{most_number, number_of}
 use Rattle.aa_glob_automaton.specs.Walks.{OpenStates, Standing}
-use Rattle.aa_glob_nfa_laws.specs.Drawn.{trail_at}
+use Rattle.aa_glob_automaton.specs.Drawn.{trail_at}
 use Rattle.aa_glob_syntax.specs.Elements.{Element}
-use Rattle.aa_glob_prefixes.specs.Trails.{groups_of, Trail, TrailGroup}
+use Rattle.aa_glob_pattern.specs.Trails.{groups_of, Trail, TrailGroup}
 use Rattle.aa_glob_automaton.specs.Tree.{Ways, next, places}
 
 -- the group that is open where these states stand for these trails

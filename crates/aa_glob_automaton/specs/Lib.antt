@@ -1,9 +1,11 @@
 pub mod Automata
 pub mod Built
+pub mod Drawn
 pub mod Grown
+pub mod Laws
 pub mod Numbers
+pub mod Tree
 pub mod Visits
 pub mod Walks
 pub mod Ways
 pub mod code
-pub mod Tree

@@ -9,13 +9,12 @@ ghost use Rattle.aa_glob_syntax.specs.Overlap.{ClashesAmong};
 ghost use Rattle.aa_glob_syntax.specs.Patterns.{AreMatching};
 ghost use Rattle.aa_glob_front.specs.Steps.{IsCounted, most_visits};
 ghost use Rattle.aa_glob_front.specs.Visits.{CountsAllVisits, CountsFirstVisits};
-ghost use Rattle.aa_glob_prefixes.specs.Beginnings.{HasStates, most_states};
+ghost use Rattle.aa_glob_pattern.specs.Beginnings.{HasStates, most_states};
 
 use crate::builder::AutomatonBuilder;
+use crate::laws::what_reaches_a_state;
 use aa_glob_front::Steps;
-use aa_glob_nfa_laws::what_reaches_a_state;
-use aa_glob_pattern::Pattern;
-use aa_glob_prefixes::how_many_states_there_are;
+use aa_glob_pattern::{Pattern, how_many_states_there_are};
 use aa_glob_run::Nfa;
 use std::alloc::{AllocError, Global};
 use std::marker::Model;

@@ -8,11 +8,10 @@ ghost use Rattle.aa_glob_syntax.specs.Reading.{items_of, reading};
 
 use crate::automaton::Automaton;
 use crate::growing::Growing;
+use crate::laws::how_graphs_are_drawn;
 use crate::numbers::Numbers;
 use crate::tree::Tree;
-use aa_glob_nfa_laws::how_graphs_are_drawn;
-use aa_glob_pattern::Pattern;
-use aa_glob_prefixes::how_beginnings_are_gathered;
+use aa_glob_pattern::{Pattern, how_beginnings_are_gathered};
 use aa_glob_run::Drawing;
 use std::alloc::{AllocError, Global};
 use std::marker::Model;

@@ -3,7 +3,7 @@
 ghost use Rattle.std.specs.Prelude.{◌≡◌, ℕ, ◌<◌, ◌^◌, ◌==◌, ◌&&◌, ◌||◌, length, Some, IfOk, OnOk};
 ghost use Rattle.aa_bytes.specs.ByteSets.{has};
 ghost use Rattle.aa_glob_automaton.specs.Numbers.{AreKept, most_number, number_of};
-ghost use Rattle.aa_glob_nfa_laws.specs.Drawn.{Suits};
+ghost use Rattle.aa_glob_automaton.specs.Drawn.{Suits};
 ghost use Rattle.aa_glob_syntax.specs.Cursor.{meaning};
 ghost use Rattle.aa_bytes.specs.ByteMaps.{in_map};
 ghost use Rattle.aa_glob_nfa.specs.Graphs.{with_entry};

@@ -6,7 +6,7 @@ ghost use Rattle.aa_glob_syntax.specs.Reading.{items_of, reading};
 
 use crate::growing::Growing;
 use crate::walk::Walk;
-use aa_glob_prefixes::{Elements, which_elements_stand};
+use aa_glob_pattern::{Elements, which_elements_stand};
 use std::alloc::{AllocError, Global};
 
 impl Growing {

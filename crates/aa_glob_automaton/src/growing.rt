@@ -9,11 +9,11 @@ ghost use Rattle.aa_glob_syntax.specs.Cursor.{meaning};
 ghost use Rattle.aa_glob_automaton.specs.Tree.{next, places};
 
 use crate::element::{add_state, number_of};
+use crate::laws::how_graphs_are_drawn;
 use crate::numbers::Numbers;
 use crate::tree::Tree;
 use crate::walk::Walk;
-use aa_glob_nfa_laws::how_graphs_are_drawn;
-use aa_glob_prefixes::how_beginnings_are_gathered;
+use aa_glob_pattern::how_beginnings_are_gathered;
 use aa_glob_run::Drawing;
 use aa_glob_syntax::Element;
 use std::alloc::{AllocError, Global};

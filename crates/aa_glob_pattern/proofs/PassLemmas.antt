@@ -4,11 +4,11 @@ use Rattle.std.proofs.Common.{◌≡◌, ◌∙◌, ℕ, zero, suc, ◌+◌, ◌
 use Rattle.std.proofs.lemmas.Bool.{cases_lt}
 use Rattle.std.proofs.lemmas.List.{get_or-set_other, get_or-set_same}
 use Rattle.aa_glob_syntax.specs.Elements.{Element}
-use Rattle.aa_glob_prefixes.specs.Elements.{elements_of}
+use Rattle.aa_glob_pattern.specs.Elements.{elements_of}
 use Rattle.aa_glob_pattern.specs.Active.{AreActive, is_none, known_at, is_active, next_past, Past}
 use Rattle.aa_glob_pattern.specs.code.Passes.{ArePassed, IsLeft, TellsSome}
-use Rattle.aa_glob_prefixes.specs.Reads.{Known, known, known_behind}
-use Rattle.aa_glob_prefixes.specs.Trails.{Trail, trail_of}
+use Rattle.aa_glob_pattern.specs.Reads.{Known, known, known_behind}
+use Rattle.aa_glob_pattern.specs.Trails.{Trail, trail_of}
 
 -- what is known behind one element more
 known_at-suc : (es : List Element) (at : ℕ) (k : Known) (e : Element) (rest : List Element) → drop at es ≡ e ∷ rest

@@ -7,7 +7,7 @@ use Rattle.aa_glob_syntax.specs.declared.element.Element.{Element as Found}
 use Rattle.aa_glob_syntax.specs.declared.element.Element.TheVariants as found
 use Rattle.aa_glob_pattern.specs.Active.{is_among, next_past, Past}
 use Rattle.aa_glob_pattern.specs.code.Places.{active_beginnings, active_behind, active_ends}
-use Rattle.aa_glob_prefixes.specs.Reads.{either, element_behind, Known, known_behind, KnownGroup, leading, Texts}
+use Rattle.aa_glob_pattern.specs.Reads.{either, element_behind, Known, known_behind, KnownGroup, leading, Texts}
 
 among-either : (past : Past) (first second : Texts) → is_among (either first second) past ≡ (is_among first past || is_among second past)
 among-either None first second = refl

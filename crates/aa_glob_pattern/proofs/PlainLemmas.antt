@@ -11,8 +11,8 @@ use Rattle.aa_glob_syntax.specs.declared.context.Context.TheVariants.{AfterSlash
 use Rattle.aa_glob_syntax.specs.declared.pattern_error.PatternError.{PatternError}
 use Rattle.aa_glob_syntax.specs.declared.symbol.Symbol.{Symbol}
 use Rattle.aa_glob_syntax.specs.declared.symbol.Symbol.TheVariants.{Plain, Escaped, Broken}
-use Rattle.aa_glob_prefixes.specs.Elements.{elements_of}
-use Rattle.aa_glob_prefixes.specs.Trails.{depth_behind, grouped}
+use Rattle.aa_glob_pattern.specs.Elements.{elements_of}
+use Rattle.aa_glob_pattern.specs.Trails.{depth_behind, grouped}
 
 -- an element is no group
 abbrev pub IsPlain : Element → Type 0

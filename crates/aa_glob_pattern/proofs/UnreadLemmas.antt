@@ -7,10 +7,10 @@ use Rattle.aa_glob_syntax.specs.Elements.{Element, Single, Open, Comma, Close, F
 use Rattle.aa_glob_syntax.specs.Items.{Byte, Set, Star, DoubleStar, Group}
 use Rattle.aa_glob_pattern.proofs.PassLemmas.{active-all}
 use Rattle.aa_glob_pattern.proofs.PlainLemmas.{ArePlain, IsPlain, plain-of}
-use Rattle.aa_glob_prefixes.specs.Elements.{elements_of}
+use Rattle.aa_glob_pattern.specs.Elements.{elements_of}
 use Rattle.aa_glob_pattern.specs.Active.{AreActive, AreUnset, known_at}
-use Rattle.aa_glob_prefixes.specs.Reads.{element_behind, Known, known, known_behind, known_groups, KnownGroup, leading, reads, Texts}
-use Rattle.aa_glob_prefixes.specs.Trails.{trail_of}
+use Rattle.aa_glob_pattern.specs.Reads.{element_behind, Known, known, known_behind, known_groups, KnownGroup, leading, reads, Texts}
+use Rattle.aa_glob_pattern.specs.Trails.{trail_of}
 
 -- a past reads neither the beginnings of groups nor the ends of their alternatives
 abbrev AreUnread : List ℕ → List KnownGroup → Type 0

@@ -1,9 +1,9 @@
 -- Which beginnings of a pattern's text are active: those that a past reads. A past is the bytes of a path that were read so far.
 use Rattle.std.specs.Prelude.{◌≡◌, ℕ, ◌≤◌, zero, suc, Bool, true, false, List, [], ◌∷◌, length, get_or, Option, None, Some}
 use Rattle.aa_glob_syntax.specs.Elements.{Element}
-use Rattle.aa_glob_prefixes.specs.Elements.{elements_of}
-use Rattle.aa_glob_prefixes.specs.Reads.{Known, known, known_behind, reads, Texts}
-use Rattle.aa_glob_prefixes.specs.Trails.{trail_of}
+use Rattle.aa_glob_pattern.specs.Elements.{elements_of}
+use Rattle.aa_glob_pattern.specs.Reads.{Known, known, known_behind, reads, Texts}
+use Rattle.aa_glob_pattern.specs.Trails.{trail_of}
 
 -- the bytes that were read, the last one first; before the first past, which is empty, there is none
 abbrev pub Past : Type 0

@@ -1,2 +1,10 @@
-pub mod code
 pub mod Active
+pub mod Beginnings
+pub mod Elements
+pub mod Laws
+pub mod Left
+pub mod Reads
+pub mod Shared
+pub mod Standing
+pub mod Trails
+pub mod code

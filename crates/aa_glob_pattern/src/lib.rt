@@ -1,6 +1,9 @@
-//! AppArmor's path patterns: read exactly, refused exactly, matched exactly.
+//! AppArmor's path patterns: read exactly, refused exactly, matched exactly; and their beginnings: which texts read them, and whether
+//! two patterns overlap.
 #![tactic(auto)]
 
+mod elements;
+mod laws;
 mod matching;
 mod pass;
 mod pattern;
@@ -8,4 +11,10 @@ mod place;
 mod places;
 
 pub use aa_glob_syntax::{LONGEST_PATTERN, PatternError};
+pub use elements::Elements;
+pub use laws::{
+    how_beginnings_are_gathered, how_many_states_there_are, how_overlaps_are_tested,
+    how_trails_are_read, how_trails_grow, matching_is_by_splits, what_reads_to_the_end_matches,
+    which_elements_stand,
+};
 pub use pattern::Pattern;

@@ -5,8 +5,8 @@ ghost use Rattle.aa_glob_syntax.specs.Matching.{matches};
 ghost use Rattle.aa_glob_syntax.specs.Reading.{items_of, reading};
 ghost use Rattle.aa_glob_pattern.specs.Active.{AreActive};
 
+use crate::laws::what_reads_to_the_end_matches;
 use crate::pass::pass;
-use aa_glob_prefixes::what_reads_to_the_end_matches;
 
 // How many beginnings there may be: two elements for each byte of the longest pattern, and the empty beginning.
 const MOST_PREFIXES: usize = 8_193;

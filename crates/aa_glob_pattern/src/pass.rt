@@ -4,8 +4,8 @@ ghost use Rattle.std.specs.Prelude.{◌≡◌, ◌<◌, ◌*◌, ◌||◌, lengt
 ghost use Rattle.aa_glob_syntax.specs.Reading.{items_of, reading};
 ghost use Rattle.aa_glob_pattern.specs.Active.{AreUnset, ActiveGoesOn, TellsWhole};
 
+use crate::elements::Elements;
 use crate::places::Places;
-use aa_glob_prefixes::Elements;
 
 /// What a pass tells of its past.
 #[derive(Clone, Copy)]

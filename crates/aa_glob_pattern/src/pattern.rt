@@ -6,8 +6,8 @@ ghost use Rattle.aa_glob_syntax.specs.Matching.{Matches, matches};
 ghost use Rattle.aa_glob_syntax.specs.Reading.{items_of, reading};
 ghost use Rattle.aa_glob_syntax.specs.declared.pattern_error.PatternError.TheVariants.{Memory};
 
+use crate::laws::matching_is_by_splits;
 use crate::matching::matches_text;
-use aa_glob_prefixes::matching_is_by_splits;
 use aa_glob_syntax::{PatternError, check_pattern};
 use std::alloc::{AllocError, Global};
 use std::marker::Model;

@@ -21,9 +21,9 @@ impl Place {
     ghost use Rattle.aa_glob_syntax.specs.Cursor.{meaning};
     ghost use Rattle.aa_glob_syntax.specs.Elements.{Close, Comma, Open};
     ghost use Rattle.aa_glob_syntax.specs.OpenGroups.{with_innermost};
-    ghost use Rattle.aa_glob_prefixes.specs.Elements.{MayStand};
-    ghost use Rattle.aa_glob_prefixes.specs.Reads.{Known, leading};
-    ghost use Rattle.aa_glob_prefixes.specs.Trails.{depth_behind};
+    ghost use Rattle.aa_glob_pattern.specs.Elements.{MayStand};
+    ghost use Rattle.aa_glob_pattern.specs.Reads.{Known, leading};
+    ghost use Rattle.aa_glob_pattern.specs.Trails.{depth_behind};
     ghost use Rattle.aa_glob_pattern.specs.Active.{is_among, Past};
     ghost use Rattle.aa_glob_pattern.specs.code.Places.{GoesOver, IsAt};
 

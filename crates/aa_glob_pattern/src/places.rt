@@ -19,11 +19,11 @@ pub struct Places {
 impl Places {
     ghost use Rattle.std.specs.Prelude.{◌≡◌, ℕ, Bool, [], length};
     ghost use Rattle.aa_glob_syntax.specs.Cursor.{meaning};
-    ghost use Rattle.aa_glob_prefixes.specs.Elements.{MayStand};
+    ghost use Rattle.aa_glob_pattern.specs.Elements.{MayStand};
     ghost use Rattle.aa_glob_pattern.specs.Active.{is_among, is_none, Past};
     ghost use Rattle.aa_glob_pattern.specs.code.Places.{AreAt, active_behind};
-    ghost use Rattle.aa_glob_prefixes.specs.Reads.{Known, known, known_behind};
-    ghost use Rattle.aa_glob_prefixes.specs.Trails.{depth_behind};
+    ghost use Rattle.aa_glob_pattern.specs.Reads.{Known, known, known_behind};
+    ghost use Rattle.aa_glob_pattern.specs.Trails.{depth_behind};
 
     /// The beginning of the text, by whether it is active for each past.
     pub fn beginning(before: bool, after: bool) -> Places

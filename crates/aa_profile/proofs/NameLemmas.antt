@@ -9,7 +9,7 @@ use Rattle.std.proofs.lemmas.List.{append-nil, map-append}
 use Rattle.std.proofs.lemmas.List.Folds.{list_all-append}
 use Rattle.std.proofs.lemmas.Slice.Eq.{bytes_eq-Decides}
 use Rattle.aa_text_splicing.specs.Splicing.{Placed}
-use Rattle.aa_profile_names.specs.Names.{is_name, is_top_name}
+use Rattle.aa_profile_access.specs.Names.{is_name, is_top_name}
 use Rattle.aa_profile_parsing.specs.Parts.{Part, followed, refused}
 use Rattle.aa_profile_parsing.specs.Tokens.{is_close_brace, is_word_of}
 use Rattle.aa_profile_rules.specs.Rules.{rule}

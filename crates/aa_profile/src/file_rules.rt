@@ -5,10 +5,10 @@ ghost use Rattle.std.specs.Option.{option_map};
 ghost use Rattle.aa_text_splicing.specs.SeenTokens.{seen_spliced};
 ghost use Rattle.aa_profile.specs.Profiles.{file_rule, file_rule_with, link_of, text_of_target, transition_of};
 
+use aa_bytes::{SharedBytes, share_option};
 use aa_glob_pattern::Pattern;
 use aa_profile_data::{FileRule, Rule, Transition};
 use aa_profile_grammar::{Access, Qualifiers};
-use aa_shared_bytes::{SharedBytes, share_option};
 use aa_text_splicing::Spliced;
 use std::alloc::{AllocError, Global};
 

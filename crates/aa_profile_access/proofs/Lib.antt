@@ -1,3 +1,4 @@
 pub mod AccessLemmas
+pub mod FullNameLemmas
 pub mod PartLemmas
 pub mod WrittenLemmas

@@ -1,7 +1,9 @@
 pub mod Access
 pub mod AccessText
 pub mod ExecWords
+pub mod FullNames
 pub mod Laws
+pub mod Names
 pub mod Request
 pub mod SeenRequests
 pub mod WrittenAccess

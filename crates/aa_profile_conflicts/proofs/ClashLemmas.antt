@@ -7,7 +7,7 @@ use Rattle.std.proofs.lemmas.List.Elements.{All-contains, All-nil}
 use Rattle.std.proofs.lemmas.Option.{get_or_from_slice_get, slice_get_within}
 use Rattle.aa_glob_automaton.specs.Automata.{AreRead, IsAutomatonOf}
 use Rattle.aa_glob_nfa.specs.Graphs.{Graph}
-use Rattle.aa_glob_prefixes.specs.Laws.{OverlapsAreTested}
+use Rattle.aa_glob_pattern.specs.Laws.{OverlapsAreTested}
 use Rattle.aa_glob_pairs.specs.Clashes.{IsLeast}
 use Rattle.aa_glob_syntax.specs.Overlap.{ClashesAmong, Overlap}
 use Rattle.aa_glob_syntax.specs.Reading.{items_of, reading}

@@ -1,6 +1,6 @@
 -- Rules that conflict with an earlier one, by their places.
 use Rattle.std.specs.Prelude.{◌≡◌, ℕ, ◌<◌, Bool, true, false, List, Option, None, Some, slice_get, min}
-use Rattle.aa_glob_prefixes.specs.Shared.{overlaps}
+use Rattle.aa_glob_pattern.specs.Shared.{overlaps}
 use Rattle.aa_profile_conflicts.specs.Leads.{lead_by}
 use Rattle.aa_profile_data.specs.Conflicts.{Lead, same_transition}
 use Rattle.aa_profile_data.specs.declared.profile.Rule.{Rule}

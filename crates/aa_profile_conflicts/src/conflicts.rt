@@ -13,7 +13,7 @@ ghost use Rattle.aa_profile_data.specs.Conflicts.{first_conflict};
 use crate::classes::classes_of;
 use crate::lead::lead_by;
 use aa_glob_automaton::{Automaton, AutomatonBuilder};
-use aa_glob_prefixes::how_overlaps_are_tested;
+use aa_glob_pattern::how_overlaps_are_tested;
 use aa_profile_data::Rule;
 use std::alloc::{AllocError, Global};
 

@@ -4,8 +4,8 @@ use Rattle.std.specs.Prelude.{All, if◌then◌else◌, is_none, slice_get}
 use Rattle.std.specs.List.{list_any}
 use Rattle.std.specs.Option.{option_map}
 use Rattle.std.proofs.lemmas.List.Elements.{All-contains}
-use Rattle.aa_glob_prefixes.specs.Laws.{OverlapsAreTested}
-use Rattle.aa_glob_prefixes.specs.Shared.{overlaps}
+use Rattle.aa_glob_pattern.specs.Laws.{OverlapsAreTested}
+use Rattle.aa_glob_pattern.specs.Shared.{overlaps}
 use Rattle.aa_glob_syntax.specs.Exactness.{is_exact}
 use Rattle.aa_glob_syntax.specs.Reading.{items_of, reading}
 use Rattle.aa_profile_data.proofs.PlaceLemmas.{Contains-from_get}

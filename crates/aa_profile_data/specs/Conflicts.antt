@@ -4,7 +4,7 @@ use Rattle.std.specs.Prelude.{◌≡◌, ℕ, suc, Bool, true, false, not, ◌&&
 use Rattle.std.specs.List.{list_all, list_any}
 use Rattle.std.specs.Option.{option_map}
 use Rattle.std.specs.Str.{bytes_eq}
-use Rattle.aa_glob_prefixes.specs.Shared.{overlaps}
+use Rattle.aa_glob_pattern.specs.Shared.{overlaps}
 use Rattle.aa_glob_syntax.specs.Exactness.{is_exact}
 use Rattle.aa_glob_syntax.specs.Overlap.{Overlap}
 use Rattle.aa_glob_syntax.specs.Reading.{items_of}

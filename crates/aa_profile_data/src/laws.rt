@@ -11,7 +11,7 @@ ghost use Rattle.aa_profile_data.specs.Matching.{AreMatchingRules, is_matching};
 ghost use Rattle.aa_profile_data.specs.Picked.{picked};
 ghost use Rattle.aa_profile_data.specs.declared.profile.Rule.{Rule};
 
-use aa_glob_prefixes::how_overlaps_are_tested;
+use aa_glob_pattern::how_overlaps_are_tested;
 
 /// What stands at the places of the rules that match a path, in rising order, are those rules in their order. Where the places of the patterns of
 /// file rules are known that match a path, what stands at these among the places of the file rules are the places of the rules that match,

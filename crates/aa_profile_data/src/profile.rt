@@ -4,10 +4,9 @@ ghost use Rattle.std.specs.Prelude.{◌≡◌, IfOk};
 ghost use Rattle.aa_profile_data.specs.Conflicts.{same_target, same_transition};
 ghost use Rattle.aa_profile_data.specs.Profile.{child_place};
 
-use aa_bytes::Sequence;
+use aa_bytes::{Sequence, SharedBytes, share_option};
 use aa_glob_pattern::Pattern;
 use aa_profile_access::{ExecWord, Perms};
-use aa_shared_bytes::{SharedBytes, share_option};
 use std::alloc::{AllocError, Global};
 
 /// Whether what the rules don't allow is refused, or let through and logged.

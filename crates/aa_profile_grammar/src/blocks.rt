@@ -15,7 +15,7 @@ use crate::heads::{Form, Head, Named, begins_child, read_child_name, read_head, 
 use crate::preamble::read_version;
 use crate::sequence::{Next, Rest};
 use crate::so_far::{MembersSoFar, ProfilesSoFar};
-use aa_profile_names::{is_name, is_top_name};
+use aa_profile_access::{is_name, is_top_name};
 use aa_profile_parsing::{Fault, GrammarRefusal, is_word_of, refusal_at};
 use aa_profile_rules::{Rule, read_rule};
 use aa_text_splicing::Spliced;

@@ -5,8 +5,8 @@ use Rattle.aa_profile_access.specs.Access.{EXEC, LINK, has}
 use Rattle.aa_profile_access.specs.ExecWords.{row}
 use Rattle.aa_profile_access.specs.declared.exec_word.Destination.{Destination}
 use Rattle.aa_profile_access.specs.declared.exec_word.Destination.TheVariants as to
-use Rattle.aa_profile_names.specs.FullNames.{is_full_name}
-use Rattle.aa_profile_names.specs.Names.{is_top_name}
+use Rattle.aa_profile_access.specs.FullNames.{is_full_name}
+use Rattle.aa_profile_access.specs.Names.{is_top_name}
 use Rattle.aa_text_splicing.specs.Splicing.{Placed}
 use Rattle.aa_profile_parsing.specs.Parts.{Part, expected, followed, refused}
 use Rattle.aa_profile_parsing.specs.Tokens.{is_text, is_word_of, text_of}

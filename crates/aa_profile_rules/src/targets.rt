@@ -7,8 +7,7 @@ ghost use Rattle.aa_profile_parsing.specs.Readings.{IsFault, IsRead};
 ghost use Rattle.aa_profile_rules.specs.Targets.{is_name_of, is_nameable, is_target, named_target, takes_target, target};
 
 use crate::access::Access;
-use aa_profile_access::{Destination, Perms};
-use aa_profile_names::{is_full_name, is_top_name};
+use aa_profile_access::{Destination, Perms, is_full_name, is_top_name};
 use aa_profile_parsing::{Fault, GrammarRefusal, is_word_of, read_text, refusal_at};
 use aa_text_splicing::Spliced;
 use bitflags::Flags;

@@ -19,7 +19,7 @@ use Rattle.aa_set.specs.Laws.{AreDistinct, GivesBack, NoneFlagged, NoneGoes, Pie
 use Rattle.aa_set.specs.Manager.{Managed, after_change, back_at, is_mark_name, marking, new_manager, next, redone, undone}
 use Rattle.aa_set.specs.Reply.{is_refusal}
 use Rattle.aa_set.specs.Run.{Outcome, after_lines, answered, changed, command_outcome, flagged, line_outcome, obeyed, refused, replies_to, takes_memory}
-use Rattle.aa_decide_entry.specs.Entries.{Loaded}
+use Rattle.aa_decide_slots.specs.Entries.{Loaded}
 use Rattle.aa_set.proofs.StepLemmas.{line_marks}
 use Rattle.aa_set.specs.declared.reply.Reply.{Reply}
 use Rattle.aa_set.specs.declared.reply.Reply.TheVariants.{Answered, Refused, Silent}

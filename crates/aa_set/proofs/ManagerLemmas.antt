@@ -2,8 +2,8 @@
 use Rattle.std.proofs.Common.{◌≡◌, not, ℕ, Bool, true, false, cond, List, [], ◌∷◌, ◌++◌, length, take, map, Option, None, Some, Result, Ok, Err, IfOk, IfErr, OnOk, OnErr, refl, sym, ap, subst, ◌∙◌}
 use Rattle.std.proofs.lemmas.List.{length-map, map_push}
 use Rattle.aa_decide_slots.specs.Named.{entry_named, have_distinct_names}
-use Rattle.aa_decide_entry.specs.Entries.{Loaded, is_in_force}
-use Rattle.aa_decide_entry.specs.Slots.{filled}
+use Rattle.aa_decide_slots.specs.Entries.{Loaded, is_in_force}
+use Rattle.aa_decide_slots.specs.Slots.{filled}
 use Rattle.aa_history.specs.Machine.{Kept, Machine, accepted, all_sets, can_go_back, can_go_on, committed, gone_back, gone_on, gone_to_mark, is_marked, mapped, up_to, with_mark}
 use Rattle.aa_history.specs.MachineLaws.{AllSetsAreMapped, BackIsMapped, BackKeepsSets, CanBackIsMapped, CanOnIsMapped, OnIsMapped, OnKeepsSets}
 use Rattle.aa_history.specs.MarkLaws.{MarkIsMapped, ToMarkIsMapped}

@@ -6,7 +6,7 @@ use Rattle.std.specs.Result.{IfOk, IfErr, OnOk, OnErr, MatchResult}
 use Rattle.aa_set_changes.specs.Changes.{change_takes_memory, is_disabled, is_loaded}
 use Rattle.aa_set_commands.specs.Command.{Command, Make, Mark, PolicyChange}
 use Rattle.aa_set.specs.Manager.{Managed, is_mark_name, made, marking}
-use Rattle.aa_decide_entry.specs.Entries.{Loaded}
+use Rattle.aa_decide_slots.specs.Entries.{Loaded}
 use Rattle.aa_set_commands.specs.Refusal.{IsRefusalOf, plain}
 use Rattle.aa_set.specs.Run.{answered, changed, obeyed, obeyed_flagged, takes_memory}
 use Rattle.aa_text_files.specs.Files.{File, name_at}

@@ -1,6 +1,6 @@
 -- Lines as steps of the machine.
 use Rattle.std.proofs.Common.{◌≡◌, ℕ, Bool, true, false, cond, leb, ◌&&◌, List, [], ◌∷◌, ◌++◌, length, Option, None, Some, Result, Ok, Err, is_some, refl, sym, ap, ◌∙◌, subst}
-use Rattle.aa_decide_entry.specs.Entries.{Loaded}
+use Rattle.aa_decide_slots.specs.Entries.{Loaded}
 use Rattle.aa_history.specs.Machine.{Machine, MarksItsSets, can_go_back, can_go_on, gone_back, gone_on, gone_where, marked, with_mark}
 use Rattle.aa_history.specs.MarkLaws.{Accept, Mark as StepMark, Redo as StepOn, Return, SparesThroughout, StartedMarksItsSets, Step, StepsMarkTheirSets, Undo as StepBack, run, stepped}
 use Rattle.aa_set_answers.specs.Answers.{reply_lines, shown}

@@ -13,7 +13,7 @@ use Rattle.aa_set.specs.declared.reply.Reply.{Reply}
 use Rattle.aa_set.specs.declared.reply.Reply.TheVariants.{Done}
 use Rattle.aa_set_lines.specs.Limits.{longest_line}
 use Rattle.aa_set.specs.Run.{after_lines, line_outcome, output, output_so_far, replies}
-use Rattle.aa_decide_entry.specs.Entries.{Loaded}
+use Rattle.aa_decide_slots.specs.Entries.{Loaded}
 
 -- the command in a line
 abbrev pub command_in : List ℕ → Result (Option Command) Refusal

@@ -3,7 +3,7 @@ use Rattle.std.specs.Prelude.{ℕ, Bool, ◌&&◌, nat_le, if◌then◌else◌, 
 use Rattle.aa_text_files.specs.Files.{File}
 use Rattle.aa_history.specs.Machine.{Kept, Machine, begun, can_go_back, can_go_on, committed, gone_back, gone_on, gone_to_mark, is_marked, with_mark}
 use Rattle.aa_profile_data.specs.declared.profile.Mode.{Mode}
-use Rattle.aa_decide_entry.specs.Entries.{Loaded}
+use Rattle.aa_decide_slots.specs.Entries.{Loaded}
 use Rattle.aa_set_commands.specs.Command.{PolicyChange}
 use Rattle.aa_set_commands.specs.Refusal.{plain}
 use Rattle.aa_set_commands.specs.declared.refusal.Refusal.{Refusal}

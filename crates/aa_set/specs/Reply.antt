@@ -2,7 +2,7 @@
 use Rattle.std.specs.Prelude.{ℕ, Bool, true, false, Option, None, Some, List, [], ◌++◌, codes}
 use Rattle.std.specs.Fmt.{decimal}
 use Rattle.aa_set_answers.specs.Answers.{line_with}
-use Rattle.aa_quoting.specs.Texts.{written_text}
+use Rattle.aa_bytes.specs.Quoting.{written_text}
 use Rattle.aa_text_files.specs.Files.{File, name_at}
 use Rattle.aa_text_files.specs.declared.text_error.Place.{Place}
 use Rattle.aa_set_commands.specs.Refusal.{number_of, name_of}

@@ -57,7 +57,7 @@ impl Drop for Manager {
 }
 
 impl Model for Manager {
-    ghost use Rattle.aa_decide_entry.specs.Slots.{filled};
+    ghost use Rattle.aa_decide_slots.specs.Slots.{filled};
     ghost use Rattle.aa_history.specs.Machine.{all_sets, mapped};
     ghost use Rattle.aa_set.specs.Laws.{AreDistinct};
     ghost use Rattle.aa_set.specs.Manager.{Managed, managed_by};

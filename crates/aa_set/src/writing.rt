@@ -5,10 +5,10 @@ ghost use Rattle.std.specs.Fmt.{decimal};
 ghost use Rattle.aa_text_files.specs.Files.{name_at};
 ghost use Rattle.aa_set_lines.specs.Streams.{AppendsFront, WritesBehind};
 ghost use Rattle.aa_set.specs.Reply.{place_text, refusal_text, reply_text};
-ghost use Rattle.aa_quoting.specs.Texts.{hexadecimal, written_text};
+ghost use Rattle.aa_bytes.specs.Quoting.{hexadecimal, written_text};
 
 use crate::reply::Reply;
-use aa_quoting::{are_shown, two_digits};
+use aa_bytes::{are_shown, two_digits};
 use aa_set_commands::Refusal;
 use aa_set_lines::{Failed, Sink, write_behind};
 use aa_text_files::{Files, Place};

@@ -7,16 +7,16 @@ use Rattle.aa_set_commands.specs.Refusal.{plain}
 use Rattle.aa_set_commands.specs.declared.refusal.Refusal.{Refusal}
 use Rattle.aa_set_commands.specs.declared.refusal.RefusalKind.TheVariants.{Absent}
 use Rattle.aa_decide_audit.specs.Answer.{answer_word}
-use Rattle.aa_decide_entry.specs.Confinement.{By, Confinement, Unconfined}
-use Rattle.aa_decide_entry.specs.Entries.{Loaded}
+use Rattle.aa_decide_slots.specs.Confinement.{By, Confinement, Unconfined}
+use Rattle.aa_decide_slots.specs.Entries.{Loaded}
 use Rattle.aa_decide.specs.Exec.{Asker, ExecAnswer, Nowhere, Null, Started, Unconfined as Free, Under, exec_answer}
 use Rattle.aa_decide_audit.specs.LogLines.{exec_line, log_line}
-use Rattle.aa_decide_entry.specs.Ready.{decided}
+use Rattle.aa_decide_slots.specs.Ready.{decided}
 use Rattle.aa_decide_audit.specs.declared.verdict.Answer.{Answer}
 use Rattle.aa_decide_audit.specs.declared.verdict.Verdict.{Verdict}
 use Rattle.aa_profile_data.specs.declared.profile.Profile.{Profile}
-use Rattle.aa_quoting.specs.Texts.{written_text}
-use Rattle.aa_profile_names.specs.FullNames.{full_name}
+use Rattle.aa_bytes.specs.Quoting.{written_text}
+use Rattle.aa_profile_access.specs.FullNames.{full_name}
 use Rattle.aa_set_answers.specs.ProfileNames.{full_name_at}
 use Rattle.aa_set_answers.specs.Show.{show_lines}
 use Rattle.aa_set_answers.specs.Askers.{asker, confinement, named_asker}

@@ -2,10 +2,10 @@
 use Rattle.std.specs.Prelude.{ℕ, if◌then◌else◌, List, Option, None, Some, option_and_then, codes}
 use Rattle.std.specs.Option.{option_map}
 use Rattle.std.specs.Str.{bytes_eq}
-use Rattle.aa_decide_entry.specs.Confinement.{Confinement, Unconfined, in_state}
-use Rattle.aa_decide_entry.specs.Entries.{Loaded}
+use Rattle.aa_decide_slots.specs.Confinement.{Confinement, Unconfined, in_state}
+use Rattle.aa_decide_slots.specs.Entries.{Loaded}
 use Rattle.aa_decide.specs.Exec.{Asker}
-use Rattle.aa_profile_names.specs.FullNames.{FullName, full_name}
+use Rattle.aa_profile_access.specs.FullNames.{FullName, full_name}
 use Rattle.aa_profile_data.specs.Profile.{child_place}
 use Rattle.aa_decide_slots.specs.Named.{entry_named}
 

@@ -15,7 +15,7 @@ use Rattle.aa_profile_data.specs.declared.profile.Transition.{Transition}
 use Rattle.aa_profile_tables.specs.Capabilities.{names}
 use Rattle.aa_profile_tables.specs.Domains.{domain_name}
 use Rattle.aa_profile_tables.specs.Kinds.{kind_name}
-use Rattle.aa_quoting.specs.Texts.{written_text}
+use Rattle.aa_bytes.specs.Quoting.{written_text}
 use Rattle.aa_profile_tables.specs.Names.{name_or_none}
 
 -- a text, where something holds

@@ -4,8 +4,8 @@ ghost use Rattle.std.specs.Prelude.{◌≡◌, ◌++◌, Ok, Err, IfOk, IfErr, O
 ghost use Rattle.aa_set_commands.specs.Question.{OfAccess, OfExec};
 ghost use Rattle.aa_set_commands.specs.Refusal.{IsRefusalOf, plain};
 ghost use Rattle.aa_set_commands.specs.declared.refusal.RefusalKind.TheVariants.{Memory};
-ghost use Rattle.aa_decide_entry.specs.Slots.{filled};
-ghost use Rattle.aa_decide_entry.specs.Confinement.{found};
+ghost use Rattle.aa_decide_slots.specs.Slots.{filled};
+ghost use Rattle.aa_decide_slots.specs.Confinement.{found};
 ghost use Rattle.aa_profile_access.specs.SeenRequests.{request_of};
 ghost use Rattle.aa_decide_audit.specs.LogLines.{exec_line};
 ghost use Rattle.aa_set_answers.specs.Answers.{asks_absent, confined_lines, line_with, reply_lines};
@@ -15,12 +15,12 @@ ghost use Rattle.aa_set_answers.specs.code.SeenTexts.{seen_text};
 use crate::asker::{confinement, find_asker, find_loaded};
 use crate::names::full_name;
 use crate::show::show_lines;
+use aa_bytes::push_text;
 use aa_decide::{
     Confinement, ExecTo, ExecVerdict, IndexedSlots, Request, Steps, entry_at, exec_by, exec_line,
     log_line,
 };
 use aa_profile_data::Profile;
-use aa_quoting::push_text;
 use aa_set_commands::{Refusal, RefusalKind, plain};
 use std::alloc::{AllocError, Global};
 

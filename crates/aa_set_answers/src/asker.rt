@@ -3,14 +3,14 @@
 ghost use Rattle.std.specs.Prelude.{◌≡◌, IfSome};
 ghost use Rattle.std.specs.Option.{option_copied, option_map};
 ghost use Rattle.aa_decide.specs.SeenExec.{IsIn, seen_asker};
-ghost use Rattle.aa_decide_entry.specs.Slots.{filled};
-ghost use Rattle.aa_profile_names.specs.FullNames.{full_name};
-ghost use Rattle.aa_decide_entry.specs.Confinement.{found};
+ghost use Rattle.aa_decide_slots.specs.Slots.{filled};
+ghost use Rattle.aa_profile_access.specs.FullNames.{full_name};
+ghost use Rattle.aa_decide_slots.specs.Confinement.{found};
 ghost use Rattle.aa_set_answers.specs.Askers.{asker, confinement, entry_asker, named_asker};
 
 use aa_decide::{Asker, Confinement, Entry, IndexedSlots, find_named};
+use aa_profile_access::cut_full_name;
 use aa_profile_data::child_place;
-use aa_profile_names::cut_full_name;
 
 // The child or hat of a name, if one is named, of the profile in a slot, or this profile itself.
 fn named_in<'a>(slot: usize, entry: &'a Entry, child: Option<&[u8]>) -> Option<Asker<'a>>

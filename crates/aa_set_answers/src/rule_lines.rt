@@ -5,14 +5,13 @@ ghost use Rattle.std.specs.Option.{option_map};
 ghost use Rattle.aa_set_answers.specs.RuleLines.{access_text, capabilities_text, capability_text, domain_word, exec_text, file_text};
 ghost use Rattle.aa_set_answers.specs.RuleLines.{has_all, kind_word, names_from, network_text, other_text, qualifiers, rule_line};
 ghost use Rattle.aa_set_answers.specs.RuleLines.{rule_text, target_text, text_if};
-ghost use Rattle.aa_quoting.specs.Texts.{written_text};
+ghost use Rattle.aa_bytes.specs.Quoting.{written_text};
 ghost use Rattle.aa_profile_tables.specs.Names.{name_or_none};
 
+use aa_bytes::{SharedBytes, push_text};
 use aa_glob_pattern::Pattern;
 use aa_profile_data::{CapRule, FileRule, NetRule, OtherRule, Rule, Transition};
 use aa_profile_tables::{CAPABILITIES, domain_name, kind_name, which_names_tables_hold};
-use aa_quoting::push_text;
-use aa_shared_bytes::SharedBytes;
 use std::alloc::AllocError;
 
 // The set of all capabilities.

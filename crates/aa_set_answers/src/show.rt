@@ -9,10 +9,10 @@ ghost use Rattle.aa_set_answers.specs.Show.{head_line, own_lines, show_lines};
 
 use crate::rule_lines::{push_if, push_rule_line};
 use crate::states::push_state;
-use aa_decide_entry::Entry;
+use aa_bytes::push_text;
+use aa_decide_slots::Entry;
 use aa_glob_pattern::Pattern;
 use aa_profile_data::{Child, Rule};
-use aa_quoting::push_text;
 use std::alloc::{AllocError, Global};
 
 // Puts the first line behind a text: the full name and the state, and whether the flag `audit` is set.

@@ -4,9 +4,9 @@ ghost use Rattle.std.specs.Prelude.{◌≡◌, ◌++◌, OnOk};
 ghost use Rattle.aa_set_answers.specs.States.{mode_word, state_word, written_state};
 
 use crate::names::full_name;
-use aa_decide_entry::{Confinement, Entry};
+use aa_bytes::push_text;
+use aa_decide_slots::{Confinement, Entry};
 use aa_profile_data::Mode;
-use aa_quoting::push_text;
 use std::alloc::{AllocError, Global};
 
 /// The word of a mode.

@@ -8,14 +8,14 @@ use Rattle.std.proofs.lemmas.Bool.{and_from, and_parts, not-true, or_from, or_pa
 use Rattle.std.proofs.lemmas.Slice.Eq.{bytes_eq-Decides}
 use Rattle.std.proofs.lemmas.Bool.Decides.{same_from_decides, nat_tests}
 use Rattle.std.proofs.lemmas.List.Folds.{list_any-append}
-use Rattle.aa_decide_entry.specs.Entries.{Loaded}
+use Rattle.aa_decide_slots.specs.Entries.{Loaded}
 use Rattle.aa_decide_slots.specs.Named.{entry_named, has_name, have_distinct_names, is_named, profiles_of}
 use Rattle.aa_profile_data.specs.Profile.{are_distinct, is_named as is_profile_named}
 use Rattle.aa_profile_data.specs.declared.profile.Mode.{Mode}
 use Rattle.aa_profile_data.specs.declared.profile.Profile.{Profile}
 use Rattle.aa_profile_data.specs.declared.profile.Mode.TheVariants.{Complain as ComplainMode, Enforce as EnforceMode}
 use Rattle.aa_text_files.specs.Files.{File}
-use Rattle.aa_decide_entry.specs.Entries.{is_in_force}
+use Rattle.aa_decide_slots.specs.Entries.{is_in_force}
 use Rattle.aa_profile.specs.FileReading.{file_profiles}
 use Rattle.aa_profile_errors.specs.declared.profile_error.ProfileError.{ProfileError}
 use Rattle.aa_set_commands.specs.Command.{Add, Replace, Remove, Enforce, Complain, Disable}

@@ -10,10 +10,10 @@ use Rattle.std.proofs.lemmas.List.{length-map, length_push}
 use Rattle.std.proofs.lemmas.List.Elements.{All-cons, All-nil, All-same}
 use Rattle.std.proofs.lemmas.Slice.Eq.{bytes_eq-Decides}
 use Rattle.aa_decide_slots.specs.Named.{entry_named, has_name, have_distinct_names, is_named, profiles_of}
-use Rattle.aa_decide_entry.specs.Entries.{Loaded, can_be_in, fits, is_in_force}
-use Rattle.aa_decide_entry.specs.Slots.{filled}
-use Rattle.aa_decide_entry.specs.declared.entry.State.{State}
-use Rattle.aa_decide_entry.specs.declared.entry.State.TheVariants.{Disabled as DisabledState, Modes}
+use Rattle.aa_decide_slots.specs.Entries.{Loaded, can_be_in, fits, is_in_force}
+use Rattle.aa_decide_slots.specs.Slots.{filled}
+use Rattle.aa_decide_slots.specs.declared.entry.State.{State}
+use Rattle.aa_decide_slots.specs.declared.entry.State.TheVariants.{Disabled as DisabledState, Modes}
 use Rattle.aa_profile_data.specs.declared.profile.Child.{Child}
 use Rattle.aa_profile_data.specs.Profile.{are_distinct, is_named as is_profile_named}
 use Rattle.aa_profile_data.specs.declared.profile.Mode.{Mode}

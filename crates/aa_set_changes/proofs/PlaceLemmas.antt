@@ -6,8 +6,8 @@ use Rattle.std.specs.List.{position_from}
 use Rattle.std.proofs.lemmas.Iterator.Adapters.{position_from-zero}
 use Rattle.std.proofs.lemmas.Slice.Eq.{bytes_eq-Decides}
 use Rattle.aa_decide_slots.specs.Named.{entry_named, has_name, is_named}
-use Rattle.aa_decide_entry.specs.Entries.{Loaded, is_in_force}
-use Rattle.aa_decide_entry.specs.Slots.{entry_at, filled}
+use Rattle.aa_decide_slots.specs.Entries.{Loaded, is_in_force}
+use Rattle.aa_decide_slots.specs.Slots.{entry_at, filled}
 use Rattle.aa_set_changes.specs.Changes.{is_disabled, put}
 use Rattle.aa_set_changes.specs.code.Places.{is_disabled_at, place_for}
 use Rattle.aa_set_changes.proofs.NameLemmas.{has-found}

@@ -1,7 +1,7 @@
 -- What every change keeps.
 use Rattle.std.specs.Prelude.{◌≡◌, Bool, true, List, IfOk}
 use Rattle.aa_text_files.specs.Files.{File}
-use Rattle.aa_decide_entry.specs.Entries.{Loaded}
+use Rattle.aa_decide_slots.specs.Entries.{Loaded}
 use Rattle.aa_decide_slots.specs.Named.{have_distinct_names}
 use Rattle.aa_set_commands.specs.Command.{PolicyChange}
 use Rattle.aa_set_changes.specs.Changes.{changed}

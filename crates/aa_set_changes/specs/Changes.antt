@@ -7,8 +7,8 @@ use Rattle.aa_profile_data.specs.Profile.{is_named as is_profile_named}
 use Rattle.aa_profile_data.specs.declared.profile.Mode.{Mode}
 use Rattle.aa_profile_data.specs.declared.profile.Mode.TheVariants.{Complain as ComplainMode, Enforce as EnforceMode}
 use Rattle.aa_profile_data.specs.declared.profile.Profile.{Profile}
-use Rattle.aa_decide_entry.specs.Entries.{Loaded, is_in_force}
-use Rattle.aa_decide_entry.specs.declared.entry.State.TheVariants.{Disabled as DisabledState, Modes}
+use Rattle.aa_decide_slots.specs.Entries.{Loaded, is_in_force}
+use Rattle.aa_decide_slots.specs.declared.entry.State.TheVariants.{Disabled as DisabledState, Modes}
 use Rattle.aa_decide_slots.specs.Named.{entry_named, has_name, is_named}
 use Rattle.aa_profile.specs.FileReading.{file_profiles}
 use Rattle.aa_profile_errors.specs.declared.profile_error.ProfileError.{ProfileError}

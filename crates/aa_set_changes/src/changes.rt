@@ -3,7 +3,7 @@
 ghost use Rattle.std.specs.Prelude.{◌≡◌, Ok, Err, IfOk, IfErr, length, true, false};
 ghost use Rattle.std.specs.List.{list_all};
 ghost use Rattle.aa_decide_slots.specs.Named.{have_distinct_names};
-ghost use Rattle.aa_decide_entry.specs.Slots.{filled};
+ghost use Rattle.aa_decide_slots.specs.Slots.{filled};
 ghost use Rattle.aa_profile_data.specs.Conflicts.{profile_agrees};
 ghost use Rattle.aa_profile_data.specs.Profile.{are_distinct};
 ghost use Rattle.aa_set_changes.specs.Changes.{are_there, is_disabled, is_loaded, some_are_absent, some_are_disabled};

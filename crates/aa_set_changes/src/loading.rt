@@ -3,7 +3,7 @@
 ghost use Rattle.std.specs.Prelude.{◌≡◌, ◌<◌, ◌≤◌, [], ◌∷◌, ◌++◌, length, true, false, IfOk, OnOk, Some, None, is_none};
 ghost use Rattle.std.specs.List.{list_all, list_any};
 ghost use Rattle.aa_decide_slots.specs.Named.{have_distinct_names};
-ghost use Rattle.aa_decide_entry.specs.Slots.{filled};
+ghost use Rattle.aa_decide_slots.specs.Slots.{filled};
 ghost use Rattle.aa_profile_data.specs.Conflicts.{profile_agrees};
 ghost use Rattle.aa_profile_data.specs.Profile.{are_distinct};
 ghost use Rattle.aa_set_changes.specs.Changes.{in_force, put_all, without};

@@ -4,8 +4,8 @@ ghost use Rattle.std.specs.Prelude.{◌≡◌, ◌≢◌, ◌+◌, ◌≤◌, fa
 ghost use Rattle.std.specs.List.{list_any};
 ghost use Rattle.std.specs.Option.{is_some, option_map};
 ghost use Rattle.aa_decide_slots.specs.Named.{entry_named, has_name};
-ghost use Rattle.aa_decide_entry.specs.Entries.{fits};
-ghost use Rattle.aa_decide_entry.specs.Slots.{filled};
+ghost use Rattle.aa_decide_slots.specs.Entries.{fits};
+ghost use Rattle.aa_decide_slots.specs.Slots.{filled};
 ghost use Rattle.aa_profile_data.specs.declared.profile.Profile.{Profile};
 ghost use Rattle.aa_set_changes.specs.Changes.{are_there, is_disabled, some_are_absent, some_are_disabled};
 ghost use Rattle.aa_set_changes.specs.code.Places.{behind, is_disabled_at, is_refused, next_behind, place_for, places, refused_as};

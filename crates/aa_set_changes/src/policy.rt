@@ -2,7 +2,7 @@
 
 ghost use Rattle.std.specs.Prelude.{◌≡◌, true};
 ghost use Rattle.aa_decide_slots.specs.Named.{have_distinct_names};
-ghost use Rattle.aa_decide_entry.specs.Slots.{filled};
+ghost use Rattle.aa_decide_slots.specs.Slots.{filled};
 
 use aa_decide_slots::IndexedSlots;
 use aa_set_parts::Slots;
@@ -17,9 +17,9 @@ pub struct PolicySet<'a> {
 
 impl<'a> Model for PolicySet<'a> {
     ghost use Rattle.std.specs.Prelude.{List, IsTrue};
-    ghost use Rattle.aa_decide_entry.specs.Entries.{Loaded};
+    ghost use Rattle.aa_decide_slots.specs.Entries.{Loaded};
     ghost use Rattle.aa_decide_slots.specs.Named.{have_distinct_names};
-    ghost use Rattle.aa_decide_entry.specs.Slots.{filled};
+    ghost use Rattle.aa_decide_slots.specs.Slots.{filled};
 
     ghost Value = { List Loaded };
 

@@ -8,8 +8,7 @@ ghost use Rattle.aa_set_parts.specs.Slots.{trimmed};
 
 use crate::parts::{Content, Part};
 use crate::remembered::{Remembered, Warm};
-use aa_decide_entry::Entry;
-use aa_decide_slots::{AttachmentIndex, IndexedSlots, NameIndex};
+use aa_decide_slots::{AttachmentIndex, Entry, IndexedSlots, NameIndex};
 use std::alloc::{AllocError, Global};
 use std::marker::Model;
 
@@ -50,7 +49,7 @@ impl Drop for Slots {
 impl Model for Slots {
     ghost use Rattle.std.specs.Prelude.{List, Option, IfSome};
     ghost use Rattle.aa_decide_slots.specs.Indexes.{IsAttachmentIndexOf, IsNameIndexOf};
-    ghost use Rattle.aa_decide_entry.specs.Entries.{Loaded};
+    ghost use Rattle.aa_decide_slots.specs.Entries.{Loaded};
 
     ghost Value = { List (Option Loaded) };
 

@@ -1,15 +1,15 @@
 -- What is ready before the first command is read, or why nothing is.
 use Rattle.std.specs.Prelude.{◌≡◌, ℕ, List, Option, Result, Ok, Err, Vec, String, drop, All}
 use Rattle.aa_text_files.specs.Files.{File}
-use Rattle.aaset_arguments.specs.Arguments.{Asked, ForHelp, ForRun, ForVersion, Nothing, Run, asked}
 use Rattle.aaset_program.specs.declared.fault.Fault.{Fault}
 use Rattle.aaset_program.specs.declared.fault.Fault.TheVariants.{BadArguments, NoMemory, Untaken}
 use Rattle.aaset_program.specs.declared.stop.Stop.{Stop}
 use Rattle.aaset_program.specs.declared.stop.Stop.TheVariants.{Failed, Shown}
-use Rattle.aaset_gather.specs.Gathering.{IsFirstFault, IsReadBelow, IsTakable, names_of, texts_of}
-use Rattle.aaset_gather.specs.Names.{AreGoodNames}
-use Rattle.aaset_gather.specs.declared.gathering.GatherFault.TheVariants as files
 use Rattle.aaset_program.specs.declared.ready.Ready.{Ready}
+use Rattle.aaset_start.specs.Arguments.{Asked, ForHelp, ForRun, ForVersion, Nothing, Run, asked}
+use Rattle.aaset_start.specs.Gathering.{IsFirstFault, IsReadBelow, IsTakable, names_of, texts_of}
+use Rattle.aaset_start.specs.Names.{AreGoodNames}
+use Rattle.aaset_start.specs.declared.gathering.GatherFault.TheVariants as files
 
 -- the files of a run: those of its names, in their order, with the bytes that lie below its folder, where they are known
 pub record AreFilesOf (bytes_at : List ℕ → Option (List ℕ)) (run : Run) (files : List File) : Type 0 where

@@ -1,14 +1,13 @@
 //! What is ready before the first command is read.
 ghost use Rattle.std.specs.Prelude.{◌≡◌, drop, map, string_bytes};
-ghost use Rattle.aaset_arguments.specs.Arguments.{ForRun, asked};
-ghost use Rattle.aaset_arguments.specs.Plan.{run_of};
 ghost use Rattle.aaset_program.specs.Prepared.{ArePrepared, IsPrepared};
+ghost use Rattle.aaset_start.specs.Arguments.{ForRun, asked};
+ghost use Rattle.aaset_start.specs.Plan.{run_of};
 
 use crate::fault::Fault;
 use crate::stop::Stop;
 use aa_text_files::Files;
-use aaset_arguments::Plan;
-use aaset_gather::FileSystem;
+use aaset_start::{FileSystem, Plan};
 use std::alloc::Global;
 
 /// What is ready before the first command is read.
@@ -29,7 +28,7 @@ fn gather<D: FileSystem>(alloc: Global, plan: Plan, disk: &D) -> Result<Ready, S
         base,
         names,
     } = plan;
-    let files = aaset_gather::gather(disk, alloc, base.as_str(), names)?;
+    let files = aaset_start::gather(disk, alloc, base.as_str(), names)?;
     Ok(Ready {
         files,
         force_complain,
@@ -40,7 +39,7 @@ fn gather<D: FileSystem>(alloc: Global, plan: Plan, disk: &D) -> Result<Ready, S
 fn prepare_for<D: FileSystem>(alloc: Global, words: &[String], disk: &D) -> Result<Ready, Stop>
     ensures { IsPrepared (D.bytes_at disk.now) (asked (drop 1 (map string_bytes words.now))) result }
 {
-    let plan = aaset_arguments::plan(alloc, words)?;
+    let plan = aaset_start::plan(alloc, words)?;
     gather(alloc, plan, disk)
 }
 

@@ -3,8 +3,7 @@ ghost use Rattle.std.specs.Prelude.{◌≡◌};
 ghost use Rattle.aaset_program.specs.Stop.{stop_at_arguments, stop_at_files};
 
 use crate::fault::Fault;
-use aaset_arguments::ArgFault;
-use aaset_gather::GatherFault;
+use aaset_start::{ArgFault, GatherFault};
 
 /// Why the program ends before it reads a command.
 #[derive(Drop)]

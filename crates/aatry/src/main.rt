@@ -2,7 +2,7 @@
 #![tactic(auto)]
 
 use aa_set_lines::{FromRead, ToWrite};
-use aaset_gather::RuntimeFiles;
+use aaset_start::RuntimeFiles;
 use aatry_folder::RuntimeFolders;
 use aatry_program::{Fault, Streams};
 use std::io::IsTerminal;

@@ -3,6 +3,10 @@ use Rattle.std.proofs.Common.{◌≡◌, ◌⊎◌, inl, inr, ◌∙◌, ◌≤�
 use Rattle.std.specs.Prelude.{fold, is_some, option_and_then, option_map, slice_get, unwrap_or}
 use Rattle.std.specs.Str.{bytes_eq}
 use Rattle.std.proofs.lemmas.Slice.Eq.{bytes_eq-Decides}
+use Rattle.aaset_start.specs.Arguments.{default_base, is_option}
+use Rattle.aaset_start.proofs.ArgumentsLemmas.{no_defaults}
+use Rattle.aaset_start.proofs.RowLemmas.{Shows, ShowsBase, base_id, first_row, found_picked, name_id, name_rows, picked, shows_bare, shows_below, shows_named}
+use Rattle.aaset_start.proofs.WalkLemmas.{Idle, OfFolder, Pending, pending_next, rows_at, rows_named, rows_next, size, size_next, state_at, state_open}
 use Rattle.clap.specs.Lexer.{usize_max}
 use Rattle.clap.specs.Words.{Row, Text, all_of, first_of}
 use Rattle.clap.specs.Simple.{built, entered}
@@ -10,10 +14,6 @@ use Rattle.clap.specs.Faults.{check_fault, defaults_fault, entered_fault, settle
 use Rattle.clap.specs.Walk.{Walk, finished, settled, walked, with_default}
 use Rattle.clap.specs.Kinds.{Kinds, or_else}
 use Rattle.clap.specs.declared.error.kind.ErrorKind.TheVariants as kind
-use Rattle.aaset_arguments.specs.Arguments.{default_base, is_option}
-use Rattle.aaset_arguments.proofs.RowLemmas.{Shows, ShowsBase, base_id, first_row, found_picked, name_id, name_rows, picked, shows_bare, shows_below, shows_named}
-use Rattle.aaset_arguments.proofs.WalkLemmas.{Idle, OfFolder, Pending, pending_next, rows_at, rows_named, rows_next, size, size_next, state_at, state_open}
-use Rattle.aaset_arguments.proofs.ArgumentsLemmas.{no_defaults}
 use Rattle.aatry_arguments.specs.Asked.{Asked, ForThis, ForHelp, ForVersion, Nothing}
 use Rattle.aatry_arguments.specs.CheckLine.{check_line}
 use Rattle.aatry_arguments.specs.CheckWords.{CheckAsked, CheckSoFar, Folder, Open, Settled, asked_behind, asked_by_word, asked_check, bare_check, below, with_names}

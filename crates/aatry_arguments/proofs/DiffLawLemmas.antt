@@ -3,7 +3,7 @@ use Rattle.std.proofs.Common.{◌≡◌, ◌∙◌, ◌++◌, ℕ, Bool, true, f
 use Rattle.std.specs.List.{list_all}
 use Rattle.std.specs.Str.{bytes_eq, chars}
 use Rattle.std.proofs.lemmas.Slice.Eq.{bytes_eq-Decides}
-use Rattle.aaset_arguments.specs.Arguments.{is_name, is_option}
+use Rattle.aaset_start.specs.Arguments.{is_name, is_option}
 use Rattle.aatry_arguments.specs.Arguments.{ForDiff, asked}
 use Rattle.aatry_arguments.specs.Asked.{Asked, ForThis, Nothing, asked_as, asked_then}
 use Rattle.aatry_arguments.specs.DiffWords.{DiffGiven, LogAt, OfLog, OfQuestions, Open, QuestionsAt, asked_of, bare_given, comparison_with, given_behind, with_folders, with_path}

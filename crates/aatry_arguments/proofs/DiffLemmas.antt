@@ -3,6 +3,8 @@ use Rattle.std.proofs.Common.{◌≡◌, ◌⊎◌, inl, inr, ◌∙◌, ◌≤�
 use Rattle.std.specs.Prelude.{fold, is_some}
 use Rattle.std.specs.Str.{bytes_eq}
 use Rattle.std.proofs.lemmas.Slice.Eq.{bytes_eq-Decides}
+use Rattle.aaset_start.specs.Arguments.{is_option}
+use Rattle.aaset_start.proofs.ArgumentsLemmas.{no_defaults}
 use Rattle.clap.specs.Lexer.{usize_max}
 use Rattle.clap.specs.Words.{Row, Text}
 use Rattle.clap.specs.Simple.{built, entered}
@@ -10,8 +12,6 @@ use Rattle.clap.specs.Faults.{check_fault, defaults_fault, entered_fault, settle
 use Rattle.clap.specs.Walk.{Walk, finished, settled, walked, with_default}
 use Rattle.clap.specs.Kinds.{Kinds, or_else}
 use Rattle.clap.specs.declared.error.kind.ErrorKind.TheVariants as kind
-use Rattle.aaset_arguments.specs.Arguments.{is_option}
-use Rattle.aaset_arguments.proofs.ArgumentsLemmas.{no_defaults}
 use Rattle.aatry_arguments.specs.Asked.{Asked, ForThis, ForHelp, ForVersion, Nothing}
 use Rattle.aatry_arguments.specs.DiffLine.{diff_line}
 use Rattle.aatry_arguments.specs.DiffWords.{DiffGiven, DiffSoFar, Open, PathNext, PathOption, Settled, asked_by_word, bare_given, given_behind, with_folders, with_path}

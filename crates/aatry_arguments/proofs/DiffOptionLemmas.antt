@@ -4,15 +4,15 @@ use Rattle.std.specs.Prelude.{if◌then◌else◌, ◌==◌, slice_get}
 use Rattle.std.specs.Str.{bytes_eq, chars}
 use Rattle.std.proofs.lemmas.Slice.Eq.{bytes_eq-Decides}
 use Rattle.std.proofs.lemmas.Bool.Decides.{eqb_tells, nat_tests}
+use Rattle.aaset_start.specs.Arguments.{help_letter}
+use Rattle.aaset_start.proofs.OptionLemmas.{differs}
+use Rattle.aaset_start.proofs.WalkLemmas.{repeat_passes}
 use Rattle.clap.specs.Lexer.{usize_max}
 use Rattle.clap.specs.Words.{Row, Text}
 use Rattle.clap.specs.Faults.{flags_fault, long_fault, settle_fault}
 use Rattle.clap.specs.Walk.{Held, Outcome, arg_by_long, done, long_met, settled, waits}
 use Rattle.clap.specs.Kinds.{Kinds, or_else}
 use Rattle.clap.specs.declared.error.kind.ErrorKind.TheVariants as kind
-use Rattle.aaset_arguments.specs.Arguments.{help_letter}
-use Rattle.aaset_arguments.proofs.WalkLemmas.{repeat_passes}
-use Rattle.aaset_arguments.proofs.OptionLemmas.{differs}
 use Rattle.aatry_arguments.specs.DiffWords.{DiffGiven, DiffSoFar, OfLog, OfQuestions, Open, PathNext, PathOption, Settled, asked_by_letter, asked_by_name}
 use Rattle.aatry_arguments.proofs.OptionLemmas.{AreBad, Stops, bad_folder, bad_unknown, bad_values}
 use Rattle.aatry_arguments.proofs.DiffRowLemmas.{Shows, id_of, pathed, shows_path}

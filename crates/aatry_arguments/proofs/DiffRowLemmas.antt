@@ -3,10 +3,10 @@ use Rattle.std.proofs.Common.{◌≡◌, ◌∙◌, ◌++◌, Bool, true, false,
 use Rattle.std.specs.Prelude.{drop, option_and_then, option_map, slice_get, unwrap_or}
 use Rattle.std.specs.Str.{bytes_eq}
 use Rattle.std.proofs.lemmas.Slice.Eq.{bytes_eq-Decides}
+use Rattle.aaset_start.proofs.RowLemmas.{first_row, found_picked, other_with, picked, picked_with, row}
 use Rattle.clap.specs.Walk.{Row, Text, all_of, first_of, with_values, without}
 use Rattle.clap.specs.declared.builder.value_parser.Reading.TheVariants.{AsWritten}
 use Rattle.clap.specs.declared.parser.matches.ValueSource.TheVariants.{CommandLine}
-use Rattle.aaset_arguments.proofs.RowLemmas.{first_row, found_picked, other_with, picked, picked_with, row}
 use Rattle.aatry_arguments.specs.DiffWords.{DiffGiven, OfLog, OfQuestions, PathOption, bare_given, with_folders, with_path}
 
 -- ---- rows without those of an id

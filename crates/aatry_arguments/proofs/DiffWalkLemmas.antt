@@ -2,6 +2,8 @@
 use Rattle.std.proofs.Common.{◌≡◌, ◌++◌, ◌≤◌, ◌+◌, ℕ, Bool, true, false, List, [], ◌∷◌, length, Option, Some, None, length-append, refl, ap₂, arith, codes}
 use Rattle.std.specs.Prelude.{slice_get}
 use Rattle.std.specs.Str.{bytes_eq, chars}
+use Rattle.aaset_start.proofs.RowLemmas.{values_twice}
+use Rattle.aaset_start.proofs.WalkLemmas.{range_fits, repeat_passes, texts_pass}
 use Rattle.clap.specs.Lexer.{usize_max, long_of, short_of}
 use Rattle.clap.specs.Words.{Row, Shape, Text}
 use Rattle.clap.specs.Simple.{built}
@@ -11,8 +13,6 @@ use Rattle.clap.specs.Kinds.{or_else}
 use Rattle.clap.specs.declared.builder.value_parser.Reading.TheVariants.{AsWritten}
 use Rattle.clap.specs.declared.parser.matches.ValueSource.TheVariants.{CommandLine}
 use Rattle.clap.specs.declared.error.kind.ErrorKind.TheVariants as kind
-use Rattle.aaset_arguments.proofs.RowLemmas.{values_twice}
-use Rattle.aaset_arguments.proofs.WalkLemmas.{range_fits, repeat_passes, texts_pass}
 use Rattle.aatry_arguments.specs.DiffLine.{diff_line}
 use Rattle.aatry_arguments.specs.DiffWords.{OfLog, OfQuestions, PathOption}
 use Rattle.aatry_arguments.proofs.DiffRowLemmas.{folder_id, foldered, id_of, pathed}

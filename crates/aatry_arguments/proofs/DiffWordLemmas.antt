@@ -3,13 +3,13 @@ use Rattle.std.proofs.Common.{◌≡◌, inl, inr, ◌∙◌, ◌≤◌, ◌+◌
 use Rattle.std.specs.Prelude.{if◌then◌else◌, ◌==◌, slice_get, is_some}
 use Rattle.std.specs.Str.{bytes_eq, chars}
 use Rattle.std.proofs.lemmas.Bool.Decides.{eqb_tells}
+use Rattle.aaset_start.specs.Arguments.{help_letter, is_option}
 use Rattle.clap.specs.Lexer.{usize_max, long_of, name_and_value, short_of}
 use Rattle.clap.specs.Words.{Row, Text}
 use Rattle.clap.specs.Faults.{flags_fault, long_fault, turn_fault}
 use Rattle.clap.specs.Walk.{Held, Outcome, Walk, arg_by_long, done, idle, long_met, option, plain, refused, waits, walked}
 use Rattle.clap.specs.declared.error.kind.ErrorKind.{ErrorKind}
 use Rattle.clap.specs.declared.error.kind.ErrorKind.TheVariants as kind
-use Rattle.aaset_arguments.specs.Arguments.{help_letter, is_option}
 use Rattle.aatry_arguments.specs.Asked.{Asked, ForHelp, Nothing}
 use Rattle.aatry_arguments.specs.DiffWords.{DiffGiven, DiffSoFar, OfLog, OfQuestions, Open, PathNext, PathOption, Settled, asked_by_letter, asked_by_name, asked_by_word, with_folders}
 use Rattle.aatry_arguments.proofs.OptionLemmas.{AreBad, Stops}

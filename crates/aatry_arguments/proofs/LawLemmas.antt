@@ -3,7 +3,7 @@ use Rattle.std.proofs.Common.{◌≡◌, ◌∙◌, ℕ, Bool, true, false, List
 use Rattle.std.specs.List.{list_all}
 use Rattle.std.specs.Str.{bytes_eq, chars}
 use Rattle.std.proofs.lemmas.Slice.Eq.{bytes_eq-Decides}
-use Rattle.aaset_arguments.specs.Arguments.{is_name, is_option}
+use Rattle.aaset_start.specs.Arguments.{is_name, is_option}
 use Rattle.aatry_arguments.specs.Arguments.{ForCheck, asked}
 use Rattle.aatry_arguments.specs.Asked.{ForThis}
 use Rattle.aatry_arguments.specs.CheckWords.{CheckAsked, Open, asked_behind, below, check_with, with_names}

@@ -6,17 +6,17 @@ use Rattle.std.specs.Str.{bytes_eq, chars}
 use Rattle.std.specs.Char.{encode_utf8}
 use Rattle.std.proofs.lemmas.Slice.Eq.{bytes_eq-Decides}
 use Rattle.std.proofs.lemmas.Bool.Decides.{eqb_tells, nat_tests}
+use Rattle.aaset_start.specs.Arguments.{Run, base_letter, help_letter}
+use Rattle.aaset_start.specs.Plan.{run_with}
+use Rattle.aaset_start.proofs.OptionLemmas.{before_none, differs, without_equals}
+use Rattle.aaset_start.proofs.RowLemmas.{Shows, base_id, based, shows_below}
+use Rattle.aaset_start.proofs.WalkLemmas.{Idle, OfFolder, OfNames, Pending, held_at, held_open, repeat_passes, rows_at, size}
 use Rattle.clap.specs.Lexer.{usize_max, has_byte, name_and_value}
 use Rattle.clap.specs.Words.{Row, Text}
 use Rattle.clap.specs.Faults.{flags_fault, long_fault, settle_fault}
 use Rattle.clap.specs.Walk.{Held, Outcome, arg_by_long, bundle_met, done, waits}
 use Rattle.clap.specs.Kinds.{Kinds, or_else}
 use Rattle.clap.specs.declared.error.kind.ErrorKind.TheVariants as kind
-use Rattle.aaset_arguments.specs.Arguments.{Run, base_letter, help_letter}
-use Rattle.aaset_arguments.specs.Plan.{run_with}
-use Rattle.aaset_arguments.proofs.RowLemmas.{Shows, base_id, based, shows_below}
-use Rattle.aaset_arguments.proofs.WalkLemmas.{Idle, OfFolder, OfNames, Pending, held_at, held_open, repeat_passes, rows_at, size}
-use Rattle.aaset_arguments.proofs.OptionLemmas.{before_none, differs, without_equals}
 use Rattle.aatry_arguments.specs.Asked.{Asked, ForThis, ForHelp, ForVersion, Nothing}
 use Rattle.aatry_arguments.specs.CheckWords.{CheckAsked, CheckSoFar, Folder, Open, Settled, asked_by_folder, asked_by_first_letter}
 use Rattle.aatry_arguments.proofs.WalkLemmas.{settle_passes, the_shape}

@@ -2,6 +2,10 @@
 use Rattle.std.proofs.Common.{◌≡◌, ◌⊎◌, inl, inr, ◌∙◌, ◌≤◌, true, List, [], ◌∷◌, length, Option, Some, None, refl, sym, ap}
 use Rattle.std.specs.Prelude.{option_map, unwrap_or}
 use Rattle.std.specs.Borrow.{Bor}
+use Rattle.aaset_start.specs.Arguments.{default_base}
+use Rattle.aaset_start.specs.Texts.{words_of}
+use Rattle.aaset_start.proofs.RowLemmas.{base_id, name_id}
+use Rattle.aaset_start.proofs.WalkLemmas.{rows_at}
 use Rattle.clap.specs.Lexer.{usize_max}
 use Rattle.clap.specs.Words.{Text, all_of, first_of, is_simple, matches_of}
 use Rattle.clap.specs.Faults.{fault_of, is_simple_and_free, walk_fault}
@@ -10,10 +14,6 @@ use Rattle.clap.specs.Kinds.{IsAmong, or_else}
 use Rattle.clap.specs.declared.error.kind.ErrorKind.{ErrorKind}
 use Rattle.clap.specs.declared.error.kind.ErrorKind.TheVariants as kind
 use Rattle.clap.proofs.OnLiterals.{clap_on_literals}
-use Rattle.aaset_arguments.specs.Arguments.{default_base}
-use Rattle.aaset_arguments.specs.Texts.{words_of}
-use Rattle.aaset_arguments.proofs.RowLemmas.{base_id, name_id}
-use Rattle.aaset_arguments.proofs.WalkLemmas.{rows_at}
 use Rattle.aatry_arguments.specs.Asked.{Asked, ForThis, ForHelp, ForVersion, Nothing}
 use Rattle.aatry_arguments.specs.CheckLine.{check_line}
 use Rattle.aatry_arguments.specs.CheckWords.{CheckAsked, asked_check}

@@ -2,6 +2,8 @@
 use Rattle.std.proofs.Common.{◌≡◌, ◌≤◌, ℕ, Bool, true, false, List, [], ◌∷◌, length, Some, None, refl, ap₂, arith, codes}
 use Rattle.std.specs.Prelude.{slice_get}
 use Rattle.std.specs.Str.{bytes_eq, chars}
+use Rattle.aaset_start.proofs.RowLemmas.{base_id}
+use Rattle.aaset_start.proofs.WalkLemmas.{Idle, OfFolder, OfNames, Pending, held_at, held_open, pending_next, range_fits, repeat_passes, rows_at, rows_next, size, state_at, texts_pass}
 use Rattle.clap.specs.Lexer.{usize_max, long_of, short_of}
 use Rattle.clap.specs.Words.{Row, Shape, Text}
 use Rattle.clap.specs.Simple.{built}
@@ -9,8 +11,6 @@ use Rattle.clap.specs.Faults.{flags_fault, settle_fault, turn_fault}
 use Rattle.clap.specs.Walk.{Held, Outcome, bundle_met, plain, settled, walked}
 use Rattle.clap.specs.Kinds.{or_else}
 use Rattle.clap.specs.declared.error.kind.ErrorKind.TheVariants as kind
-use Rattle.aaset_arguments.proofs.RowLemmas.{base_id}
-use Rattle.aaset_arguments.proofs.WalkLemmas.{Idle, OfFolder, OfNames, Pending, held_at, held_open, pending_next, range_fits, repeat_passes, rows_at, rows_next, size, state_at, texts_pass}
 use Rattle.aatry_arguments.specs.CheckLine.{check_line}
 
 abbrev pub the_shape : Shape

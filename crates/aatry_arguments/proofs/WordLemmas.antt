@@ -3,6 +3,9 @@ use Rattle.std.proofs.Common.{◌≡◌, inl, inr, ◌∙◌, ◌≤◌, ◌+◌
 use Rattle.std.specs.Prelude.{slice_get, is_some}
 use Rattle.std.specs.Str.{bytes_eq, chars}
 use Rattle.std.proofs.lemmas.Bool.Decides.{eqb_tells}
+use Rattle.aaset_start.specs.Arguments.{is_option}
+use Rattle.aaset_start.proofs.RowLemmas.{Shows, base_id, shows_named}
+use Rattle.aaset_start.proofs.WalkLemmas.{Idle, OfFolder, OfNames, Pending, held_at, held_open, pending_next, rows_at, rows_named, rows_next, size, size_next, state_at, state_open}
 use Rattle.clap.specs.Lexer.{usize_max, long_of, name_and_value, short_of}
 use Rattle.clap.specs.Words.{Row, Text}
 use Rattle.clap.specs.Faults.{flags_fault, long_fault, turn_fault}
@@ -10,9 +13,6 @@ use Rattle.clap.specs.Walk.{Held, Outcome, Walk, arg_by_long, bundle_met, done, 
 use Rattle.clap.specs.Kinds.{Kinds}
 use Rattle.clap.specs.declared.error.kind.ErrorKind.{ErrorKind}
 use Rattle.clap.specs.declared.error.kind.ErrorKind.TheVariants as kind
-use Rattle.aaset_arguments.specs.Arguments.{is_option}
-use Rattle.aaset_arguments.proofs.RowLemmas.{Shows, base_id, shows_named}
-use Rattle.aaset_arguments.proofs.WalkLemmas.{Idle, OfFolder, OfNames, Pending, held_at, held_open, pending_next, rows_at, rows_named, rows_next, size, size_next, state_at, state_open}
 use Rattle.aatry_arguments.specs.Asked.{Asked, ForThis, ForHelp, ForVersion, Nothing}
 use Rattle.aatry_arguments.specs.CheckWords.{CheckAsked, CheckSoFar, Folder, Open, Settled, asked_by_first_letter, asked_by_option, asked_by_word, with_names}
 use Rattle.aatry_arguments.proofs.WalkLemmas.{IsTaken, no_letters, no_letters_fault, settle_open, settle_passes, taken_plain, taken_short, the_shape}

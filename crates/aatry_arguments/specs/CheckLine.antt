@@ -1,10 +1,10 @@
 -- The command line behind `check`, as `clap` is told of it.
 use Rattle.std.specs.Prelude.{Some, codes}
+use Rattle.aaset_start.specs.CommandLine.{base_rule, with_last_option, without_own_name}
 use Rattle.clap.specs.Lexer.{usize_max}
 use Rattle.clap.specs.Words.{App, Rule, new_app, new_rule, with_rule}
 use Rattle.clap.specs.Simple.{on_top}
 use Rattle.clap.specs.declared.builder.ArgAction.TheVariants.{Append}
-use Rattle.aaset_arguments.specs.CommandLine.{base_rule, with_last_option, without_own_name}
 
 -- the names, of which there may be none
 abbrev pub name_rule : Rule

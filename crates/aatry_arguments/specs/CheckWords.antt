@@ -2,7 +2,7 @@
 use Rattle.std.specs.Prelude.{ℕ, ◌==◌, if◌then◌else◌, List, [], ◌∷◌, ◌++◌, drop, slice_get, codes}
 use Rattle.std.specs.Option.{option_map_or}
 use Rattle.std.specs.Str.{bytes_eq, chars}
-use Rattle.aaset_arguments.specs.Arguments.{attached, base_letter, default_base, help_letter, is_option}
+use Rattle.aaset_start.specs.Arguments.{attached, base_letter, default_base, help_letter, is_option}
 use Rattle.aatry_arguments.specs.Asked.{Asked, ForThis, ForHelp, Nothing}
 
 -- a check that is asked for: the folder of policy, and the names of its files to check, or none for all at its top

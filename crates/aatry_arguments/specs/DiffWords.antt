@@ -3,7 +3,7 @@ use Rattle.std.specs.Prelude.{ℕ, false, not, ◌==◌, ◌&&◌, if◌then◌e
 use Rattle.std.specs.List.{after_first, before_first, list_any}
 use Rattle.std.specs.Option.{option_map_or}
 use Rattle.std.specs.Str.{bytes_eq, chars}
-use Rattle.aaset_arguments.specs.Arguments.{equals_sign, help_letter, hyphen, is_option}
+use Rattle.aaset_start.specs.Arguments.{equals_sign, help_letter, hyphen, is_option}
 use Rattle.aatry_arguments.specs.Asked.{Asked, ForThis, ForHelp, Nothing, asked_then}
 
 -- where requests are told of: a log, or a file of questions, by its path

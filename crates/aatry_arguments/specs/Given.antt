@@ -1,8 +1,8 @@
 -- What the program makes of the words of its arguments.
 use Rattle.std.specs.Prelude.{◌≡◌, Result, Ok, Err, option_map, string_bytes}
+use Rattle.aaset_start.specs.Texts.{texts}
 use Rattle.clap.specs.declared.error.kind.ErrorKind.{ErrorKind}
 use Rattle.clap.specs.declared.error.kind.ErrorKind.TheVariants as kind
-use Rattle.aaset_arguments.specs.Texts.{texts}
 use Rattle.aatry_arguments.specs.Asked.{Asked, ForThis, ForHelp, ForVersion, Nothing}
 use Rattle.aatry_arguments.specs.AskingWords.{AskingAsked, asking_with}
 use Rattle.aatry_arguments.specs.CheckWords.{CheckAsked, check_with}

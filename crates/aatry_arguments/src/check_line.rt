@@ -1,7 +1,7 @@
 //! The command line behind `check`, as `clap` is told of it.
 ghost use Rattle.std.specs.Prelude.{◌≡◌, false, IfOk};
+ghost use Rattle.aaset_start.specs.CommandLine.{base_rule};
 ghost use Rattle.clap.specs.Words.{app_of, rule_of, with_rule};
-ghost use Rattle.aaset_arguments.specs.CommandLine.{base_rule};
 ghost use Rattle.aatry_arguments.specs.CheckLine.{bare_line, check_line, name_rule};
 
 use clap::{Arg, ArgAction, Command};

@@ -1,7 +1,7 @@
 //! Reading of the words behind `check`, by `clap`.
 ghost use Rattle.std.specs.Prelude.{◌≡◌, IfOk, map, string_bytes};
+ghost use Rattle.aaset_start.specs.Texts.{words_of};
 ghost use Rattle.clap.specs.Words.{kind_of};
-ghost use Rattle.aaset_arguments.specs.Texts.{words_of};
 ghost use Rattle.aatry_arguments.specs.CheckWords.{asked_check, check_with};
 ghost use Rattle.aatry_arguments.specs.Given.{IsFaultFor, IsGivenFor, meant_check};
 

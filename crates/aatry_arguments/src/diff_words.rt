@@ -1,7 +1,7 @@
 //! Reading of the words behind `diff`, by `clap`.
 ghost use Rattle.std.specs.Prelude.{◌≡◌, IfOk, map, option_map, string_bytes};
+ghost use Rattle.aaset_start.specs.Texts.{words_of};
 ghost use Rattle.clap.specs.Words.{kind_of};
-ghost use Rattle.aaset_arguments.specs.Texts.{words_of};
 ghost use Rattle.aatry_arguments.specs.DiffWords.{asked_diff, asked_of, comparison_of, comparison_with, given_with, source_of};
 ghost use Rattle.aatry_arguments.specs.Given.{IsFaultFor, IsGivenFor, meant_comparison, meant_source};
 

@@ -2,7 +2,7 @@
 
 ghost use Rattle.std.specs.Prelude.{◌≡◌, ◌≢◌, ◌++◌, ℕ, None, Some, false, true, List, [], ◌∷◌, length, codes};
 ghost use Rattle.std.specs.List.{list_all};
-ghost use Rattle.aaset_arguments.specs.Arguments.{is_name, is_option};
+ghost use Rattle.aaset_start.specs.Arguments.{is_name, is_option};
 ghost use Rattle.aatry_arguments.specs.Arguments.{ForCheck, ForDiff, ForSession, ForTest, ForWho, ForWhy, asked, asked_by_first};
 ghost use Rattle.aatry_arguments.specs.Asked.{ForThis, Nothing};
 ghost use Rattle.aatry_arguments.specs.AskingWords.{asking_with};

@@ -10,7 +10,7 @@ use crate::diff_words::diff_of;
 use crate::faults::help_with;
 use crate::session_words::session_of;
 use crate::test_words::test_of;
-use aaset_arguments::VERSION;
+use aaset_start::VERSION;
 use std::alloc::Global;
 
 // What help says of the program.

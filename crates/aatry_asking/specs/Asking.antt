@@ -4,7 +4,7 @@ use Rattle.std.specs.List.{after_first, before_first}
 use Rattle.serde_json.specs.Data.{Members}
 use Rattle.aa_bytes.specs.Bytes.{line_feed}
 use Rattle.aa_bytes.specs.Texts.{is_empty}
-use Rattle.aa_decide_entry.specs.Entries.{Loaded}
+use Rattle.aa_decide_slots.specs.Entries.{Loaded}
 use Rattle.aa_set_answers.specs.Answers.{reply_lines, who_asks}
 use Rattle.aa_set_commands.specs.Question.{OfAccess, OfExec, Question, question_of}
 use Rattle.aa_set_commands.specs.Refusal.{name_of, number_of}

@@ -7,8 +7,8 @@ use Rattle.aa_decide_audit.specs.Answer.{answer_word}
 use Rattle.aa_decide_audit.specs.declared.verdict.Answer.{Answer}
 use Rattle.aa_decide_audit.specs.declared.verdict.Answer.TheVariants.{Allow, Complain, Deny, Refuse}
 use Rattle.aa_decide_audit.specs.declared.verdict.Verdict.{Verdict}
-use Rattle.aa_decide_entry.specs.Confinement.{in_state}
-use Rattle.aa_decide_entry.specs.Entries.{Loaded}
+use Rattle.aa_decide_slots.specs.Confinement.{in_state}
+use Rattle.aa_decide_slots.specs.Entries.{Loaded}
 use Rattle.aa_profile_access.specs.Request.{Request}
 use Rattle.aa_profile_data.specs.declared.profile.Child.{Child}
 use Rattle.aa_set_answers.specs.Answers.{confined_answer}

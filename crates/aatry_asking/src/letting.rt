@@ -1,9 +1,9 @@
 //! Which profiles, children and hats would let a request through.
 
 ghost use Rattle.std.specs.Prelude.{◌≡◌, ◌∷◌, [], ◌++◌, IfOk, OnOk, option_map};
-ghost use Rattle.aa_decide_entry.specs.Confinement.{found};
+ghost use Rattle.aa_decide_slots.specs.Confinement.{found};
 ghost use Rattle.aa_profile_access.specs.SeenRequests.{request_of};
-ghost use Rattle.aa_decide_entry.specs.Slots.{filled};
+ghost use Rattle.aa_decide_slots.specs.Slots.{filled};
 ghost use Rattle.aa_set_answers.specs.Answers.{confined_answer};
 ghost use Rattle.aa_set_answers.specs.Children.{lines_of_children};
 ghost use Rattle.aatry_policy.specs.FolderParts.{seen_folder};

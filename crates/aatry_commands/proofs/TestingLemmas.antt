@@ -3,7 +3,7 @@ use Rattle.std.proofs.Common.{◌≡◌, ◌∙◌, ◌+◌, ℕ, List, [], ◌�
 use Rattle.std.specs.List.{All}
 use Rattle.std.proofs.lemmas.List.Elements.{All-head}
 use Rattle.aa_text_files.specs.Files.{File}
-use Rattle.aaset_gather.specs.Gathering.{names_of}
+use Rattle.aaset_start.specs.Gathering.{names_of}
 use Rattle.aatry_commands.specs.Testing.{IsFileTested, TestsEach}
 
 -- the one file of some, by its name

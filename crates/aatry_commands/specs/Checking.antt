@@ -3,7 +3,7 @@ use Rattle.std.specs.Prelude.{◌≡◌, ◌==◌, ℕ, Bool, not, List, [], Opt
 use Rattle.aa_bytes.specs.Bytes.{slash}
 use Rattle.aa_bytes.specs.Texts.{has_byte}
 use Rattle.aa_text_files.specs.Files.{File}
-use Rattle.aaset_gather.specs.Gathering.{IsReadBelow, IsTakable, names_of}
+use Rattle.aaset_start.specs.Gathering.{IsReadBelow, IsTakable, names_of}
 use Rattle.aatry_check.specs.Checks.{TellsEach, refused_count}
 use Rattle.aatry_folder.specs.NamesBelow.{AreFound, IsClosed}
 use Rattle.aatry_report.specs.declared.form.Form.{Form}

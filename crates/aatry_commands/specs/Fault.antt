@@ -1,8 +1,8 @@
 -- What keeps the program from doing what it is asked for, and what is told of it.
 use Rattle.std.specs.Prelude.{ℕ, List, [], ◌∷◌, ◌++◌, codes, string_bytes, ⊤}
 use Rattle.aa_bytes.specs.Bytes.{line_feed}
-use Rattle.aaset_gather.specs.declared.gathering.GatherFault.{GatherFault}
-use Rattle.aaset_gather.specs.declared.gathering.GatherFault.TheVariants as files
+use Rattle.aaset_start.specs.declared.gathering.GatherFault.{GatherFault}
+use Rattle.aaset_start.specs.declared.gathering.GatherFault.TheVariants as files
 use Rattle.aatry_asking.specs.declared.question.QuestionFault.{QuestionFault}
 use Rattle.aatry_asking.specs.declared.question.QuestionFault.TheVariants as question
 use Rattle.aatry_folder.specs.declared.below.FolderFault.{FolderFault}

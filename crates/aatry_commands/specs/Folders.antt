@@ -1,7 +1,7 @@
 -- Folders of policy, as they are loaded.
 use Rattle.std.specs.Prelude.{ℕ, List}
 use Rattle.aa_text_files.specs.Files.{File}
-use Rattle.aaset_gather.specs.Gathering.{names_of}
+use Rattle.aaset_start.specs.Gathering.{names_of}
 use Rattle.aatry_policy.specs.Folders.{Folder}
 use Rattle.aatry_commands.specs.Checking.{top_names}
 

@@ -1,7 +1,7 @@
 -- What a test of transcripts over a folder of policy comes to.
 use Rattle.std.specs.Prelude.{◌≡◌, ◌+◌, ℕ, Bool, false, if◌then◌else◌, List, [], ◌∷◌, ◌++◌, Option, codes}
 use Rattle.aa_text_files.specs.Files.{File, is_folder_name}
-use Rattle.aaset_gather.specs.Gathering.{IsReadBelow}
+use Rattle.aaset_start.specs.Gathering.{IsReadBelow}
 use Rattle.aatry_commands.specs.Checking.{AreBelow}
 use Rattle.aatry_test.specs.Tests.{IsTested}
 

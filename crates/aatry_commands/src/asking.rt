@@ -1,8 +1,8 @@
 //! Questions to the policy of a folder.
 
 ghost use Rattle.std.specs.Prelude.{◌≡◌, IfErr, IfOk, string_bytes};
-ghost use Rattle.aaset_gather.specs.Gathering.{texts_of};
-ghost use Rattle.aaset_gather.specs.Gathering.{names_of};
+ghost use Rattle.aaset_start.specs.Gathering.{names_of};
+ghost use Rattle.aaset_start.specs.Gathering.{texts_of};
 ghost use Rattle.aatry_commands.specs.Asking.{IsWhoToldBelow, IsWhyToldBelow};
 ghost use Rattle.aatry_commands.specs.Checking.{AreBelow, top_names};
 ghost use Rattle.aatry_commands.specs.Fault.{IsOfFolder};
@@ -14,7 +14,7 @@ use crate::checking::{Report, top_names};
 use crate::fault::Fault;
 use crate::testing::failed_by;
 use aa_text_files::Files;
-use aaset_gather::{FileSystem, gather};
+use aaset_start::{FileSystem, gather};
 use aatry_arguments::Asking;
 use aatry_asking::{Answered, who, why};
 use aatry_folder::{Folders, names_below};

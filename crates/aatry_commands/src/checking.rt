@@ -1,14 +1,14 @@
 //! The check of a folder of policy.
 
 ghost use Rattle.std.specs.Prelude.{◌≡◌, ◌++◌, ◌∷◌, [], IfOk, OnOk, map, string_bytes};
-ghost use Rattle.aaset_gather.specs.Gathering.{texts_of};
+ghost use Rattle.aaset_start.specs.Gathering.{texts_of};
 ghost use Rattle.aatry_check.specs.Checks.{TellsEach, refused_count};
 ghost use Rattle.aatry_commands.specs.Checking.{IsChecked, is_at_top, meant, top_names};
 
 use crate::fault::Fault;
 use aa_bytes::has_byte;
 use aa_text_files::Files;
-use aaset_gather::{FileSystem, gather};
+use aaset_start::{FileSystem, gather};
 use aatry_arguments::Check;
 use aatry_check::check;
 use aatry_folder::{Folders, names_below};
@@ -83,7 +83,7 @@ fn report_on(
 }
 
 /// Checks the files that are asked of a folder of policy, or all at its top where none is named: finds all files and folders below it, as
-/// `aatry_folder::names_below` does, reads them as `aaset_gather::gather` does, and tells of each file that is meant as `aatry_check::check` does. So
+/// `aatry_folder::names_below` does, reads them as `aaset_start::gather` does, and tells of each file that is meant as `aatry_check::check` does. So
 /// nothing that an include asks for is missing where it stands in the folder and isn't passed over.
 ///
 /// # Errors

@@ -1,7 +1,7 @@
 //! Two folders of policy, compared.
 
 ghost use Rattle.std.specs.Prelude.{◌≡◌, IfOk, option_map, string_bytes};
-ghost use Rattle.aaset_gather.specs.Gathering.{texts_of};
+ghost use Rattle.aaset_start.specs.Gathering.{texts_of};
 ghost use Rattle.aatry_arguments.specs.Given.{meant_comparison, meant_source};
 ghost use Rattle.aatry_commands.specs.Comparing.{IsComparedBelow, IsGathered, form_of, path_of};
 ghost use Rattle.aatry_commands.specs.Folders.{folder_with};
@@ -15,7 +15,7 @@ use crate::checking::Report;
 use crate::fault::Fault;
 use crate::testing::{failed_by, file_at};
 use aa_text_files::Files;
-use aaset_gather::FileSystem;
+use aaset_start::FileSystem;
 use aatry_arguments::{Comparison, RequestSource};
 use aatry_diff::{Compared, diff};
 use aatry_folder::Folders;

@@ -4,7 +4,7 @@ ghost use Rattle.std.specs.Prelude.{◌≡◌, ◌++◌, OnOk};
 ghost use Rattle.aatry_commands.specs.Fault.{fault_of_files, fault_of_folder, fault_of_question, name_of, told_line, words_of};
 ghost use Rattle.aatry_commands.specs.declared.fault.Fault.TheVariants as fault;
 
-use aaset_gather::GatherFault;
+use aaset_start::GatherFault;
 use aatry_asking::QuestionFault;
 use aatry_folder::FolderFault;
 use aatry_report::push_shown;

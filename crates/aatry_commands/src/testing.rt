@@ -1,14 +1,14 @@
 //! The test of transcripts over a folder of policy.
 
 ghost use Rattle.std.specs.Prelude.{◌≡◌, ◌++◌, ◌∷◌, [], ◌≤◌, ℕ, List, IfOk, string_bytes};
-ghost use Rattle.aaset_gather.specs.Gathering.{texts_of};
+ghost use Rattle.aaset_start.specs.Gathering.{texts_of};
 ghost use Rattle.aatry_commands.specs.Checking.{AreBelow};
 ghost use Rattle.aatry_commands.specs.Testing.{IsFileTested, IsTestedBelow, IsFileAt, TestsEach, failed_by};
 
 use crate::checking::Report;
 use crate::fault::Fault;
 use aa_text_files::Files;
-use aaset_gather::{FileSystem, gather};
+use aaset_start::{FileSystem, gather};
 use aatry_arguments::Test;
 use aatry_folder::{Folders, names_below};
 use aatry_test::test;
@@ -104,7 +104,7 @@ fn test_each<D: FileSystem>(
 }
 
 /// Tests the transcripts that are asked for over a folder of policy: finds all files and folders below it, as `aatry_folder::names_below` does, reads
-/// them as `aaset_gather::gather` does, and tests each transcript as `aatry_test::test` does. A transcript is read at its own path, which begins in
+/// them as `aaset_start::gather` does, and tests each transcript as `aatry_test::test` does. A transcript is read at its own path, which begins in
 /// the current folder where it doesn't begin with `/`.
 ///
 /// # Errors

@@ -1,7 +1,7 @@
 -- Lists of questions that are answered otherwise, one by one.
 use Rattle.std.proofs.Common.{◌≡◌, ℕ, zero, suc, ◌+◌, Bool, true, false, List, [], ◌∷◌, ◌++◌, length, drop, refl, ap, ◌∙◌, arith}
 use Rattle.std.specs.Prelude.{slice_get}
-use Rattle.aa_decide_entry.specs.Entries.{Loaded}
+use Rattle.aa_decide_slots.specs.Entries.{Loaded}
 use Rattle.aatry_requests.specs.Tallies.{Tally}
 use Rattle.aatry_diff.specs.Differences.{difference_lines, differing, differs}
 use Rattle.aatry_diff.specs.Folders.{BothFolders}

@@ -5,7 +5,7 @@ use Rattle.serde_json.specs.Data.{object}
 use Rattle.serde_json.specs.Written.{compact_text}
 use Rattle.aa_bytes.specs.Bytes.{line_feed}
 use Rattle.aa_bytes.specs.Texts.{is_empty}
-use Rattle.aa_decide_entry.specs.Entries.{Loaded}
+use Rattle.aa_decide_slots.specs.Entries.{Loaded}
 use Rattle.aa_set_commands.specs.Question.{Question}
 use Rattle.aatry_diff.specs.Answers.{answer}
 use Rattle.aatry_diff.specs.Differences.{causes, difference_lines, difference_text, differing, question_record, times_text, told_question}

@@ -2,7 +2,7 @@
 
 ghost use Rattle.std.specs.Prelude.{◌≡◌, ◌==◌, ◌&&◌, List, Option, length};
 ghost use Rattle.aa_bytes.specs.Texts.{is_empty};
-ghost use Rattle.aa_decide_entry.specs.Entries.{Loaded};
+ghost use Rattle.aa_decide_slots.specs.Entries.{Loaded};
 ghost use Rattle.aatry_changes.specs.Changes.{change_lines};
 ghost use Rattle.aatry_diff.specs.Comparing.{are_alike, both};
 ghost use Rattle.aatry_diff.specs.Differences.{difference_lines, differing};

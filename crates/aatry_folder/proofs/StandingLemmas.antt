@@ -7,7 +7,7 @@ use Rattle.std.proofs.lemmas.List.Elements.{All-contains, Contains-append_right}
 use Rattle.aa_bytes.specs.Bytes.{slash}
 use Rattle.aa_text_files.specs.Files.{File, has_file, index_from, is_folder_name}
 use Rattle.aa_text_splicing.specs.Splicing.{looked_up}
-use Rattle.aaset_gather.specs.Gathering.{names_of}
+use Rattle.aaset_start.specs.Gathering.{names_of}
 use Rattle.aatry_folder.specs.Members.{is_taken, names_in}
 use Rattle.aatry_folder.specs.NamesBelow.{IsClosed}
 use Rattle.aatry_folder.specs.Includes.{IsMember, Lacks, LeadsTo, NothingStandsFor, Stands}

@@ -5,7 +5,7 @@ ghost use Rattle.aa_text_files.specs.Files.{File};
 ghost use Rattle.aa_text_files.specs.declared.text_error.Place.{Place};
 ghost use Rattle.aa_text_files.specs.declared.text_error.TextRefusal.TheVariants.{NoFile};
 ghost use Rattle.aa_text_splicing.specs.Splicing.{spliced};
-ghost use Rattle.aaset_gather.specs.Gathering.{names_of};
+ghost use Rattle.aaset_start.specs.Gathering.{names_of};
 ghost use Rattle.aatry_folder.specs.NamesBelow.{IsClosed};
 ghost use Rattle.aatry_folder.specs.Includes.{IsMissing, IsMissingAsAWhole, Lacks, NothingStandsFor, Stands};
 

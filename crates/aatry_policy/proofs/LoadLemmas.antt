@@ -6,7 +6,7 @@ use Rattle.std.proofs.lemmas.List.Elements.{All-append, All-contains, All-head, 
 use Rattle.std.specs.List.{All, Contains, list_all}
 use Rattle.aa_decide.specs.Exec.{Asker}
 use Rattle.aa_decide_slots.specs.Named.{have_distinct_names}
-use Rattle.aa_decide_entry.specs.Entries.{Loaded}
+use Rattle.aa_decide_slots.specs.Entries.{Loaded}
 use Rattle.aa_profile.specs.FileReading.{file_profiles}
 use Rattle.aa_profile.specs.ProfileNames.{has_distinct_children, is_named_well}
 use Rattle.aa_profile_data.specs.declared.profile.Profile.{Profile}

@@ -7,8 +7,8 @@ use Rattle.std.proofs.lemmas.Slice.Eq.{bytes_eq-Decides}
 use Rattle.std.specs.List.{All, Contains}
 use Rattle.std.specs.Str.{bytes_eq}
 use Rattle.aa_decide.specs.Exec.{Asker}
-use Rattle.aa_decide_entry.specs.Entries.{Loaded}
-use Rattle.aa_decide_entry.specs.Ready.{audits, child_audits, child_rules, rules_at}
+use Rattle.aa_decide_slots.specs.Entries.{Loaded}
+use Rattle.aa_decide_slots.specs.Ready.{audits, child_audits, child_rules, rules_at}
 use Rattle.aa_profile_data.specs.declared.profile.Child.{Child}
 use Rattle.aa_profile_data.specs.declared.profile.Profile.{Profile}
 use Rattle.aa_profile_places.specs.Laws.{AreProfilesMadeAt, AreRelated, IsChildMadeAt, IsProfileMadeAt}

@@ -12,7 +12,7 @@ use Rattle.aa_profile_data.specs.declared.profile.Profile.{Profile}
 use Rattle.aa_profile_errors.specs.ProfileError.{error_of_grammar, refusal_of_text}
 use Rattle.aa_profile_errors.specs.declared.profile_error.ProfileError.{ProfileError}
 use Rattle.aa_profile_grammar.specs.Files.{File as WrittenFile, file}
-use Rattle.aa_profile_names.specs.Names.{is_top_name}
+use Rattle.aa_profile_access.specs.Names.{is_top_name}
 use Rattle.aa_profile_parsing.specs.declared.grammar_error.GrammarError.{GrammarError}
 use Rattle.aa_profile_places.specs.RulePlaces.{file_places, places_in, places_of, places_of_profile}
 use Rattle.aa_profile_places.specs.declared.places.ProfilePlaces.{ProfilePlaces}

@@ -1,6 +1,6 @@
 -- Folders of policy, and the policy sets that they make.
 use Rattle.std.specs.Prelude.{ℕ, List, false, map, string_bytes, Option}
-use Rattle.aa_decide_entry.specs.Entries.{Loaded}
+use Rattle.aa_decide_slots.specs.Entries.{Loaded}
 use Rattle.aa_set.specs.Manager.{Managed, new_manager}
 use Rattle.aa_set_commands.specs.declared.refusal.Refusal.{Refusal}
 use Rattle.aa_text_files.specs.Files.{File}

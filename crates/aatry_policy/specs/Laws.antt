@@ -1,7 +1,7 @@
 -- What the law on parts speaks of: those that have the rules of who has their full name.
 use Rattle.std.specs.Prelude.{◌≡◌, List, Some}
 use Rattle.aa_decide.specs.Exec.{Asker}
-use Rattle.aa_decide_entry.specs.Ready.{audits, rules_at}
+use Rattle.aa_decide_slots.specs.Ready.{audits, rules_at}
 use Rattle.aa_set_answers.specs.ProfileNames.{full_name_at}
 use Rattle.aatry_policy.specs.Parts.{Part, part_of}
 

@@ -5,7 +5,7 @@ use Rattle.std.specs.Str.{bytes_eq}
 use Rattle.aa_bytes.specs.Bytes.{line_feed}
 use Rattle.aa_set_lines.specs.WordLaws.{in_quotes}
 use Rattle.aa_text_files.specs.Files.{File}
-use Rattle.aaset_gather.specs.Gathering.{names_of}
+use Rattle.aaset_start.specs.Gathering.{names_of}
 use Rattle.aatry_asking.specs.Asking.{IsAnswered, none_refused}
 use Rattle.aatry_commands.specs.Checking.{AreBelow, top_names}
 use Rattle.aatry_commands.specs.Fault.{told_line}

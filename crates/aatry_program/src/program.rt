@@ -11,7 +11,7 @@ use crate::session::session_over;
 use crate::status::failure_status;
 use crate::streams::Streams;
 use aa_set_lines::{Sink, Source, write_all};
-use aaset_gather::FileSystem;
+use aaset_start::FileSystem;
 use aatry_arguments::{ArgumentFault, Call, Command, call_of};
 use aatry_commands::{
     Fault, Report, check_folder, diff_folders, test_folder, who_folder, why_folder,

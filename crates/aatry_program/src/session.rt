@@ -16,7 +16,7 @@ ghost use Rattle.aatry_session.specs.Turns.{Told};
 use crate::input::LineInput;
 use aa_set_lines::{LineBuffer, Sink, Source, write_all};
 use aa_text_files::Files;
-use aaset_gather::FileSystem;
+use aaset_start::FileSystem;
 use aatry_asking::push_answer_of;
 use aatry_commands::{Fault, PolicyFiles, folder_at, policy_below, push_told};
 use aatry_folder::Folders;

@@ -16,7 +16,7 @@ use Rattle.aa_profile_tables.specs.Capabilities.{capability_name, capability_num
 use Rattle.aa_profile_tables.specs.Domains.{domain_name, domain_number}
 use Rattle.aa_profile_tables.specs.Kinds.{kind_name, kind_number}
 use Rattle.aa_profile_tables.specs.Names.{name_or_none}
-use Rattle.aa_quoting.specs.Texts.{hexadecimal, is_shown, written_text}
+use Rattle.aa_bytes.specs.Quoting.{hexadecimal, is_shown, written_text}
 use Rattle.aa_set_commands.specs.Question.{OfAccess, OfExec, Question, owned_of}
 use Rattle.aatry_requests.specs.Laws.{CanBeAsked}
 use Rattle.aatry_requests.specs.Texts.{is_same, owned_text, question_text}

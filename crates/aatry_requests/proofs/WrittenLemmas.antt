@@ -9,7 +9,7 @@ use Rattle.hex.specs.Hex.{IsBytes, encode_upper, encode_with, hex_digit_value, u
 use Rattle.hex.proofs.HexLemmas.{IsDigits-upper_digits, decode_of-encode_upper}
 use Rattle.aa_bytes.specs.Bytes.{quote}
 use Rattle.aa_bytes.specs.Texts.{begins_with_byte}
-use Rattle.aa_quoting.specs.Texts.{digits_of, hexadecimal, is_shown, written_text}
+use Rattle.aa_bytes.specs.Quoting.{digits_of, hexadecimal, is_shown, written_text}
 use Rattle.aatry_requests.specs.Values.{before_last_quote, hexadecimal_text, is_quote, text_of}
 
 -- what is shown is no quote

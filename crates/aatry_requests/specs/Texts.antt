@@ -8,7 +8,7 @@ use Rattle.aa_profile_tables.specs.Capabilities.{capability_name}
 use Rattle.aa_profile_tables.specs.Domains.{domain_name}
 use Rattle.aa_profile_tables.specs.Kinds.{kind_name}
 use Rattle.aa_profile_tables.specs.Names.{name_or_none}
-use Rattle.aa_quoting.specs.Texts.{written_text}
+use Rattle.aa_bytes.specs.Quoting.{written_text}
 use Rattle.aa_set_commands.specs.Question.{OfAccess, OfExec, Question}
 
 -- whether the file is owned

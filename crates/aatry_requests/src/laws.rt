@@ -2,7 +2,7 @@
 
 ghost use Rattle.std.specs.Prelude.{◌≡◌, ℕ, true, List, Some};
 ghost use Rattle.hex.specs.Hex.{IsBytes};
-ghost use Rattle.aa_quoting.specs.Texts.{written_text};
+ghost use Rattle.aa_bytes.specs.Quoting.{written_text};
 ghost use Rattle.aa_set_commands.specs.Question.{Question};
 ghost use Rattle.aatry_requests.specs.Laws.{CanBeAsked};
 ghost use Rattle.aatry_requests.specs.Texts.{is_same};

@@ -3,13 +3,13 @@
 ghost use Rattle.std.specs.Prelude.{◌≡◌, ◌++◌, OnOk, codes, option_map};
 ghost use Rattle.aa_profile_access.specs.Access.{letters_of};
 ghost use Rattle.aa_profile_tables.specs.Names.{name_or_none};
-ghost use Rattle.aa_quoting.specs.Texts.{written_text};
+ghost use Rattle.aa_bytes.specs.Quoting.{written_text};
 ghost use Rattle.aa_set_commands.specs.Question.{seen_question};
 ghost use Rattle.aatry_requests.specs.Texts.{owned_text, question_text};
 
+use aa_bytes::push_text;
 use aa_profile_access::Perms;
 use aa_profile_tables::{capability_name, domain_name, kind_name};
-use aa_quoting::push_text;
 use aa_set_commands::Question;
 use std::alloc::AllocError;
 

@@ -1,7 +1,7 @@
 -- The laws of a session.
 use Rattle.std.proofs.Common.{◌≡◌, ◌∙◌, ℕ, true, List, [], Option, None, Some, inl, inr, refl, subst, sym, ap}
 use Rattle.std.proofs.lemmas.Bool.{true≢false}
-use Rattle.aa_decide_entry.specs.Entries.{Loaded}
+use Rattle.aa_decide_slots.specs.Entries.{Loaded}
 use Rattle.aa_history.specs.MarkLaws.{StartedMarksItsSets}
 use Rattle.aa_set.specs.Laws.{RefusedLineLeavesAll, command_in}
 use Rattle.aa_set.specs.Reply.{is_refusal}

@@ -4,7 +4,7 @@ use Rattle.std.proofs.lemmas.List.{length-take-le}
 use Rattle.aa_history.specs.Machine.{Machine, MarksItsSets, accepted, can_go_back, can_go_on, gone_back, gone_on, gone_to_mark, is_marked, with_mark}
 use Rattle.aa_history.specs.MachineLaws.{LengthsAfterBack, LengthsAfterOn}
 use Rattle.aa_history.specs.MarkLaws.{Accept, Mark as MarkStep, MarkKeepsAll, Redo as RedoStep, Return, StepsMarkTheirSets, Undo as UndoStep}
-use Rattle.aa_decide_entry.specs.Entries.{Loaded}
+use Rattle.aa_decide_slots.specs.Entries.{Loaded}
 use Rattle.aa_set.specs.Laws.{command_in}
 use Rattle.aa_set.specs.Manager.{after_change, back_at, is_mark_name, marking, redone, undone}
 use Rattle.aa_set.specs.Run.{Outcome, answered, changed, command_outcome, line_outcome, obeyed, refused, takes_memory}

@@ -5,9 +5,9 @@ use Rattle.aa_bytes.specs.Bytes.{line_feed}
 use Rattle.aa_bytes.specs.Texts.{is_empty}
 use Rattle.aa_decide.specs.Exec.{Asker}
 use Rattle.aa_decide_exec_rules.specs.Choices.{choice}
-use Rattle.aa_decide_entry.specs.Confinement.{By, Confinement, Unconfined, in_state}
-use Rattle.aa_decide_entry.specs.Entries.{Loaded}
-use Rattle.aa_decide_entry.specs.Ready.{audits, rules_at}
+use Rattle.aa_decide_slots.specs.Confinement.{By, Confinement, Unconfined, in_state}
+use Rattle.aa_decide_slots.specs.Entries.{Loaded}
+use Rattle.aa_decide_slots.specs.Ready.{audits, rules_at}
 use Rattle.aa_profile_access.specs.ExecWords.{row}
 use Rattle.aa_profile_access.specs.declared.exec_word.Destination.{Destination}
 use Rattle.aa_profile_access.specs.declared.exec_word.Destination.TheVariants as to

@@ -8,9 +8,9 @@ ghost use Rattle.aatry_report.specs.declared.form.Form.TheVariants.{Lines};
 ghost use Rattle.aatry_transition.specs.AttachmentLines.{attachment_lines, attachment_record, candidate_line, headed};
 ghost use Rattle.aatry_transition.specs.AttachmentLines.{line_by, lines_from, standing_words, with_name};
 
+use aa_bytes::push_text;
 use aa_explain::{Candidate, Standing, best_pattern, patterns_of, rank_of, ranks_of, standing_of};
 use aa_glob_pattern::Pattern;
-use aa_quoting::push_text;
 use aa_set_answers::full_name;
 use aatry_report::{Form, Record, push_heading};
 use std::alloc::{AllocError, Global};

@@ -4,8 +4,8 @@ ghost use Rattle.std.specs.Prelude.{◌≡◌, ◌++◌, IfOk, OnOk};
 ghost use Rattle.std.specs.Option.{option_map};
 ghost use Rattle.aa_decide.specs.SeenExec.{seen_asker};
 ghost use Rattle.aa_decide_exec_rules.specs.Choices.{choice};
-ghost use Rattle.aa_decide_entry.specs.Ready.{audits, rules_at};
-ghost use Rattle.aa_decide_entry.specs.Slots.{filled};
+ghost use Rattle.aa_decide_slots.specs.Ready.{audits, rules_at};
+ghost use Rattle.aa_decide_slots.specs.Slots.{filled};
 ghost use Rattle.aa_explain.specs.Candidates.{seen_candidates};
 ghost use Rattle.aatry_transition.specs.How.{asked_candidates, asked_lines, confined_lines, confinement_of, how_lines, led_lines};
 ghost use Rattle.aatry_transition.specs.How.{lines_or_none, none_attached, none_line, none_record, own_children, profile_lines};
@@ -14,6 +14,7 @@ ghost use Rattle.aatry_report.specs.SeenRecord.{seen_record};
 
 use crate::attachment::push_attachment;
 use crate::transition::push_transition;
+use aa_bytes::SharedBytes;
 use aa_decide::{Asker, Confinement, IndexedSlots, Ready};
 use aa_explain::{
     Candidate, child_candidates, first_transition, leading_rules, profile_candidates,
@@ -22,7 +23,6 @@ use aa_explain::{
 use aa_profile_access::Destination;
 use aa_profile_data::Transition;
 use aa_set_answers::find_asker;
-use aa_shared_bytes::SharedBytes;
 use aatry_report::{Form, Record, push_heading};
 use std::alloc::{AllocError, Global};
 

@@ -4,15 +4,14 @@ ghost use Rattle.std.specs.Prelude.{◌≡◌, IfOk, None};
 ghost use Rattle.std.specs.Option.{option_copied, option_map};
 ghost use Rattle.aa_decide.specs.Exec.{by_full_name, in_profile, is_named_in_force, led, named_in_force, place_of_child, to_child, to_profile};
 ghost use Rattle.aa_decide.specs.SeenExec.{seen_asker};
-ghost use Rattle.aa_decide_entry.specs.Slots.{filled};
+ghost use Rattle.aa_decide_slots.specs.Slots.{filled};
 ghost use Rattle.aatry_transition.specs.SeenLeads.{seen_leads};
 
+use aa_bytes::SharedBytes;
 use aa_decide::{Asker, Entry, IndexedSlots, attach, entry_at};
 use aa_explain::attached_child;
-use aa_profile_access::Destination;
+use aa_profile_access::{Destination, cut_full_name};
 use aa_profile_data::child_place;
-use aa_profile_names::cut_full_name;
-use aa_shared_bytes::SharedBytes;
 use std::alloc::{AllocError, Global};
 
 /// Under what a program runs.

@@ -2,7 +2,7 @@
 
 ghost use Rattle.std.specs.Prelude.{◌≡◌, ◌++◌, IfOk, OnOk, Some};
 ghost use Rattle.aa_decide.specs.SeenExec.{seen_asker};
-ghost use Rattle.aa_decide_entry.specs.Slots.{filled};
+ghost use Rattle.aa_decide_slots.specs.Slots.{filled};
 ghost use Rattle.aa_profile_access.specs.declared.exec_word.Destination.TheVariants as to;
 ghost use Rattle.aa_set_answers.specs.RuleLines.{exec_text, target_text};
 ghost use Rattle.aatry_report.specs.declared.form.Form.TheVariants.{Lines};
@@ -12,12 +12,11 @@ ghost use Rattle.aatry_transition.specs.Transitions.{line_of, started_text, tran
 
 use crate::leads::{Lead, led};
 use crate::records::transition_record;
+use aa_bytes::{SharedBytes, push_text};
 use aa_decide::{Asker, IndexedSlots};
 use aa_profile_access::Destination;
 use aa_profile_data::Transition;
-use aa_quoting::push_text;
 use aa_set_answers::full_name;
-use aa_shared_bytes::SharedBytes;
 use aatry_report::{Form, push_heading};
 use std::alloc::{AllocError, Global};
 

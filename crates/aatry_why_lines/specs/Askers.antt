@@ -4,7 +4,7 @@ use Rattle.std.specs.Option.{option_map}
 use Rattle.aa_profile.specs.FileReading.{file_profiles}
 use Rattle.aa_profile_data.specs.Profile.{child_place, is_named}
 use Rattle.aa_profile_data.specs.declared.profile.Profile.{Profile}
-use Rattle.aa_profile_names.specs.FullNames.{FullName, full_name}
+use Rattle.aa_profile_access.specs.FullNames.{FullName, full_name}
 use Rattle.aa_text_files.specs.Files.{File}
 
 -- the place of the child or hat that is named, or none where the profile itself is, if it is there

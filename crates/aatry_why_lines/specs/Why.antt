@@ -1,6 +1,6 @@
 -- What is told of the rules behind an answer.
 use Rattle.std.specs.Prelude.{◌≡◌, ℕ, Bool, false, if◌then◌else◌, List, [], ◌++◌, codes, flat_map, Option, None, Some, Ok, slice_get}
-use Rattle.aa_decide_entry.specs.Ready.{audits, rules_at}
+use Rattle.aa_decide_slots.specs.Ready.{audits, rules_at}
 use Rattle.aa_profile.specs.FileReading.{file_profiles}
 use Rattle.aa_profile_access.specs.Access.{EXEC, has}
 use Rattle.aa_profile_access.specs.Request.{ForFile, Request}

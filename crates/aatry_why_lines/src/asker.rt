@@ -6,8 +6,8 @@ ghost use Rattle.aatry_why_lines.specs.Askers.{asker_in, child_in, named_in};
 ghost use Rattle.aa_profile_data.specs.Profile.{is_named};
 
 use aa_profile::Profile;
+use aa_profile_access::cut_full_name;
 use aa_profile_data::child_place;
-use aa_profile_names::cut_full_name;
 
 // The place of the child or hat that is named, or none where the profile itself is.
 fn child_in(profile: &Profile, child: Option<&[u8]>) -> Option<Option<usize>>

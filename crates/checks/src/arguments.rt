@@ -1,6 +1,6 @@
 //! What the words of the program's start ask for.
 
-use aaset_arguments::{ArgFault, Plan, plan};
+use aaset_start::{ArgFault, Plan, plan};
 use std::alloc::{AllocError, Global};
 
 // Arguments, and what they are answered with: a run over a folder with these names, one in complain mode, the help, the version, or nothing.

@@ -104,7 +104,7 @@ fn place_is_marked(alloc: Global) -> bool {
 // The families' examples, and whether each gives what it should.
 fn rows(alloc: Global) -> [(&'static str, bool); 10] {
     [
-        ("aa_quoting", names_are_written(alloc)),
+        ("aa_bytes", names_are_written(alloc)),
         ("aa_glob", patterns_match(alloc)),
         ("aa_text", is_expanded(alloc)),
         ("aa_profile", is_refused(alloc)),

@@ -1,8 +1,8 @@
 //! The whole program, over words, files and streams in memory.
 
 use aa_set::{FromRead, ToWrite};
-use aaset_gather::FileSystem;
 use aaset_program::start;
+use aaset_start::FileSystem;
 use std::alloc::{AllocError, Global};
 use std::io::{self, ErrorKind};
 use std::test::Fail;

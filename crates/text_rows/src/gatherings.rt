@@ -1,7 +1,7 @@
 //! Rows of files that are gathered from a disk.
 
 use aa_text::Files;
-use aaset_gather::{FileSystem, GatherFault, gather};
+use aaset_start::{FileSystem, GatherFault, gather};
 use row_texts::{
     Part, RowError, Tally, number_of, put_each, put_word, put_words, question_of, split_at,
     words_of,

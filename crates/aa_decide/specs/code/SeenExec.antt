@@ -1,9 +1,9 @@
 -- Where a program is started, and what is answered, whatever the slots hold.
 use Rattle.std.specs.Prelude.{◌≡◌, ℕ, List, Option, Some}
 use Rattle.std.specs.Option.{option_map}
-use Rattle.aa_decide_entry.specs.Entries.{Loaded}
+use Rattle.aa_decide_slots.specs.Entries.{Loaded}
 use Rattle.aa_decide.specs.Exec.{ExecAnswer, Started}
-use Rattle.aa_decide_entry.specs.Slots.{entry_at}
+use Rattle.aa_decide_slots.specs.Slots.{entry_at}
 use Rattle.aa_decide.specs.declared.asker.Asker.{Asker as FoundAsker}
 use Rattle.aa_decide_audit.specs.declared.exec_verdict.ExecTo.{ExecTo}
 use Rattle.aa_decide_audit.specs.declared.exec_verdict.ExecVerdict.{ExecVerdict}

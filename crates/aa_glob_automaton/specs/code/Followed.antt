@@ -3,9 +3,9 @@ use Rattle.std.specs.Prelude.{◌≡◌, ℕ, ◌<◌, List, [], ◌++◌, lengt
 use Rattle.aa_glob_automaton.specs.Walks.{Standing}
 use Rattle.aa_glob_automaton.specs.code.Growths.{Follows, IsGrowing}
 use Rattle.aa_glob_automaton.specs.declared.growing.Growing.{Growing}
-use Rattle.aa_glob_nfa_laws.specs.Drawn.{trail_at}
+use Rattle.aa_glob_automaton.specs.Drawn.{trail_at}
 use Rattle.aa_glob_syntax.specs.Elements.{Element}
-use Rattle.aa_glob_prefixes.specs.Trails.{Trail, trail_of}
+use Rattle.aa_glob_pattern.specs.Trails.{Trail, trail_of}
 
 -- what has grown stands for these patterns, and no other is being followed
 abbrev pub Between : List (List ℕ) → Growing → Type 0

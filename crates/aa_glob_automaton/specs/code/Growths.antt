@@ -4,11 +4,11 @@ use Rattle.aa_glob_automaton.specs.Automata.{EndWhole}
 use Rattle.aa_glob_automaton.specs.Grown.{Finds, StandsAt}
 use Rattle.aa_glob_automaton.specs.Walks.{Standing, source_states}
 use Rattle.aa_glob_automaton.specs.declared.growing.Growing.{Growing}
-use Rattle.aa_glob_nfa_laws.specs.Drawn.{AddsState, IsDrawn, Suits, trail_at}
+use Rattle.aa_glob_automaton.specs.Drawn.{AddsState, IsDrawn, Suits, trail_at}
 use Rattle.aa_glob_syntax.specs.Elements.{Element}
 use Rattle.aa_glob_nfa.specs.declared.entry.Entry.{Entry}
-use Rattle.aa_glob_prefixes.specs.Beginnings.{Begun}
-use Rattle.aa_glob_prefixes.specs.Trails.{Trail}
+use Rattle.aa_glob_pattern.specs.Beginnings.{Begun}
+use Rattle.aa_glob_pattern.specs.Trails.{Trail}
 use Rattle.aa_glob_automaton.specs.Tree.{HasOneMore, places}
 
 -- what has grown stands for these trails: the beginnings of patterns, and those of a trail to which one more pattern has led so far

@@ -1,11 +1,11 @@
 -- What holds in the midst of a pass.
 use Rattle.std.specs.Prelude.{◌≡◌, ℕ, ◌+◌, ◌*◌, ◌≤◌, ◌<◌, Bool, false, List, [], length, drop, get_or, Some}
 use Rattle.aa_glob_syntax.specs.Elements.{Element}
-use Rattle.aa_glob_prefixes.specs.Elements.{elements_of}
+use Rattle.aa_glob_pattern.specs.Elements.{elements_of}
 use Rattle.aa_glob_pattern.specs.Active.{AreActive, is_none, known_at, is_active, next_past, Past}
 use Rattle.aa_glob_pattern.specs.code.Places.{AreAt}
 use Rattle.aa_glob_pattern.specs.declared.places.Places.{Places}
-use Rattle.aa_glob_prefixes.specs.Reads.{Known, known}
+use Rattle.aa_glob_pattern.specs.Reads.{Known, known}
 
 -- what is known behind so many elements of a text
 abbrev pub known_of : List ℕ → ℕ → Known

@@ -8,7 +8,7 @@ use Rattle.aa_glob_syntax.specs.declared.element.Element.TheVariants.{Byte, Insi
 use Rattle.aa_glob_pattern.specs.Active.{is_among, next_past, Past}
 use Rattle.aa_glob_pattern.specs.declared.place.Place.{Place}
 use Rattle.aa_glob_pattern.specs.declared.places.Places.{Places}
-use Rattle.aa_glob_prefixes.specs.Reads.{Known, known_behind, KnownGroup}
+use Rattle.aa_glob_pattern.specs.Reads.{Known, known_behind, KnownGroup}
 
 -- Whether the place behind an element is active for a past with this byte at its end: by whether what leads to the element is, for the past before
 -- and for this one, and by whether the element itself was for the past before.

@@ -1,6 +1,6 @@
 -- The texts that tell what the code answered, by slots.
 use Rattle.std.specs.Prelude.{ℕ, List, [], Option, None, Some}
-use Rattle.aa_decide_entry.specs.Entries.{Loaded}
+use Rattle.aa_decide_slots.specs.Entries.{Loaded}
 use Rattle.aa_decide.specs.SeenExec.{seen_to}
 use Rattle.aa_decide_audit.specs.declared.exec_verdict.ExecVerdict.{ExecVerdict}
 use Rattle.aa_set_answers.specs.Answers.{started_text}

@@ -1,7 +1,7 @@
 -- The slots that a change of a policy set exchanges, and the parts that it is made of.
 use Rattle.std.specs.Prelude.{ℕ, ◌+◌, Bool, false, not, List, [], ◌∷◌, Option, None, Some}
-use Rattle.aa_decide_entry.specs.Entries.{Loaded, is_in_force}
-use Rattle.aa_decide_entry.specs.Slots.{entry_at}
+use Rattle.aa_decide_slots.specs.Entries.{Loaded, is_in_force}
+use Rattle.aa_decide_slots.specs.Slots.{entry_at}
 use Rattle.aa_profile_data.specs.declared.profile.Mode.{Mode}
 use Rattle.aa_profile_data.specs.declared.profile.Profile.{Profile}
 use Rattle.aa_set_changes.specs.Changes.{are_there, in_force, some_are_absent, some_are_disabled}

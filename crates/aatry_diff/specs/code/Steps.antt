@@ -1,6 +1,6 @@
 -- What is put for one question.
 use Rattle.std.specs.Prelude.{ℕ, if◌then◌else◌, List, [], Option, None, Some}
-use Rattle.aa_decide_entry.specs.Entries.{Loaded}
+use Rattle.aa_decide_slots.specs.Entries.{Loaded}
 use Rattle.aatry_requests.specs.Tallies.{Tally}
 use Rattle.aatry_diff.specs.Differences.{difference_text, differs}
 use Rattle.aatry_diff.specs.Folders.{BothFolders}

@@ -1,6 +1,6 @@
 -- Sessions of the code, as the definitions see them.
 use Rattle.std.specs.Prelude.{◌≡◌, ℕ, List, Option}
-use Rattle.aaset_gather.specs.Gathering.{names_of, texts_of}
+use Rattle.aaset_start.specs.Gathering.{names_of, texts_of}
 use Rattle.aatry_commands.specs.Checking.{top_names}
 use Rattle.aatry_commands.specs.declared.asking.PolicyFiles.{PolicyFiles}
 use Rattle.aatry_program.specs.Session.{Standing, State}

@@ -1,6 +1,6 @@
 //! How names are written.
 
-use aa_quoting::push_text;
+use aa_bytes::push_text;
 use std::alloc::{AllocError, Global};
 
 /// Two names: one stands between quotes, the other, which has a blank in it, in hexadecimal.

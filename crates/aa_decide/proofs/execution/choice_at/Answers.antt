@@ -3,7 +3,7 @@ use Rattle.std.specs.List.Sorted.{IsStrictlyIncreasing}
 use Rattle.std.proofs.lemmas.Result.{IfOk-weaker}
 use Rattle.aa_decide_exec_rules.specs.Choices.{choice}
 use Rattle.aa_profile_data.specs.Matching.{AreMatchingRules}
-use Rattle.aa_decide_entry.specs.Ready.{audits}
+use Rattle.aa_decide_slots.specs.Ready.{audits}
 use Rattle.aa_decide.proofs.execution.choice_at.Goals as goal
 
 pub returns : goal.returns

@@ -1,4 +1,4 @@
-use Rattle.aa_decide_entry.specs.Ready.{rules_at}
+use Rattle.aa_decide_slots.specs.Ready.{rules_at}
 use Rattle.aa_decide.proofs.laws.where_the_rules_lead.Goals as goal
 
 pub returns : goal.returns

@@ -2,7 +2,7 @@ use Rattle.std.proofs.Common.{◌++◌, codes, ap, ◌∙◌}
 use Rattle.std.proofs.lemmas.Result.{on_ok_weaker}
 use Rattle.std.specs.Fmt.{decimal}
 use Rattle.aa_profile_tables.specs.Capabilities.{capability_name}
-use Rattle.aa_quoting.specs.Texts.{quoted}
+use Rattle.aa_bytes.specs.Quoting.{quoted}
 use Rattle.aa_decide_audit.proofs.LineLemmas.{two-behind}
 use Rattle.aa_profile_tables.specs.Names.{name_or_none}
 use Rattle.aa_decide_audit.proofs.log.push_capability.Goals as goal

@@ -1,7 +1,7 @@
 use Rattle.std.proofs.Common.{◌++◌, codes, ap, ◌∙◌}
 use Rattle.std.proofs.lemmas.Result.{on_ok_weaker}
 use Rattle.aa_profile_access.specs.Access.{letters_of}
-use Rattle.aa_quoting.specs.Texts.{quoted, written_text}
+use Rattle.aa_bytes.specs.Quoting.{quoted, written_text}
 use Rattle.aa_decide_audit.proofs.LineLemmas.{three-behind}
 use Rattle.aa_decide_audit.specs.LogLines.{mask_key}
 use Rattle.aa_decide_audit.proofs.log.push_file.Goals as goal

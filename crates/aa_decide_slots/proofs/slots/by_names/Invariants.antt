@@ -1,5 +1,5 @@
 use Rattle.std.proofs.Common.{◌≡◌, List, Option, take}
-use Rattle.aa_decide_entry.specs.Entries.{Loaded}
+use Rattle.aa_decide_slots.specs.Entries.{Loaded}
 use Rattle.aa_decide_slots.specs.SlotNames.{slots_named}
 use Rattle.aa_decide_slots.specs.Indexes.{IsNameIndexOf}
 use Rattle.aa_decide_slots.proofs.slots.by_names.Given as goal

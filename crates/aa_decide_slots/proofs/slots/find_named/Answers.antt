@@ -1,6 +1,6 @@
 use Rattle.std.proofs.Common.{sym, ap, ◌∙◌}
 use Rattle.std.specs.Option.{is_some, option_copied}
-use Rattle.aa_decide_entry.specs.Slots.{entry_at}
+use Rattle.aa_decide_slots.specs.Slots.{entry_at}
 use Rattle.aa_decide_slots.proofs.FindLemmas.{entry-found, entry-missing, entry-there}
 use Rattle.aa_decide_slots.proofs.slots.find_named.Goals as goal
 

@@ -2,8 +2,8 @@ use Rattle.std.proofs.Common.{◌≡◌, ◌∙◌, ◌+◌, ℕ, List, ◌<◌,
 use Rattle.std.proofs.lemmas.Bool.{not-true}
 use Rattle.std.proofs.lemmas.List.{reverse-append, take_more}
 use Rattle.aa_glob_pattern.specs.Active.{AreActive}
-use Rattle.aa_glob_prefixes.specs.Reads.{reads}
-use Rattle.aa_glob_prefixes.specs.Trails.{trail_of}
+use Rattle.aa_glob_pattern.specs.Reads.{reads}
+use Rattle.aa_glob_pattern.specs.Trails.{trail_of}
 use Rattle.aa_glob_pattern.proofs.UnreadLemmas.{never-whole}
 use Rattle.aa_glob_pattern.proofs.matching.matches_in.Goals as goal
 

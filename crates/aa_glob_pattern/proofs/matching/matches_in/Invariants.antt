@@ -1,8 +1,8 @@
 use Rattle.std.proofs.Common.{◌≡◌, false, length, reverse, Some, take}
 use Rattle.aa_glob_pattern.specs.Active.{AreActive, AreUnset}
 use Rattle.aa_glob_pattern.proofs.matching.matches_in.Given as goal
-use Rattle.aa_glob_prefixes.specs.Reads.{reads}
-use Rattle.aa_glob_prefixes.specs.Trails.{trail_of}
+use Rattle.aa_glob_pattern.specs.Reads.{reads}
+use Rattle.aa_glob_pattern.specs.Trails.{trail_of}
 
 -- what is active is so for the bytes so far, and so is what the last pass told
 abbrev pub invariant-loop-byte : goal.invariant-loop-byte

@@ -1,14 +1,14 @@
 use Rattle.std.proofs.Common.{◌≡◌, ◌∙◌, ◌+◌, ◌<◌, ap, arith, drop, length, refl, subst, sym, [], ◌∷◌}
 use Rattle.std.proofs.lemmas.List.{length-set}
 use Rattle.aa_glob_syntax.specs.Cursor.{meaning}
-use Rattle.aa_glob_prefixes.specs.Elements.{elements_of}
-use Rattle.aa_glob_prefixes.specs.Left.{left_in}
+use Rattle.aa_glob_pattern.specs.Elements.{elements_of}
+use Rattle.aa_glob_pattern.specs.Left.{left_in}
 use Rattle.aa_glob_pattern.specs.Active.{is_among, known_at, next_past}
 use Rattle.aa_glob_pattern.specs.code.Passes.{known_of}
 use Rattle.aa_glob_pattern.specs.code.Places.{AreAt}
 use Rattle.aa_glob_pattern.proofs.PassLemmas.{all-read, first-active, known_at-more, active-all, passed-first, passed-more, tells-first, tells-more}
-use Rattle.aa_glob_prefixes.specs.Reads.{known}
-use Rattle.aa_glob_prefixes.specs.Trails.{depth_behind}
+use Rattle.aa_glob_pattern.specs.Reads.{known}
+use Rattle.aa_glob_pattern.specs.Trails.{depth_behind}
 use Rattle.aa_glob_pattern.proofs.pass.pass.Goals as goal
 
 pub loop-element-init : goal.loop-element-init

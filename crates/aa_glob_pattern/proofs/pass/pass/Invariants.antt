@@ -1,5 +1,5 @@
 use Rattle.std.proofs.Common.{◌≡◌, length}
-use Rattle.aa_glob_prefixes.specs.Left.{left_in}
+use Rattle.aa_glob_pattern.specs.Left.{left_in}
 use Rattle.aa_glob_pattern.specs.code.Passes.{IsLeft, IsPassed, TellsSome}
 use Rattle.aa_glob_pattern.proofs.pass.pass.Given as goal
 

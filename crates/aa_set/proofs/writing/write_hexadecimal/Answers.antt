@@ -1,7 +1,7 @@
 use Rattle.std.proofs.Common.{[], ◌∷◌, ◌++◌, get_or, take, drop, ◌+◌, sym, ap, take-append-drop, ◌∙◌, refl, append-nil, append_assoc}
 use Rattle.std.proofs.lemmas.Grind.{flat_map-append}
 use Rattle.std.proofs.lemmas.List.{drop_more, take_more}
-use Rattle.aa_quoting.specs.Texts.{digits_of, hexadecimal}
+use Rattle.aa_bytes.specs.Quoting.{digits_of, hexadecimal}
 use Rattle.aa_set.proofs.StreamLemmas.{Front-written, WritesBehind-nil, WritesBehind-same, WritesBehind-trans, where_err}
 use Rattle.aa_set.proofs.writing.write_hexadecimal.Goals as goal
 

@@ -1,5 +1,5 @@
 use Rattle.std.proofs.Common.{◌≡◌, take}
-use Rattle.aa_quoting.specs.Texts.{hexadecimal}
+use Rattle.aa_bytes.specs.Quoting.{hexadecimal}
 use Rattle.aa_set_lines.specs.Streams.{WritesBehind}
 use Rattle.aa_set.proofs.writing.write_hexadecimal.Given as goal
 

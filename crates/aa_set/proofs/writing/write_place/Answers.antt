@@ -1,6 +1,6 @@
 use Rattle.std.proofs.Common.{◌∷◌, [], refl}
 use Rattle.std.specs.Fmt.{decimal}
-use Rattle.aa_quoting.specs.Texts.{written_text}
+use Rattle.aa_bytes.specs.Quoting.{written_text}
 use Rattle.aa_set.specs.Reply.{place_text}
 use Rattle.aa_text_files.specs.Files.{name_at}
 use Rattle.std.proofs.lemmas.Result.{on_ok_weaker}

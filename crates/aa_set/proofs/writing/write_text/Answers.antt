@@ -1,7 +1,7 @@
 use Rattle.std.proofs.Common.{◌≡◌, ◌∷◌, [], true, sym, refl}
 use Rattle.std.proofs.lemmas.Result.{on_ok_weaker}
 use Rattle.std.specs.List.{list_all}
-use Rattle.aa_quoting.specs.Texts.{is_shown, written_text}
+use Rattle.aa_bytes.specs.Quoting.{is_shown, written_text}
 use Rattle.aa_set.proofs.StreamLemmas.{Front-written, WritesBehind-nil, WritesBehind-same, WritesBehind-trans, weaker_err, where_err}
 use Rattle.aa_set.proofs.writing.write_text.Goals as goal
 

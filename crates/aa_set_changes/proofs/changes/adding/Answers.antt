@@ -1,5 +1,5 @@
 use Rattle.std.proofs.Common.{◌≡◌, false, sym, ap, ◌∙◌}
-use Rattle.aa_decide_entry.specs.Slots.{filled}
+use Rattle.aa_decide_slots.specs.Slots.{filled}
 use Rattle.aa_set_changes.specs.Changes.{are_there, put_all}
 use Rattle.aa_set_changes.proofs.PartLemmas.{added-seen}
 use Rattle.aa_set_parts.specs.Parts.{after}

@@ -1,7 +1,7 @@
 use Rattle.std.proofs.Common.{◌≡◌, Ok, true, sym, ap, ◌∙◌}
 use Rattle.aa_decide_slots.specs.Named.{entry_named}
-use Rattle.aa_decide_entry.specs.Entries.{is_in_force}
-use Rattle.aa_decide_entry.specs.Slots.{filled}
+use Rattle.aa_decide_slots.specs.Entries.{is_in_force}
+use Rattle.aa_decide_slots.specs.Slots.{filled}
 use Rattle.aa_set_changes.proofs.PartLemmas.{disabled-seen}
 use Rattle.aa_decide_slots.specs.SlotNames.{slot_named}
 use Rattle.aa_set_parts.specs.Parts.{after}

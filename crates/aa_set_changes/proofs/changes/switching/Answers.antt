@@ -1,6 +1,6 @@
 use Rattle.std.proofs.Common.{Ok, Some, sym, ap, ◌∙◌}
 use Rattle.aa_decide_slots.specs.Named.{entry_named}
-use Rattle.aa_decide_entry.specs.Slots.{filled}
+use Rattle.aa_decide_slots.specs.Slots.{filled}
 use Rattle.aa_set_changes.specs.Changes.{modes_of}
 use Rattle.aa_set_changes.proofs.PartLemmas.{mode-seen}
 use Rattle.aa_decide_slots.specs.SlotNames.{slot_named}

@@ -1,5 +1,5 @@
 use Rattle.std.proofs.Common.{length, ap, ◌∙◌, arith}
-use Rattle.aa_decide_entry.specs.Slots.{filled}
+use Rattle.aa_decide_slots.specs.Slots.{filled}
 use Rattle.aa_set_changes.specs.code.Places.{filling}
 use Rattle.aa_set_changes.proofs.PartLemmas.{length-filling, length-found, length-placed, loading-seen, loading-within}
 use Rattle.aa_set_parts.specs.Parts.{Reaching, after}

@@ -1,5 +1,5 @@
 use Rattle.std.proofs.Common.{length, ap, ◌∙◌}
-use Rattle.aa_decide_entry.specs.Slots.{filled}
+use Rattle.aa_decide_slots.specs.Slots.{filled}
 use Rattle.aa_set_changes.proofs.PartLemmas.{unloading-long, unloading-seen, unloading-within}
 use Rattle.aa_set_parts.specs.Parts.{Reaching, after}
 use Rattle.aa_set_changes.proofs.loading.unloading.Goals as goal

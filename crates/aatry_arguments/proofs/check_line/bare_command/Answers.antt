@@ -1,7 +1,7 @@
 use Rattle.std.proofs.Common.{◌≡◌, ap, ◌∙◌}
+use Rattle.aaset_start.specs.CommandLine.{with_last_option, without_own_name}
 use Rattle.clap.specs.Words.{app_of}
 use Rattle.clap.specs.Simple.{app_of_fields, on_top}
-use Rattle.aaset_arguments.specs.CommandLine.{with_last_option, without_own_name}
 use Rattle.aatry_arguments.proofs.check_line.bare_command.Goals as goal
 
 -- What each builder says of its own setting, one after the other, is the command line.

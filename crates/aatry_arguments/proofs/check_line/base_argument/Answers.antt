@@ -1,7 +1,7 @@
 use Rattle.std.proofs.Common.{◌≡◌, codes, Some, ap, ◌∙◌}
+use Rattle.aaset_start.specs.Arguments.{base_letter}
 use Rattle.clap.specs.Words.{Rule, new_rule, rule_of}
 use Rattle.clap.specs.declared.builder.ArgAction.TheVariants.{Set}
-use Rattle.aaset_arguments.specs.Arguments.{base_letter}
 use Rattle.aatry_arguments.proofs.check_line.base_argument.Goals as goal
 
 -- What each builder says of its own setting, one after the other, is the argument.

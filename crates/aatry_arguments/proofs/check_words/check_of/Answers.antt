@@ -1,12 +1,12 @@
 use Rattle.std.proofs.Common.{◌≡◌, ◌≤◌, List, [], ℕ, map, string_bytes, length, codes, refl, sym, ap, subst, ◌∙◌, arith}
 use Rattle.std.specs.Prelude.{unwrap_or, Ok}
 use Rattle.std.proofs.lemmas.List.{length-map}
+use Rattle.aaset_start.specs.Arguments.{default_base}
+use Rattle.aaset_start.specs.Texts.{words_of}
+use Rattle.aaset_start.proofs.OutcomeLemmas.{text_or}
 use Rattle.clap.specs.Lexer.{usize_max}
 use Rattle.clap.specs.Words.{App, HasKind, first_of, kind_of, all_of, app_of, fault_of, found_of, is_simple, is_simple_and_free, matches_of, rows_of}
 use Rattle.clap.proofs.WalkLemmas.{first_value-rows, raw_values-rows}
-use Rattle.aaset_arguments.specs.Arguments.{default_base}
-use Rattle.aaset_arguments.specs.Texts.{words_of}
-use Rattle.aaset_arguments.proofs.OutcomeLemmas.{text_or}
 use Rattle.aatry_arguments.specs.Asked.{Asked}
 use Rattle.aatry_arguments.specs.CheckLine.{check_line}
 use Rattle.aatry_arguments.specs.CheckWords.{CheckAsked, asked_check, check_with}

@@ -1,5 +1,5 @@
 use Rattle.std.proofs.Common.{◌≡◌, take}
-use Rattle.aaset_arguments.specs.Texts.{texts, words_of}
+use Rattle.aaset_start.specs.Texts.{texts, words_of}
 use Rattle.aatry_arguments.proofs.check_words.check_with_names.Given as goal
 
 abbrev pub invariant-loop-name : goal.invariant-loop-name

@@ -1,10 +1,10 @@
 use Rattle.std.proofs.Common.{◌≡◌, ◌≤◌, [], map, string_bytes, length, codes, refl, sym, ap, subst, ◌∙◌, arith}
 use Rattle.std.specs.Prelude.{unwrap_or}
 use Rattle.std.proofs.lemmas.List.{length-map}
+use Rattle.aaset_start.specs.Texts.{words_of}
 use Rattle.clap.specs.Lexer.{usize_max}
 use Rattle.clap.specs.Words.{App, HasKind, all_of, kind_of, app_of, fault_of, found_of, is_simple, is_simple_and_free, matches_of, rows_of}
 use Rattle.clap.proofs.WalkLemmas.{first_value-rows, raw_values-rows}
-use Rattle.aaset_arguments.specs.Texts.{words_of}
 use Rattle.aatry_arguments.specs.Asked.{Asked, asked_then}
 use Rattle.aatry_arguments.specs.DiffLine.{diff_line}
 use Rattle.aatry_arguments.specs.DiffWords.{DiffGiven, asked_of}

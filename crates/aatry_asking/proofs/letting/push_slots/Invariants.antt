@@ -1,5 +1,5 @@
 use Rattle.std.proofs.Common.{◌≡◌, ◌++◌, length}
-use Rattle.aa_decide_entry.specs.Slots.{filled}
+use Rattle.aa_decide_slots.specs.Slots.{filled}
 use Rattle.aa_profile_access.specs.SeenRequests.{request_of}
 use Rattle.aatry_policy.specs.FolderParts.{seen_folder}
 use Rattle.aatry_asking.specs.Who.{who_lines}

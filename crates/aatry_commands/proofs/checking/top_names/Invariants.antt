@@ -1,5 +1,5 @@
 use Rattle.std.proofs.Common.{◌≡◌, ◌++◌, drop, map, string_bytes}
-use Rattle.aaset_gather.specs.Gathering.{texts_of}
+use Rattle.aaset_start.specs.Gathering.{texts_of}
 use Rattle.aatry_commands.specs.Checking.{top_names}
 use Rattle.aatry_commands.proofs.checking.top_names.Given as goal
 

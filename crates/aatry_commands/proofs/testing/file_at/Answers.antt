@@ -1,6 +1,6 @@
 use Rattle.std.proofs.Common.{◌≡◌, ◌∙◌, ap, codes, false, string_bytes, sym}
 use Rattle.aa_text_files.specs.Files.{is_folder_name}
-use Rattle.aaset_gather.specs.Gathering.{IsReadBelow}
+use Rattle.aaset_start.specs.Gathering.{IsReadBelow}
 use Rattle.aatry_commands.proofs.TestingLemmas.{one_file}
 use Rattle.aatry_commands.proofs.testing.file_at.Goals as goal
 

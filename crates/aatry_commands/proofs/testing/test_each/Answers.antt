@@ -1,7 +1,7 @@
 use Rattle.std.proofs.Common.{rules, ◌≡◌, ◌∙◌, ◌∷◌, ap, arith, length, map, string_bytes, subst, sym}
 use Rattle.std.proofs.lemmas.List.{length-map}
 use Rattle.std.specs.Vec.Iter.{into_iter_items}
-use Rattle.aaset_gather.specs.Gathering.{texts_of}
+use Rattle.aaset_start.specs.Gathering.{texts_of}
 use Rattle.aatry_commands.specs.Testing.{TestsEach}
 use Rattle.aatry_commands.proofs.TestingLemmas.{tests_all, tests_one_more}
 use Rattle.aatry_commands.proofs.testing.test_each.Goals as goal

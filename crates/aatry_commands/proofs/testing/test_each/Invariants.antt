@@ -1,6 +1,6 @@
 use Rattle.std.proofs.Common.{◌++◌, ◌≤◌, ◌+◌, ℕ, List, length, map, string_bytes, vec_len}
 use Rattle.std.specs.Vec.Iter.{into_iter_items}
-use Rattle.aaset_gather.specs.Gathering.{texts_of}
+use Rattle.aaset_start.specs.Gathering.{texts_of}
 use Rattle.aatry_commands.specs.Testing.{TestsEach}
 use Rattle.aatry_commands.proofs.testing.test_each.Given as goal
 

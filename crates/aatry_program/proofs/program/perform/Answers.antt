@@ -1,5 +1,5 @@
 use Rattle.std.proofs.Common.{string_bytes, subst}
-use Rattle.aaset_gather.specs.Gathering.{texts_of}
+use Rattle.aaset_start.specs.Gathering.{texts_of}
 use Rattle.aatry_arguments.specs.Given.{meant_comparison}
 use Rattle.aatry_commands.specs.Asking.{IsWhoToldBelow, IsWhyToldBelow}
 use Rattle.aatry_commands.specs.Checking.{IsChecked}

@@ -1,6 +1,6 @@
 use Rattle.std.proofs.Common.{◌∙◌, ap}
 use Rattle.aa_decide_exec_rules.specs.Choices.{choice}
-use Rattle.aa_decide_entry.specs.Ready.{audits}
+use Rattle.aa_decide_slots.specs.Ready.{audits}
 use Rattle.aa_explain.specs.Leading.{first_transition, lead_of}
 use Rattle.aatry_transition.proofs.how.lead_at.Goals as goal
 

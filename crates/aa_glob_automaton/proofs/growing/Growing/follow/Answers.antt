@@ -1,6 +1,6 @@
 use Rattle.std.proofs.Common.{refl}
 use Rattle.aa_glob_syntax.specs.Cursor.{meaning}
-use Rattle.aa_glob_prefixes.specs.Left.{left_in}
+use Rattle.aa_glob_pattern.specs.Left.{left_in}
 use Rattle.aa_glob_automaton.proofs.FollowLemmas.{following-end, following-more, following-start}
 use Rattle.aa_glob_automaton.proofs.growing.Growing.follow.Goals as goal
 

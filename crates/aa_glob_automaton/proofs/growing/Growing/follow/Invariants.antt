@@ -1,5 +1,5 @@
 use Rattle.std.proofs.Common.{length}
-use Rattle.aa_glob_prefixes.specs.Left.{left_in}
+use Rattle.aa_glob_pattern.specs.Left.{left_in}
 use Rattle.aa_glob_automaton.specs.code.Followed.{IsFollowing}
 use Rattle.aa_glob_automaton.proofs.growing.Growing.follow.Given as goal
 

@@ -1,5 +1,5 @@
 use Rattle.std.proofs.Common.{◌≡◌, true, [], Ok, IfErr, OnOk, sym, ap, subst, ◌∙◌}
-use Rattle.aa_decide_entry.specs.Slots.{filled}
+use Rattle.aa_decide_slots.specs.Slots.{filled}
 use Rattle.aa_profile_data.specs.declared.profile.Mode.TheVariants.{Enforce as EnforceMode}
 use Rattle.aa_set_changes.specs.Changes.{is_loaded, with_mode}
 use Rattle.aa_set_commands.specs.Command.{Enforce}

@@ -1,6 +1,6 @@
 use Rattle.std.proofs.Common.{◌≡◌, length, List, Ok, Err, IfErr, OnOk, sym, ap, subst, ◌∙◌}
 use Rattle.aa_decide_slots.specs.Named.{have_distinct_names}
-use Rattle.aa_decide_entry.specs.Slots.{filled}
+use Rattle.aa_decide_slots.specs.Slots.{filled}
 use Rattle.aa_profile.specs.FileReading.{file_profiles}
 use Rattle.aa_profile_data.specs.declared.profile.Profile.{Profile}
 use Rattle.aa_set_changes.specs.Changes.{by_file, profile_count, with_removed}

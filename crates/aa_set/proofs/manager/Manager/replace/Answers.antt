@@ -1,5 +1,5 @@
 use Rattle.std.proofs.Common.{◌≡◌, length, Ok, Err, IfErr, OnOk, subst}
-use Rattle.aa_decide_entry.specs.Slots.{filled}
+use Rattle.aa_decide_slots.specs.Slots.{filled}
 use Rattle.aa_profile.specs.FileReading.{file_profiles}
 use Rattle.aa_set_changes.specs.Changes.{by_file, profile_count, with_replaced}
 use Rattle.aa_set_commands.specs.Command.{Replace}

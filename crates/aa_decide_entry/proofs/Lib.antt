@@ -1,2 +1,0 @@
-pub mod AgreementLemmas
-pub mod PartLemmas

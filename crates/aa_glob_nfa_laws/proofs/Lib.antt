@@ -1,3 +1,0 @@
-pub mod EntryLemmas
-pub mod ReachLemmas
-pub mod StepLemmas

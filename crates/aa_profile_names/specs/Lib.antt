@@ -1,2 +1,0 @@
-pub mod FullNames
-pub mod Names

@@ -1,4 +1,0 @@
-pub mod Arguments
-pub mod CommandLine
-pub mod Plan
-pub mod Texts

@@ -1,2 +1,0 @@
-pub mod GatheringLemmas
-pub mod NameLemmas

@@ -1,0 +1,9 @@
+pub mod ArgumentsLemmas
+pub mod GatheringLemmas
+mod LawLemmas
+pub mod NameLemmas
+pub mod OptionLemmas
+pub mod OutcomeLemmas
+pub mod RowLemmas
+pub mod WalkLemmas
+mod WordLemmas

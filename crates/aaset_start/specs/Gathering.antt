@@ -1,0 +1,38 @@
+-- The files that are taken, and why some can't be.
+use Rattle.std.specs.Prelude.{◌≡◌, ◌≤◌, ℕ, List, ◌∷◌, ◌++◌, length, map, Option, IfSome, IsFalse, IsTrue, Vec, String, string_bytes, false}
+use Rattle.aa_text_files.specs.Files.{File, is_bad_file, is_folder_name}
+use Rattle.aa_text_files.specs.Limit.{most_bytes}
+use Rattle.aaset_start.specs.Names.{AreGoodNames, is_refused_behind, may_be_untaken}
+use Rattle.aaset_start.specs.Reading.{path_of}
+use Rattle.aaset_start.specs.declared.gathering.GatherFault.{GatherFault}
+use Rattle.aaset_start.specs.declared.gathering.GatherFault.TheVariants.{Untaken, Memory}
+
+-- the names of files
+abbrev pub names_of : List File → List (List ℕ)
+names_of files = map (λ file. file.0) files
+
+-- the names that are given
+abbrev pub texts_of : {A B : Type 0} → Vec (String A) B → List (List ℕ)
+texts_of names = map string_bytes names.items
+
+-- a file that may be taken: with no more bytes than one reading may enter, a good name, and no bytes where that declares a folder
+abbrev pub IsTakable : File → Type 0
+IsTakable file = (length file.1 ≤ most_bytes) × (is_bad_file file.0 file.1 ≡ false)
+
+-- The file has the bytes that lie at the path of its name, where they are known. A folder isn't read.
+abbrev pub IsReadBelow : (List ℕ → Option (List ℕ)) → List ℕ → File → Type 0
+IsReadBelow bytes_at base file = IsFalse (is_folder_name file.0) → IfSome (bytes_at (path_of base file.0)) (λ bytes. file.1 ≡ bytes)
+
+-- The fault of a name behind these: the name is told, where it may be. Memory is never told of one that is refused, which is found without it.
+abbrev pub IsFaultBehind : List (List ℕ) → List ℕ → GatherFault → Type 0
+IsFaultBehind before name (Untaken text) = (string_bytes text ≡ name) × IsTrue (may_be_untaken before name)
+IsFaultBehind before name Memory = IsFalse (is_refused_behind before name)
+
+-- The fault is that of the first name at which there is one: those before it are good and different from each other.
+pub record IsFirstFault (names : List (List ℕ)) (fault : GatherFault) : Type 0 where
+  pub before : List (List ℕ)
+  pub name : List ℕ
+  pub behind : List (List ℕ)
+  pub stands : names ≡ before ++ name ∷ behind
+  pub good : AreGoodNames before
+  pub reported : IsFaultBehind before name fault

@@ -1,0 +1,22 @@
+//! What holds of runs, as laws over the definitions that `plan` is proved to follow.
+
+ghost use Rattle.std.specs.Prelude.{◌≡◌, ◌<◌, ℕ, false, true, List, [], ◌∷◌, codes, length};
+ghost use Rattle.std.specs.List.{list_all};
+ghost use Rattle.aaset_start.specs.Arguments.{with_names};
+ghost use Rattle.aaset_start.specs.Arguments.{ForRun, Open, Run, asked, asked_at_end, asked_behind, below, forced, is_name, is_option};
+ghost use Rattle.aaset_start.specs.Plan.{run_with};
+
+/// Each run has at least one NAME. Words that are no options are its NAMEs, all of them and in their order. Behind `-C` each word asks for what it
+/// would ask for without it, in complain mode, and behind `-b` and a folder for the same below that folder.
+pub fn what_runs_have()
+    ensures names { (words : List (List ℕ)) (run : Run) → asked words ≡ ForRun run → 0 < length run.names }
+    ensures plain { (words : List (List ℕ)) (run : Run)
+        → list_all is_name words ≡ true
+        → asked_behind (Open run) words ≡ asked_at_end (with_names words run) }
+    ensures mode { (words : List (List ℕ)) (run : Run)
+        → asked_behind (Open run) (codes "-C" ∷ words) ≡ asked_behind (Open (forced run)) words }
+    ensures base { (words : List (List ℕ)) (folder : List ℕ) (run : Run)
+        → is_option folder ≡ false
+        → asked_behind (Open run) (codes "-b" ∷ folder ∷ words) ≡ asked_behind (Open (below folder run)) words }
+    ensures both { asked (codes "-C" ∷ codes "-b" ∷ codes "/srv" ∷ codes "x" ∷ []) ≡ ForRun (run_with true (codes "/srv") (codes "x" ∷ [])) }
+{}
