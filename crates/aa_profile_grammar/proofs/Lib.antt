@@ -1,3 +1,4 @@
+pub mod FileLemmas
 pub mod NameLemmas
 pub mod PreambleLemmas
 pub mod SequenceLemmas

@@ -13,6 +13,7 @@ use Rattle.aa_profile_rules.specs.declared.rules.Rule.{Rule}
 use Rattle.aa_profile_grammar.specs.Blocks.{is_child_of_name, is_of_name}
 use Rattle.aa_profile_grammar.specs.code.Names.{AreNamesOf}
 use Rattle.aa_profile_grammar.specs.SeenFiles.{seen_member, seen_profile}
+use Rattle.aa_profile_grammar.specs.code.Members.{AreNamedWith}
 use Rattle.aa_profile_grammar.specs.declared.blocks.Child.{Child}
 use Rattle.aa_profile_grammar.specs.declared.blocks.Member.{Member}
 use Rattle.aa_profile_grammar.specs.declared.blocks.Member.TheVariants.{OfChild, OfRule}
@@ -74,3 +75,11 @@ rule-named names items rule are other =
     ∙ (or-none (list_any (is_child_of_name other) (map seen_member items))
     ∙ (sym (list_any-append (is_child_of_name other) (map seen_member items) (seen_member (OfRule rule) ∷ []))
     ∙ sym (ap (list_any (is_child_of_name other)) (map-append seen_member items (OfRule rule ∷ [])))))
+
+-- the same of a member that is a rule
+pub rule-noted : (names : BTreeSet (Bor (List ℕ))) (member : Member) (rule : Rule) → member ≡ OfRule rule → AreNamedWith names member names
+rule-noted names member rule e = rw e (λ items are. rule-named names items rule are)
+
+-- and of one that is a child or a hat
+pub child-noted : (names more : BTreeSet (Bor (List ℕ))) (member : Member) (child : Child) → member ≡ OfChild child → Adds names child.head.name more → AreNamedWith names member more
+child-noted names more member child e adds = rw e (λ items are. children-named names more items child adds are)

@@ -1,10 +1,11 @@
 //! Profile files, whole.
 
-ghost use Rattle.std.specs.Prelude.{◌≡◌, ◌≢◌, Ok, Err, None, IfOk, IfErr};
+ghost use Rattle.std.specs.Prelude.{◌≡◌, ◌≢◌, Ok, Err, None, IfOk, IfErr, map};
 ghost use Rattle.aa_profile_parsing.specs.SeenTokens.{seen_tokens};
 ghost use Rattle.aa_profile_parsing.specs.declared.fault.GrammarRefusal.TheVariants.{Memory};
 ghost use Rattle.aa_profile_grammar.specs.Files.{file};
-ghost use Rattle.aa_profile_grammar.specs.SeenFiles.{seen_file};
+ghost use Rattle.aa_profile_grammar.specs.SeenFiles.{seen_file, seen_profile};
+ghost use Rattle.aa_profile_grammar.specs.code.SomeProfiles.{some_profiles};
 
 use crate::blocks::{Profile, read_profiles};
 use crate::preamble::{Assignment, read_preamble};
@@ -42,15 +43,29 @@ pub fn read_file<'a>(alloc: Global, tokens: &'a [Spliced<'a>]) -> Result<File<'a
     ensures refused { IfErr result (λ error. error ≢ record { refusal = Memory; place = None } → file (seen_tokens tokens.now) ≡ Err error) }
 {
     let (assignments, behind) = read_preamble(alloc, tokens)?;
-    let (profiles, _) = read_profiles(alloc, behind)?;
+    match read_some_profiles(alloc, behind) {
+        Ok(profiles) => Ok(File {
+            assignments,
+            profiles,
+        }),
+        Err(error) => Err(error),
+    }
+}
+
+// The profiles of a file, of which there must be one, from the tokens behind its preamble.
+fn read_some_profiles<'a>(
+    alloc: Global,
+    tokens: &'a [Spliced<'a>],
+) -> Result<Vec<Profile<'a>>, GrammarError>
+    ensures ok { IfOk result (λ profiles. some_profiles (seen_tokens tokens.now) ≡ Ok (map seen_profile profiles.items)) }
+    ensures refused { IfErr result (λ error. error ≢ record { refusal = Memory; place = None } → some_profiles (seen_tokens tokens.now) ≡ Err error) }
+{
+    let (profiles, _) = read_profiles(alloc, tokens)?;
     if profiles.is_empty() {
         return Err(GrammarError {
             refusal: GrammarRefusal::NoProfile,
             place: None,
         });
     }
-    Ok(File {
-        assignments,
-        profiles,
-    })
+    Ok(profiles)
 }

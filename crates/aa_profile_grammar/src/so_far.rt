@@ -1,9 +1,10 @@
 //! Parts of a file that were read so far, and their names, of which it is told without going through all parts whether one is there.
 
-ghost use Rattle.std.specs.Prelude.{◌≡◌, ◌++◌, ◌∷◌, [], IfOk, map};
+ghost use Rattle.std.specs.Prelude.{◌≡◌, ◌++◌, ◌∷◌, [], IfOk, OnOk, map};
 ghost use Rattle.std.specs.List.{list_any};
 ghost use Rattle.aa_profile_grammar.specs.Blocks.{is_child_of_name, is_of_name};
 ghost use Rattle.aa_profile_grammar.specs.code.Names.{AreNamesOf};
+ghost use Rattle.aa_profile_grammar.specs.code.Members.{AreNamedWith};
 ghost use Rattle.aa_profile_grammar.specs.SeenFiles.{seen_member, seen_profile};
 
 use crate::blocks::{Member, Profile};
@@ -52,6 +53,19 @@ impl<'a> ProfilesSoFar<'a> {
     }
 }
 
+// Notes the name of a member of a block, if it is a child or a hat.
+fn note<'a>(names: &mut BTreeSet<&'a [u8]>, member: &Member<'a>) -> Result<(), AllocError>
+    ensures { OnOk result (AreNamedWith names.old member.now names.new) }
+{
+    match member {
+        Member::OfRule(_) => Ok(()),
+        Member::OfChild(child) => {
+            names.insert(child.head.name)?;
+            Ok(())
+        }
+    }
+}
+
 /// Members of a profile's block.
 #[derive(Drop)]
 pub struct MembersSoFar<'a> {
@@ -88,16 +102,8 @@ impl<'a> MembersSoFar<'a> {
             mut items,
             mut names,
         } = self;
-        match member {
-            Member::OfRule(rule) => {
-                items.push(Member::OfRule(rule))?;
-                Ok(MembersSoFar { items, names })
-            }
-            Member::OfChild(child) => {
-                names.insert(child.head.name)?;
-                items.push(Member::OfChild(child))?;
-                Ok(MembersSoFar { items, names })
-            }
-        }
+        note(&mut names, &member)?;
+        items.push(member)?;
+        Ok(MembersSoFar { items, names })
     }
 }

@@ -424,10 +424,8 @@ module _ (variables : List Variable) (starts before : List ℕ) (below : AllBelo
       by true after = (λ h. subst (GoesOn (state entered all order)) after goes, λ h. absurd (cc))
       by false after = (λ h. absurd (cc), λ h. subst (GoesOn (state entered all order)) after goes)
 
--- what a walk from the names of a text finds
-pub text-walked : {X : Type 0} (keys : X → List ℕ) (variables : List Variable) (text names before : List ℕ) → names ≡ with_indexes [] (indexes_in variables text)
-    → (found : Option X) → MatchOption found (SomeEndless variables names) (λ o. IsWalked variables names before (keys o))
-    → MatchOption found (leads_to_cycle variables text ≡ true) (λ o. IsOrderOf variables text before (keys o))
-text-walked keys variables text names before same None endless = endless-text variables text names same endless
-text-walked keys variables text names before same (Some order) walked =
-    record { settled = walked.settled; begins = walked.begins; named = starts-known variables text names same (keys order) walked.has }
+-- an order that has all names of a text
+pub text-walked : (variables : List Variable) (text names before order : List ℕ) → names ≡ with_indexes [] (indexes_in variables text)
+    → IsWalked variables names before order → IsOrderOf variables text before order
+text-walked variables text names before order same walked =
+    record { settled = walked.settled; begins = walked.begins; named = starts-known variables text names same order walked.has }

@@ -4,6 +4,7 @@ ghost use Rattle.std.specs.Prelude.{◌≡◌, ◌≢◌, ◌<◌, ◌++◌, ◌
 ghost use Rattle.std.specs.Prelude.{option_map, slice_get};
 ghost use Rattle.aa_text_variables.specs.Variables.{after_append, after_define, is_defined, named, names_undefined, same_texts};
 ghost use Rattle.aa_text_files.specs.declared.text_error.TextRefusal.TheVariants.{Memory};
+ghost use Rattle.aa_text_variables.specs.code.VariablesMap.{IsPlaced, as_variable};
 
 use aa_bytes::Sequence;
 use aa_text_expansion::has_missing;
@@ -42,15 +43,54 @@ impl Model for Variables {
     ghost invariant = { λ v. AreKept v.entries.items v.places.entries };
 }
 
+// Puts a copy of a word behind others.
+fn push_copy(copies: &mut Vec<Sequence<u8>>, word: &[u8]) -> Result<(), AllocError>
+    ensures { OnOk result (copies.new.items ≡ copies.old.items ++ word.now ∷ []) }
+{
+    let copy = Sequence::from_slice(*copies.allocator(), word)?;
+    copies.push(copy)?;
+    Ok(())
+}
+
 // Equal words, in memory of their own.
 fn copied_words(alloc: Global, words: &[&[u8]]) -> Result<Sequence<Sequence<u8>>, AllocError>
     ensures { IfOk result (λ copies. copies ≡ map (λ w. w.now) words.now) }
 {
     let mut copies = Vec::with_capacity(alloc, words.len())?;
     for word in words {
-        copies.push(Sequence::from_slice(alloc, word)?)?;
+        push_copy(&mut copies, word)?;
     }
     Ok(Sequence::from_vec(copies))
+}
+
+// An entry for a name, where nothing was added to its words yet.
+fn entry_of(alloc: Global, name: &[u8], words: &[&[u8]]) -> Result<(Vec<u8>, Values), AllocError>
+    ensures { IfOk result (λ entry. as_variable entry ≡ record { name = name.now; defined = map (λ w. w.now) words.now; added = [] }) }
+{
+    let defined = copied_words(alloc, words)?;
+    let name = Vec::from_slice(alloc, name)?;
+    Ok((
+        name,
+        Values {
+            defined,
+            added: Sequence::new(alloc),
+        },
+    ))
+}
+
+// Puts the place of a name's variable among those of others.
+fn put(
+    alloc: Global,
+    places: &mut BTreeMap<Vec<u8>, usize>,
+    name: &[u8],
+    place: usize,
+) -> Result<(), AllocError>
+    ensures ok { OnOk result (IsPlaced name.now place places.old.entries places.new.entries) }
+    ensures unchanged { OnErr result (places.new.entries ≡ places.old.entries) }
+{
+    let key = Vec::from_slice(alloc, name)?;
+    places.insert(key, place)?;
+    Ok(())
 }
 
 // Whether words are the same as others, in the same order.
@@ -133,16 +173,11 @@ impl Variables {
         ensures unchanged { OnErr result (self.new ≡ self.old) }
     {
         let alloc = *self.entries.allocator();
-        let values = Values {
-            defined: copied_words(alloc, words)?,
-            added: Sequence::new(alloc),
-        };
-        let key = Vec::from_slice(alloc, name)?;
-        let name = Vec::from_slice(alloc, name)?;
+        let entry = entry_of(alloc, name, words)?;
         let place = self.entries.len();
-        self.entries.push((name, values))?;
-        match self.places.insert(key, place) {
-            Ok(_) => Ok(()),
+        self.entries.push(entry)?;
+        match put(alloc, &mut self.places, name, place) {
+            Ok(()) => Ok(()),
             Err(_) => {
                 self.entries.pop();
                 Err(plain(TextRefusal::Memory))

@@ -1,5 +1,5 @@
 -- The variables that are kept, and where that of each name stands.
-use Rattle.std.specs.Prelude.{ℕ, ◌≡◌, true, List, map, Vec}
+use Rattle.std.specs.Prelude.{ℕ, ◌≡◌, ◌++◌, ◌∷◌, [], true, None, List, length, map, Vec}
 use Rattle.std.specs.BTreeMap.{is_at}
 use Rattle.std.specs.Cmp.Lexicographic.{slice_cmp}
 use Rattle.std.specs.Map.{lookup}
@@ -24,6 +24,12 @@ place_of name places = lookup (is_at (λ key. slice_cmp nat_cmp name key.items))
 -- a map has the index of each name's variable
 abbrev pub ArePlaced : {A : Type 0} → List Variable → List (Vec ℕ A × ℕ) → Type 0
 ArePlaced variables places = (name : List ℕ) → place_of name places ≡ index_of variables name
+
+-- a map gets the index of one more variable behind others
+abbrev pub IsPlaced : {A : Type 0} → List ℕ → ℕ → List (Vec ℕ A × ℕ) → List (Vec ℕ A × ℕ) → Type 0
+IsPlaced name place before after =
+    (variables : List Variable) (more : Variable) → ArePlaced variables before → more.name ≡ name → index_of variables name ≡ None → place ≡ length variables
+    → ArePlaced (variables ++ more ∷ []) after
 
 -- what is known of entries and of the map beside them
 pub record AreKept {A : Type 0} (entries : List (Vec ℕ A × Values)) (places : List (Vec ℕ A × ℕ)) : Type 0 where

@@ -43,26 +43,26 @@ impl Variables {
         ensures place { IfErr result (λ e. e.place ≡ None) }
     {
         let order = self.order(text)?;
-        let counts = self.counts(&order, Vec::new(*self.entries.allocator()))?;
+        let mut counts = Vec::new(*self.entries.allocator());
+        self.counts(&order, &mut counts)?;
         Ok(count_text(&self.beside(&order, counts.as_slice()), text))
     }
 
-    // How many values each variable of an order has, as far as they are counted, where those of the first ones are known.
+    // Puts how many values each variable of an order has, as far as they are counted, behind those of the first ones.
     pub(super) fn counts(
         &self,
         order: &IndexSet<usize>,
-        first: Vec<usize>,
-    ) -> Result<Vec<usize>, AllocError>
+        counts: &mut Vec<usize>,
+    ) -> Result<(), AllocError>
         requires order { IsOrder self.now order.now.keys }
         requires few { length order.now.keys ≤ length self.now }
-        requires first { AreFirstCounts self.now order.now.keys first.items }
-        ensures { IfOk result (λ counts. counts.items ≡ map (count_at self.now) order.now.keys) }
+        requires first { AreFirstCounts self.now order.now.keys counts.old.items }
+        ensures { OnOk result (counts.new.items ≡ map (count_at self.now) order.now.keys) }
     {
-        let mut counts = first;
         while let Some(index) = gathered(order, counts.len()) {
             let count = counted_at(&self.beside(order, counts.as_slice()), index);
             counts.push(count)?;
         }
-        Ok(counts)
+        Ok(())
     }
 }

@@ -59,31 +59,30 @@ impl Variables {
     {
         let alloc = *order.allocator();
         let mut lists = Lists::new(alloc);
-        let numbers = self.list(order, &mut lists, Vec::new(alloc))?;
+        let mut numbers = Vec::new(alloc);
+        self.list(order, &mut lists, &mut numbers)?;
         let number = expand_text(&mut lists, &self.beside(order, numbers.as_slice()), text)?;
-        let texts = lists.texts(number)?;
-        Ok(texts)
+        lists.texts(number)
     }
 
-    // Lists of the values of all variables of an order, where there are those of the first ones: their numbers.
+    // Makes lists of the values of all variables of an order, where there are those of the first ones, and puts their numbers behind these.
     pub(super) fn list(
         &self,
         order: &IndexSet<usize>,
         lists: &mut Lists,
-        first: Vec<usize>,
-    ) -> Result<Vec<usize>, AllocError>
+        numbers: &mut Vec<usize>,
+    ) -> Result<(), AllocError>
         requires order { IsOrder self.now order.now.keys }
         requires few { length order.now.keys ≤ length self.now }
-        requires first { AreListed self.now order.now.keys first.items lists.old }
-        requires fewer { length first.items ≤ length order.now.keys }
-        ensures listed { IfOk result (λ all. AreListed self.now order.now.keys all.items lists.new) }
-        ensures all { IfOk result (λ all. length all.items ≡ length order.now.keys) }
+        requires first { AreListed self.now order.now.keys numbers.old.items lists.old }
+        requires fewer { length numbers.old.items ≤ length order.now.keys }
+        ensures listed { OnOk result (AreListed self.now order.now.keys numbers.new.items lists.new) }
+        ensures all { OnOk result (length numbers.new.items ≡ length order.now.keys) }
     {
-        let mut numbers = first;
         while let Some(index) = gathered(order, numbers.len()) {
             let number = listed_at(lists, &self.beside(order, numbers.as_slice()), index)?;
             numbers.push(number)?;
         }
-        Ok(numbers)
+        Ok(())
     }
 }

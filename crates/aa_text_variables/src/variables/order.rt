@@ -1,6 +1,6 @@
 //! The order of the variables that a text leads to, and the first variable that leads to itself.
 
-ghost use Rattle.std.specs.Prelude.{◌≡◌, ◌≢◌, ◌<◌, ◌≤◌, true, None, Some, IfOk, IfErr, OnOk, MatchOption, length, position};
+ghost use Rattle.std.specs.Prelude.{◌≡◌, ◌≢◌, ◌<◌, ◌≤◌, [], true, false, None, Some, IfOk, IfErr, OnOk, length, position};
 ghost use Rattle.aa_text_variables.specs.code.ExpansionOrder.{IsOrder, is_text_known};
 ghost use Rattle.aa_text_variables.specs.Expansions.{expansion_refusal, expansions, is_cyclic, leads_to_cycle};
 ghost use Rattle.aa_text_variables.specs.code.VariableWalks.{IsOrderOf, IsSettled};
@@ -23,22 +23,22 @@ impl Variables {
         ensures place { IfErr result (λ e. e.place ≡ None) }
     {
         self.refuse_undefined(text)?;
-        match self.walk_text(text, IndexSet::new(*self.entries.allocator()))? {
-            Some(order) => Ok(order),
-            None => Err(plain(TextRefusal::Cycle)),
+        let mut order = IndexSet::new(*self.entries.allocator());
+        if !self.walk_text(text, &mut order)? {
+            return Err(plain(TextRefusal::Cycle));
         }
+        Ok(order)
     }
 
-    // An order with the variables that a text leads to behind it, or nothing where it leads to a cycle.
+    // Puts the variables that a text leads to behind an order, and says whether it leads to no cycle.
     pub(super) fn walk_text(
         &self,
         text: &[u8],
-        order: IndexSet<usize>,
-    ) -> Result<Option<IndexSet<usize>>, AllocError>
-        requires { IsSettled self.now order.keys }
-        ensures { IfOk result (λ found. MatchOption found
-            (leads_to_cycle self.now text.now ≡ true)
-            (λ o. IsOrderOf self.now text.now order.keys o.keys)) }
+        order: &mut IndexSet<usize>,
+    ) -> Result<bool, AllocError>
+        requires { IsSettled self.now order.old.keys }
+        ensures fine { IfOk result (λ fine. fine ≡ true → IsOrderOf self.now text.now order.old.keys order.new.keys) }
+        ensures cycle { IfOk result (λ fine. fine ≡ false → leads_to_cycle self.now text.now ≡ true) }
     {
         let mut starts = IndexSet::new(*self.entries.allocator());
         self.note(text, &mut starts)?;
@@ -58,10 +58,17 @@ impl Variables {
         ensures place { IfErr result (λ e. e.place ≡ None) }
     {
         let mut order = IndexSet::new(*self.entries.allocator());
+        Ok(self.first_cyclic(&mut order)?)
+    }
+
+    // The same. Puts those before it, and all that they lead to, in an order.
+    fn first_cyclic(&self, order: &mut IndexSet<usize>) -> Result<Option<usize>, AllocError>
+        requires { order.old.keys ≡ [] }
+        ensures { IfOk result (λ index. index ≡ position (is_cyclic self.now) self.now) }
+    {
         for index in 0..self.entries.len() {
-            match self.walk(&[index], order)? {
-                Some(more) => order = more,
-                None => return Ok(Some(index)),
+            if !self.walk(&[index], order)? {
+                return Ok(Some(index));
             }
         }
         Ok(None)

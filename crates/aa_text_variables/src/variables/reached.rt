@@ -1,6 +1,6 @@
 //! The variables that a text leads to.
 
-ghost use Rattle.std.specs.Prelude.{◌≡◌, ◌≢◌, ◌<◌, ◌-◌, ◌^◌, true, false, slice_get, None, IfSome, IfErr, OnOk, length};
+ghost use Rattle.std.specs.Prelude.{◌≡◌, ◌≢◌, ◌<◌, ◌-◌, ◌^◌, [], true, false, slice_get, None, IfSome, IfOk, IfErr, OnOk};
 ghost use Rattle.std.specs.List.{list_any};
 ghost use Rattle.aa_text_variables.specs.Expansions.{leads_to_undefined};
 ghost use Rattle.aa_text_variables.specs.code.ReachedVariables.{SaysUndefined, indexes_in, indexes_within};
@@ -10,7 +10,8 @@ ghost use Rattle.aa_text_variables.specs.Variables.{are_variables, names_undefin
 ghost use Rattle.aa_text_files.specs.declared.text_error.TextRefusal.TheVariants.{Memory};
 
 use crate::variables::Variables;
-use aa_text_expansion::{gather_numbers, gather_numbers_within, have_missing};
+use aa_bytes::Sequence;
+use aa_text_expansion::{gather_numbers, gather_numbers_within};
 use aa_text_files::{TextError, TextRefusal, plain};
 use indexmap::IndexSet;
 use std::alloc::AllocError;
@@ -40,8 +41,19 @@ impl Variables {
         ensures { OnOk result (reached.new.keys ≡ with_indexes reached.old.keys (indexes_within self.now (words_at self.now index))) }
     {
         let (defined, added) = self.words(index);
-        gather_numbers_within(defined, |name| self.index_of(name), reached)?;
-        gather_numbers_within(added, |name| self.index_of(name), reached)
+        self.note_all(defined, reached)?;
+        self.note_all(added, reached)
+    }
+
+    // The same of words.
+    fn note_all(
+        &self,
+        words: &[Sequence<u8>],
+        reached: &mut IndexSet<usize>,
+    ) -> Result<(), AllocError>
+        ensures { OnOk result (reached.new.keys ≡ with_indexes reached.old.keys (indexes_within self.now words.now)) }
+    {
+        gather_numbers_within(words, |name| self.index_of(name), reached)
     }
 
     // Whether a word of the variable at an index names a variable that isn't defined, or doesn't close a name.
@@ -49,8 +61,19 @@ impl Variables {
         ensures { result ≡ list_any (names_undefined self.now) (words_at self.now index) }
     {
         let (defined, added) = self.words(index);
-        have_missing(defined, |name| self.index_of(name).is_none())
-            || have_missing(added, |name| self.index_of(name).is_none())
+        self.are_undefined(defined) || self.are_undefined(added)
+    }
+
+    // Whether one of some words does.
+    fn are_undefined(&self, words: &[Sequence<u8>]) -> bool
+        ensures { result ≡ list_any (names_undefined self.now) words.now }
+    {
+        for word in words {
+            if self.undefined(word.as_slice()) {
+                return true;
+            }
+        }
+        false
     }
 
     // Refuses a text that leads to a name that isn't defined or isn't closed: looks at all variables that it leads to.
@@ -60,19 +83,43 @@ impl Variables {
         ensures refused { IfErr result (λ e. e.refusal ≢ Memory → SaysUndefined e.refusal (leads_to_undefined self.now text.now)) }
         ensures place { IfErr result (λ e. e.place ≡ None) }
     {
-        if self.undefined(text) {
+        if self.leads_to_undefined(text)? {
             return Err(plain(TextRefusal::Undefined));
         }
+        self.lawful();
+        Ok(())
+    }
+
+    // Whether a text leads to a name that isn't defined or isn't closed.
+    fn leads_to_undefined(&self, text: &[u8]) -> Result<bool, AllocError>
+        ensures { IfOk result (λ found. leads_to_undefined self.now text.now ≡ found) }
+    {
+        if self.undefined(text) {
+            return Ok(true);
+        }
         let mut reached = IndexSet::new(*self.entries.allocator());
-        self.note(text, &mut reached)?;
+        self.reaches_undefined(text, &mut reached)
+    }
+
+    // Whether a text that itself names nothing undefined leads to a name that isn't defined or isn't closed. Gathers what it looks at.
+    fn reaches_undefined(
+        &self,
+        text: &[u8],
+        reached: &mut IndexSet<usize>,
+    ) -> Result<bool, AllocError>
+        requires nothing { reached.old.keys ≡ [] }
+        requires defined { names_undefined self.now text.now ≡ false }
+        ensures { IfOk result (λ found. leads_to_undefined self.now text.now ≡ found) }
+    {
+        self.note(text, reached)?;
         let mut at = 0;
-        while let Some(index) = gathered(&reached, at) {
+        while let Some(index) = gathered(reached, at) {
             if self.undefined_at(index) {
-                return Err(plain(TextRefusal::Undefined));
+                return Ok(true);
             }
-            self.note_words(index, &mut reached)?;
+            self.note_words(index, reached)?;
             at += 1;
         }
-        Ok(())
+        Ok(false)
     }
 }

@@ -18,11 +18,10 @@ ghost use Rattle.aa_text_files.specs.declared.text_error.TextRefusal.TheVariants
 use crate::variables::Variables;
 use crate::variables::plain::{alone, names_nothing};
 use aa_text_expansion::{Lists, count_text, expand_text, has_missing};
-use aa_text_files::TextError;
+use aa_text_files::{TextError, TextRefusal, plain};
 use indexmap::IndexSet;
 use std::alloc::{AllocError, Global};
 use std::marker::Model;
-use std::mem;
 
 // Rows of variables that texts lead to.
 #[derive(Drop)]
@@ -51,107 +50,173 @@ impl Rows {
             numbers: Vec::new(alloc),
         }
     }
+
+    // Without rows.
+    fn clear(&mut self)
+        ensures order { self.new.order.keys ≡ [] }
+        ensures counts { self.new.counts.items ≡ [] }
+        ensures numbers { self.new.numbers.items ≡ [] }
+    {
+        *self = Rows::new(*self.order.allocator());
+    }
 }
 
 impl Variables {
     // They are variables. It costs nothing.
-    fn lawful(&self)
+    pub(super) fn lawful(&self)
         ensures { are_variables self.now ≡ true }
     {
         let _ = &self.entries;
     }
 
-    // Whether a word of the variables behind the first ones of an order names a variable that isn't defined, or doesn't close a name.
+    // Whether a word of the variables at some indexes names a variable that isn't defined, or doesn't close a name.
+    fn some_undefined(&self, indexes: &[usize]) -> bool
+        ensures { result ≡ list_any (names_undefined_at self.now) indexes.now }
+    {
+        for index in indexes {
+            if self.undefined_at(*index) {
+                return true;
+            }
+        }
+        false
+    }
+
+    // Whether one of those behind the first ones of an order does.
     fn undefined_behind(&self, order: &IndexSet<usize>, first: usize) -> bool
         ensures { result ≡ list_any (names_undefined_at self.now) (drop first order.now.keys) }
     {
-        let mut behind = order.as_slice().iter().skip(first);
-        behind.any(|index| self.undefined_at(*index))
+        match order.as_slice().get(first..) {
+            Some(behind) => self.some_undefined(behind),
+            None => false,
+        }
     }
 
-    // Rows with those of the variables that a text leads to behind them, or nothing where it leads to a cycle or to a name that isn't defined.
-    fn grown(&self, text: &[u8], rows: Rows) -> Result<Option<Rows>, AllocError>
-        requires { AreRows self.now rows }
-        ensures { IfOk result (λ found. IfSome found (λ more. HasText self.now text.now more)) }
+    // Puts the variables that a text leads to behind those of the rows, and says whether it leads to no cycle, and to no name that isn't
+    // defined.
+    fn grow(&self, text: &[u8], rows: &mut Rows) -> Result<bool, AllocError>
+        requires { AreRows self.now rows.old }
+        ensures { IfOk result (λ there. there ≡ true → HasText self.now text.now rows.new) }
     {
         if self.undefined(text) {
-            return Ok(None);
+            return Ok(false);
         }
-        let Rows {
-            order,
-            counts,
-            lists,
-            numbers,
-        } = rows;
-        let first = order.len();
-        let Some(order) = self.walk_text(text, order)? else {
-            return Ok(None);
-        };
-        if self.undefined_behind(&order, first) {
-            return Ok(None);
+        let first = rows.order.len();
+        if !self.walk_text(text, &mut rows.order)? {
+            return Ok(false);
         }
-        let counts = self.counts(&order, counts)?;
-        Ok(Some(Rows {
-            order,
-            counts,
-            lists,
-            numbers,
-        }))
+        if self.undefined_behind(&rows.order, first) {
+            return Ok(false);
+        }
+        self.counts(&rows.order, &mut rows.counts)?;
+        Ok(true)
     }
 
-    // Rows with a list for each variable.
-    fn filled(&self, rows: Rows) -> Result<Rows, AllocError>
-        requires { AreRows self.now rows }
-        ensures { IfOk result (λ all. AreRows self.now all) }
+    // How many expansions a text has, as far as they are counted, by rows that have all that it leads to.
+    fn counted(&self, text: &[u8], rows: &Rows) -> usize
+        requires { HasText self.now text.now rows.now }
+        ensures some { 0 < result }
+        ensures count { result ≡ min (length (expansions self.now text.now)) most_counted }
+        ensures fine { expansion_refusal self.now text.now ≡ None }
     {
-        let Rows {
-            order,
-            counts,
-            mut lists,
-            numbers,
-        } = rows;
-        let numbers = self.list(&order, &mut lists, numbers)?;
-        Ok(Rows {
-            order,
-            counts,
-            lists,
-            numbers,
-        })
+        self.lawful();
+        let counts = self.beside(&rows.order, rows.counts.as_slice());
+        count_text(&counts, text)
     }
 
-    // Rows with a list of the expansions of a text among theirs, and its number, where there is a list for each of its names.
-    fn listed(&self, text: &[u8], rows: Rows) -> Result<(Rows, usize), AllocError>
-        requires rows { AreRows self.now rows }
-        requires listed { is_text_lacking (number_of self.now rows.order.keys rows.numbers.items) text.now ≡ false }
-        ensures { IfOk result (λ found. HasList self.now text.now found.1 found.0) }
-    {
-        let Rows {
-            order,
-            counts,
-            mut lists,
-            numbers,
-        } = rows;
-        let number = expand_text(&mut lists, &self.beside(&order, numbers.as_slice()), text)?;
-        let rows = Rows {
-            order,
-            counts,
-            lists,
-            numbers,
-        };
-        Ok((rows, number))
-    }
-
-    // Rows with such a list, and the expansions in it.
-    fn written(&self, text: &[u8], rows: Rows) -> Result<(Rows, Vec<Vec<u8>>), AllocError>
-        requires rows { AreRows self.now rows }
-        requires listed { is_text_lacking (number_of self.now rows.order.keys rows.numbers.items) text.now ≡ false }
-        ensures rows { IfOk result (λ found. AreRows self.now found.0) }
+    // How many expansions a text has, by rows that it may add to. They are empty where it leads to something undefined, to a cycle, or where
+    // memory ran out.
+    fn count_by(&self, text: &[u8], rows: &mut Rows) -> Result<usize, TextError>
+        requires { AreRows self.now rows.old }
+        ensures rows { AreRows self.now rows.new }
         ensures fine { OnOk result (expansion_refusal self.now text.now ≡ None) }
-        ensures texts { IfOk result (λ found. texts_of found.1 ≡ cut_off (expansions self.now text.now)) }
+        ensures some { IfOk result (λ count. 0 < count) }
+        ensures count { IfOk result (λ count. count ≡ min (length (expansions self.now text.now)) most_counted) }
+        ensures refused { IfErr result (λ e. e.refusal ≢ Memory → expansion_refusal self.now text.now ≡ Some e.refusal) }
+        ensures place { IfErr result (λ e. e.place ≡ None) }
     {
-        let (rows, number) = self.listed(text, rows)?;
+        match self.grow(text, rows) {
+            Ok(true) => Ok(self.counted(text, rows)),
+            Ok(false) => {
+                rows.clear();
+                self.count(text)
+            }
+            Err(_) => {
+                rows.clear();
+                Err(plain(TextRefusal::Memory))
+            }
+        }
+    }
+
+    // Whether rows have no list for a name of a text.
+    fn lacks(&self, text: &[u8], rows: &Rows) -> bool
+        ensures { result ≡ is_text_lacking (number_of self.now rows.now.order.keys rows.now.numbers.items) text.now }
+    {
+        let held = self.beside(&rows.order, rows.numbers.as_slice());
+        has_missing(text, |name| held.lacks(name))
+    }
+
+    // Puts a list of the expansions of a text among those of the rows, where there is one for each of its names: its number.
+    fn listed(&self, text: &[u8], rows: &mut Rows) -> Result<usize, AllocError>
+        requires rows { AreRows self.now rows.old }
+        requires listed { is_text_lacking (number_of self.now rows.old.order.keys rows.old.numbers.items) text.now ≡ false }
+        ensures { IfOk result (λ number. HasList self.now text.now number rows.new) }
+    {
+        let held = self.beside(&rows.order, rows.numbers.as_slice());
+        expand_text(&mut rows.lists, &held, text)
+    }
+
+    // The expansions in such a list.
+    fn written(&self, text: &[u8], rows: &mut Rows) -> Result<Vec<Vec<u8>>, AllocError>
+        requires rows { AreRows self.now rows.old }
+        requires listed { is_text_lacking (number_of self.now rows.old.order.keys rows.old.numbers.items) text.now ≡ false }
+        ensures rows { OnOk result (AreRows self.now rows.new) }
+        ensures fine { OnOk result (expansion_refusal self.now text.now ≡ None) }
+        ensures texts { IfOk result (λ texts. texts_of texts ≡ cut_off (expansions self.now text.now)) }
+    {
+        let number = self.listed(text, rows)?;
         let texts = rows.lists.texts(number)?;
-        Ok((rows, texts))
+        Ok(texts)
+    }
+
+    // The same, once the rows have a list for each of their variables, or nothing where they have none for a name of the text.
+    fn filled_and_written(
+        &self,
+        text: &[u8],
+        rows: &mut Rows,
+    ) -> Result<Option<Vec<Vec<u8>>>, AllocError>
+        requires { AreRows self.now rows.old }
+        ensures rows { OnOk result (AreRows self.now rows.new) }
+        ensures fine { IfOk result (λ found. IfSome found (λ texts. expansion_refusal self.now text.now ≡ None)) }
+        ensures texts { IfOk result (λ found. IfSome found (λ texts. texts_of texts ≡ cut_off (expansions self.now text.now))) }
+    {
+        self.list(&rows.order, &mut rows.lists, &mut rows.numbers)?;
+        if self.lacks(text, rows) {
+            return Ok(None);
+        }
+        Ok(Some(self.written(text, rows)?))
+    }
+
+    // The expansions of a text, by rows that it may add to. They are empty where memory ran out for them.
+    fn expand_by(&self, text: &[u8], rows: &mut Rows) -> Result<Vec<Vec<u8>>, TextError>
+        requires { AreRows self.now rows.old }
+        ensures rows { AreRows self.now rows.new }
+        ensures fine { OnOk result (expansion_refusal self.now text.now ≡ None) }
+        ensures some { IfOk result (λ texts. 0 < length texts.items) }
+        ensures texts { IfOk result (λ texts. texts_of texts ≡ cut_off (expansions self.now text.now)) }
+        ensures refused { IfErr result (λ e. e.refusal ≢ Memory → expansion_refusal self.now text.now ≡ Some e.refusal) }
+        ensures place { IfErr result (λ e. e.place ≡ None) }
+    {
+        match self.filled_and_written(text, rows) {
+            Ok(Some(texts)) => {
+                self.lawful();
+                Ok(texts)
+            }
+            Ok(None) => self.expand(text),
+            Err(_) => {
+                rows.clear();
+                Err(plain(TextRefusal::Memory))
+            }
+        }
     }
 }
 
@@ -202,18 +267,7 @@ impl<'v> ExpansionTable<'v> {
         if names_nothing(text) {
             return Ok(1);
         }
-        let alloc = *self.rows.order.allocator();
-        let rows = mem::replace(&mut self.rows, Rows::new(alloc));
-        match self.variables.grown(text, rows)? {
-            Some(rows) => {
-                self.variables.lawful();
-                let counts = self.variables.beside(&rows.order, rows.counts.as_slice());
-                let count = count_text(&counts, text);
-                self.rows = rows;
-                Ok(count)
-            }
-            None => self.variables.count(text),
-        }
+        self.variables.count_by(text, &mut self.rows)
     }
 
     /// The expansions of a text, as `Variables::expand` gives them.
@@ -231,20 +285,9 @@ impl<'v> ExpansionTable<'v> {
         ensures place { IfErr result (λ e. e.place ≡ None) }
         ensures same { self.new ≡ self.old }
     {
-        let alloc = *self.rows.order.allocator();
         if names_nothing(text) {
-            return Ok(alone(alloc, text)?);
+            return Ok(alone(*self.rows.order.allocator(), text)?);
         }
-        let rows = mem::replace(&mut self.rows, Rows::new(alloc));
-        let rows = self.variables.filled(rows)?;
-        let held = self.variables.beside(&rows.order, rows.numbers.as_slice());
-        if has_missing(text, |name| held.lacks(name)) {
-            self.rows = rows;
-            return self.variables.expand(text);
-        }
-        self.variables.lawful();
-        let (rows, texts) = self.variables.written(text, rows)?;
-        self.rows = rows;
-        Ok(texts)
+        self.variables.expand_by(text, &mut self.rows)
     }
 }

@@ -1,6 +1,6 @@
 //! A walk into depth through variables, which puts each behind those that its words name, or finds one that leads to itself.
 
-ghost use Rattle.std.specs.Prelude.{◌≡◌, ◌++◌, None, Some, IfOk, OnOk, MatchOption, true, false, length, map, if◌then◌else◌};
+ghost use Rattle.std.specs.Prelude.{◌≡◌, ◌++◌, None, Some, IfOk, OnOk, true, false, length, map, if◌then◌else◌};
 ghost use Rattle.aa_text_variables.specs.code.VariableWalks.{AllBelow, IsBeginning, IsSettled, IsWalked, SomeEndless, after_enter};
 ghost use Rattle.aa_text_variables.specs.code.VariableWalks.{after_task, names_at, progress};
 ghost use Rattle.aa_text_variables.specs.declared.variables.walk.Task.TheVariants.{Enter};
@@ -8,6 +8,7 @@ ghost use Rattle.aa_text_variables.specs.declared.variables.walk.Task.TheVariant
 use crate::variables::Variables;
 use indexmap::IndexSet;
 use std::alloc::AllocError;
+use std::mem;
 
 // What is still to be done on a walk.
 #[derive(Clone, Copy)]
@@ -91,25 +92,25 @@ impl Variables {
         Ok(true)
     }
 
-    // An order with some variables, and with all that they lead to, behind it, or nothing where one of them leads to a cycle.
+    // Puts some variables, and all that they lead to, behind an order, and says whether none of them leads to a cycle.
     pub(super) fn walk(
         &self,
         starts: &[usize],
-        order: IndexSet<usize>,
-    ) -> Result<Option<IndexSet<usize>>, AllocError>
+        order: &mut IndexSet<usize>,
+    ) -> Result<bool, AllocError>
         requires starts { AllBelow (length self.now) starts.now }
-        requires settled { IsSettled self.now order.keys }
-        ensures { IfOk result (λ found. MatchOption found (SomeEndless self.now starts.now) (λ o. IsWalked self.now starts.now order.keys o.keys)) }
+        requires settled { IsSettled self.now order.old.keys }
+        ensures fine { IfOk result (λ fine. fine ≡ true → IsWalked self.now starts.now order.old.keys order.new.keys) }
+        ensures cycle { IfOk result (λ fine. fine ≡ false → SomeEndless self.now starts.now) }
     {
         let alloc = *self.entries.allocator();
         let mut walk = Walk {
             entered: IndexSet::new(alloc),
             tasks: Vec::new(alloc),
-            order,
+            order: mem::replace(order, IndexSet::new(alloc)),
         };
-        if !self.finish(starts, &mut walk)? {
-            return Ok(None);
-        }
-        Ok(Some(walk.order))
+        let fine = self.finish(starts, &mut walk);
+        mem::swap(order, &mut walk.order);
+        fine
     }
 }

@@ -11,7 +11,7 @@ returns-clause-count c =
     let order = c.in_ok-order.order.keys in
     let settled = values-settled variables order c.in_ok-order.ensures.order c.in_ok-order.ensures.few in
     c.count_text.ensures.right (values variables)
-    (text-counted variables order settled c.beside.result c.args.text.now c.in_ok-counts.counts.items (rw c.as_slice.ensures.value at c.beside.ensures) c.in_ok-counts.ensures c.in_ok-order.ensures.named)
+    (text-counted variables order settled c.beside.result c.args.text.now c.counts.new.counts.items (rw c.as_slice.ensures.value at c.beside.ensures) c.in_ok-counts.ensures c.in_ok-order.ensures.named)
 
 pub returns-clause-some : goal.returns-clause-some
 returns-clause-some c =

@@ -1,6 +1,6 @@
 use Rattle.std.proofs.Common.{◌-◌, length}
 use Rattle.aa_text_variables.specs.code.ReachedVariables.{IsReachedSoFar}
-use Rattle.aa_text_variables.proofs.variables.Variables.refuse_undefined.Given as goal
+use Rattle.aa_text_variables.proofs.variables.Variables.reaches_undefined.Given as goal
 
 -- the words of the indexes before this one were looked at
 abbrev pub invariant-loop-index : goal.invariant-loop-index
