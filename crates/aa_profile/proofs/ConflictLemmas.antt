@@ -5,6 +5,7 @@ use Rattle.std.specs.List.{list_all, list_any}
 use Rattle.std.specs.Option.{option_map}
 use Rattle.std.proofs.lemmas.Bool.{and_parts}
 use Rattle.std.proofs.lemmas.Bool.Decides.{nat_tests}
+use Rattle.std.proofs.lemmas.List.{length-map}
 use Rattle.std.proofs.lemmas.List.Folds.{list_all-append}
 use Rattle.aa_text_files.specs.declared.text_error.Place.{Place}
 use Rattle.aa_text_splicing.specs.Splicing.{Placed}
@@ -17,11 +18,19 @@ use Rattle.aa_profile_parsing.specs.Tokens.{place_of, text_of}
 use Rattle.aa_profile_rules.specs.Rules.{Kept, OnCapabilities, OnFile, OnNetwork, Rule as WrittenRule}
 use Rattle.aa_profile.specs.Conflicts.{conflict_in_members, conflict_in_profiles, conflict_in_rule, conflict_in_rules, pattern_of}
 use Rattle.aa_profile_patterns.specs.Limits.{most_rules}
-use Rattle.aa_profile_patterns.specs.Patterns.{have_expansions, over_limit, too_many}
+use Rattle.aa_profile_patterns.specs.Patterns.{are_counted, have_expansions, is_counted, over_limit, too_many}
+use Rattle.aa_profile_places.specs.Places.{rule_count}
 use Rattle.aa_profile.specs.Profiles.{cap_rule, children_of, net_rule, other_rule, profile_of, rules_of, rules_of_members, rules_of_rule}
 use Rattle.aa_profile_errors.specs.ProfileError.{placed}
 use Rattle.aa_profile_errors.specs.declared.profile_error.ProfileRefusal.TheVariants.{TooManyRules}
-use Rattle.aa_profile.specs.code.ConflictProgress.{are_counted, is_counted, Passes, ReachesMembers, ReachesRules}
+use Rattle.aa_profile.specs.code.ConflictProgress.{Passes, ReachesMembers, ReachesRules}
+
+-- a written rule makes as many rules as are counted
+pub rules-counted : (variables : List Variable) (rule : WrittenRule) → length (rules_of_rule variables rule) ≡ rule_count variables rule
+rules-counted variables (OnFile qualifiers pattern access target) = simp length-map
+rules-counted variables (OnCapabilities qualifiers word capabilities) = refl
+rules-counted variables (OnNetwork qualifiers word sockets) = refl
+rules-counted variables (Kept qualifiers tokens) = refl
 
 -- a conflict of the first rules comes before those behind them
 pub first-front : (before rules rest : List Rule) (k : ℕ) → first_conflict before rules ≡ Some k → first_conflict before (rules ++ rest) ≡ Some k

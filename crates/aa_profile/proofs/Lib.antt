@@ -4,6 +4,7 @@ pub mod ConflictLemmas
 pub mod GrammarLemmas
 pub mod NameLemmas
 pub mod NumberLemmas
+pub mod PlaceLemmas
 pub mod ProfileLemmas
 pub mod ReadLemmas
 pub mod ReadingLemmas

@@ -1,5 +1,5 @@
 -- The profiles that a file's reading gives.
-use Rattle.std.proofs.Common.{◌≡◌, subst, map, refl, true, Option, None, Some, Result, Ok, Err, Vec, List, ℕ}
+use Rattle.std.proofs.Common.{◌≡◌, subst, map, refl, true, Option, None, Some, Result, Ok, Err, List, ℕ}
 use Rattle.std.specs.List.{list_all}
 use Rattle.std.specs.Prelude.{IfOk}
 use Rattle.aa_text_files.specs.Files.{File as HandedIn}
@@ -8,6 +8,7 @@ use Rattle.aa_profile_parsing.specs.declared.grammar_error.GrammarError.{Grammar
 use Rattle.aa_profile_data.specs.Conflicts.{profile_agrees}
 use Rattle.aa_profile_data.specs.declared.profile.Profile.{Profile}
 use Rattle.aa_profile.specs.Assignments.{variables_of}
+use Rattle.aa_profile.specs.declared.file_profiles.FileProfiles.{FileProfiles}
 use Rattle.aa_profile.specs.Conflicts.{conflict_in_profiles, refusal_of_conflicts}
 use Rattle.aa_profile.specs.FileReading.{file_profiles, profiles_in, profiles_of, profiles_with, refusal_of_patterns, refusal_of_rules}
 use Rattle.aa_profile_patterns.specs.PatternTokens.{of_profiles}
@@ -54,10 +55,10 @@ module _ (Fit : List Profile → Type 0) (fit : (variables : List Variable) (tok
       by (Err refusal) e = let wrong : Err refusal ≡ Ok profiles = rw (profiles_in, e) at h in absurd (cc)
       by (Ok variables) e = within variables (refusal_of_rules variables written.profiles) refl (rw (profiles_in, e) at h)
 
-  pub fit-told : {A E : Type 0} (tokens : List Placed) (written : File) (result : Result (Vec Profile A) E) → file tokens ≡ Ok written
-      → IfOk result (λ profiles. profiles_in written ≡ Ok profiles.items) → IfOk result (λ profiles. Fit profiles.items)
+  pub fit-told : {E : Type 0} (tokens : List Placed) (written : File) (result : Result FileProfiles E) → file tokens ≡ Ok written
+      → IfOk result (λ read. profiles_in written ≡ Ok read.profiles.items) → IfOk result (λ read. Fit read.profiles.items)
   fit-told tokens written (Err error) is told = tt
-  fit-told tokens written (Ok profiles) is told = fit-profiles tokens written profiles.items is told
+  fit-told tokens written (Ok read) is told = fit-profiles tokens written read.profiles.items is told
 
   -- whatever file is read
   pub file-fits : (files : List HandedIn) (name : List ℕ) → IfOk (file_profiles files name) Fit

@@ -1,7 +1,9 @@
 pub mod Assignments
 pub mod Conflicts
+pub mod FilePlaces
 pub mod FileReading
 pub mod Laws
+pub mod PlaceLaws
 pub mod ProfileNames
 pub mod Profiles
 pub mod code

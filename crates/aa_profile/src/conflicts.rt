@@ -1,6 +1,6 @@
 //! The first pattern of a file that makes a rule which conflicts with one before it.
 
-ghost use Rattle.std.specs.Prelude.{◌≡◌, ◌≢◌, [], None, IfOk, IfErr, OnOk, length, map, true};
+ghost use Rattle.std.specs.Prelude.{◌≡◌, ◌≢◌, [], None, IfOk, IfErr, OnOk, map, true};
 ghost use Rattle.std.specs.Option.{option_map};
 ghost use Rattle.aa_profile_errors.specs.ProfileError.{plain};
 ghost use Rattle.aa_profile_errors.specs.declared.profile_error.ProfileRefusal.TheVariants.{Memory};
@@ -9,33 +9,20 @@ ghost use Rattle.aa_profile_parsing.specs.Tokens.{place_of};
 ghost use Rattle.aa_profile_rules.specs.SeenRules.{seen_rule};
 ghost use Rattle.aa_profile.specs.Conflicts.{conflict_in_members, conflict_in_profiles, conflict_in_rules, pattern_of, refusal_of_conflicts};
 ghost use Rattle.aa_profile_patterns.specs.PatternTokens.{of_members, of_profiles, of_rule, of_rules};
+ghost use Rattle.aa_profile_patterns.specs.Patterns.{are_counted};
 ghost use Rattle.aa_profile_patterns.specs.Refusals.{IsRefusal};
-ghost use Rattle.aa_profile.specs.Profiles.{children_of, profile_of, rules_of, rules_of_members, rules_of_rule};
-ghost use Rattle.aa_profile.specs.code.ConflictProgress.{Passes, are_counted};
+ghost use Rattle.aa_profile.specs.Profiles.{children_of, profile_of, rules_of, rules_of_members};
+ghost use Rattle.aa_profile.specs.code.ConflictProgress.{Passes};
 
 use aa_profile_conflicts::first_conflict;
 use aa_profile_data::{Child, Profile, Rule};
 use aa_profile_errors::{ProfileError, ProfileRefusal, placed};
 use aa_profile_grammar::{Member, Profile as WrittenProfile, Rule as WrittenRule};
 use aa_profile_parsing::place_of;
+use aa_profile_places::rule_count;
 use aa_text_files::Place;
 use aa_text_variables::ExpansionTable;
 use std::alloc::Global;
-
-// How many rules a written one makes.
-fn count_made(table: &mut ExpansionTable<'_>, rule: &WrittenRule<'_>) -> Result<usize, ProfileError>
-    requires { are_counted table.old (of_rule (seen_rule rule.now)) ≡ true }
-    ensures made { IfOk result (λ made. made ≡ length (rules_of_rule table.old (seen_rule rule.now))) }
-    ensures memory { IfErr result (λ error. error ≡ plain Memory) }
-    ensures same { table.new ≡ table.old }
-{
-    match rule {
-        WrittenRule::OnFile { pattern, .. } => Ok(table.count(pattern.token.text)?),
-        WrittenRule::OnCapabilities { .. }
-        | WrittenRule::OnNetwork { .. }
-        | WrittenRule::Kept { .. } => Ok(1),
-    }
-}
 
 // The place of the pattern of a written rule, where it has one.
 fn pattern_of(rule: &WrittenRule<'_>) -> Option<Place>
@@ -64,7 +51,7 @@ fn pass(
     let Some(many) = *on else {
         return Ok(None);
     };
-    let made = count_made(table, rule)?;
+    let made = rule_count(table, rule)?;
     if many < made {
         return Ok(pattern_of(rule));
     }

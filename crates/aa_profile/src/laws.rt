@@ -8,6 +8,10 @@ ghost use Rattle.aa_profile_data.specs.Numbers.{profile_has_known_numbers};
 ghost use Rattle.aa_profile_data.specs.Profile.{are_distinct};
 ghost use Rattle.aa_profile.specs.FileReading.{file_profiles};
 ghost use Rattle.aa_profile.specs.Laws.{ConflictsAreRefused};
+ghost use Rattle.aa_profile.specs.PlaceLaws.{AreFileMadeAt};
+ghost use Rattle.aa_profile.specs.FilePlaces.{file_places};
+ghost use Rattle.aa_profile_data.specs.declared.profile.Profile.{Profile};
+ghost use Rattle.aa_profile_places.specs.declared.places.ProfilePlaces.{ProfilePlaces};
 ghost use Rattle.aa_profile.specs.ProfileNames.{has_distinct_children, is_named_well};
 
 use aa_profile_data::how_conflicts_are_tested;
@@ -45,3 +49,13 @@ pub fn when_conflicts_are_refused()
 {
     how_conflicts_are_tested();
 }
+
+/// Of a file that is read there are as many places as profiles, as many for each as it has children and hats, and for each of these and the profile
+/// as many as it has rules. Each rule is one that a rule of its own block makes with the file's variables, and that is written at the place that
+/// stands for it; and each attachment is written where its place says.
+pub fn where_rules_are_made()
+    ensures { (files : List File) (name : List ℕ) (profiles : List Profile) (places : List ProfilePlaces)
+        → file_profiles files name ≡ Ok profiles
+        → file_places files name ≡ Some places
+        → AreFileMadeAt files name profiles places }
+{}

@@ -3,6 +3,7 @@
 
 mod assignments;
 mod conflicts;
+mod file_profiles;
 mod file_rules;
 mod kept_rules;
 mod laws;
@@ -16,7 +17,10 @@ pub use aa_profile_data::{
 pub use aa_profile_errors::{ProfileError, ProfileRefusal};
 pub use aa_profile_parsing::GrammarRefusal;
 pub use aa_profile_patterns::MOST_RULES;
+pub use aa_profile_places::{ProfilePlaces, SectionPlaces};
+pub use file_profiles::FileProfiles;
 pub use laws::{
-    how_profiles_are_named, when_conflicts_are_refused, which_numbers_rules_have, which_rules_agree,
+    how_profiles_are_named, when_conflicts_are_refused, where_rules_are_made,
+    which_numbers_rules_have, which_rules_agree,
 };
 pub use reading::read_file;

@@ -1,56 +1,62 @@
 //! Reading of a profile's file, in phases each of which goes over the whole file.
 
-ghost use Rattle.std.specs.Prelude.{◌≡◌, ◌≢◌, Ok, Err, IfOk, IfErr, false, true, map};
+ghost use Rattle.std.specs.Prelude.{◌≡◌, ◌≢◌, Ok, Err, Some, IfOk, IfErr, false, true, map};
 ghost use Rattle.std.specs.List.{list_all, list_any};
 ghost use Rattle.aa_profile_grammar.specs.SeenFiles.{seen_assignment, seen_file, seen_profile};
 ghost use Rattle.aa_profile_parsing.specs.SeenTokens.{seen_tokens};
 ghost use Rattle.aa_profile_data.specs.Conflicts.{profile_agrees};
 ghost use Rattle.aa_profile_data.specs.Numbers.{profile_has_known_numbers};
 ghost use Rattle.aa_profile_data.specs.Profile.{are_distinct};
+ghost use Rattle.aa_profile.specs.FilePlaces.{file_places, places_in};
 ghost use Rattle.aa_profile.specs.FileReading.{file_profiles, profiles_in, profiles_with};
 ghost use Rattle.aa_profile.specs.code.FileReadingProgress.{IsRefusalOf, has_no_value};
 ghost use Rattle.aa_profile_patterns.specs.PatternTokens.{of_profiles};
 ghost use Rattle.aa_profile_patterns.specs.Patterns.{have_expansions};
+ghost use Rattle.aa_profile_places.specs.Places.{places_of_profile};
 ghost use Rattle.aa_profile_errors.specs.ProfileError.{plain};
 ghost use Rattle.aa_profile.specs.ProfileNames.{has_distinct_children, is_named_well};
 ghost use Rattle.aa_profile_errors.specs.declared.profile_error.ProfileRefusal.TheVariants.{Memory};
 
 use crate::assignments::read_variables;
 use crate::conflicts::check_conflicts;
+use crate::file_profiles::FileProfiles;
 use crate::profiles::read_profiles;
-use aa_profile_data::Profile;
 use aa_profile_errors::ProfileError;
 use aa_profile_grammar::File;
 use aa_profile_patterns::{check_limit, pattern_tokens};
+use aa_profile_places::read_places;
 use aa_profile_rules::which_numbers_rules_have;
 use aa_text_files::Files;
 use aa_text_splicing::{Spliced, spliced};
 use aa_text_variables::{ExpansionTable, Variables};
 use std::alloc::Global;
 
-// The profiles of a file as it is written, with its variables and the tokens of its patterns.
+// The profiles of a file as it is written, with its variables and the tokens of its patterns, and where they have what they have.
 fn read_with(
     alloc: Global,
     variables: &Variables,
     patterns: &[Spliced<'_>],
     file: &File<'_>,
-) -> Result<Vec<Profile>, ProfileError>
+) -> Result<FileProfiles, ProfileError>
     requires tokens { seen_tokens patterns.now ≡ of_profiles (map seen_profile file.now.profiles.items) }
     requires expand { have_expansions variables.now (seen_tokens patterns.now) ≡ true }
-    ensures ok { IfOk result (λ profiles. profiles_with variables.now (seen_file file.now) ≡ Ok profiles.items) }
+    ensures ok { IfOk result (λ read. profiles_with variables.now (seen_file file.now) ≡ Ok read.profiles.items) }
+    ensures places { IfOk result (λ read. read.places.items ≡ map (places_of_profile variables.now) (map seen_profile file.now.profiles.items)) }
     ensures refused { IsRefusalOf (profiles_with variables.now (seen_file file.now)) result }
 {
     let mut table = ExpansionTable::new(alloc, variables);
     check_limit(&mut table, patterns)?;
     let profiles = read_profiles(alloc, &mut table, &file.profiles)?;
     check_conflicts(alloc, &mut table, &file.profiles, &profiles)?;
-    Ok(profiles)
+    let places = read_places(alloc, &mut table, &file.profiles)?;
+    Ok(FileProfiles { profiles, places })
 }
 
-// The profiles of a file as it is written.
-fn read_written(alloc: Global, file: &File<'_>) -> Result<Vec<Profile>, ProfileError>
+// The profiles of a file as it is written, and where they have what they have.
+fn read_written(alloc: Global, file: &File<'_>) -> Result<FileProfiles, ProfileError>
     requires { list_any has_no_value (map seen_assignment file.now.assignments.items) ≡ false }
-    ensures ok { IfOk result (λ profiles. profiles_in (seen_file file.now) ≡ Ok profiles.items) }
+    ensures ok { IfOk result (λ read. profiles_in (seen_file file.now) ≡ Ok read.profiles.items) }
+    ensures places { IfOk result (λ read. places_in (seen_file file.now) ≡ Some read.places.items) }
     ensures refused { IsRefusalOf (profiles_in (seen_file file.now)) result }
 {
     let patterns = pattern_tokens(alloc, &file.profiles)?;
@@ -58,8 +64,9 @@ fn read_written(alloc: Global, file: &File<'_>) -> Result<Vec<Profile>, ProfileE
     read_with(alloc, &variables, &patterns, file)
 }
 
-/// The profiles that a file of the handed-in ones spells, in its order. A file rule is one rule for each expansion of its pattern, and these
-/// share its target. Variables are put into attachments and patterns alone: names, targets and rules that are kept stay as they are written.
+/// The profiles that a file of the handed-in ones spells, in its order, and where they have what they have. A file rule is one rule for each expansion of
+/// its pattern, and these share its target and stand at one place. Variables are put into attachments and patterns alone: names, targets and rules that
+/// are kept stay as they are written. A place is a byte offset in the file, or in one that that includes.
 ///
 /// # Errors
 ///
@@ -75,13 +82,14 @@ fn read_written(alloc: Global, file: &File<'_>) -> Result<Vec<Profile>, ProfileE
 /// - `ExecConflict`, at the first pattern that makes a rule which conflicts with one before it in its profile, child or hat: two allow rules lead
 ///   a program to different places, both by exact patterns or both by others, and some path matches both.
 /// - `Memory`, without a place: memory ran out.
-pub fn read_file(alloc: Global, files: &Files, name: &[u8]) -> Result<Vec<Profile>, ProfileError>
-    ensures ok { IfOk result (λ profiles. file_profiles files.now name.now ≡ Ok profiles.items) }
-    ensures distinct { IfOk result (λ profiles. are_distinct profiles.items ≡ true) }
-    ensures named { IfOk result (λ profiles. list_all is_named_well profiles.items ≡ true) }
-    ensures children { IfOk result (λ profiles. list_all has_distinct_children profiles.items ≡ true) }
-    ensures numbers { IfOk result (λ profiles. list_all profile_has_known_numbers profiles.items ≡ true) }
-    ensures agree { IfOk result (λ profiles. list_all profile_agrees profiles.items ≡ true) }
+pub fn read_file(alloc: Global, files: &Files, name: &[u8]) -> Result<FileProfiles, ProfileError>
+    ensures ok { IfOk result (λ read. file_profiles files.now name.now ≡ Ok read.profiles.items) }
+    ensures places { IfOk result (λ read. file_places files.now name.now ≡ Some read.places.items) }
+    ensures distinct { IfOk result (λ read. are_distinct read.profiles.items ≡ true) }
+    ensures named { IfOk result (λ read. list_all is_named_well read.profiles.items ≡ true) }
+    ensures children { IfOk result (λ read. list_all has_distinct_children read.profiles.items ≡ true) }
+    ensures numbers { IfOk result (λ read. list_all profile_has_known_numbers read.profiles.items ≡ true) }
+    ensures agree { IfOk result (λ read. list_all profile_agrees read.profiles.items ≡ true) }
     ensures refused { IsRefusalOf (file_profiles files.now name.now) result }
 {
     which_numbers_rules_have();

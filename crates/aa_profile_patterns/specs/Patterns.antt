@@ -20,6 +20,14 @@ use Rattle.aa_profile_errors.specs.declared.profile_error.ProfileRefusal.TheVari
 abbrev pub have_expansions : List Variable → List Placed → Bool
 have_expansions variables tokens = list_all (λ token. is_none (expansion_refusal variables (text_of token))) tokens
 
+-- a token has expansions, and no more than a file may have patterns
+abbrev pub is_counted : List Variable → Placed → Bool
+is_counted variables token = is_none (expansion_refusal variables (text_of token)) && nat_le (length (expansions variables (text_of token))) most_rules
+
+-- each of some tokens does
+abbrev pub are_counted : List Variable → List Placed → Bool
+are_counted variables tokens = list_all (is_counted variables) tokens
+
 -- The first pattern with which a file has too many, where so many come of the tokens before: a token makes one pattern for each of its
 -- expansions.
 abbrev pub too_many : List Variable → ℕ → List Placed → Option Placed

@@ -1,2 +1,0 @@
-pub mod LawLemmas
-pub mod PlaceLemmas

@@ -1,10 +1,8 @@
-//! Where the rules of profiles stand in the files that they are read from.
+//! Where the rules and the attachments of a file's profiles are written.
 #![tactic(auto)]
 
-mod laws;
 mod places;
-mod variables;
+mod reading;
 
-pub use aa_text_files::Place;
-pub use laws::where_rules_are_made;
-pub use places::{ProfilePlaces, rule_places};
+pub use places::{ProfilePlaces, SectionPlaces};
+pub use reading::{read_places, rule_count};

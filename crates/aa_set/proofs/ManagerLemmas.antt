@@ -10,7 +10,7 @@ use Rattle.aa_history.specs.MarkLaws.{MarkIsMapped, ToMarkIsMapped}
 use Rattle.aa_profile.specs.FileReading.{file_profiles}
 use Rattle.aa_text_files.specs.Files.{File}
 use Rattle.aa_profile_data.specs.declared.profile.Profile.{Profile}
-use Rattle.aa_set_changes.specs.Changes.{by_file, disabled, in_force, is_disabled, is_loaded, profile_count, put, with_disabled, with_mode}
+use Rattle.aa_set_changes.specs.Changes.{by_file, disabled, in_force, is_disabled, is_loaded, profile_count, put, with_added, with_disabled, with_mode, with_replaced}
 use Rattle.aa_profile_data.specs.declared.profile.Mode.{Mode}
 use Rattle.std.specs.Prelude.{is_none}
 use Rattle.aa_set.specs.code.Making.{Makes}
@@ -23,7 +23,8 @@ use Rattle.aa_set_parts.specs.SlotLaws.{filled-trimmed}
 use Rattle.aa_set_parts.specs.Slots.{trimmed}
 use Rattle.aa_set_parts.specs.declared.parts.Part.{Part}
 use Rattle.aa_set.specs.Laws.{AreDistinct}
-use Rattle.aa_set.specs.Manager.{Managed, after_change, after_commit, back_at, is_mark_name, managed_by, marking, redone, undone}
+use Rattle.aa_set_commands.specs.Command.{Add, Replace}
+use Rattle.aa_set.specs.Manager.{Managed, added, after_change, after_commit, back_at, is_mark_name, made, managed_by, marking, redone, replaced, undone}
 use Rattle.aa_set.proofs.LawLemmas.{accepted-distinct, distinct-behind}
 
 -- what is kept of slots, as it stands for policy sets
@@ -96,6 +97,25 @@ by-file change files name entries now profiles outcome h same is = ap (by_file (
 pub file-parts : (files : List File) (name : List ℕ) (profiles : List Profile) (size : ℕ) → file_profiles files name ≡ Ok profiles → size ≡ length profiles
     → size ≡ profile_count (file_profiles files name)
 file-parts files name profiles size h is = is ∙ sym (ap profile_count h)
+
+-- a change by profiles, of equal entries
+pub by-entries : (change : List Loaded → List Profile → Result (List Loaded) Refusal) (entries now : List Loaded) (profiles : List Profile)
+    (outcome : Result (List Loaded) Refusal) → entries ≡ now → change entries profiles ≡ outcome → change now profiles ≡ outcome
+by-entries change entries now profiles outcome same is = ap (λ entries. change entries profiles) (sym same) ∙ is
+
+-- what a change by a file keeps is what the change by its profiles keeps
+pub of-file : (change : List Profile → Result (List Loaded) Refusal) (files : List File) (name : List ℕ) (profiles : List Profile) → file_profiles files name ≡ Ok profiles
+    → IfOk (by_file change (file_profiles files name)) (λ set. have_distinct_names set ≡ true) → IfOk (change profiles) (λ set. have_distinct_names set ≡ true)
+of-file change files name profiles h keeps = subst (λ read. IfOk (by_file change read) (λ set. have_distinct_names set ≡ true)) h keeps
+
+-- `add` of a file adds its profiles, and `replace` puts them in their places
+pub added-of-file : (files : List File) (name : List ℕ) (managed : Managed) (profiles : List Profile) → file_profiles files name ≡ Ok profiles
+    → added managed profiles ≡ made files managed (Add name)
+added-of-file files name managed profiles h = sym (ap (λ read. after_change managed (profile_count read) (by_file (with_added managed.force_complain managed.machine.now) read)) h)
+
+pub replaced-of-file : (files : List File) (name : List ℕ) (managed : Managed) (profiles : List Profile) → file_profiles files name ≡ Ok profiles
+    → replaced managed profiles ≡ made files managed (Replace name)
+replaced-of-file files name managed profiles h = sym (ap (λ read. after_change managed (profile_count read) (by_file (with_replaced managed.force_complain managed.machine.now) read)) h)
 
 -- changes back over slots, as they stand for changes back over policy sets
 pub undone-seen : BackIsMapped (List (Option Loaded)) (List Loaded) → CanBackIsMapped (List (Option Loaded)) (List Loaded)

@@ -4,7 +4,7 @@ use Rattle.std.proofs.lemmas.Bool.{cond-false, cond-true}
 use Rattle.std.specs.Map.{lookup}
 use Rattle.std.specs.Str.{bytes_eq}
 use Rattle.aa_decide_slots.specs.Entries.{Loaded}
-use Rattle.aa_history.specs.Machine.{Machine, MarksItsSets, all_sets, gone_to_mark, gone_where, is_marked, marked, with_mark}
+use Rattle.aa_history.specs.Machine.{Machine, MarksItsSets, all_sets, gone_to_mark, gone_where, is_marked, with_mark}
 use Rattle.aa_history.specs.MarkLaws.{MarkKeepsAll, MarkLeadsBack, MarkTwiceIsOnce, SparesThroughout, StartedMarksItsSets, StepsMarkTheirSets, run}
 use Rattle.aa_set_commands.specs.Command.{Ask, Back, Command, Listed, Make, Mark, Redo, Show, Undo}
 use Rattle.aa_set_commands.specs.Refusal.{plain}

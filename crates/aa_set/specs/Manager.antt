@@ -1,14 +1,16 @@
 -- The manager: the machine over policy sets, and what each command makes of it (docs/commands.md).
-use Rattle.std.specs.Prelude.{ℕ, Bool, ◌&&◌, nat_le, if◌then◌else◌, List, [], length, Result, Ok, Err}
+use Rattle.std.specs.Prelude.{◌≡◌, ℕ, Bool, ◌&&◌, nat_le, if◌then◌else◌, List, [], length, Result, Ok, Err}
 use Rattle.aa_text_files.specs.Files.{File}
 use Rattle.aa_history.specs.Machine.{Kept, Machine, begun, can_go_back, can_go_on, committed, gone_back, gone_on, gone_to_mark, is_marked, with_mark}
+use Rattle.aa_profile.specs.FileReading.{file_profiles}
 use Rattle.aa_profile_data.specs.declared.profile.Mode.{Mode}
+use Rattle.aa_profile_data.specs.declared.profile.Profile.{Profile}
 use Rattle.aa_decide_slots.specs.Entries.{Loaded}
 use Rattle.aa_set_commands.specs.Command.{PolicyChange}
 use Rattle.aa_set_commands.specs.Refusal.{plain}
 use Rattle.aa_set_commands.specs.declared.refusal.Refusal.{Refusal}
 use Rattle.aa_set_commands.specs.declared.refusal.RefusalKind.TheVariants.{BadRequest, NoMark, NothingToRedo, NothingToUndo}
-use Rattle.aa_set_changes.specs.Changes.{changed, parts_of, with_disabled, with_mode}
+use Rattle.aa_set_changes.specs.Changes.{changed, parts_of, with_added, with_disabled, with_mode, with_replaced}
 use Rattle.aa_set.specs.Limits.{longest_mark}
 
 -- A manager, as contracts see it: whether profiles are loaded in complain mode, the machine, and how many parts each change has that leads
@@ -42,6 +44,18 @@ after_change managed size (Err refusal) = Err refusal
 -- the manager after a change, or the refusal
 abbrev pub made : List File → Managed → PolicyChange → Result Managed Refusal
 made files managed change = after_change managed (parts_of files change) (changed files managed.force_complain managed.machine.now change)
+
+-- some file spells these profiles
+abbrev pub AreOfFile : List Profile → Type 0
+AreOfFile profiles = (files : List File) × (name : List ℕ) × (file_profiles files name ≡ Ok profiles)
+
+-- the manager after profiles are added, or the refusal: `add FILE` adds those that the file spells
+abbrev pub added : Managed → List Profile → Result Managed Refusal
+added managed profiles = after_change managed (length profiles) (with_added managed.force_complain managed.machine.now profiles)
+
+-- the same where they are put in the places of those of their names, as `replace FILE` does it
+abbrev pub replaced : Managed → List Profile → Result Managed Refusal
+replaced managed profiles = after_change managed (length profiles) (with_replaced managed.force_complain managed.machine.now profiles)
 
 -- the manager after `enforce NAME` or `complain NAME`, or the refusal: that change needs no files
 abbrev pub in_mode : Mode → Managed → List ℕ → Result Managed Refusal

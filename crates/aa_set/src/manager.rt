@@ -18,8 +18,8 @@ use aa_decide::{Asker, Entry, Request};
 use aa_history::{
     Journal, Mark, what_machines_keep, what_marked_sets_stand_for, what_sets_stand_for,
 };
-use aa_profile::read_file;
-use aa_profile_data::Mode;
+use aa_profile::{how_profiles_are_named, read_file, which_rules_agree};
+use aa_profile_data::{Mode, Profile};
 use aa_set_answers::{access_lines, exec_lines, find_asker, list_lines, shown_lines};
 use aa_set_changes::{
     PolicySet, adding, disabling, removing, replacing, switching, what_changes_keep,
@@ -70,7 +70,7 @@ impl Model for Manager {
 }
 
 impl Manager {
-    ghost use Rattle.aa_set.specs.Manager.{back_at, disabled, in_mode, made, marking, new_manager, redone, undone};
+    ghost use Rattle.aa_set.specs.Manager.{AreOfFile, added, back_at, disabled, in_mode, made, marking, new_manager, redone, replaced, undone};
 
     /// A manager of the empty policy set, which no change has made yet. With `force_complain` (the option `-C`) each profile is loaded in complain
     /// mode, and so are its children and hats, whatever their flags. It takes no memory.
@@ -141,7 +141,25 @@ impl Manager {
         ensures refused { IfErr result (IsRefusalOf (made files.now self.old (Add name.now))) }
         ensures unchanged { OnErr result (self.new ≡ self.old) }
     {
-        let profiles = read_file(self.alloc, files, name)?;
+        let read = read_file(self.alloc, files, name)?;
+        self.add_read(read.profiles)
+    }
+
+    /// Adds profiles that were read of a file, as `add` of that file does. It is for callers that need the rest of what `aa_profile::read_file` gives,
+    /// which reads the file once for both. The caller sees to it that they are those of one file.
+    ///
+    /// # Errors
+    ///
+    /// `Exists`, without a place, where a profile of one of their names is loaded, and `Memory` where memory ran out. After each the policy set and
+    /// its history are as they were.
+    pub fn add_read(&mut self, profiles: Vec<Profile>) -> Result<(), Refusal>
+        requires { AreOfFile profiles.items }
+        ensures ok { OnOk result (added self.old profiles.items ≡ Ok self.new) }
+        ensures refused { IfErr result (IsRefusalOf (added self.old profiles.items)) }
+        ensures unchanged { OnErr result (self.new ≡ self.old) }
+    {
+        how_profiles_are_named();
+        which_rules_agree();
         let slots = self.journal.state();
         let exchange = adding(self.alloc, slots, self.force_complain, profiles);
         what_changes_keep();
@@ -162,7 +180,25 @@ impl Manager {
         ensures refused { IfErr result (IsRefusalOf (made files.now self.old (Replace name.now))) }
         ensures unchanged { OnErr result (self.new ≡ self.old) }
     {
-        let profiles = read_file(self.alloc, files, name)?;
+        let read = read_file(self.alloc, files, name)?;
+        self.replace_read(read.profiles)
+    }
+
+    /// Puts profiles that were read of a file in the places of those of their names, as `replace` of that file does. It is for callers that need the rest
+    /// of what `aa_profile::read_file` gives, which reads the file once for both. The caller sees to it that they are those of one file.
+    ///
+    /// # Errors
+    ///
+    /// `Disabled`, without a place, where the profile of one of their names is disabled, and `Memory` where memory ran out. After each the policy set
+    /// and its history are as they were.
+    pub fn replace_read(&mut self, profiles: Vec<Profile>) -> Result<(), Refusal>
+        requires { AreOfFile profiles.items }
+        ensures ok { OnOk result (replaced self.old profiles.items ≡ Ok self.new) }
+        ensures refused { IfErr result (IsRefusalOf (replaced self.old profiles.items)) }
+        ensures unchanged { OnErr result (self.new ≡ self.old) }
+    {
+        how_profiles_are_named();
+        which_rules_agree();
         let slots = self.journal.state();
         let exchange = replacing(self.alloc, slots, self.force_complain, profiles);
         what_changes_keep();
@@ -181,8 +217,8 @@ impl Manager {
         ensures refused { IfErr result (IsRefusalOf (made files.now self.old (Remove name.now))) }
         ensures unchanged { OnErr result (self.new ≡ self.old) }
     {
-        let profiles = read_file(self.alloc, files, name)?;
-        let exchange = removing(self.alloc, self.journal.state(), profiles.as_slice());
+        let read = read_file(self.alloc, files, name)?;
+        let exchange = removing(self.alloc, self.journal.state(), read.profiles.as_slice());
         what_changes_keep();
         make(&mut self.journal, exchange)
     }

@@ -1,30 +1,30 @@
 -- What is told of questions to the policy of a folder (docs/aatry.md).
-use Rattle.std.specs.Prelude.{◌≡◌, ℕ, Bool, true, false, not, List, [], ◌∷◌, ◌++◌, codes, map, Option, None, Result, Ok, Err}
+use Rattle.std.specs.Prelude.{◌≡◌, ◌||◌, ℕ, Bool, not, List, [], ◌∷◌, ◌++◌, codes, is_ok, Option, Some, Result, Ok, Err}
 use Rattle.std.specs.List.{after_first, before_first}
 use Rattle.serde_json.specs.Data.{Members}
 use Rattle.aa_bytes.specs.Bytes.{line_feed}
-use Rattle.aa_bytes.specs.Texts.{is_empty}
+use Rattle.aa_bytes.specs.Texts.{begins_with, is_empty}
+use Rattle.aa_decide.specs.Exec.{Asker}
 use Rattle.aa_decide_slots.specs.Entries.{Loaded}
+use Rattle.aa_profile_access.specs.Request.{Request}
 use Rattle.aa_set_answers.specs.Answers.{reply_lines, who_asks}
+use Rattle.aa_set_answers.specs.Askers.{asker}
 use Rattle.aa_set_commands.specs.Question.{OfAccess, OfExec, Question, question_of}
 use Rattle.aa_set_commands.specs.Refusal.{name_of, number_of}
 use Rattle.aa_set_commands.specs.declared.refusal.Refusal.{Refusal}
 use Rattle.aa_set_lines.specs.Lines.{is_line_feed}
 use Rattle.aatry_asking.specs.Questions.{letting_words}
-use Rattle.aatry_asking.specs.Rules.{TellsRules, asker_file, is_lacking}
-use Rattle.aatry_policy.specs.Folders.{Folder, left_out_in, outcomes_in, policy_in}
+use Rattle.aatry_asking.specs.Sources.{Sources, asked_origin, written_by}
+use Rattle.aatry_policy.specs.Folders.{Folder, left_out_in, origins_in, policy_in}
 use Rattle.aatry_policy.specs.LeftOut.{refusal_text}
 use Rattle.aatry_policy.specs.FolderParts.{by_parts}
 use Rattle.aatry_requests.specs.Questions.{rule_request}
 use Rattle.aatry_transition.specs.How.{how_lines}
 use Rattle.aatry_asking.specs.Who.{who_lines}
+use Rattle.aatry_why_lines.specs.Why.{why_lines}
 use Rattle.aatry_report.specs.Records.{record_line, record_of, with_number, with_text}
 use Rattle.aatry_report.specs.declared.form.Form.{Form}
 use Rattle.aatry_report.specs.declared.form.Form.TheVariants.{Lines, Records}
-
--- of files of which none is left out, there is no refusal
-abbrev pub none_refused : List (List ℕ) → List (Option Refusal)
-none_refused names = map (λ name. None) names
 
 -- how the answer to the start of a program came about, behind the rules that decide; of any other question nothing is told
 abbrev pub how_of : Form → List Loaded → Question → List ℕ
@@ -57,25 +57,39 @@ abbrev pub refused_text : Form → Refusal → List ℕ
 refused_text Lines refusal = codes "refused " ++ refusal_text refusal ++ line_feed ∷ []
 refused_text Records refusal = record_line (refused_record refusal)
 
--- A text tells the reply to a question, behind it the rules that led to it, and how; or why the question is refused.
-abbrev pub IsReplied : Form → Folder → List (Option Refusal) → Question → List ℕ → Result (List ℕ) Refusal → List ℕ → Bool → Type 0
-IsReplied form folder outcomes question how (Ok reply) text found =
-    (rules : List ℕ) × (text ≡ reply_text form reply ++ rules ++ how)
-    × TellsRules form folder (who_asks question) (rule_request question) (is_lacking reply) (asker_file folder outcomes (who_asks question)) rules
-    × (found ≡ true)
-IsReplied form folder outcomes question how (Err refusal) text found = (text ≡ refused_text form refusal) × (found ≡ false)
+-- no rule allows something that was asked for, or nothing confines who asks: the answer's word says so
+abbrev pub is_lacking : List ℕ → Bool
+is_lacking reply = begins_with (codes "refuse") reply || begins_with (codes "complain") reply || begins_with (codes "unconfined") reply
 
--- A text tells what a policy set answers to a question, with the rules as the files of a folder have them, but for those that are left out.
-abbrev pub IsAnswered : Form → Folder → List (Option Refusal) → List Loaded → Question → List ℕ → Bool → Type 0
-IsAnswered form folder outcomes entries question text found =
-    IsReplied form folder outcomes question (how_of form entries question) (reply_lines entries question) text found
+-- the rules behind the answer to who asks: those by which it decides; no one in particular has none
+abbrev pub reasons : Form → Sources → Option (Option Asker) → Request → Bool → List ℕ
+reasons form sources (Some (Some who)) request lacking = why_lines form (written_by sources who) request lacking
+reasons form sources _ request lacking = []
+
+-- what is told of the reply to a question: itself, the rules behind it, and how it came about; or why the question is refused
+abbrev pub replied_text : Form → Sources → List Loaded → Question → Result (List ℕ) Refusal → List ℕ
+replied_text form sources entries question (Ok reply) =
+    reply_text form reply ++ reasons form sources (asker entries (who_asks question)) (rule_request question) (is_lacking reply) ++ how_of form entries question
+replied_text form sources entries question (Err refusal) = refused_text form refusal
+
+-- what a policy set answers to a question, with the rules behind it
+abbrev pub answered_text : Form → Sources → List Loaded → Question → List ℕ
+answered_text form sources entries question = replied_text form sources entries question (reply_lines entries question)
+
+-- a question has an answer
+abbrev pub has_answer : List Loaded → Question → Bool
+has_answer entries question = is_ok (reply_lines entries question)
+
+-- where the rules of who asks are written, of a folder
+abbrev pub sources_in : Folder → Question → Sources
+sources_in folder question = record { files = folder.files; base = folder.base; origin = asked_origin (origins_in folder) question }
 
 -- The words ask a question of the policy set of a folder, and a text tells the files that are left out and what is answered.
 abbrev pub IsWhyTold : Form → Folder → List (List ℕ) → List ℕ → Bool → Type 0
 IsWhyTold form folder words text found =
     (question : Question) × (question_of words ≡ Ok question)
-    × (own : List ℕ) × (text ≡ left_out_in form folder ++ own)
-    × IsAnswered form folder (outcomes_in folder) (policy_in folder) question own found
+    × (text ≡ left_out_in form folder ++ answered_text form (sources_in folder question) (policy_in folder) question)
+    × (found ≡ has_answer (policy_in folder) question)
 
 -- who lets through what a question asks for, and by which rules
 abbrev pub let_by : Form → Folder → Question → List ℕ

@@ -1,4 +1,4 @@
 pub mod Asking
 pub mod Questions
-pub mod Rules
+pub mod Sources
 pub mod Who

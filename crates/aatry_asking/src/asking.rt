@@ -1,25 +1,28 @@
 //! Questions to the policy of a folder.
 
-ghost use Rattle.std.specs.Prelude.{◌≡◌, ◌++◌, ℕ, List, false, is_ok, IfErr, IfOk, OnOk, map, string_bytes};
+ghost use Rattle.std.specs.Prelude.{◌≡◌, ◌++◌, false, is_ok, Ok, IfErr, IfOk, OnOk, map, string_bytes};
 ghost use Rattle.aa_set_answers.specs.Answers.{who_asks};
+ghost use Rattle.aa_set_answers.specs.Askers.{asker};
 ghost use Rattle.aa_set_commands.specs.Question.{IsWellFormed, question_of, seen_question};
-ghost use Rattle.aatry_asking.specs.Asking.{IsAnswered, IsWhoTold, IsWhyTold, how_of, is_let, let_by, none_refused};
+ghost use Rattle.aatry_asking.specs.Asking.{IsWhoTold, IsWhyTold, answered_text, has_answer, how_of, is_let, let_by, reasons, replied_text};
 ghost use Rattle.aatry_asking.specs.Questions.{letting_words};
 ghost use Rattle.aatry_asking.specs.declared.question.QuestionFault.TheVariants as fault;
-ghost use Rattle.aatry_asking.specs.Rules.{TellsRules, asker_file};
-ghost use Rattle.aatry_policy.specs.Folders.{loaded_in, outcomes_in, seen_folder};
+ghost use Rattle.aatry_asking.specs.Sources.{seen_sources};
+ghost use Rattle.aatry_policy.specs.Folders.{loaded_in, origins_in, seen_folder};
 ghost use Rattle.aatry_requests.specs.Questions.{rule_request};
 
 use crate::letting::who_lines;
 use crate::question::{QuestionFault, letting_question, question_by};
-use crate::replies::{push_refused, push_reply};
-use crate::rules::{is_lacking, push_rules};
+use crate::replies::{is_lacking, push_refused, push_reply};
+use crate::sources::{Sources, asked_origin, sources_at, written_by};
 use aa_set::Manager;
-use aa_set_commands::{Question, Refusal, RefusalKind};
-use aatry_policy::{Folder, Policy, by_parts, load_folder, parts_of, read_profiles};
+use aa_set_answers::find_asker;
+use aa_set_commands::{Question, RefusalKind};
+use aatry_policy::{Folder, Policy, by_parts, load_folder, parts_of};
 use aatry_report::Form;
 use aatry_requests::{rule_request, who_asks};
 use aatry_transition::push_how;
+use aatry_why_lines::push_why;
 use std::alloc::{AllocError, Global};
 
 /// What a question came to.
@@ -57,49 +60,78 @@ fn push_how_of(
     }
 }
 
-// Puts the rules behind an answer behind a text, and how it came about.
+// Appends the rules behind the answer to who asks to a text; where it is no one in particular, or isn't there, nothing.
 fn push_reasons(
     alloc: Global,
     form: Form,
-    folder: &Folder<'_>,
-    outcomes: &[Option<Refusal>],
+    sources: &Sources<'_>,
     manager: &Manager,
     question: &Question<'_>,
     lacking: bool,
     out: &mut Vec<u8>,
 ) -> Result<(), AllocError>
-    ensures { OnOk result ((rules : List ℕ)
-        × (out.new.items ≡ out.old.items ++ rules ++ how_of form manager.now.machine.now (seen_question question.entry.now))
-        × TellsRules form (seen_folder folder.now) (who_asks (seen_question question.entry.now)) (rule_request (seen_question question.entry.now)) lacking
-        (asker_file (seen_folder folder.now) outcomes.now (who_asks (seen_question question.entry.now))) rules) }
+    ensures { OnOk result (out.new.items ≡ out.old.items
+        ++ reasons form (seen_sources sources.now) (asker manager.now.machine.now (who_asks (seen_question question.entry.now)))
+        (rule_request (seen_question question.entry.now)) lacking) }
 {
-    let who = who_asks(question);
-    let request = rule_request(question);
-    push_rules(alloc, form, folder, outcomes, who, &request, lacking, out)?;
+    match find_asker(&manager.policy_set().slots(), who_asks(question)) {
+        Some(Some(asker)) => {
+            let written = written_by(sources, asker);
+            push_why(alloc, form, &written, &rule_request(question), lacking, out)
+        }
+        _ => Ok(()),
+    }
+}
+
+// Appends what is told of a reply to a question to a text: the reply, the rules behind it, and how it came about.
+fn push_replied(
+    alloc: Global,
+    form: Form,
+    sources: &Sources<'_>,
+    manager: &Manager,
+    question: &Question<'_>,
+    reply: &[u8],
+    out: &mut Vec<u8>,
+) -> Result<(), AllocError>
+    ensures { OnOk result (out.new.items ≡ out.old.items
+        ++ replied_text form (seen_sources sources.now) manager.now.machine.now (seen_question question.entry.now) (Ok reply.now)) }
+{
+    push_reply(alloc, form, reply, out)?;
+    push_reasons(
+        alloc,
+        form,
+        sources,
+        manager,
+        question,
+        is_lacking(reply),
+        out,
+    )?;
     push_how_of(alloc, form, manager, question, out)
 }
 
-// Puts the answer to a question behind a text, and the rules behind it, and says whether there is an answer.
-fn push_answer(
+/// Appends the answer of a policy set to a question to a text, and behind it the rules by which who asks decides, as `why` tells them: those of the loaded
+/// profile, child or hat, with where they are written. Says whether there is an answer. The caller sees to it that the question is well-formed, as one of
+/// `Question::read` is.
+///
+/// # Errors
+///
+/// Where memory runs out. A beginning may have been appended then.
+pub fn push_answer(
     alloc: Global,
     form: Form,
-    folder: &Folder<'_>,
-    outcomes: &[Option<Refusal>],
+    sources: &Sources<'_>,
     manager: &Manager,
     question: &Question<'_>,
     out: &mut Vec<u8>,
 ) -> Result<bool, AllocError>
     requires { IsWellFormed question.now }
-    ensures { IfOk result (λ found. (lines : List ℕ) × (out.new.items ≡ out.old.items ++ lines)
-        × IsAnswered form (seen_folder folder.now) outcomes.now manager.now.machine.now (seen_question question.entry.now) lines found) }
+    ensures told { OnOk result (out.new.items ≡ out.old.items
+        ++ answered_text form (seen_sources sources.now) manager.now.machine.now (seen_question question.entry.now)) }
+    ensures found { IfOk result (λ found. found ≡ has_answer manager.now.machine.now (seen_question question.entry.now)) }
 {
     match manager.ask(question) {
         Ok(reply) => {
-            push_reply(alloc, form, &reply, out)?;
-            let lacking = is_lacking(&reply);
-            push_reasons(
-                alloc, form, folder, outcomes, manager, question, lacking, out,
-            )?;
+            push_replied(alloc, form, sources, manager, question, &reply, out)?;
             Ok(true)
         }
         Err(refusal) => {
@@ -110,41 +142,6 @@ fn push_answer(
             Ok(false)
         }
     }
-}
-
-// That no file is refused, for each of these.
-fn none_refused(alloc: Global, names: &[String]) -> Result<Vec<Option<Refusal>>, AllocError>
-    ensures { IfOk result (λ outcomes. outcomes.items ≡ none_refused (map string_bytes names.now)) }
-{
-    let mut outcomes = Vec::with_capacity(alloc, names.len())?;
-    for _name in names {
-        outcomes.push(None)?;
-    }
-    Ok(outcomes)
-}
-
-/// Puts the answer of a policy set to a question behind a text, and the rules behind it as `why` tells them: those of the first file of a folder that has
-/// who asks. These may be others than those that made the policy set. Says whether there is an answer. The caller sees to it that the question is
-/// well-formed, as one of `Question::read` is.
-///
-/// # Errors
-///
-/// Where memory runs out. A beginning may have been put then.
-pub fn push_answer_of(
-    alloc: Global,
-    form: Form,
-    folder: &Folder<'_>,
-    manager: &Manager,
-    question: &Question<'_>,
-    out: &mut Vec<u8>,
-) -> Result<bool, AllocError>
-    requires { IsWellFormed question.now }
-    ensures { IfOk result (λ found. (lines : List ℕ) × (out.new.items ≡ out.old.items ++ lines)
-        × IsAnswered form (seen_folder folder.now) (none_refused (seen_folder folder.now).names) manager.now.machine.now
-        (seen_question question.entry.now) lines found) }
-{
-    let outcomes = none_refused(alloc, folder.names)?;
-    push_answer(alloc, form, folder, &outcomes, manager, question, out)
 }
 
 /// What the policy of a folder answers to a question, and the rules behind the answer, told in a form. First come the files that are left out
@@ -171,15 +168,9 @@ pub fn why(
     let question = question_by(alloc, words)?;
     let mut text = Vec::new(alloc);
     let policy = load_folder(alloc, form, folder, &mut text)?;
-    let found = push_answer(
-        alloc,
-        form,
-        folder,
-        &policy.outcomes,
-        &policy.manager,
-        &question,
-        &mut text,
-    )?;
+    let origin = asked_origin(&policy.origins, &question);
+    let sources = sources_at(folder.files, folder.base, origin);
+    let found = push_answer(alloc, form, &sources, &policy.manager, &question, &mut text)?;
     Ok(Answered { text, found })
 }
 
@@ -199,16 +190,16 @@ fn let_by(
     question: &Question<'_>,
 ) -> Result<Vec<u8>, AllocError>
     requires set { policy.now.manager ≡ loaded_in (seen_folder folder.now) }
-    requires outcomes { policy.now.outcomes.items ≡ outcomes_in (seen_folder folder.now) }
+    requires origins { policy.now.origins.items ≡ origins_in (seen_folder folder.now) }
     ensures { IfOk result (λ lines. lines.items ≡ let_by form (seen_folder folder.now) (seen_question question.entry.now)) }
 {
-    let read = read_profiles(alloc, folder.files, folder.names, &policy.outcomes)?;
-    let parts = parts_of(alloc, &read)?;
+    let set = policy.manager.policy_set();
+    let parts = parts_of(alloc, &set, &policy.origins)?;
     who_lines(
         alloc,
         form,
         &by_parts(folder, &parts),
-        &policy.manager.policy_set(),
+        &set,
         &rule_request(question),
     )
 }

@@ -5,7 +5,8 @@ mod asking;
 mod letting;
 mod question;
 mod replies;
-mod rules;
+mod sources;
 
-pub use asking::{Answered, push_answer_of, who, why};
+pub use asking::{Answered, push_answer, who, why};
 pub use question::QuestionFault;
+pub use sources::{Sources, sources_at};

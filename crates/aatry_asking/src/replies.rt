@@ -3,15 +3,24 @@
 ghost use Rattle.std.specs.Prelude.{◌≡◌, ◌++◌, IfOk, OnOk};
 ghost use Rattle.std.specs.List.{after_first};
 ghost use Rattle.aa_set_lines.specs.Lines.{is_line_feed};
-ghost use Rattle.aatry_asking.specs.Asking.{answer_line, audit_line, refused_record, refused_text, reply_record, reply_text};
+ghost use Rattle.aatry_asking.specs.Asking.{answer_line, audit_line, is_lacking, refused_record, refused_text, reply_record, reply_text};
 ghost use Rattle.aatry_report.specs.SeenRecord.{seen_record};
 ghost use Rattle.aatry_report.specs.declared.form.Form.TheVariants as form;
 
-use aa_bytes::{behind, length_while};
+use aa_bytes::{begins_with, behind, length_while};
 use aa_set_commands::Refusal;
 use aatry_policy::push_refusal;
 use aatry_report::{Form, Record};
 use std::alloc::{AllocError, Global};
+
+/// Whether no rule allows something that was asked for, or nothing confines who asks, for the word of the answer.
+pub fn is_lacking(reply: &[u8]) -> bool
+    ensures { result ≡ is_lacking reply.now }
+{
+    begins_with(b"refuse", reply)
+        || begins_with(b"complain", reply)
+        || begins_with(b"unconfined", reply)
+}
 
 // The first of some lines.
 fn answer_line(lines: &[u8]) -> &[u8]

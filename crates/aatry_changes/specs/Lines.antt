@@ -35,10 +35,19 @@ head_lines part =
     head_line (mode_word part.mode) ∷ []
     ++ flag_lines part.hat (codes "hat") ++ flag_lines part.audit (codes "audit") ++ attachment_lines part.attachments
 
--- the lines of rules, each at its place
+-- the first of some places, if it is known, and those behind it
+abbrev pub first_place : List (Option Place) → Option Place
+first_place [] = None
+first_place (place ∷ places) = place
+
+abbrev pub behind_first : List (Option Place) → List (Option Place)
+behind_first [] = []
+behind_first (place ∷ places) = places
+
+-- the lines of rules, each at its place; where there are fewer places than rules, the last rules have none
 abbrev pub rule_lines : List Rule → List (Option Place) → List Line
-rule_lines (rule ∷ rules) (place ∷ places) = rule_line rule place ∷ rule_lines rules places
-rule_lines _ _ = []
+rule_lines [] places = []
+rule_lines (rule ∷ rules) places = rule_line rule (first_place places) ∷ rule_lines rules (behind_first places)
 
 -- all lines of a part
 abbrev pub lines_of : Part → List Line
@@ -48,7 +57,8 @@ lines_of part = head_lines part ++ rule_lines part.rules part.places
 abbrev pub line_if_covering : Request → Rule → Option Place → List Line
 line_if_covering request rule place = if covers request rule == 0 then [] else rule_line rule place ∷ []
 
--- the lines of those of some rules that cover something of it
+-- the lines of those of some rules that cover something of it, likewise
 abbrev pub covering_lines : Request → List Rule → List (Option Place) → List Line
-covering_lines request (rule ∷ rules) (place ∷ places) = line_if_covering request rule place ++ covering_lines request rules places
-covering_lines request _ _ = []
+covering_lines request [] places = []
+covering_lines request (rule ∷ rules) places =
+    line_if_covering request rule (first_place places) ++ covering_lines request rules (behind_first places)

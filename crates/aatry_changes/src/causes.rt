@@ -9,7 +9,7 @@ ghost use Rattle.aatry_policy.specs.SeenProfiles.{seen_part};
 use crate::differing::push_lines;
 use crate::lacking::lacking;
 use crate::lines::{Line, covering_lines};
-use crate::side::Side;
+use crate::side::{Side, SidePart};
 use aa_profile_access::Request;
 use aatry_policy::{FolderParts, Part, part_of};
 use aatry_report::Form;
@@ -34,18 +34,16 @@ fn covering_of(
 fn push_lacking(
     alloc: Global,
     form: Form,
-    folder: &FolderParts<'_>,
-    part: &Part<'_>,
-    side: Side,
+    own: &SidePart<'_>,
     others: &[Line],
     lines: &[Line],
     out: &mut Vec<u8>,
 ) -> Result<(), AllocError>
     ensures { OnOk result (out.new.items ≡ out.old.items
-        ++ causes_of form (seen_folder folder.now) (Some (seen_part part.now)) side others.now lines.now) }
+        ++ causes_of form (seen_folder own.now.folder.now) (Some (seen_part own.now.part.now)) own.now.side others.now lines.now) }
 {
     let found = lacking(alloc, others, lines)?;
-    push_lines(alloc, form, folder, part, "  ", side, &found, out)
+    push_lines(alloc, form, own, "  ", &found, out)
 }
 
 // The same of a part, if there is one.
@@ -64,7 +62,10 @@ fn push_causes_of(
 {
     match part {
         None => Ok(()),
-        Some(part) => push_lacking(alloc, form, folder, part, side, others, lines, out),
+        Some(part) => {
+            let own = SidePart { folder, part, side };
+            push_lacking(alloc, form, &own, others, lines, out)
+        }
     }
 }
 

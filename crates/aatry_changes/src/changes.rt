@@ -13,7 +13,7 @@ ghost use Rattle.aatry_report.specs.Taken.{counted};
 use crate::differing::push_lines;
 use crate::lacking::lacking;
 use crate::lines::{Line, lines_of};
-use crate::side::Side;
+use crate::side::{PartPair, Side, SidePart};
 use aatry_policy::{FolderParts, Part, part_of};
 use aatry_report::{Form, Record, push_shown};
 use std::alloc::{AllocError, Global};
@@ -58,44 +58,48 @@ fn push_headed(
 fn push_below(
     alloc: Global,
     form: Form,
-    old: &FolderParts<'_>,
-    new: &FolderParts<'_>,
-    part: &Part<'_>,
-    other: &Part<'_>,
+    pair: &PartPair<'_>,
     less: &[&Line],
     more: &[&Line],
     out: &mut Vec<u8>,
 ) -> Result<(), AllocError>
     ensures { OnOk result (out.new.items ≡ out.old.items
-        ++ below_text form (seen_folder old.now) (seen_folder new.now) (seen_part part.now) (seen_part other.now)
+        ++ below_text form (seen_folder pair.now.old.now) (seen_folder pair.now.new.now) (seen_part pair.now.part.now) (seen_part pair.now.other.now)
         (seen_lines less.now) (seen_lines more.now)) }
 {
-    push_lines(alloc, form, old, part, "", Side::Old, less, out)?;
-    push_lines(alloc, form, new, other, "", Side::New, more, out)
+    let old = SidePart {
+        folder: pair.old,
+        part: pair.part,
+        side: Side::Old,
+    };
+    let new = SidePart {
+        folder: pair.new,
+        part: pair.other,
+        side: Side::New,
+    };
+    push_lines(alloc, form, &old, "", less, out)?;
+    push_lines(alloc, form, &new, "", more, out)
 }
 
 // Puts what is told of a part of both folders behind a text, by the lines that either has alone, and says whether it is changed.
 fn push_differing(
     alloc: Global,
     form: Form,
-    old: &FolderParts<'_>,
-    new: &FolderParts<'_>,
-    part: &Part<'_>,
-    other: &Part<'_>,
+    pair: &PartPair<'_>,
     less: &[&Line],
     more: &[&Line],
     out: &mut Vec<u8>,
 ) -> Result<bool, AllocError>
     ensures told { OnOk result (out.new.items ≡ out.old.items
-        ++ changed_by form (seen_folder old.now) (seen_folder new.now) (seen_part part.now) (seen_part other.now)
+        ++ changed_by form (seen_folder pair.now.old.now) (seen_folder pair.now.new.now) (seen_part pair.now.part.now) (seen_part pair.now.other.now)
         (seen_lines less.now) (seen_lines more.now)) }
     ensures whether { IfOk result (λ told. told ≡ differ (seen_lines less.now) (seen_lines more.now)) }
 {
     if less.is_empty() && more.is_empty() {
         return Ok(false);
     }
-    push_headed(alloc, form, "changed", part.name.as_slice(), out)?;
-    push_below(alloc, form, old, new, part, other, less, more, out)?;
+    push_headed(alloc, form, "changed", pair.part.name.as_slice(), out)?;
+    push_below(alloc, form, pair, less, more, out)?;
     Ok(true)
 }
 
@@ -103,41 +107,36 @@ fn push_differing(
 fn push_between(
     alloc: Global,
     form: Form,
-    old: &FolderParts<'_>,
-    new: &FolderParts<'_>,
-    part: &Part<'_>,
-    other: &Part<'_>,
+    pair: &PartPair<'_>,
     before: &[Line],
     after: &[Line],
     out: &mut Vec<u8>,
 ) -> Result<bool, AllocError>
     ensures told { OnOk result (out.new.items ≡ out.old.items
-        ++ changed_by form (seen_folder old.now) (seen_folder new.now) (seen_part part.now) (seen_part other.now)
+        ++ changed_by form (seen_folder pair.now.old.now) (seen_folder pair.now.new.now) (seen_part pair.now.part.now) (seen_part pair.now.other.now)
         (lacking after.now before.now) (lacking before.now after.now)) }
     ensures whether { IfOk result (λ told. told ≡ differ (lacking after.now before.now) (lacking before.now after.now)) }
 {
     let less = lacking(alloc, after, before)?;
     let more = lacking(alloc, before, after)?;
-    push_differing(alloc, form, old, new, part, other, &less, &more, out)
+    push_differing(alloc, form, pair, &less, &more, out)
 }
 
 // Puts what is told of a part of both folders behind a text, and says whether it is changed.
 fn push_changed(
     alloc: Global,
     form: Form,
-    old: &FolderParts<'_>,
-    new: &FolderParts<'_>,
-    part: &Part<'_>,
-    other: &Part<'_>,
+    pair: &PartPair<'_>,
     out: &mut Vec<u8>,
 ) -> Result<bool, AllocError>
-    ensures told { OnOk result (out.new.items
-        ≡ out.old.items ++ changed_text form (seen_folder old.now) (seen_folder new.now) (seen_part part.now) (seen_part other.now)) }
-    ensures whether { IfOk result (λ told. told ≡ is_changed (seen_part part.now) (seen_part other.now)) }
+    ensures told { OnOk result (out.new.items ≡ out.old.items
+        ++ changed_text form (seen_folder pair.now.old.now) (seen_folder pair.now.new.now) (seen_part pair.now.part.now)
+        (seen_part pair.now.other.now)) }
+    ensures whether { IfOk result (λ told. told ≡ is_changed (seen_part pair.now.part.now) (seen_part pair.now.other.now)) }
 {
-    let before = lines_of(alloc, part)?;
-    let after = lines_of(alloc, other)?;
-    push_between(alloc, form, old, new, part, other, &before, &after, out)
+    let before = lines_of(alloc, pair.part)?;
+    let after = lines_of(alloc, pair.other)?;
+    push_between(alloc, form, pair, &before, &after, out)
 }
 
 // Puts what is told of a part of the old folder behind a text, and says whether it is gone or changed.
@@ -157,7 +156,15 @@ fn push_old(
             push_headed(alloc, form, "gone", part.name.as_slice(), out)?;
             Ok(true)
         }
-        Some(other) => push_changed(alloc, form, old, new, part, other, out),
+        Some(other) => {
+            let pair = PartPair {
+                old,
+                new,
+                part,
+                other,
+            };
+            push_changed(alloc, form, &pair, out)
+        }
     }
 }
 

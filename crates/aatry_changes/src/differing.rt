@@ -8,8 +8,8 @@ ghost use Rattle.aatry_policy.specs.SeenProfiles.{seen_part};
 ghost use Rattle.aatry_report.specs.SeenRecord.{seen_record};
 
 use crate::lines::Line;
-use crate::side::{Side, kind_of, sign_of};
-use aatry_policy::{FolderParts, Part};
+use crate::side::{SidePart, kind_of, sign_of};
+use aatry_policy::FolderParts;
 use aatry_report::{Form, Record};
 use aatry_why_lines::{push_where, put_where};
 use std::alloc::{AllocError, Global};
@@ -49,37 +49,30 @@ fn put_where_of(
 // Puts a line behind a text, below blanks and a sign.
 fn push_line(
     alloc: Global,
-    folder: &FolderParts<'_>,
-    part: &Part<'_>,
+    own: &SidePart<'_>,
     blanks: &str,
-    side: Side,
     line: &Line,
     out: &mut Vec<u8>,
 ) -> Result<(), AllocError>
     ensures { OnOk result (out.new.items
-        ≡ out.old.items ++ line_text (seen_folder folder.now) (seen_part part.now) blanks.now side line.now) }
+        ≡ out.old.items ++ line_text (seen_folder own.now.folder.now) (seen_part own.now.part.now) blanks.now own.now.side line.now) }
 {
     out.extend_from_slice(blanks.as_bytes())?;
-    out.extend_from_slice(sign_of(side).as_bytes())?;
-    push_where_of(alloc, folder, part.file, line, out)?;
+    out.extend_from_slice(sign_of(own.side).as_bytes())?;
+    push_where_of(alloc, own.folder, own.part.file, line, out)?;
     out.extend_from_slice(line.text.as_slice())?;
     out.push(b'\n')?;
     Ok(())
 }
 
 // The record of a line.
-fn line_record(
-    alloc: Global,
-    folder: &FolderParts<'_>,
-    part: &Part<'_>,
-    side: Side,
-    line: &Line,
-) -> Result<Record, AllocError>
-    ensures { IfOk result (λ made. seen_record made ≡ line_record (seen_folder folder.now) (seen_part part.now) side line.now) }
+fn line_record(alloc: Global, own: &SidePart<'_>, line: &Line) -> Result<Record, AllocError>
+    ensures { IfOk result (λ made. seen_record made
+        ≡ line_record (seen_folder own.now.folder.now) (seen_part own.now.part.now) own.now.side line.now) }
 {
-    let mut made = Record::new(alloc, kind_of(side))?;
-    made.put_text(alloc, "name", part.name.as_slice())?;
-    put_where_of(alloc, folder, part.file, line, &mut made)?;
+    let mut made = Record::new(alloc, kind_of(own.side))?;
+    made.put_text(alloc, "name", own.part.name.as_slice())?;
+    put_where_of(alloc, own.folder, own.part.file, line, &mut made)?;
     made.put_text(alloc, "text", line.text.as_slice())?;
     Ok(made)
 }
@@ -88,25 +81,23 @@ fn line_record(
 fn push_told(
     alloc: Global,
     form: Form,
-    folder: &FolderParts<'_>,
-    part: &Part<'_>,
+    own: &SidePart<'_>,
     blanks: &str,
-    side: Side,
     line: &Line,
     out: &mut Vec<u8>,
 ) -> Result<(), AllocError>
     ensures { OnOk result (out.new.items
-        ≡ out.old.items ++ told_line form (seen_folder folder.now) (seen_part part.now) blanks.now side line.now) }
+        ≡ out.old.items ++ told_line form (seen_folder own.now.folder.now) (seen_part own.now.part.now) blanks.now own.now.side line.now) }
 {
     match form {
-        Form::Lines => push_line(alloc, folder, part, blanks, side, line, out),
-        Form::Records => line_record(alloc, folder, part, side, line)?.push(alloc, out),
+        Form::Lines => push_line(alloc, own, blanks, line, out),
+        Form::Records => line_record(alloc, own, line)?.push(alloc, out),
     }
 }
 
 /// Puts lines behind a text that another part lacks. As a line each stands behind these blanks and the side's sign, with where its rule stands, if it
 /// tells one. As a record of the kind `less` or `more` it has the part's full name (`name`), where its rule stands, if it tells one
-/// (`aatry_why_lines::put_where`), and what it tells (`text`). They are lines of this part, and it is one of the folder's.
+/// (`aatry_why_lines::put_where`), and what it tells (`text`). They are lines of this part.
 ///
 /// # Errors
 ///
@@ -114,19 +105,17 @@ fn push_told(
 pub fn push_lines(
     alloc: Global,
     form: Form,
-    folder: &FolderParts<'_>,
-    part: &Part<'_>,
+    own: &SidePart<'_>,
     blanks: &str,
-    side: Side,
     lines: &[&Line],
     out: &mut Vec<u8>,
 ) -> Result<(), AllocError>
-    ensures { OnOk result (out.new.items
-        ≡ out.old.items ++ told_lines form (seen_folder folder.now) (seen_part part.now) blanks.now side (seen_lines lines.now)) }
+    ensures { OnOk result (out.new.items ≡ out.old.items
+        ++ told_lines form (seen_folder own.now.folder.now) (seen_part own.now.part.now) blanks.now own.now.side (seen_lines lines.now)) }
 {
     let mut rest = lines;
     while let [line, behind @ ..] = rest {
-        push_told(alloc, form, folder, part, blanks, side, *line, out)?;
+        push_told(alloc, form, own, blanks, *line, out)?;
         rest = behind;
     }
     Ok(())

@@ -2,8 +2,8 @@
 
 ghost use Rattle.std.specs.Prelude.{◌≡◌, ◌++◌, IfOk, OnOk};
 ghost use Rattle.aa_profile_access.specs.SeenRequests.{request_of};
-ghost use Rattle.aatry_changes.specs.Lines.{attachment_line, attachment_lines, covering_lines, flag_lines, head_line, head_lines};
-ghost use Rattle.aatry_changes.specs.Lines.{line_if_covering, lines_of, rule_line, rule_lines};
+ghost use Rattle.aatry_changes.specs.Lines.{attachment_line, attachment_lines, behind_first, covering_lines, first_place, flag_lines};
+ghost use Rattle.aatry_changes.specs.Lines.{head_line, head_lines, line_if_covering, lines_of, rule_line, rule_lines};
 ghost use Rattle.aatry_policy.specs.SeenProfiles.{seen_part};
 
 use aa_bytes::Sequence;
@@ -11,8 +11,8 @@ use aa_decide_rules::covers;
 use aa_glob_pattern::Pattern;
 use aa_profile_access::Request;
 use aa_profile_data::Rule;
-use aa_profile_places::Place;
 use aa_set_answers::{mode_word, push_attachment, push_rule};
+use aa_text_files::Place;
 use aatry_policy::Part;
 use bitflags::Flags;
 use std::alloc::{AllocError, Global};
@@ -101,6 +101,26 @@ fn push_head(alloc: Global, part: &Part<'_>, lines: &mut Vec<Line>) -> Result<()
     push_attachments(alloc, part.attachments, lines)
 }
 
+// The first of some places, if it is known.
+fn first_place(places: &[Option<Place>]) -> Option<Place>
+    ensures { result ≡ first_place places.now }
+{
+    match places {
+        [] => None,
+        [place, ..] => *place,
+    }
+}
+
+// The places behind the first.
+fn behind_first(places: &[Option<Place>]) -> &[Option<Place>]
+    ensures { result.now ≡ behind_first places.now }
+{
+    match places {
+        [] => &[],
+        [_, behind @ ..] => behind,
+    }
+}
+
 // Puts the lines of rules behind others.
 fn push_rules(
     alloc: Global,
@@ -113,17 +133,14 @@ fn push_rules(
     let mut left = places;
     let mut rest = rules;
     while let [rule, behind @ ..] = rest {
-        let [place, more @ ..] = left else {
-            break;
-        };
-        lines.push(rule_line(alloc, rule, *place)?)?;
+        lines.push(rule_line(alloc, rule, first_place(left))?)?;
         rest = behind;
-        left = more;
+        left = behind_first(left);
     }
     Ok(())
 }
 
-/// The lines that tell of a part: its mode, its flags and its attachments, and each of its rules.
+/// The lines that tell of a part: its mode, its flags and its attachments, and each of its rules, with its place, if that is known.
 ///
 /// # Errors
 ///
@@ -153,7 +170,7 @@ fn push_if_covering(
     Ok(())
 }
 
-/// The lines of those of some rules that cover something of what is asked for.
+/// The lines of those of some rules that cover something of what is asked for, each with its place, if that is known.
 ///
 /// # Errors
 ///
@@ -170,12 +187,9 @@ pub fn covering_lines(
     let mut left = places;
     let mut rest = rules;
     while let [rule, behind @ ..] = rest {
-        let [place, more @ ..] = left else {
-            break;
-        };
-        push_if_covering(alloc, request, rule, *place, &mut lines)?;
+        push_if_covering(alloc, request, rule, first_place(left), &mut lines)?;
         rest = behind;
-        left = more;
+        left = behind_first(left);
     }
     Ok(lines)
 }

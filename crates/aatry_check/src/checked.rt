@@ -49,8 +49,8 @@ fn check_file(
     ensures told { OnOk result ((lines : List ℕ) × (out.new.items ≡ out.old.items ++ lines) × Tells form files.now base.now name.now lines) }
 {
     match read_file(alloc, files, name) {
-        Ok(profiles) => {
-            push_profiles(alloc, form, base, name, &profiles, out)?;
+        Ok(read) => {
+            push_profiles(alloc, form, base, name, &read.profiles, out)?;
             Ok(0)
         }
         Err(error) => {

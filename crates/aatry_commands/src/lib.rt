@@ -7,7 +7,7 @@ mod comparing;
 mod fault;
 mod testing;
 
-pub use asking::{PolicyFiles, folder_at, policy_below, who_folder, why_folder};
+pub use asking::{PolicyFiles, policy_below, who_folder, why_folder};
 pub use checking::{Report, check_folder};
 pub use comparing::diff_folders;
 pub use fault::{Fault, name_of, push_told, words_of};

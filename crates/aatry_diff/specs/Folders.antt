@@ -1,6 +1,8 @@
 -- Two folders of policy that are compared, by their profiles, children and hats.
 use Rattle.aatry_diff.specs.declared.folders.BothFolders.{BothFolders as CodeFolders}
+use Rattle.aatry_diff.specs.declared.folders.LoadedFolder.{LoadedFolder}
 use Rattle.aatry_policy.specs.FolderParts.{FolderParts, seen_folder}
+use Rattle.aatry_policy.specs.Parts.{set_parts}
 
 pub record BothFolders : Type 0 where
   pub old : FolderParts
@@ -9,3 +11,15 @@ pub record BothFolders : Type 0 where
 -- the folders of the code
 abbrev pub seen_folders : CodeFolders → BothFolders
 seen_folders folders = record { old = seen_folder folders.old; new = seen_folder folders.new }
+
+-- a folder by the parts of what is loaded of it
+abbrev pub seen_loaded : LoadedFolder → FolderParts
+seen_loaded loaded = record {
+  files = loaded.folder.now.files.now;
+  base = loaded.folder.now.base.now;
+  parts = set_parts loaded.policy.manager.machine.now loaded.policy.origins.items;
+}
+
+-- two of these
+abbrev pub both_loaded : LoadedFolder → LoadedFolder → BothFolders
+both_loaded old new = record { old = seen_loaded old; new = seen_loaded new }

@@ -1,7 +1,9 @@
 pub mod Answers
 pub mod Comparing
 pub mod Differences
+pub mod Differing
 pub mod Folders
+pub mod SeenDifferences
 pub mod Sources
 pub mod Summary
 pub mod code

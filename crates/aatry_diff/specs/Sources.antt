@@ -2,32 +2,45 @@
 use Rattle.std.specs.Prelude.{ℕ, List, [], ◌++◌, Option, None, Some, length, option_map}
 use Rattle.std.specs.Borrow.{Bor}
 use Rattle.aa_decide_slots.specs.Entries.{Loaded}
-use Rattle.aatry_diff.specs.Differences.{difference_lines, differing}
+use Rattle.aatry_diff.specs.Differences.{difference_lines, told_differences}
+use Rattle.aatry_diff.specs.Differing.{Difference, differences}
 use Rattle.aatry_diff.specs.Folders.{BothFolders}
 use Rattle.aatry_diff.specs.Summary.{summary_line}
 use Rattle.aatry_report.specs.declared.form.Form.{Form}
 use Rattle.aatry_requests.specs.Gathering.{Gathered, gathered}
+use Rattle.aatry_requests.specs.Tallies.{Tally}
 use Rattle.aatry_requests.specs.declared.sources.Source.{Source}
 
 -- what is gathered of a source, by its form and its bytes
 abbrev pub seen_source : Option (Source × Bor (List ℕ)) → Option Gathered
 seen_source source = option_map (λ s. gathered s.0 s.1.now) source
 
--- how many questions of a source two policy sets answer otherwise
+-- the questions of a source
+abbrev pub tallies_of : Option Gathered → List Tally
+tallies_of None = []
+tallies_of (Some requests) = requests.tallies
+
+-- those that two policy sets answer otherwise, each with what they answer
+abbrev pub differences_of : List Loaded → List Loaded → Option Gathered → List Difference
+differences_of old new requests = differences old new (tallies_of requests)
+
+-- how many these are
 abbrev pub differing_count : List Loaded → List Loaded → Option Gathered → ℕ
-differing_count old new None = 0
-differing_count old new (Some requests) = length (differing old new requests.tallies)
+differing_count old new requests = length (differences_of old new requests)
 
 -- what is told of these
 abbrev pub differences_text : Form → BothFolders → List Loaded → List Loaded → Option Gathered → List ℕ
-differences_text form folders old new None = []
-differences_text form folders old new (Some requests) = difference_lines form folders old new requests.tallies
+differences_text form folders old new requests = difference_lines form folders old new (tallies_of requests)
 
--- what sums up
-abbrev pub summary_text : Form → List Loaded → List Loaded → Option Gathered → List ℕ
-summary_text form old new None = []
-summary_text form old new (Some requests) = summary_line form requests (length (differing old new requests.tallies))
+-- what sums up, by how many these are
+abbrev pub summary_text : Form → Option Gathered → ℕ → List ℕ
+summary_text form None differing = []
+summary_text form (Some requests) differing = summary_line form requests differing
 
--- what is told of a source: each question that is answered otherwise, and what sums up
+-- what is told of a source by what is found: each question that is answered otherwise, and what sums up
+abbrev pub told_requests : Form → BothFolders → Option Gathered → List Difference → List ℕ
+told_requests form folders requests found = told_differences form folders found ++ summary_text form requests (length found)
+
+-- the same of all that two policy sets answer otherwise
 abbrev pub requests_text : Form → BothFolders → List Loaded → List Loaded → Option Gathered → List ℕ
-requests_text form folders old new requests = differences_text form folders old new requests ++ summary_text form old new requests
+requests_text form folders old new requests = told_requests form folders requests (differences_of old new requests)

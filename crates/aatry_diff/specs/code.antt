@@ -1,2 +1,2 @@
--- What is about the code: what it puts for each question in turn.
+-- What is about the code: what it finds of each question in turn, and what it tells of folders by that.
 pub mod Steps

@@ -1,23 +1,20 @@
 //! Two folders of policy, compared by their profiles and by what they answer.
 
-ghost use Rattle.std.specs.Prelude.{◌≡◌, ◌++◌, ◌==◌, ◌&&◌, length, IfOk, OnOk};
-ghost use Rattle.aatry_changes.specs.Changes.{change_lines, changed_count};
-ghost use Rattle.aatry_diff.specs.Comparing.{are_alike, both, diff_text};
-ghost use Rattle.aatry_diff.specs.Sources.{differing_count, requests_text, seen_source};
-ghost use Rattle.aatry_diff.specs.Differences.{difference_lines, differing};
-ghost use Rattle.aatry_diff.specs.Folders.{seen_folders};
-ghost use Rattle.aatry_diff.specs.Summary.{summary_line};
-ghost use Rattle.aatry_policy.specs.Folders.{outcomes_in, seen_folder};
+ghost use Rattle.std.specs.Prelude.{◌≡◌, ◌++◌, IfOk, OnOk, option_map};
+ghost use Rattle.aatry_diff.specs.Comparing.{are_alike, diff_text};
+ghost use Rattle.aatry_diff.specs.Folders.{both_loaded, seen_folders};
+ghost use Rattle.aatry_diff.specs.SeenDifferences.{seen_differences};
+ghost use Rattle.aatry_diff.specs.Sources.{differences_of, seen_source};
+ghost use Rattle.aatry_diff.specs.code.Steps.{compared_text, nothing_differs};
+ghost use Rattle.aatry_policy.specs.Folders.{seen_folder};
 ghost use Rattle.aatry_requests.specs.Gathering.{seen_requests};
 
-use crate::differences::push_differences;
-use crate::folders::BothFolders;
-use crate::summary::push_summary;
-use aa_set::Manager;
+use crate::asked::{Asked, differences_of, push_asked, requests_of};
+use crate::folders::{BothFolders, LoadedFolder, load};
 use aatry_changes::push_changes;
-use aatry_policy::{Folder, Policy, by_parts, load_folder, parts_of, read_profiles};
+use aatry_policy::{Folder, by_parts, parts_of};
 use aatry_report::Form;
-use aatry_requests::{Requests, Source, gather};
+use aatry_requests::{Requests, Source};
 use std::alloc::{AllocError, Global};
 
 /// How two folders of policy differ.
@@ -29,114 +26,101 @@ pub struct Compared {
     pub alike: bool,
 }
 
-// Puts what two policy sets answer otherwise behind a text, and says how many questions that are.
+// Appends how two folders differ to a text, by what they are asked and answer otherwise, and says whether nothing does.
 fn push_compared(
     alloc: Global,
     form: Form,
-    old: &mut Manager,
-    new: &mut Manager,
     folders: &BothFolders<'_>,
-    requests: &Requests<'_>,
-    out: &mut Vec<u8>,
-) -> Result<usize, AllocError>
-    ensures count { IfOk result (λ count. count ≡ length (differing old.old.machine.now new.old.machine.now requests.now.tallies)) }
-    ensures told { OnOk result (out.new.items ≡ out.old.items
-        ++ difference_lines form (seen_folders folders.now) old.old.machine.now new.old.machine.now requests.now.tallies
-        ++ summary_line form (seen_requests requests.now) (length (differing old.old.machine.now new.old.machine.now requests.now.tallies))) }
-{
-    let differing = push_differences(alloc, form, old, new, folders, &requests.tallies, out)?;
-    push_summary(alloc, form, requests, differing, out)?;
-    Ok(differing)
-}
-
-// The same by what a source tells of, where there is one.
-fn push_requests(
-    alloc: Global,
-    form: Form,
-    old: &mut Manager,
-    new: &mut Manager,
-    folders: &BothFolders<'_>,
-    source: Option<(Source, &[u8])>,
-    out: &mut Vec<u8>,
-) -> Result<usize, AllocError>
-    ensures count { IfOk result (λ count. count ≡ differing_count old.old.machine.now new.old.machine.now (seen_source source.entry)) }
-    ensures told { OnOk result (out.new.items ≡ out.old.items
-        ++ requests_text form (seen_folders folders.now) old.old.machine.now new.old.machine.now (seen_source source.entry)) }
-{
-    match source {
-        None => Ok(0),
-        Some((kind, text)) => {
-            let requests = gather(alloc, kind, text)?;
-            push_compared(alloc, form, old, new, folders, &requests, out)
-        }
-    }
-}
-
-// Puts how two folders differ behind a text, and says whether nothing does.
-fn push_both(
-    alloc: Global,
-    form: Form,
-    old: &mut Manager,
-    new: &mut Manager,
-    folders: &BothFolders<'_>,
-    source: Option<(Source, &[u8])>,
+    asked: &Asked<'_>,
     out: &mut Vec<u8>,
 ) -> Result<bool, AllocError>
-    ensures alike { IfOk result (λ alike. alike ≡ (changed_count (seen_folders folders.now).old (seen_folders folders.now).new == 0
-        && differing_count old.old.machine.now new.old.machine.now (seen_source source.entry) == 0)) }
+    ensures alike { IfOk result (λ alike. alike ≡ nothing_differs (seen_folders folders.now) (seen_differences asked.now.differences.now)) }
     ensures told { OnOk result (out.new.items ≡ out.old.items
-        ++ change_lines form (seen_folders folders.now).old (seen_folders folders.now).new
-        ++ requests_text form (seen_folders folders.now) old.old.machine.now new.old.machine.now (seen_source source.entry)) }
+        ++ compared_text form (seen_folders folders.now) (option_map seen_requests asked.now.requests.now)
+        (seen_differences asked.now.differences.now)) }
 {
     let changed = push_changes(alloc, form, &folders.old, &folders.new, out)?;
-    let differing = push_requests(alloc, form, old, new, folders, source, out)?;
-    Ok(changed == 0 && differing == 0)
+    push_asked(alloc, form, folders, asked, out)?;
+    Ok(changed == 0 && asked.differences.is_empty())
 }
 
-// The same of folders whose policies are loaded.
+// The same of folders that are loaded.
 fn push_loaded(
     alloc: Global,
     form: Form,
-    old: &Folder<'_>,
-    before: &mut Policy,
-    new: &Folder<'_>,
-    after: &mut Policy,
-    source: Option<(Source, &[u8])>,
+    old: &LoadedFolder<'_>,
+    new: &LoadedFolder<'_>,
+    asked: &Asked<'_>,
     out: &mut Vec<u8>,
 ) -> Result<bool, AllocError>
-    requires old { before.old.outcomes.items ≡ outcomes_in (seen_folder old.now) }
-    requires new { after.old.outcomes.items ≡ outcomes_in (seen_folder new.now) }
-    ensures alike { IfOk result (λ alike.
-        alike ≡ (changed_count (both (seen_folder old.now) (seen_folder new.now)).old (both (seen_folder old.now) (seen_folder new.now)).new == 0
-        && differing_count before.old.manager.machine.now after.old.manager.machine.now (seen_source source.entry) == 0)) }
+    ensures alike { IfOk result (λ alike. alike ≡ nothing_differs (both_loaded old.now new.now) (seen_differences asked.now.differences.now)) }
     ensures told { OnOk result (out.new.items ≡ out.old.items
-        ++ change_lines form (both (seen_folder old.now) (seen_folder new.now)).old (both (seen_folder old.now) (seen_folder new.now)).new
-        ++ requests_text form (both (seen_folder old.now) (seen_folder new.now)) before.old.manager.machine.now after.old.manager.machine.now
-        (seen_source source.entry)) }
+        ++ compared_text form (both_loaded old.now new.now) (option_map seen_requests asked.now.requests.now)
+        (seen_differences asked.now.differences.now)) }
 {
-    let old_read = read_profiles(alloc, old.files, old.names, &before.outcomes)?;
-    let new_read = read_profiles(alloc, new.files, new.names, &after.outcomes)?;
-    let old_parts = parts_of(alloc, &old_read)?;
-    let new_parts = parts_of(alloc, &new_read)?;
+    let old_set = old.policy.manager.policy_set();
+    let new_set = new.policy.manager.policy_set();
+    let old_parts = parts_of(alloc, &old_set, &old.policy.origins)?;
+    let new_parts = parts_of(alloc, &new_set, &new.policy.origins)?;
     let folders = BothFolders {
-        old: by_parts(old, &old_parts),
-        new: by_parts(new, &new_parts),
+        old: by_parts(old.folder, &old_parts),
+        new: by_parts(new.folder, &new_parts),
     };
-    push_both(
+    push_compared(alloc, form, &folders, asked, out)
+}
+
+// The same of folders that are loaded, by requests: first they are asked, and then what they have is told.
+fn push_both(
+    alloc: Global,
+    form: Form,
+    old: &mut LoadedFolder<'_>,
+    new: &mut LoadedFolder<'_>,
+    requests: &Option<Requests<'_>>,
+    out: &mut Vec<u8>,
+) -> Result<bool, AllocError>
+    ensures alike { IfOk result (λ alike. alike ≡ nothing_differs (both_loaded old.old new.old)
+        (differences_of old.old.policy.manager.machine.now new.old.policy.manager.machine.now (option_map seen_requests requests.now))) }
+    ensures told { OnOk result (out.new.items ≡ out.old.items
+        ++ compared_text form (both_loaded old.old new.old) (option_map seen_requests requests.now)
+        (differences_of old.old.policy.manager.machine.now new.old.policy.manager.machine.now (option_map seen_requests requests.now))) }
+{
+    let differences = differences_of(
         alloc,
-        form,
-        &mut before.manager,
-        &mut after.manager,
-        &folders,
-        source,
-        out,
-    )
+        &mut old.policy.manager,
+        &mut new.policy.manager,
+        requests,
+    )?;
+    let asked = Asked {
+        requests,
+        differences: &differences,
+    };
+    push_loaded(alloc, form, old, new, &asked, out)
+}
+
+// How two folders of policy differ, by requests, if there are some.
+fn compare(
+    alloc: Global,
+    form: Form,
+    old: &Folder<'_>,
+    new: &Folder<'_>,
+    requests: &Option<Requests<'_>>,
+) -> Result<Compared, AllocError>
+    ensures told { IfOk result (λ compared.
+        compared.text.items ≡ diff_text form (seen_folder old.now) (seen_folder new.now) (option_map seen_requests requests.now)) }
+    ensures alike { IfOk result (λ compared.
+        compared.alike ≡ are_alike (seen_folder old.now) (seen_folder new.now) (option_map seen_requests requests.now)) }
+{
+    let mut text = Vec::new(alloc);
+    let mut before = load(alloc, form, old, &mut text)?;
+    let mut after = load(alloc, form, new, &mut text)?;
+    let alike = push_both(alloc, form, &mut before, &mut after, requests, &mut text)?;
+    Ok(Compared { text, alike })
 }
 
 /// How two folders of policy differ, told in a form. First come the files of either that are left out (`aatry_policy::load_folder`). Then come the
 /// profiles, children and hats that are gone, changed or new, with what differs of them (`aatry_changes::push_changes`); and where a log or a file of
 /// questions is given, by its kind and its bytes, what the folders answer otherwise (`aatry_diff::push_differences`), and what sums up
-/// (`aatry_diff::push_summary`).
+/// (`aatry_diff::push_summary`). Each file of the folders is read once.
 ///
 /// # Errors
 ///
@@ -148,21 +132,10 @@ pub fn diff(
     new: &Folder<'_>,
     source: Option<(Source, &[u8])>,
 ) -> Result<Compared, AllocError>
-    ensures told { IfOk result (λ compared. compared.text.items ≡ diff_text form (seen_folder old.now) (seen_folder new.now) (seen_source source.entry)) }
+    ensures told { IfOk result (λ compared.
+        compared.text.items ≡ diff_text form (seen_folder old.now) (seen_folder new.now) (seen_source source.entry)) }
     ensures alike { IfOk result (λ compared. compared.alike ≡ are_alike (seen_folder old.now) (seen_folder new.now) (seen_source source.entry)) }
 {
-    let mut text = Vec::new(alloc);
-    let mut before = load_folder(alloc, form, old, &mut text)?;
-    let mut after = load_folder(alloc, form, new, &mut text)?;
-    let alike = push_loaded(
-        alloc,
-        form,
-        old,
-        &mut before,
-        new,
-        &mut after,
-        source,
-        &mut text,
-    )?;
-    Ok(Compared { text, alike })
+    let requests = requests_of(alloc, source)?;
+    compare(alloc, form, old, new, &requests)
 }

@@ -1,24 +1,24 @@
-//! Questions that two policy sets answer otherwise.
+//! What is told of questions that two policy sets answer otherwise.
 
-ghost use Rattle.std.specs.Prelude.{◌≡◌, ◌≤◌, ◌++◌, IfOk, OnOk, length, slice_get};
+ghost use Rattle.std.specs.Prelude.{◌≡◌, ◌++◌, IfOk, OnOk};
 ghost use Rattle.aa_set_commands.specs.Question.{seen_question};
-ghost use Rattle.aatry_diff.specs.Differences.{causes, difference_lines, differing, line_of, question_record, times_text, told_question, with_answers};
+ghost use Rattle.aatry_diff.specs.Differences.{causes, difference_text, line_of, question_record, times_text, told_differences};
+ghost use Rattle.aatry_diff.specs.Differences.{told_question, with_answers};
 ghost use Rattle.aatry_diff.specs.Folders.{seen_folders};
-ghost use Rattle.aatry_diff.specs.code.Steps.{count_at, count_of, lines_at, lines_of};
+ghost use Rattle.aatry_diff.specs.SeenDifferences.{seen_difference, seen_differences};
 ghost use Rattle.aatry_report.specs.SeenRecord.{seen_record};
-ghost use Rattle.aatry_requests.specs.SeenTallies.{seen_tally};
 ghost use Rattle.aatry_requests.specs.Texts.{question_text};
 
-use crate::answers::answer;
+use crate::finding::Difference;
 use crate::folders::BothFolders;
 use crate::numbers::push_number;
-use aa_set::{Manager, Question};
+use aa_set::Question;
 use aatry_changes::push_causes;
 use aatry_report::{Form, Record};
-use aatry_requests::{Tallies, Tally, push_question, rule_request, who_asks};
+use aatry_requests::{push_question, rule_request, who_asks};
 use std::alloc::{AllocError, Global};
 
-// Puts how often a question came behind a text.
+// Appends how often a question came to a text.
 fn push_times(out: &mut Vec<u8>, times: u64) -> Result<(), AllocError>
     ensures { OnOk result (out.new.items ≡ out.old.items ++ times_text times) }
 {
@@ -30,7 +30,7 @@ fn push_times(out: &mut Vec<u8>, times: u64) -> Result<(), AllocError>
     }
 }
 
-// Puts a sign and an answer behind a text.
+// Appends a sign and an answer to a text.
 fn push_answer(out: &mut Vec<u8>, sign: &[u8], answer: &[u8]) -> Result<(), AllocError>
     ensures { OnOk result (out.new.items ≡ out.old.items ++ sign.now ++ answer.now) }
 {
@@ -38,20 +38,14 @@ fn push_answer(out: &mut Vec<u8>, sign: &[u8], answer: &[u8]) -> Result<(), Allo
     out.extend_from_slice(answer)
 }
 
-// Puts the line of a question, its answers and how often it came behind a text.
-fn push_line(
-    out: &mut Vec<u8>,
-    question: &Question<'_>,
-    before: &[u8],
-    after: &[u8],
-    times: u64,
-) -> Result<(), AllocError>
-    ensures { OnOk result (out.new.items ≡ out.old.items ++ line_of (seen_question question.entry.now) before.now after.now times) }
+// Appends the line of a question, its answers and how often it came to a text.
+fn push_line(out: &mut Vec<u8>, difference: &Difference<'_, '_>) -> Result<(), AllocError>
+    ensures { OnOk result (out.new.items ≡ out.old.items ++ line_of (seen_difference difference.now)) }
 {
-    push_question(out, question)?;
-    push_answer(out, b": ", before)?;
-    push_answer(out, b" -> ", after)?;
-    push_times(out, times)?;
+    push_question(out, &difference.tally.question.question())?;
+    push_answer(out, b": ", difference.before.as_slice())?;
+    push_answer(out, b" -> ", difference.after.as_slice())?;
+    push_times(out, difference.tally.times)?;
     out.push(b'\n')?;
     Ok(())
 }
@@ -68,54 +62,43 @@ fn question_text(alloc: Global, question: &Question<'_>) -> Result<Vec<u8>, Allo
 // Puts the answers to a question and how often it came into a record.
 fn put_answers(
     alloc: Global,
-    before: &[u8],
-    after: &[u8],
-    times: u64,
+    difference: &Difference<'_, '_>,
     into: &mut Record,
 ) -> Result<(), AllocError>
-    ensures { OnOk result (seen_record into.new ≡ with_answers before.now after.now times (seen_record into.old)) }
+    ensures { OnOk result (seen_record into.new ≡ with_answers (seen_difference difference.now) (seen_record into.old)) }
 {
-    into.put_text(alloc, "before", before)?;
-    into.put_text(alloc, "after", after)?;
-    into.put_number(alloc, "times", times as usize)
+    into.put_text(alloc, "before", difference.before.as_slice())?;
+    into.put_text(alloc, "after", difference.after.as_slice())?;
+    into.put_number(alloc, "times", difference.tally.times as usize)
 }
 
 // The record of a question, its answers and how often it came.
-fn question_record(
-    alloc: Global,
-    question: &Question<'_>,
-    before: &[u8],
-    after: &[u8],
-    times: u64,
-) -> Result<Record, AllocError>
-    ensures { IfOk result (λ made. seen_record made ≡ question_record (seen_question question.entry.now) before.now after.now times) }
+fn question_record(alloc: Global, difference: &Difference<'_, '_>) -> Result<Record, AllocError>
+    ensures { IfOk result (λ made. seen_record made ≡ question_record (seen_difference difference.now)) }
 {
-    let text = question_text(alloc, question)?;
+    let text = question_text(alloc, &difference.tally.question.question())?;
     let mut made = Record::new(alloc, "question")?;
     made.put_text(alloc, "question", &text)?;
-    put_answers(alloc, before, after, times, &mut made)?;
+    put_answers(alloc, difference, &mut made)?;
     Ok(made)
 }
 
-// Puts what is told of a question by itself behind a text.
+// Appends what is told of a question by itself to a text.
 fn push_told(
     alloc: Global,
     form: Form,
-    question: &Question<'_>,
-    before: &[u8],
-    after: &[u8],
-    times: u64,
+    difference: &Difference<'_, '_>,
     out: &mut Vec<u8>,
 ) -> Result<(), AllocError>
-    ensures { OnOk result (out.new.items ≡ out.old.items ++ told_question form (seen_question question.entry.now) before.now after.now times) }
+    ensures { OnOk result (out.new.items ≡ out.old.items ++ told_question form (seen_difference difference.now)) }
 {
     match form {
-        Form::Lines => push_line(out, question, before, after, times),
-        Form::Records => question_record(alloc, question, before, after, times)?.push(alloc, out),
+        Form::Lines => push_line(out, difference),
+        Form::Records => question_record(alloc, difference)?.push(alloc, out),
     }
 }
 
-// Puts the rules behind a text that lead to one of the answers to a question alone.
+// Appends the rules that lead to one of the answers to a question alone to a text.
 fn push_causes_of(
     alloc: Global,
     form: Form,
@@ -136,82 +119,47 @@ fn push_causes_of(
     )
 }
 
-// Puts what is told of a question behind a text, if it is answered otherwise, and says how many questions that are: one or none.
+// Appends what is told of a question that is answered otherwise to a text.
 fn push_difference(
     alloc: Global,
     form: Form,
-    old: &mut Manager,
-    new: &mut Manager,
     folders: &BothFolders<'_>,
-    tally: &Tally<'_>,
+    difference: &Difference<'_, '_>,
     out: &mut Vec<u8>,
-) -> Result<usize, AllocError>
-    ensures count { IfOk result (λ count. count ≡ count_of old.old.machine.now new.old.machine.now (seen_tally tally.now)) }
-    ensures few { IfOk result (λ count. count ≤ 1) }
-    ensures told { OnOk result (out.new.items ≡ out.old.items ++ lines_of form (seen_folders folders.now) old.old.machine.now new.old.machine.now (seen_tally tally.now)) }
-    ensures old { old.new ≡ old.old }
-    ensures new { new.new ≡ new.old }
+) -> Result<(), AllocError>
+    ensures { OnOk result (out.new.items ≡ out.old.items ++ difference_text form (seen_folders folders.now) (seen_difference difference.now)) }
 {
-    let question = tally.question.question();
-    let before = answer(alloc, old, &question)?;
-    let after = answer(alloc, new, &question)?;
-    if before == after {
-        return Ok(0);
-    }
-    push_told(alloc, form, &question, &before, &after, tally.times, out)?;
-    push_causes_of(alloc, form, folders, &question, out)?;
-    Ok(1)
+    push_told(alloc, form, difference, out)?;
+    push_causes_of(
+        alloc,
+        form,
+        folders,
+        &difference.tally.question.question(),
+        out,
+    )
 }
 
-// The same of the question at a place, if there is one.
-fn push_difference_at(
-    alloc: Global,
-    form: Form,
-    old: &mut Manager,
-    new: &mut Manager,
-    folders: &BothFolders<'_>,
-    tallies: &Tallies<'_>,
-    place: usize,
-    out: &mut Vec<u8>,
-) -> Result<usize, AllocError>
-    ensures count { IfOk result (λ count. count ≡ count_at old.old.machine.now new.old.machine.now (slice_get tallies.now place)) }
-    ensures few { IfOk result (λ count. count ≤ 1) }
-    ensures told { OnOk result (out.new.items ≡ out.old.items ++ lines_at form (seen_folders folders.now) old.old.machine.now new.old.machine.now (slice_get tallies.now place)) }
-    ensures old { old.new ≡ old.old }
-    ensures new { new.new ≡ new.old }
-{
-    match tallies.get(place) {
-        Some(tally) => push_difference(alloc, form, old, new, folders, tally, out),
-        None => Ok(0),
-    }
-}
-
-/// Asks an old and a new policy set the same questions, and puts behind a text what is told of each that they answer otherwise, in order: the
-/// question, the answer before and after, and how often it came. Behind it stand the rules that lead to one of the answers alone, as the folders have
-/// them that made the policy sets (`aatry_changes::push_causes`). That is a line, or a record of the kind `question` with the texts `question`,
-/// `before` and `after` and the number `times`. Gives how many these questions are: where there are none, the policy sets answer all alike.
-/// What the policy sets remember of questions changes nothing of them.
+/// Appends what is told of each of some questions to a text that two policy sets answer otherwise: the question, the answer before and after, and how
+/// often it came. Behind it stand the rules that lead to one of the answers alone, as the folders have them that made the policy sets
+/// (`aatry_changes::push_causes`). That is a line, or a record of the kind `question` with the texts `question`, `before` and `after` and the
+/// number `times`.
 ///
 /// # Errors
 ///
-/// Where memory runs out, also in an answer. What is told of some questions may have been put then.
+/// Where memory runs out. What is told of some questions may have been appended then.
 pub fn push_differences(
     alloc: Global,
     form: Form,
-    old: &mut Manager,
-    new: &mut Manager,
     folders: &BothFolders<'_>,
-    tallies: &Tallies<'_>,
+    differences: &[Difference<'_, '_>],
     out: &mut Vec<u8>,
-) -> Result<usize, AllocError>
-    ensures count { IfOk result (λ count. count ≡ length (differing old.old.machine.now new.old.machine.now tallies.now)) }
-    ensures told { OnOk result (out.new.items ≡ out.old.items ++ difference_lines form (seen_folders folders.now) old.old.machine.now new.old.machine.now tallies.now) }
-    ensures old { old.new ≡ old.old }
-    ensures new { new.new ≡ new.old }
+) -> Result<(), AllocError>
+    ensures { OnOk result (out.new.items ≡ out.old.items ++ told_differences form (seen_folders folders.now) (seen_differences differences.now)) }
 {
-    let mut count = 0;
-    for place in 0..tallies.len() {
-        count += push_difference_at(alloc, form, old, new, folders, tallies, place, out)?;
+    let mut rest = differences;
+    while let [difference, behind @ ..] = rest {
+        push_difference(alloc, form, folders, difference, out)?;
+        rest = behind;
     }
-    Ok(count)
+    Ok(())
 }

@@ -2,8 +2,10 @@
 #![tactic(auto)]
 
 mod answers;
+mod asked;
 mod comparing;
 mod differences;
+mod finding;
 mod folders;
 mod laws;
 mod numbers;

@@ -1,3 +1,4 @@
 mod LoadLemmas
+mod OriginLemmas
 mod PartLemmas
 mod ReadLemmas

@@ -1,18 +1,17 @@
 -- The policy set of a folder: the profiles of the files that are read, in their order.
-use Rattle.std.proofs.Common.{◌≡◌, ℕ, Bool, true, false, List, [], ◌∷◌, ◌++◌, length, map, Option, None, Some, Ok, Err, Result, refl, sym, ap, subst, ◌∙◌, cond}
+use Rattle.std.proofs.Common.{◌≡◌, ℕ, Bool, true, false, List, [], ◌∷◌, ◌++◌, length, flat_map, map, Option, None, Some, Ok, Err, Result, refl, sym, ap, subst, ◌∙◌, cond}
 use Rattle.std.specs.Prelude.{IfOk}
 use Rattle.std.proofs.lemmas.List.{append-nil, append_assoc, map-append}
-use Rattle.std.proofs.lemmas.List.Elements.{All-append, All-contains, All-head, All-map, All-nil, All-tail, All-weaker}
-use Rattle.std.specs.List.{All, Contains, list_all}
+use Rattle.std.proofs.lemmas.List.Elements.{All-append, All-contains, All-head, All-map, All-nil, All-tail}
+use Rattle.std.specs.List.{All, list_all}
 use Rattle.aa_decide.specs.Exec.{Asker}
 use Rattle.aa_decide_slots.specs.Named.{have_distinct_names}
 use Rattle.aa_decide_slots.specs.Entries.{Loaded}
+use Rattle.aa_profile.specs.FilePlaces.{file_places}
 use Rattle.aa_profile.specs.FileReading.{file_profiles}
 use Rattle.aa_profile.specs.ProfileNames.{has_distinct_children, is_named_well}
 use Rattle.aa_profile_data.specs.declared.profile.Profile.{Profile}
 use Rattle.aa_profile_errors.specs.declared.profile_error.ProfileError.{ProfileError}
-use Rattle.aa_profile_places.specs.Laws.{AreProfilesMadeAt}
-use Rattle.aa_profile_places.specs.RulePlaces.{file_places}
 use Rattle.aa_profile_places.specs.declared.places.ProfilePlaces.{ProfilePlaces}
 use Rattle.aa_set.specs.Manager.{Managed, after_change, after_commit, made, new_manager}
 use Rattle.aa_set_answers.specs.Askers.{asker}
@@ -25,14 +24,22 @@ use Rattle.aa_set_commands.specs.declared.refusal.Refusal.{Refusal}
 use Rattle.aa_set_commands.specs.declared.refusal.RefusalKind.TheVariants.{Exists}
 use Rattle.aa_set_answers.specs.ProfileNames.{full_name_at}
 use Rattle.aa_text_files.specs.Files.{File}
-use Rattle.aatry_policy.proofs.PartLemmas.{HasAll, IsOf, IsPlaced, are-files, contains-mapped, has-files, profiles_in, rules-of, taken}
+use Rattle.aatry_policy.proofs.PartLemmas.{are-set, has-set, rules-of}
 use Rattle.aatry_policy.proofs.ReadLemmas.{IsRead, all-read, placed, read-named}
 use Rattle.aatry_policy.specs.Laws.{HasOwnRules}
-use Rattle.aatry_policy.specs.Folders.{Folder, outcomes_in, policy_in}
+use Rattle.aatry_policy.specs.Folders.{Folder, origins_in, outcomes_in, policy_in}
 use Rattle.aatry_policy.specs.FolderParts.{parts_in}
 use Rattle.aatry_policy.specs.Policies.{loaded, made_or, outcomes, refusal_of, with_file}
-use Rattle.aatry_policy.specs.Parts.{parts_of}
+use Rattle.aatry_policy.specs.Parts.{set_parts}
 use Rattle.aatry_policy.specs.Profiles.{FileProfiles, file_at, file_if_taken, read_profiles}
+
+-- a profile as it is loaded, in the mode of its own flags
+abbrev taken : Profile → Loaded
+taken profile = taken_by false profile
+
+-- all profiles of files that are read
+abbrev profiles_in : List FileProfiles → List Profile
+profiles_in read = flat_map (λ file. file.profiles) read
 
 -- what files load: the profiles of those that are read, behind what there was
 abbrev Loads : List File → List (List ℕ) → Managed → Type 0
@@ -121,11 +128,6 @@ distinct files (name ∷ names) managed keeps apart =
 abbrev HaveNames : (Profile → Bool) → Type 0
 HaveNames test = (files : List File) (name : List ℕ) → IfOk (file_profiles files name) (λ profiles. list_all test profiles ≡ true)
 
-abbrev HavePlaces : Type 0
-HavePlaces =
-    (files : List File) (name : List ℕ) (profiles : List Profile) (places : List ProfilePlaces)
-    → file_profiles files name ≡ Ok profiles → file_places files name ≡ Some places → AreProfilesMadeAt profiles places
-
 all-named : (files : List File) (read : List FileProfiles) → HaveNames is_named_well → HaveNames has_distinct_children
     → All (IsRead files) read → All HasFileNames (profiles_in read)
 all-named files [] well apart is = All-nil HasFileNames
@@ -135,26 +137,19 @@ all-named files (file ∷ read) well apart is =
     (all-named files read well apart (All-tail (IsRead files) file read is))
 
 -- the part of the full name of who is loaded has its rules
-pub which-rules : ChangesKeepNamesApart → ListedNamesLeadBack → HavePlaces → HaveNames is_named_well → HaveNames has_distinct_children
+pub which-rules : ChangesKeepNamesApart → ListedNamesLeadBack → HaveNames is_named_well → HaveNames has_distinct_children
     → (folder : Folder) (who : Asker) → IsListed (policy_in folder) who → HasOwnRules (parts_in folder) who
-which-rules keeps lead stand well apart folder =
+which-rules keeps lead well apart folder =
     let files = folder.files in
     let read = read_profiles files folder.names (outcomes_in folder) in
-    let entries = map taken (profiles_in read) in
-    let parts = parts_of read in
-    let are_read : All (IsRead files) read = all-read files folder.names (outcomes_in folder) in
-    let is : policy_in folder ≡ entries = loads files folder.names (new_manager false) in
-    let names : have_distinct_names entries ≡ true =
-    subst (λ entries. have_distinct_names entries ≡ true) is (distinct files folder.names (new_manager false) keeps refl) in
+    let entries = policy_in folder in
+    let parts = set_parts entries (origins_in folder) in
+    let is : entries ≡ map taken (profiles_in read) = loads files folder.names (new_manager false) in
+    let names : have_distinct_names entries ≡ true = distinct files folder.names (new_manager false) keeps refl in
     let named : All (λ entry. HasFileNames entry.profile) entries =
-    All-map (λ entry. HasFileNames entry.profile) taken (profiles_in read) (all-named files read well apart are_read) in
-    let stands : All IsPlaced read =
-    All-weaker (IsRead files) IsPlaced (λ file own. stand files file.name file.profiles file.places own.0 own.1) read are_read in
-    let has : All (λ entry. HasAll parts entry.profile) entries =
-    All-map (λ entry. HasAll parts entry.profile) taken (profiles_in read) (has-files read stands) in
-    let are : All (IsOf entries) parts =
-    are-files entries read
-    (λ profile. All-contains (λ profile. Contains entries (taken profile)) (profiles_in read) profile (contains-mapped (profiles_in read))) in
+    subst (All (λ entry. HasFileNames entry.profile)) (sym is)
+    (All-map (λ entry. HasFileNames entry.profile) taken (profiles_in read)
+    (all-named files read well apart (all-read files folder.names (outcomes_in folder)))) in
     let leads : (who : Asker) → IsListed entries who → asker entries (full_name_at who.entry.profile who.child) ≡ Some (Some who) =
     λ who listed. (lead entries who names (All-contains (λ entry. HasFileNames entry.profile) entries who.entry named listed.0) listed).0 in
-    subst (λ entries. (who : Asker) → IsListed entries who → HasOwnRules parts who) (sym is) (rules-of (asker entries) entries parts leads has are)
+    rules-of (asker entries) entries parts leads (has-set entries (origins_in folder)) (are-set entries entries (origins_in folder) (λ entry there. there))

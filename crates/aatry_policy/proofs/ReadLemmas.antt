@@ -5,6 +5,7 @@ use Rattle.std.proofs.lemmas.Bool.{and_parts}
 use Rattle.std.proofs.lemmas.List.Elements.{All-append, All-cons, All-nil}
 use Rattle.std.specs.List.{All, list_all}
 use Rattle.aa_profile.specs.Assignments.{variables_of}
+use Rattle.aa_profile.specs.FilePlaces.{file_places, places_in, places_of}
 use Rattle.aa_profile.specs.FileReading.{file_profiles, profiles_in, profiles_of}
 use Rattle.aa_profile_patterns.specs.PatternTokens.{of_profiles}
 use Rattle.aa_profile.specs.ProfileNames.{has_distinct_children, is_child_named_well, is_named_well}
@@ -14,7 +15,7 @@ use Rattle.aa_profile_errors.specs.declared.profile_error.ProfileError.{ProfileE
 use Rattle.aa_profile_grammar.specs.Files.{File as WrittenFile, file}
 use Rattle.aa_profile_access.specs.Names.{is_top_name}
 use Rattle.aa_profile_parsing.specs.declared.grammar_error.GrammarError.{GrammarError}
-use Rattle.aa_profile_places.specs.RulePlaces.{file_places, places_in, places_of, places_of_profile}
+use Rattle.aa_profile_places.specs.Places.{places_of_profile}
 use Rattle.aa_profile_places.specs.declared.places.ProfilePlaces.{ProfilePlaces}
 use Rattle.aa_set_answers.specs.Laws.{HasFileNames}
 use Rattle.aa_set_commands.specs.declared.refusal.Refusal.{Refusal}

@@ -1,9 +1,8 @@
 -- Folders of policy by their parts.
 use Rattle.std.specs.Prelude.{ℕ, List, map}
 use Rattle.aa_text_files.specs.Files.{File}
-use Rattle.aatry_policy.specs.Folders.{Folder, outcomes_in}
-use Rattle.aatry_policy.specs.Parts.{Part, parts_of}
-use Rattle.aatry_policy.specs.Profiles.{read_profiles}
+use Rattle.aatry_policy.specs.Folders.{Folder, origins_in, policy_in}
+use Rattle.aatry_policy.specs.Parts.{Part, set_parts}
 use Rattle.aatry_policy.specs.SeenProfiles.{seen_part}
 use Rattle.aatry_policy.specs.declared.folder_parts.FolderParts.{FolderParts as CodeFolder}
 
@@ -17,9 +16,9 @@ pub record FolderParts : Type 0 where
 abbrev pub seen_folder : CodeFolder → FolderParts
 seen_folder folder = record { files = folder.files.now; base = folder.base.now; parts = map seen_part folder.parts.now }
 
--- the profiles, children and hats of the files of a folder that are taken
+-- the profiles, children and hats of its policy set, with where they are written
 abbrev pub parts_in : Folder → List Part
-parts_in folder = parts_of (read_profiles folder.files folder.names (outcomes_in folder))
+parts_in folder = set_parts (policy_in folder) (origins_in folder)
 
 -- a folder by these
 abbrev pub by_parts : Folder → FolderParts

@@ -5,8 +5,11 @@ use Rattle.aa_set.specs.Manager.{Managed, new_manager}
 use Rattle.aa_set_commands.specs.declared.refusal.Refusal.{Refusal}
 use Rattle.aa_text_files.specs.Files.{File}
 use Rattle.aatry_policy.specs.LeftOut.{left_out_lines}
+use Rattle.aatry_policy.specs.Origins.{origins_of}
 use Rattle.aatry_policy.specs.Policies.{loaded, outcomes}
+use Rattle.aatry_policy.specs.Profiles.{read_profiles}
 use Rattle.aatry_policy.specs.declared.folder.Folder.{Folder as CodeFolder}
+use Rattle.aatry_policy.specs.declared.origins.Origin.{Origin}
 use Rattle.aatry_report.specs.declared.form.Form.{Form}
 
 -- a folder of policy: all that lies below it, its path, and the names of the files whose profiles are loaded
@@ -30,6 +33,10 @@ policy_in folder = (loaded_in folder).machine.now
 -- why each of them is left out, if it is
 abbrev pub outcomes_in : Folder → List (Option Refusal)
 outcomes_in folder = outcomes folder.files (new_manager false) folder.names
+
+-- where each profile of the policy set was read
+abbrev pub origins_in : Folder → List Origin
+origins_in folder = origins_of (read_profiles folder.files folder.names (outcomes_in folder))
 
 -- what is told of those that are left out
 abbrev pub left_out_in : Form → Folder → List ℕ

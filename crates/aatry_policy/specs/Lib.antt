@@ -2,6 +2,7 @@ pub mod FolderParts
 pub mod Folders
 pub mod Laws
 pub mod LeftOut
+pub mod Origins
 pub mod Parts
 pub mod Policies
 pub mod Profiles

@@ -1,14 +1,15 @@
--- The parts of files: their profiles, and the children and hats of these, each with the places of its rules.
-use Rattle.std.specs.Prelude.{ℕ, ◌+◌, Bool, false, if◌then◌else◌, List, [], ◌∷◌, ◌++◌, Option, None, Some, flat_map}
+-- The parts of a policy set: its profiles, and the children and hats of these, each with where its rules are written.
+use Rattle.std.specs.Prelude.{ℕ, ◌+◌, Bool, false, if◌then◌else◌, List, [], ◌∷◌, ◌++◌, Option, None, Some}
 use Rattle.std.specs.Str.{bytes_eq}
+use Rattle.aa_decide_slots.specs.Entries.{Loaded}
 use Rattle.aa_profile_data.specs.declared.profile.Child.{Child}
 use Rattle.aa_profile_data.specs.declared.profile.Mode.{Mode}
 use Rattle.aa_profile_data.specs.declared.profile.Profile.{Profile}
 use Rattle.aa_profile_data.specs.declared.profile.Rule.{Rule}
-use Rattle.aa_profile_places.specs.declared.places.ProfilePlaces.{ProfilePlaces}
 use Rattle.aa_set_answers.specs.ProfileNames.{full_name_at}
 use Rattle.aa_text_files.specs.declared.text_error.Place.{Place}
-use Rattle.aatry_policy.specs.Profiles.{FileProfiles}
+use Rattle.aatry_policy.specs.Origins.{file_of, rule_places}
+use Rattle.aatry_policy.specs.declared.origins.Origin.{Origin}
 
 -- a profile, or a child or hat of one, with the places of its rules
 pub record Part : Type 0 where
@@ -21,54 +22,63 @@ pub record Part : Type 0 where
   pub rules : List Rule
   pub places : List (Option Place)
 
--- a profile of a file by itself
-abbrev pub profile_part : List ℕ → Profile → ProfilePlaces → Part
-profile_part file profile places = record {
+-- a profile by itself, by its origin
+abbrev pub profile_part : Option Origin → Profile → Part
+profile_part origin profile = record {
   name = full_name_at profile None;
-  file = file;
+  file = file_of origin;
   hat = false;
   mode = profile.mode;
   audit = profile.audit;
   attachments = profile.attachments;
   rules = profile.rules;
-  places = places.rules;
+  places = rule_places origin None;
 }
 
 -- the child or hat at a place of it
-abbrev pub child_part : List ℕ → Profile → ℕ → Child → List (Option Place) → Part
-child_part file profile place child places = record {
+abbrev pub child_part : Option Origin → Profile → ℕ → Child → Part
+child_part origin profile place child = record {
   name = full_name_at profile (Some place);
-  file = file;
+  file = file_of origin;
   hat = child.hat;
   mode = child.mode;
   audit = child.audit;
   attachments = child.attachments;
   rules = child.rules;
-  places = places;
+  places = rule_places origin (Some place);
 }
 
 -- its children and hats, where the first stands at this place
-abbrev pub child_parts : List ℕ → Profile → ℕ → List Child → List (List (Option Place)) → List Part
-child_parts file profile place (child ∷ children) (own ∷ places) =
-    child_part file profile place child own ∷ child_parts file profile (place + 1) children places
-child_parts file profile place _ _ = []
+abbrev pub child_parts : Option Origin → Profile → ℕ → List Child → List Part
+child_parts origin profile place [] = []
+child_parts origin profile place (child ∷ children) = child_part origin profile place child ∷ child_parts origin profile (place + 1) children
 
 -- a profile, and behind it its children and hats
-abbrev pub profile_parts : List ℕ → Profile → ProfilePlaces → List Part
-profile_parts file profile places = profile_part file profile places ∷ child_parts file profile 0 profile.children places.children
+abbrev pub profile_parts : Option Origin → Profile → List Part
+profile_parts origin profile = profile_part origin profile ∷ child_parts origin profile 0 profile.children
 
--- those of some profiles of a file
-abbrev pub parts_from : List ℕ → List Profile → List ProfilePlaces → List Part
-parts_from file (profile ∷ profiles) (own ∷ places) = profile_parts file profile own ++ parts_from file profiles places
-parts_from file _ _ = []
+-- the first of some origins, and those behind it
+abbrev pub first_of : List Origin → Option Origin
+first_of [] = None
+first_of (origin ∷ origins) = Some origin
 
--- those of a file
-abbrev pub file_parts : FileProfiles → List Part
-file_parts file = parts_from file.name file.profiles file.places
+abbrev pub behind_first : List Origin → List Origin
+behind_first [] = []
+behind_first (origin ∷ origins) = origins
 
--- the parts of files, in their order
-abbrev pub parts_of : List FileProfiles → List Part
-parts_of read = flat_map file_parts read
+-- the parts of a policy set, each entry with its own of some origins
+abbrev pub set_parts : List Loaded → List Origin → List Part
+set_parts [] origins = []
+set_parts (entry ∷ entries) origins = profile_parts (first_of origins) entry.profile ++ set_parts entries (behind_first origins)
+
+-- the parts of what a slot holds, and the origins that are left behind it
+abbrev pub slot_parts : Option Loaded → List Origin → List Part
+slot_parts None origins = []
+slot_parts (Some entry) origins = profile_parts (first_of origins) entry.profile
+
+abbrev pub left_behind : Option Loaded → List Origin → List Origin
+left_behind None origins = origins
+left_behind (Some entry) origins = behind_first origins
 
 -- the first part of a full name, if there is one
 abbrev pub part_of : List Part → List ℕ → Option Part

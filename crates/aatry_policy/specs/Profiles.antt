@@ -1,13 +1,13 @@
--- The profiles of the files of a folder that are taken, with the places of their rules.
+-- The profiles of the files of a folder that are taken, and where they have what they have.
 use Rattle.std.specs.Prelude.{ℕ, List, [], ◌∷◌, ◌++◌, Option, None, Some, Ok, Err}
+use Rattle.aa_profile.specs.FilePlaces.{file_places}
 use Rattle.aa_profile.specs.FileReading.{file_profiles}
 use Rattle.aa_profile_data.specs.declared.profile.Profile.{Profile}
-use Rattle.aa_profile_places.specs.RulePlaces.{file_places}
 use Rattle.aa_profile_places.specs.declared.places.ProfilePlaces.{ProfilePlaces}
 use Rattle.aa_set_commands.specs.declared.refusal.Refusal.{Refusal}
 use Rattle.aa_text_files.specs.Files.{File}
 
--- the profiles of a file, and where their rules stand
+-- the profiles of a file, and where they have what they have
 pub record FileProfiles : Type 0 where
   pub name : List ℕ
   pub profiles : List Profile

@@ -1,7 +1,7 @@
 //! Folders of policy.
 
 ghost use Rattle.std.specs.Prelude.{◌≡◌, ◌++◌, IfOk, OnOk};
-ghost use Rattle.aatry_policy.specs.Folders.{left_out_in, loaded_in, outcomes_in, seen_folder};
+ghost use Rattle.aatry_policy.specs.Folders.{left_out_in, loaded_in, origins_in, outcomes_in, seen_folder};
 
 use crate::folder_parts::FolderParts;
 use crate::left_out::push_left_out;
@@ -49,6 +49,7 @@ pub fn load_folder(
 ) -> Result<Policy, AllocError>
     ensures set { IfOk result (λ policy. policy.manager ≡ loaded_in (seen_folder folder.now)) }
     ensures outcomes { IfOk result (λ policy. policy.outcomes.items ≡ outcomes_in (seen_folder folder.now)) }
+    ensures origins { IfOk result (λ policy. policy.origins.items ≡ origins_in (seen_folder folder.now)) }
     ensures told { OnOk result (out.new.items ≡ out.old.items ++ left_out_in form (seen_folder folder.now)) }
 {
     let policy = load(alloc, folder.files, folder.names)?;

@@ -7,7 +7,6 @@ ghost use Rattle.aatry_policy.specs.Folders.{Folder, policy_in};
 ghost use Rattle.aatry_policy.specs.FolderParts.{parts_in};
 
 use aa_profile::how_profiles_are_named;
-use aa_profile_places::where_rules_are_made;
 use aa_set_answers::where_listed_names_lead;
 use aa_set_changes::what_changes_keep;
 
@@ -17,7 +16,6 @@ pub fn which_rules_parts_have()
     ensures { (folder : Folder) (who : Asker) → IsListed (policy_in folder) who → HasOwnRules (parts_in folder) who }
 {
     how_profiles_are_named();
-    where_rules_are_made();
     where_listed_names_lead();
     what_changes_keep();
 }

@@ -1,15 +1,18 @@
-//! The parts of files: their profiles, and the children and hats of these.
+//! The parts of a policy set: its profiles, and the children and hats of these, with where they are written.
 
 ghost use Rattle.std.specs.Prelude.{◌≡◌, ◌++◌, Some, IfOk, OnOk, map, option_map};
-ghost use Rattle.aatry_policy.specs.Parts.{child_part, child_parts, file_parts, part_of, parts_from, parts_of, profile_part, profile_parts};
-ghost use Rattle.aatry_policy.specs.SeenProfiles.{seen_file, seen_part};
+ghost use Rattle.aa_decide_slots.specs.Slots.{filled};
+ghost use Rattle.aatry_policy.specs.Parts.{child_part, child_parts, first_of, left_behind, part_of, profile_part, profile_parts, set_parts, slot_parts};
+ghost use Rattle.aatry_policy.specs.SeenProfiles.{seen_part};
 
-use crate::reading::FileProfiles;
+use crate::origins::{Origin, file_of, rule_places};
 use aa_bytes::Sequence;
+use aa_decide::Entry;
 use aa_glob_pattern::Pattern;
 use aa_profile_data::{Child, Mode, Profile, Rule};
-use aa_profile_places::{Place, ProfilePlaces};
 use aa_set_answers::full_name;
+use aa_set_changes::PolicySet;
+use aa_text_files::Place;
 use std::alloc::{AllocError, Global};
 
 /// A profile, or a child or hat of one, with the places of its rules.
@@ -36,155 +39,154 @@ pub struct Part<'a> {
 // The part that a profile is by itself.
 fn profile_part<'a>(
     alloc: Global,
-    file: &'a [u8],
+    origin: Option<&'a Origin>,
     profile: &'a Profile,
-    places: &'a ProfilePlaces,
 ) -> Result<Part<'a>, AllocError>
-    ensures { IfOk result (λ part. seen_part part ≡ profile_part file.now profile.now places.now) }
+    ensures { IfOk result (λ part. seen_part part ≡ profile_part (option_map (λ origin. origin.now) origin.entry) profile.now) }
 {
     let name = full_name(alloc, profile, None)?;
     Ok(Part {
         name: Sequence::from_vec(name),
-        file,
+        file: file_of(origin),
         hat: false,
         mode: profile.mode,
         audit: profile.audit,
         attachments: profile.attachments.as_slice(),
         rules: profile.rules.as_slice(),
-        places: places.rules.as_slice(),
+        places: rule_places(origin, None),
     })
 }
 
 // The part that a child or hat of a profile is, at its place.
 fn child_part<'a>(
     alloc: Global,
-    file: &'a [u8],
+    origin: Option<&'a Origin>,
     profile: &Profile,
     place: usize,
     child: &'a Child,
-    places: &'a Sequence<Option<Place>>,
 ) -> Result<Part<'a>, AllocError>
-    ensures { IfOk result (λ part. seen_part part ≡ child_part file.now profile.now place child.now places.now) }
+    ensures { IfOk result (λ part. seen_part part ≡ child_part (option_map (λ origin. origin.now) origin.entry) profile.now place child.now) }
 {
     let name = full_name(alloc, profile, Some(place))?;
     Ok(Part {
         name: Sequence::from_vec(name),
-        file,
+        file: file_of(origin),
         hat: child.hat,
         mode: child.mode,
         audit: child.audit,
         attachments: child.attachments.as_slice(),
         rules: child.rules.as_slice(),
-        places: places.as_slice(),
+        places: rule_places(origin, Some(place)),
     })
 }
 
-// Puts the parts that children and hats of a profile are behind others.
+// Appends the parts that children and hats of a profile are.
 fn push_children<'a>(
     alloc: Global,
-    file: &'a [u8],
+    origin: Option<&'a Origin>,
     profile: &Profile,
     children: &'a [Child],
-    places: &'a [Sequence<Option<Place>>],
     parts: &mut Vec<Part<'a>>,
 ) -> Result<(), AllocError>
     ensures { OnOk result (map seen_part parts.new.items
-        ≡ map seen_part parts.old.items ++ child_parts file.now profile.now 0 children.now places.now) }
+        ≡ map seen_part parts.old.items ++ child_parts (option_map (λ origin. origin.now) origin.entry) profile.now 0 children.now) }
 {
     let mut place = 0;
-    let mut left = places;
     let mut rest = children;
     while let [child, behind @ ..] = rest {
-        let [own, more @ ..] = left else {
-            break;
-        };
-        parts.push(child_part(alloc, file, profile, place, child, own)?)?;
+        parts.push(child_part(alloc, origin, profile, place, child)?)?;
         place += 1;
         rest = behind;
-        left = more;
     }
     Ok(())
 }
 
-// Puts the parts of a profile behind others: itself, and its children and hats.
+// Appends the parts of a profile: itself, and its children and hats.
 fn push_profile<'a>(
     alloc: Global,
-    file: &'a [u8],
+    origin: Option<&'a Origin>,
     profile: &'a Profile,
-    places: &'a ProfilePlaces,
     parts: &mut Vec<Part<'a>>,
 ) -> Result<(), AllocError>
-    ensures { OnOk result (map seen_part parts.new.items ≡ map seen_part parts.old.items ++ profile_parts file.now profile.now places.now) }
+    ensures { OnOk result (map seen_part parts.new.items
+        ≡ map seen_part parts.old.items ++ profile_parts (option_map (λ origin. origin.now) origin.entry) profile.now) }
 {
-    parts.push(profile_part(alloc, file, profile, places)?)?;
-    push_children(
-        alloc,
-        file,
-        profile,
-        profile.children.as_slice(),
-        places.children.as_slice(),
-        parts,
-    )
+    parts.push(profile_part(alloc, origin, profile)?)?;
+    push_children(alloc, origin, profile, profile.children.as_slice(), parts)
 }
 
-// Puts the parts of profiles behind others.
-fn push_profiles<'a>(
-    alloc: Global,
-    file: &'a [u8],
-    profiles: &'a [Profile],
-    places: &'a [ProfilePlaces],
-    parts: &mut Vec<Part<'a>>,
-) -> Result<(), AllocError>
-    ensures { OnOk result (map seen_part parts.new.items ≡ map seen_part parts.old.items ++ parts_from file.now profiles.now places.now) }
+// The first of some origins, if there is one.
+fn first_of(origins: &[Origin]) -> Option<&Origin>
+    ensures { option_map (λ origin. origin.now) result ≡ first_of origins.now }
 {
-    let mut left = places;
-    let mut rest = profiles;
-    while let [profile, behind @ ..] = rest {
-        let [own, more @ ..] = left else {
-            break;
-        };
-        push_profile(alloc, file, profile, own, parts)?;
-        rest = behind;
-        left = more;
+    match origins {
+        [] => None,
+        [origin, ..] => Some(origin),
     }
-    Ok(())
 }
 
-// Puts the parts of a file behind those of others.
-fn push_file<'a>(
+// The origins that are left behind what a slot holds.
+fn left_behind<'a>(slot: &Option<Entry>, origins: &'a [Origin]) -> &'a [Origin]
+    ensures { result.now ≡ left_behind slot.now origins.now }
+{
+    match slot {
+        None => origins,
+        Some(_) => match origins {
+            [] => &[],
+            [_, behind @ ..] => behind,
+        },
+    }
+}
+
+// Appends the parts of what a slot holds, with the first of some origins.
+fn push_slot<'a>(
     alloc: Global,
-    file: &'a FileProfiles<'a>,
+    slot: &'a Option<Entry>,
+    origins: &'a [Origin],
     parts: &mut Vec<Part<'a>>,
 ) -> Result<(), AllocError>
-    ensures { OnOk result (map seen_part parts.new.items ≡ map seen_part parts.old.items ++ file_parts (seen_file file.now)) }
+    ensures { OnOk result (map seen_part parts.new.items ≡ map seen_part parts.old.items ++ slot_parts slot.now origins.now) }
 {
-    push_profiles(
-        alloc,
-        file.name,
-        file.profiles.as_slice(),
-        file.places.as_slice(),
-        parts,
-    )
+    match slot {
+        None => Ok(()),
+        Some(entry) => push_profile(alloc, first_of(origins), entry.profile(), parts),
+    }
 }
 
-/// The parts of files, in their order: each profile, and behind it its children and hats in the order of the file.
+// The parts of what slots hold, each entry with its own of some origins.
+fn slots_parts<'a>(
+    alloc: Global,
+    slots: &'a [Option<Entry>],
+    origins: &'a [Origin],
+) -> Result<Vec<Part<'a>>, AllocError>
+    ensures { IfOk result (λ parts. map seen_part parts.items ≡ set_parts (filled slots.now) origins.now) }
+{
+    let mut parts = Vec::new(alloc);
+    let mut left = origins;
+    let mut rest = slots;
+    while let [slot, behind @ ..] = rest {
+        push_slot(alloc, slot, left, &mut parts)?;
+        left = left_behind(slot, left);
+        rest = behind;
+    }
+    Ok(parts)
+}
+
+/// The parts of a policy set, in its order: each profile, and behind it its children and hats in the order of the file. `origins` tells where each of its
+/// profiles was read, in the order of the set.
 ///
 /// # Errors
 ///
 /// Where memory runs out.
 pub fn parts_of<'a>(
     alloc: Global,
-    read: &'a [FileProfiles<'a>],
+    set: &PolicySet<'a>,
+    origins: &'a [Origin],
 ) -> Result<Vec<Part<'a>>, AllocError>
-    ensures { IfOk result (λ parts. map seen_part parts.items ≡ parts_of (map seen_file read.now)) }
+    ensures { IfOk result (λ parts. map seen_part parts.items ≡ set_parts set.now origins.now) }
 {
-    let mut parts = Vec::new(alloc);
-    let mut rest = read;
-    while let [file, behind @ ..] = rest {
-        push_file(alloc, file, &mut parts)?;
-        rest = behind;
-    }
-    Ok(parts)
+    let slots = set.slots();
+    slots_parts(alloc, slots.as_slice(), origins)
 }
 
 /// The first of some parts that has a full name, if one has it. It takes no memory.

@@ -1,9 +1,14 @@
 //! A policy set, as files make it one behind the other.
 
-ghost use Rattle.std.specs.Prelude.{◌≡◌, IfOk, false, map, string_bytes};
-ghost use Rattle.aa_set.specs.Manager.{new_manager};
-ghost use Rattle.aatry_policy.specs.Policies.{loaded, outcomes, refusal_in, with_file};
+ghost use Rattle.std.specs.Prelude.{◌≡◌, ◌++◌, IfOk, OnOk, false, map, string_bytes};
+ghost use Rattle.aa_set.specs.Manager.{AreOfFile, added, new_manager};
+ghost use Rattle.aatry_policy.specs.Origins.{file_origins, origins_if, origins_of};
+ghost use Rattle.aatry_policy.specs.Policies.{loaded, made_or, outcomes, refusal_in, refusal_of, with_file};
+ghost use Rattle.aatry_policy.specs.Profiles.{file_if_taken, read_profiles};
 
+use crate::origins::{Origin, origins_of};
+use aa_profile::{FileProfiles, read_file};
+use aa_profile_errors::ProfileRefusal;
 use aa_set::{Manager, Refusal, RefusalKind};
 use aa_text_files::Files;
 use std::alloc::{AllocError, Global};
@@ -15,15 +20,41 @@ pub struct Policy {
     pub manager: Manager,
     /// For each file, in their order, why it was refused; none where it was taken.
     pub outcomes: Vec<Option<Refusal>>,
+    /// Where each profile of the policy set was read, in its order.
+    pub origins: Vec<Origin>,
 }
 
-// Adds the profiles of a file, or leaves all as it was where the file is refused, and says why it was.
-fn add(manager: &mut Manager, files: &Files, name: &[u8]) -> Result<Option<Refusal>, AllocError>
-    ensures set { IfOk result (λ _. manager.new ≡ with_file files.now manager.old name.now) }
-    ensures outcome { IfOk result (λ outcome. outcome ≡ refusal_in files.now manager.old name.now) }
+// Appends all of some origins.
+fn push_all(own: Vec<Origin>, origins: &mut Vec<Origin>) -> Result<(), AllocError>
+    ensures { OnOk result (origins.new.items ≡ origins.old.items ++ own.items) }
 {
-    match manager.add(files, name) {
-        Ok(()) => Ok(None),
+    for origin in own {
+        origins.push(origin)?;
+    }
+    Ok(())
+}
+
+// Adds profiles that were read of a file of this name, or leaves all as it was where they are refused, and says why they were.
+fn add_read(
+    alloc: Global,
+    manager: &mut Manager,
+    name: &[u8],
+    read: FileProfiles,
+    origins: &mut Vec<Origin>,
+) -> Result<Option<Refusal>, AllocError>
+    requires { AreOfFile read.profiles.items }
+    ensures set { IfOk result (λ _. manager.new ≡ made_or manager.old (added manager.old read.profiles.items)) }
+    ensures outcome { IfOk result (λ outcome. outcome ≡ refusal_of (added manager.old read.profiles.items)) }
+    ensures origins { IfOk result (λ outcome.
+        origins.new.items ≡ origins.old.items ++ origins_if (file_origins name.now read.profiles.items read.places.items) outcome) }
+{
+    let FileProfiles { profiles, places } = read;
+    let own = origins_of(alloc, name, &profiles, places)?;
+    match manager.add_read(profiles) {
+        Ok(()) => {
+            push_all(own, origins)?;
+            Ok(None)
+        }
         Err(refusal) => {
             if refusal.refusal == RefusalKind::Memory {
                 return Err(AllocError);
@@ -33,8 +64,32 @@ fn add(manager: &mut Manager, files: &Files, name: &[u8]) -> Result<Option<Refus
     }
 }
 
-/// The policy set that files make: each is added in its turn, as `aa_set::Manager::add` does it, in the modes of its own flags. A file that is refused adds
-/// nothing, and those behind it are added all the same. So of two files with a profile of one name the first is taken.
+// Adds the profiles of a file, or leaves all as it was where the file is refused, and says why it was.
+fn add(
+    alloc: Global,
+    manager: &mut Manager,
+    files: &Files,
+    name: &[u8],
+    origins: &mut Vec<Origin>,
+) -> Result<Option<Refusal>, AllocError>
+    ensures set { IfOk result (λ _. manager.new ≡ with_file files.now manager.old name.now) }
+    ensures outcome { IfOk result (λ outcome. outcome ≡ refusal_in files.now manager.old name.now) }
+    ensures origins { IfOk result (λ outcome. origins.new.items ≡ origins.old.items ++ origins_of (file_if_taken files.now name.now outcome)) }
+{
+    match read_file(alloc, files, name) {
+        Ok(read) => add_read(alloc, manager, name, read, origins),
+        Err(error) => {
+            if error.refusal == ProfileRefusal::Memory {
+                return Err(AllocError);
+            }
+            Ok(Some(Refusal::from(error)))
+        }
+    }
+}
+
+/// The policy set that files make: each is read and added in its turn, as `aa_set::Manager::add` does it, in the modes of its own flags. A file that is
+/// refused adds nothing, and those behind it are added all the same. So of two files with a profile of one name the first is taken. Each file is
+/// read once: where its profiles have what they have is kept beside the policy set.
 ///
 /// # Errors
 ///
@@ -42,13 +97,21 @@ fn add(manager: &mut Manager, files: &Files, name: &[u8]) -> Result<Option<Refus
 pub fn load(alloc: Global, files: &Files, names: &[String]) -> Result<Policy, AllocError>
     ensures set { IfOk result (λ policy. policy.manager ≡ loaded files.now (new_manager false) (map string_bytes names.now)) }
     ensures outcomes { IfOk result (λ policy. policy.outcomes.items ≡ outcomes files.now (new_manager false) (map string_bytes names.now)) }
+    ensures origins { IfOk result (λ policy. policy.origins.items
+        ≡ origins_of (read_profiles files.now (map string_bytes names.now) (outcomes files.now (new_manager false) (map string_bytes names.now)))) }
 {
     let mut manager = Manager::new(alloc, false);
     let mut outcomes = Vec::with_capacity(alloc, names.len())?;
+    let mut origins = Vec::new(alloc);
     let mut rest = names;
     while let [name, behind @ ..] = rest {
-        outcomes.push(add(&mut manager, files, name.as_bytes())?)?;
+        let outcome = add(alloc, &mut manager, files, name.as_bytes(), &mut origins)?;
+        outcomes.push(outcome)?;
         rest = behind;
     }
-    Ok(Policy { manager, outcomes })
+    Ok(Policy {
+        manager,
+        outcomes,
+        origins,
+    })
 }

@@ -3,28 +3,26 @@ use Rattle.std.specs.Prelude.{◌≡◌, ◌⊎◌, ℕ, Bool, true, false, if�
 use Rattle.std.specs.Io.KnownBytes.{Appends}
 use Rattle.std.specs.Str.{bytes_eq}
 use Rattle.aa_bytes.specs.Bytes.{line_feed}
-use Rattle.aa_set_lines.specs.WordLaws.{in_quotes}
+use Rattle.aa_profile_access.specs.FullNames.{full_name}
+use Rattle.aa_set_answers.specs.Answers.{who_asks}
+use Rattle.aa_set_commands.specs.Question.{Question}
 use Rattle.aa_text_files.specs.Files.{File}
 use Rattle.aaset_start.specs.Gathering.{names_of}
-use Rattle.aatry_asking.specs.Asking.{IsAnswered, none_refused}
+use Rattle.aatry_asking.specs.Asking.{answered_text}
+use Rattle.aatry_asking.specs.Sources.{Sources}
 use Rattle.aatry_commands.specs.Checking.{AreBelow, top_names}
 use Rattle.aatry_commands.specs.Fault.{told_line}
-use Rattle.aatry_commands.specs.Folders.{folder_at}
 use Rattle.aatry_commands.specs.declared.fault.Fault.{Fault}
 use Rattle.aatry_program.specs.Inputs.{GivesLine}
 use Rattle.aatry_report.specs.Shown.{shown}
 use Rattle.aatry_report.specs.declared.form.Form.TheVariants.{Lines}
 use Rattle.aatry_session.specs.History.{ok_line}
-use Rattle.aatry_session.specs.Turns.{Answer, Kept, Told, Ended, Anew, Asked, begun, turn_outcome}
+use Rattle.aatry_session.specs.Turns.{Answer, Kept, Told, Ended, Anew, Asked, add_outcome, begun, origin_of, turn_outcome, unplaced}
 
 -- a session over a folder of policy: all that lies below it, as it was read last, and the session itself
 pub record State : Type 0 where
   pub files : List File
   pub kept : Kept
-
--- the line that adds the profiles of a file
-abbrev pub add_line : List ℕ → List ℕ
-add_line name = codes "add " ++ in_quotes name
 
 -- the line of a file that is left out
 abbrev pub left_out_line : List ℕ → List ℕ
@@ -35,11 +33,11 @@ abbrev pub loading_text : List ℕ → Answer → List ℕ
 loading_text name (Told text) = if bytes_eq text ok_line then [] else left_out_line name ++ text
 loading_text name answer = []
 
--- The profiles of a file were added, as a line of the session would add them, and the text tells whether it is left out.
+-- The profiles of a file were added by its name, as a line of the session would add them, and the text tells whether it is left out.
 abbrev pub LoadsOne : List File → List ℕ → Kept → List ℕ → Kept → List ℕ → Type 0
 LoadsOne files base before name after text =
     (answer : Answer) × (flag : Bool) × (words : List ℕ)
-    × (record { answer = answer; kept = after } ≡ turn_outcome files base words before (add_line name) flag)
+    × (record { answer = answer; kept = after } ≡ add_outcome files base words before name flag)
     × (text ≡ loading_text name answer)
 
 -- The same of each of these files in its turn.
@@ -49,20 +47,28 @@ LoadsEach files base before (name ∷ names) after text =
     (next : Kept) × (first rest : List ℕ) × (text ≡ first ++ rest)
     × LoadsOne files base before name next first × LoadsEach files base next names after rest
 
--- The files were read again, and the text tells so; or they couldn't be, which the text tells, and they are those that were read before.
-abbrev pub IsReadAnew : (List ℕ → Option (List (List ℕ))) → (List ℕ → Option (List ℕ)) → List ℕ → (before after : List File) → List ℕ → Type 0
+-- The files were read again, which the text tells: the session is the same, but knows of no place in them any more. Or they couldn't be, which the
+-- text tells, and all is as it was.
+abbrev pub IsReadAnew : (List ℕ → Option (List (List ℕ))) → (List ℕ → Option (List ℕ)) → List ℕ → (before after : State) → List ℕ → Type 0
 IsReadAnew members_at bytes_at base before after text =
-    (AreBelow members_at bytes_at base after × (text ≡ ok_line)) ⊎ ((after ≡ before) × ((fault : Fault) × (text ≡ told_line fault)))
+    (AreBelow members_at bytes_at base after.files × (after.kept ≡ unplaced before.kept) × (text ≡ ok_line))
+    ⊎ ((after ≡ before) × ((fault : Fault) × (text ≡ told_line fault)))
 
--- what is told of an answer, by the files before it and the session behind it, and what the files are behind it
-abbrev pub IsTold : (List ℕ → Option (List (List ℕ))) → (List ℕ → Option (List ℕ)) → List ℕ → State → Answer → (after : List File) → List ℕ → Type 0
-IsTold members_at bytes_at base state (Told told) after text = (after ≡ state.files) × (text ≡ told)
-IsTold members_at bytes_at base state Ended after text = (after ≡ state.files) × (text ≡ [])
-IsTold members_at bytes_at base state Anew after text = IsReadAnew members_at bytes_at base state.files after text
+-- where the rules of who asks are written: in the files that were read last, and where the loaded profile was read, as far as the session knows
+abbrev pub sources_of : List ℕ → State → Question → Sources
+sources_of base state question = record {
+  files = state.files;
+  base = base;
+  origin = origin_of state.kept (full_name (who_asks question)).profile;
+}
+
+-- what is told of an answer, by how the session stands before that, and how it stands behind it
+abbrev pub IsTold : (List ℕ → Option (List (List ℕ))) → (List ℕ → Option (List ℕ)) → List ℕ → State → Answer → (after : State) → List ℕ → Type 0
+IsTold members_at bytes_at base state (Told told) after text = (after ≡ state) × (text ≡ told)
+IsTold members_at bytes_at base state Ended after text = (after ≡ state) × (text ≡ [])
+IsTold members_at bytes_at base state Anew after text = IsReadAnew members_at bytes_at base state after text
 IsTold members_at bytes_at base state (Asked question) after text =
-    (after ≡ state.files)
-    × ((found : Bool) × IsAnswered Lines (folder_at base state.files) (none_refused (top_names (names_of state.files)))
-    state.kept.managed.machine.now question text found)
+    (after ≡ state) × (text ≡ answered_text Lines (sources_of base state question) state.kept.managed.machine.now question)
 
 -- the session goes on behind an answer
 abbrev pub goes_on : Answer → Bool
@@ -72,10 +78,10 @@ goes_on answer = true
 -- A line was answered by the session's own definition: the text is what is told of it, and the session goes on or not.
 abbrev pub IsTurn : (List ℕ → Option (List (List ℕ))) → (List ℕ → Option (List ℕ)) → List ℕ → State → List ℕ → State → List ℕ → Bool → Type 0
 IsTurn members_at bytes_at base before line after text goes =
-    (answer : Answer) × (flag : Bool) × (words : List ℕ)
-    × (record { answer = answer; kept = after.kept } ≡ turn_outcome before.files base words before.kept line flag)
+    (answer : Answer) × (kept : Kept) × (flag : Bool) × (words : List ℕ)
+    × (record { answer = answer; kept = kept } ≡ turn_outcome before.files base words before.kept line flag)
     × (goes ≡ goes_on answer)
-    × IsTold members_at bytes_at base (record { files = before.files; kept = after.kept }) answer after.files text
+    × IsTold members_at bytes_at base (record { files = before.files; kept = kept }) answer after text
 
 -- Where a session stands: the input that is left, the bytes of it that were read and wait, what is written so far, and its state.
 pub record Standing : Type 0 where

@@ -2,25 +2,32 @@
 
 ghost use Rattle.std.specs.Prelude.{◌≡◌, ◌≤◌, ◌+◌, ◌*◌, ◌^◌, ◌++◌, ℕ, List, [], true, false, IfErr, IfOk, IsErrOf, OnErr, OnOk, map, string_bytes};
 ghost use Rattle.std.specs.Io.KnownBytes.{Appends};
+ghost use Rattle.aa_set_commands.specs.Question.{IsWellFormed, seen_question};
 ghost use Rattle.aa_set_lines.specs.Streams.{AppendsFront};
+ghost use Rattle.aatry_asking.specs.Asking.{answered_text};
+ghost use Rattle.aatry_asking.specs.Sources.{seen_sources};
 ghost use Rattle.aatry_commands.specs.Fault.{IsOfFolder};
 ghost use Rattle.aatry_commands.specs.declared.fault.Fault.TheVariants as fault;
 ghost use Rattle.aatry_program.specs.Broken.{IsBrokenRun, IsBrokenSession, IsBrokenStep};
 ghost use Rattle.aatry_program.specs.Inputs.{GivesLine, most_reads};
-ghost use Rattle.aatry_program.specs.Session.{add_line, goes_on, left_out_line, loading_text};
+ghost use Rattle.aatry_program.specs.Session.{goes_on, left_out_line, loading_text, sources_of};
 ghost use Rattle.aatry_program.specs.Session.{IsLastStep, IsLoaded, IsReadAnew, IsRun, IsSession, IsStep, IsTold, IsTurn, LoadsEach, LoadsOne};
-ghost use Rattle.aatry_program.specs.code.Sessions.{AreAtTop, seen_table, standing};
+ghost use Rattle.aatry_program.specs.code.Sessions.{seen_table, standing};
+ghost use Rattle.aatry_report.specs.declared.form.Form.TheVariants as form;
 ghost use Rattle.aatry_session.specs.SeenTurns.{IsAskable, seen_turn};
 ghost use Rattle.aatry_session.specs.Turns.{Told};
 
 use crate::input::LineInput;
+use aa_profile_access::cut_full_name;
+use aa_set_commands::Question;
 use aa_set_lines::{LineBuffer, Sink, Source, write_all};
 use aa_text_files::Files;
 use aaset_start::FileSystem;
-use aatry_asking::push_answer_of;
-use aatry_commands::{Fault, PolicyFiles, folder_at, policy_below, push_told};
+use aatry_asking::{Sources, push_answer};
+use aatry_commands::{Fault, PolicyFiles, policy_below, push_told};
 use aatry_folder::Folders;
 use aatry_report::{Form, push_shown};
+use aatry_requests::who_asks;
 use aatry_session::{Session, Turn};
 use std::alloc::{AllocError, Global};
 
@@ -42,7 +49,7 @@ struct Setting<'a, F, D> {
 // A session over a folder, and all that lies below that, as it was read last.
 #[derive(Drop)]
 struct Table {
-    policy: PolicyFiles,
+    files: Files,
     session: Session,
 }
 
@@ -51,16 +58,6 @@ struct Table {
 struct Lines {
     input: LineInput,
     line: LineBuffer,
-}
-
-// Puts the line behind a text that adds the profiles of a file.
-fn push_add_line(name: &str, out: &mut Vec<u8>) -> Result<(), AllocError>
-    ensures { OnOk result (out.new.items ≡ out.old.items ++ add_line name.now) }
-{
-    out.extend_from_slice(b"add \"")?;
-    out.extend_from_slice(name.as_bytes())?;
-    out.push(b'"')?;
-    Ok(())
 }
 
 // Puts the line of a file that is left out behind a text.
@@ -86,7 +83,7 @@ fn push_loading(name: &str, turn: &Turn<'_>, out: &mut Vec<u8>) -> Result<(), Al
     }
 }
 
-// Adds the profiles of a file, as a line of the session would, and puts behind a text why it is left out, if it is.
+// Adds the profiles of a file, as a line of the session would, and appends why it is left out, if it is.
 fn load_file(
     alloc: Global,
     files: &Files,
@@ -98,9 +95,7 @@ fn load_file(
     ensures { OnOk result ((text : List ℕ) × (out.new.items ≡ out.old.items ++ text)
         × LoadsOne files.now base.now session.old name.now session.new text) }
 {
-    let mut line = Vec::new(alloc);
-    push_add_line(name, &mut line)?;
-    let turn = session.answer(alloc, files, base, line.as_slice())?;
+    let turn = session.add(alloc, files, base, name.as_bytes())?;
     push_loading(name, &turn, out)
 }
 
@@ -122,44 +117,79 @@ fn load_each(
     Ok(())
 }
 
-// Reads all below the folder again, and puts behind a text that it is so. Where something can't be read, that is told, and what was read before stays.
+// Reads all below the folder again, and appends that it is so: where in the files the loaded profiles have what they have isn't known any more then.
+// Where something can't be read, that is told, and what was read before stays.
 fn reload<F: Folders, D: FileSystem>(
     alloc: Global,
     setting: &Setting<'_, F, D>,
-    policy: &mut PolicyFiles,
+    table: &mut Table,
     out: &mut Vec<u8>,
 ) -> Result<(), AllocError>
-    requires { AreAtTop policy.old }
-    ensures read { OnOk result ((text : List ℕ) × (out.new.items ≡ out.old.items ++ text)
+    ensures { OnOk result ((text : List ℕ) × (out.new.items ≡ out.old.items ++ text)
         × IsReadAnew (F.members_at setting.now.folders.now) (D.bytes_at setting.now.disk.now) setting.now.base.now
-        policy.old.files policy.new.files text) }
-    ensures top { AreAtTop policy.new }
+        (seen_table table.old) (seen_table table.new) text) }
 {
     match policy_below(alloc, setting.folders, setting.disk, setting.base) {
         Ok(read) => {
-            *policy = read;
+            let PolicyFiles { files, top: _ } = read;
+            table.files = files;
+            table.session.forget_places();
             out.extend_from_slice(TAKEN)
         }
         Err(fault) => push_told(&fault, out),
     }
 }
 
-// Puts what is told of an answer behind a text, and says whether the session goes on. What is to be read again is read.
+// Where the rules of who asks are written, as far as the session knows.
+fn sources_of<'a>(base: &'a str, table: &'a Table, question: &Question<'_>) -> Sources<'a>
+    ensures { seen_sources result ≡ sources_of base.now (seen_table table.now) (seen_question question.entry.now) }
+{
+    let (profile, _) = cut_full_name(who_asks(question));
+    Sources {
+        files: &table.files,
+        base: base.as_bytes(),
+        origin: table.session.origin(profile),
+    }
+}
+
+// Appends what the policy set of a session answers to a question, with the rules of the loaded profile behind the answer.
+fn answer_question(
+    alloc: Global,
+    base: &str,
+    table: &Table,
+    question: &Question<'_>,
+    out: &mut Vec<u8>,
+) -> Result<(), AllocError>
+    requires { IsWellFormed question.now }
+    ensures { OnOk result (out.new.items ≡ out.old.items ++ answered_text form.Lines
+        (sources_of base.now (seen_table table.now) (seen_question question.entry.now)) table.now.session.managed.machine.now
+        (seen_question question.entry.now)) }
+{
+    let sources = sources_of(base, table, question);
+    push_answer(
+        alloc,
+        Form::Lines,
+        &sources,
+        table.session.manager(),
+        question,
+        out,
+    )?;
+    Ok(())
+}
+
+// Appends what is told of an answer, and says whether the session goes on. What is to be read again is read.
 fn tell<F: Folders, D: FileSystem>(
     alloc: Global,
     setting: &Setting<'_, F, D>,
-    policy: &mut PolicyFiles,
-    session: &Session,
+    table: &mut Table,
     turn: Turn<'_>,
     out: &mut Vec<u8>,
 ) -> Result<bool, AllocError>
-    requires top { AreAtTop policy.old }
-    requires askable { IsAskable turn }
+    requires { IsAskable turn }
     ensures told { IfOk result (λ _. (text : List ℕ) × (out.new.items ≡ out.old.items ++ text)
         × IsTold (F.members_at setting.now.folders.now) (D.bytes_at setting.now.disk.now) setting.now.base.now
-        (record { files = policy.old.files; kept = session.now }) (seen_turn turn.entry) policy.new.files text) }
+        (seen_table table.old) (seen_turn turn.entry) (seen_table table.new) text) }
     ensures goes { IfOk result (λ goes. goes ≡ goes_on (seen_turn turn.entry)) }
-    ensures top { AreAtTop policy.new }
 {
     match turn {
         Turn::Told(text) => {
@@ -168,25 +198,17 @@ fn tell<F: Folders, D: FileSystem>(
         }
         Turn::Quit => Ok(false),
         Turn::Reload => {
-            reload(alloc, setting, policy, out)?;
+            reload(alloc, setting, table, out)?;
             Ok(true)
         }
         Turn::Why(question) => {
-            let folder = folder_at(setting.base, policy);
-            push_answer_of(
-                alloc,
-                Form::Lines,
-                &folder,
-                session.manager(),
-                &question,
-                out,
-            )?;
+            answer_question(alloc, setting.base, table, &question, out)?;
             Ok(true)
         }
     }
 }
 
-// Answers a line of the session: puts what is told of it behind a text, and says whether the session goes on.
+// Answers a line of the session: appends what is told of it, and says whether the session goes on.
 fn answer_line<F: Folders, D: FileSystem>(
     alloc: Global,
     setting: &Setting<'_, F, D>,
@@ -194,16 +216,14 @@ fn answer_line<F: Folders, D: FileSystem>(
     line: &[u8],
     out: &mut Vec<u8>,
 ) -> Result<bool, AllocError>
-    requires { AreAtTop table.old.policy }
     ensures turn { IfOk result (λ goes. (text : List ℕ) × (out.new.items ≡ out.old.items ++ text)
         × IsTurn (F.members_at setting.now.folders.now) (D.bytes_at setting.now.disk.now) setting.now.base.now
         (seen_table table.old) line.now (seen_table table.new) text goes) }
-    ensures top { AreAtTop table.new.policy }
 {
     let turn = table
         .session
-        .answer(alloc, &table.policy.files, setting.base, line)?;
-    tell(alloc, setting, &mut table.policy, &table.session, turn, out)
+        .answer(alloc, &table.files, setting.base, line)?;
+    tell(alloc, setting, table, turn, out)
 }
 
 // Writes a text.
@@ -241,8 +261,7 @@ fn step<F: Folders, D: FileSystem, S: Source, W: Sink>(
     lines: &mut Lines,
     writer: &mut W,
 ) -> Result<bool, Fault>
-    requires reads { S.reads reader.old ≤ 2 ^ 63 }
-    requires top { AreAtTop table.old.policy }
+    requires { S.reads reader.old ≤ 2 ^ 63 }
     ensures on { IfOk result (λ goes. goes ≡ true → (taken : List ℕ)
         × IsStep (F.members_at setting.now.folders.now) (D.bytes_at setting.now.disk.now) setting.now.base.now setting.now.prompt.now
         (standing (S.left reader.old) lines.old.input (W.written writer.old) table.old) taken
@@ -254,7 +273,6 @@ fn step<F: Folders, D: FileSystem, S: Source, W: Sink>(
     ensures broken { IfErr result (IsBrokenStep (F.members_at setting.now.folders.now) (D.bytes_at setting.now.disk.now) setting.now.base.now setting.now.prompt.now
         (standing (S.left reader.old) lines.old.input (W.written writer.old) table.old) (W.written writer.new)) }
     ensures failed { IsErrOf result Fault.Write → W.failed writer.new ≡ true }
-    ensures top { AreAtTop table.new.policy }
     ensures bound { S.reads reader.new ≤ S.reads reader.old + most_reads }
 {
     show(writer, setting.prompt)?;
@@ -276,8 +294,7 @@ fn run<F: Folders, D: FileSystem, S: Source, W: Sink>(
     lines: &mut Lines,
     writer: &mut W,
 ) -> Result<(), Fault>
-    requires reads { S.reads reader.old ≤ 2 ^ 62 }
-    requires top { AreAtTop table.old.policy }
+    requires { S.reads reader.old ≤ 2 ^ 62 }
     ensures ran { OnOk result (IsRun (F.members_at setting.now.folders.now) (D.bytes_at setting.now.disk.now) setting.now.base.now setting.now.prompt.now
         (standing (S.left reader.old) lines.old.input (W.written writer.old) table.old)
         (standing (S.left reader.new) lines.new.input (W.written writer.new) table.new)) }
@@ -300,23 +317,20 @@ fn begin<F: Folders, D: FileSystem>(
     setting: &Setting<'_, F, D>,
     out: &mut Vec<u8>,
 ) -> Result<Table, Fault>
-    ensures top { IfOk result (λ table. AreAtTop table.policy) }
     ensures loaded { IfOk result (λ table. (text : List ℕ) × (out.new.items ≡ out.old.items ++ text)
         × IsLoaded (F.members_at setting.now.folders.now) (D.bytes_at setting.now.disk.now) setting.now.base.now
         (seen_table table) text) }
     ensures fault { IfErr result IsOfFolder }
 {
-    let policy = policy_below(alloc, setting.folders, setting.disk, setting.base)?;
-    let mut session = Session::new(alloc, false);
-    load_each(
+    let PolicyFiles { files, top } = policy_below(
         alloc,
-        &policy.files,
+        setting.folders,
+        setting.disk,
         setting.base,
-        &mut session,
-        &policy.top,
-        out,
     )?;
-    Ok(Table { policy, session })
+    let mut session = Session::new(alloc, false);
+    load_each(alloc, &files, setting.base, &mut session, &top, out)?;
+    Ok(Table { files, session })
 }
 
 // The lines of an input of which nothing was read.
@@ -330,8 +344,9 @@ fn all_lines(alloc: Global) -> Result<Lines, AllocError>
 
 /// Has a session over a folder of policy: finds and reads all files below it as `check_folder` does, adds the profiles of those at its top, each file in
 /// its turn, and tells those that are refused. Then each line of the input is answered as `aatry_session::Session::answer` answers it, until a line ends
-/// the session, or the input does. `prompt` is written before each line is read. `reload` reads all below the folder again, and `why` is answered with
-/// the rules, as the files have them that were read last.
+/// the session, or the input does. `prompt` is written before each line is read. `reload` reads all below the folder again: the policy set and its
+/// history stay, and where in the files the loaded profiles have their rules isn't known any more. `why` is answered with the rules of the loaded
+/// profile, each with the place where it was read, while that is known.
 ///
 /// # Errors
 ///

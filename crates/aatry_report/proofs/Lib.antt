@@ -2,3 +2,4 @@ mod CaretLemmas
 mod LineLemmas
 mod PlaceLemmas
 mod RecordLemmas
+mod SlashLemmas

@@ -1,13 +1,24 @@
 -- Files of a folder of policy, and places in them.
-use Rattle.std.specs.Prelude.{ℕ, List, ◌++◌, codes}
+use Rattle.std.specs.Prelude.{ℕ, Bool, ◌==◌, if◌then◌else◌, List, [], ◌∷◌, ◌++◌, codes}
+use Rattle.std.specs.List.{list_all}
+use Rattle.aa_bytes.specs.Bytes.{slash}
 use Rattle.aatry_report.specs.Columns.{column}
 use Rattle.aatry_report.specs.Lines.{line_number}
 use Rattle.aatry_report.specs.Records.{with_number, with_text}
 use Rattle.serde_json.specs.Data.{Members}
 
--- the path that a file is told by: its name below the folder of policy
+-- a text that has no bytes but slashes
+abbrev pub are_slashes : List ℕ → Bool
+are_slashes text = list_all (λ b. b == slash) text
+
+-- a path without the slashes at its end
+abbrev pub without_slashes : List ℕ → List ℕ
+without_slashes [] = []
+without_slashes (b ∷ bs) = if are_slashes (b ∷ bs) then [] else b ∷ without_slashes bs
+
+-- the path that a file is told by: its name below the folder of policy, whose path may end in slashes
 abbrev pub path_below : List ℕ → List ℕ → List ℕ
-path_below base name = base ++ codes "/" ++ name
+path_below base name = without_slashes base ++ codes "/" ++ name
 
 -- a record with a place in a file's bytes: by what the file is told, the line and the column
 abbrev pub with_place : List ℕ → List ℕ → ℕ → Members → Members

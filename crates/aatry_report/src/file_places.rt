@@ -1,14 +1,28 @@
 //! Files of a folder of policy, and places in them.
 
 ghost use Rattle.std.specs.Prelude.{◌≡◌, IfOk, OnOk};
-ghost use Rattle.aatry_report.specs.FilePlaces.{path_below, with_place};
+ghost use Rattle.aatry_report.specs.FilePlaces.{path_below, with_place, without_slashes};
 ghost use Rattle.aatry_report.specs.SeenRecord.{seen_record};
 
 use crate::place::line_place;
 use crate::record::Record;
 use std::alloc::{AllocError, Global};
 
-/// The path that a file is told by: its name below the folder of policy, whose path is `base`, without a `/` at its end.
+// A path without the slashes at its end.
+fn without_slashes(path: &[u8]) -> &[u8]
+    ensures { result.now ≡ without_slashes path.now }
+{
+    let mut rest = path;
+    while let Some((last, front)) = rest.split_last() {
+        if *last != b'/' {
+            return rest;
+        }
+        rest = front;
+    }
+    rest
+}
+
+/// The path that a file is told by: its name below the folder of policy, whose path is `base`. Slashes at the end of that aren't told twice.
 ///
 /// # Errors
 ///
@@ -16,7 +30,7 @@ use std::alloc::{AllocError, Global};
 pub fn path_below(alloc: Global, base: &[u8], name: &[u8]) -> Result<Vec<u8>, AllocError>
     ensures { IfOk result (λ path. path.items ≡ path_below base.now name.now) }
 {
-    let mut path = Vec::from_slice(alloc, base)?;
+    let mut path = Vec::from_slice(alloc, without_slashes(base))?;
     path.push(b'/')?;
     path.extend_from_slice(name)?;
     Ok(path)

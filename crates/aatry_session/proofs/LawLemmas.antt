@@ -1,28 +1,47 @@
 -- The laws of a session.
-use Rattle.std.proofs.Common.{◌≡◌, ◌∙◌, ℕ, true, List, [], Option, None, Some, inl, inr, refl, subst, sym, ap}
+use Rattle.std.proofs.Common.{◌≡◌, ◌∙◌, ℕ, Bool, true, List, [], Option, None, Some, Result, Ok, inl, inr, refl, subst, sym, ap, cond, length, map}
+use Rattle.std.specs.Prelude.{nat_le}
 use Rattle.std.proofs.lemmas.Bool.{true≢false}
+use Rattle.std.proofs.lemmas.List.{length-map}
 use Rattle.aa_decide_slots.specs.Entries.{Loaded}
 use Rattle.aa_history.specs.MarkLaws.{StartedMarksItsSets}
 use Rattle.aa_set.specs.Laws.{RefusedLineLeavesAll, command_in}
 use Rattle.aa_set.specs.Reply.{is_refusal}
-use Rattle.aa_set.specs.Run.{line_outcome}
+use Rattle.aa_set.specs.Run.{Outcome as Obeyed, command_outcome as machine_outcome, line_outcome, refused as left_as}
 use Rattle.aa_set.specs.declared.reply.Reply.{Reply}
 use Rattle.aa_set.specs.declared.reply.Reply.TheVariants.{Answered, Done, Refused, Silent}
-use Rattle.aa_set_commands.specs.Command.{PolicyChange}
+use Rattle.aa_set_commands.specs.Command.{Add, Command as Order, Make, PolicyChange}
+use Rattle.aa_set_commands.specs.Refusal.{plain}
+use Rattle.aa_set_commands.specs.declared.refusal.Refusal.{Refusal}
+use Rattle.aa_set_commands.specs.declared.refusal.RefusalKind.TheVariants.{LineTooLong}
+use Rattle.aa_set_lines.specs.Limits.{longest_line}
+use Rattle.aa_text_files.specs.Files.{File}
+use Rattle.aatry_policy.specs.declared.origins.Origin.{Origin}
 use Rattle.aatry_session.specs.History.{change_in}
-use Rattle.aatry_session.specs.Laws.{BeginsInStep, IsInStep, LeavesInStep, RefusedTurnLeavesAll, StaysInStep}
+use Rattle.aatry_session.specs.Laws.{AddLeavesInStep, AddsAsLinesDo, AddsInStep, BeginsInStep, ForgetsInStep, IsInStep, LeavesInStep, RefusedTurnLeavesAll, StaysInStep}
+use Rattle.aatry_session.specs.Origins.{unplaced_origin}
 use Rattle.aatry_session.specs.Sayings.{Command, Help, History, NoQuestion, Quit, Reload, Saying, Why, saying_in}
-use Rattle.aatry_session.specs.Turns.{depth, kept_after, said_outcome, texts_behind}
-use Rattle.aatry_session.proofs.StepLemmas.{Known, line_keeps}
+use Rattle.aatry_session.specs.Turns.{Kept, command_outcome, depth, file_added, kept_after, origins_behind, said_outcome, texts_behind}
+use Rattle.aatry_session.proofs.StepLemmas.{Keeps, Known, command_keeps, known_keeps, line_keeps}
 
 pub begins : StartedMarksItsSets (List Loaded) → BeginsInStep
-begins started force_complain = record { counted = refl; marked = started [] }
+begins started force_complain = record { counted = refl; known = refl; marked = started [] }
+
+-- what the machine made of a command leaves a session in step
+in_step : (files : List File) (kept : Kept) (change : Option PolicyChange) (obeyed : Obeyed) → IsInStep kept → Keeps kept change obeyed
+    → IsInStep (kept_after files kept change obeyed)
+in_step files kept change obeyed h after = record {
+  counted = after.0;
+  known = known_keeps files (depth kept.managed) change obeyed.reply kept.texts kept.origins h.known;
+  marked = after.1;
+}
 
 pub stays : Known → StaysInStep
 stays known files base words kept line flag h = by (saying_in line)
   where
     by : (saying : Saying) → IsInStep (said_outcome files base words kept line flag saying).kept
-    by Command = let after = line_keeps known files kept line flag (h.counted, h.marked) in record { counted = after.0; marked = after.1 }
+    by Command =
+        in_step files kept (change_in (command_in line)) (line_outcome files kept.managed line flag) h (line_keeps known files kept line flag (h.counted, h.marked))
     by Help = h
     by History = h
     by Quit = h
@@ -36,7 +55,30 @@ leaves known files before after line left h = elim left [
   | inr obeyed ↦ subst IsInStep (sym obeyed.1) (stays known files [] [] before line obeyed.0 h)
 ]
 
--- a refused line leaves the texts
+pub adds : Known → AddsInStep
+adds known files base words kept name flag h =
+    in_step files kept (Some (Add name)) (file_added files kept.managed name flag) h
+    (command_keeps known files kept flag (Ok (Some (Make (Add name)))) (h.counted, h.marked))
+
+pub leaves_adding : Known → AddLeavesInStep
+leaves_adding known files before after name left h = elim left [
+  | inl same ↦ subst IsInStep (sym same) h
+  | inr obeyed ↦ subst IsInStep (sym obeyed.1) (adds known files [] [] before name obeyed.0 h)
+]
+
+pub forgets : ForgetsInStep
+forgets kept h = record { counted = h.counted; known = length-map kept.origins (map unplaced_origin) ∙ h.known; marked = h.marked }
+
+-- a line that makes the change is obeyed as the change
+pub as_lines : AddsAsLinesDo
+as_lines files base words kept name line flag said short is =
+    let obeyed : Bool → Result (Option Order) Refusal → Obeyed =
+    λ fits command. cond fits (machine_outcome files kept.managed flag command) (left_as kept.managed (plain LineTooLong)) in
+    ap (said_outcome files base words kept line flag) said
+    ∙ ap (λ command. command_outcome files base words kept (change_in command) (obeyed (nat_le (length line) longest_line) command)) is
+    ∙ ap (λ fits. command_outcome files base words kept (Some (Add name)) (obeyed fits (Ok (Some (Make (Add name)))))) short
+
+-- a refused line leaves the texts, and where profiles were read
 texts_stay : (done : ℕ) (change : Option PolicyChange) (reply : Reply) (texts : List (List ℕ)) → is_refusal reply ≡ true → texts_behind done change reply texts ≡ texts
 texts_stay done None reply texts h = refl
 texts_stay done (Some change) Silent texts h = refl
@@ -44,14 +86,27 @@ texts_stay done (Some change) Done texts h = absurd (true≢false (sym h))
 texts_stay done (Some change) (Refused refusal) texts h = refl
 texts_stay done (Some change) (Answered lines) texts h = refl
 
+origins_stay : (files : List File) (done : ℕ) (change : Option PolicyChange) (reply : Reply) (origins : List (List Origin)) → is_refusal reply ≡ true
+    → origins_behind files done change reply origins ≡ origins
+origins_stay files done None reply origins h = refl
+origins_stay files done (Some change) Silent origins h = refl
+origins_stay files done (Some change) Done origins h = absurd (true≢false (sym h))
+origins_stay files done (Some change) (Refused refusal) origins h = refl
+origins_stay files done (Some change) (Answered lines) origins h = refl
+
 pub refused : RefusedLineLeavesAll → RefusedTurnLeavesAll
 refused leaves files base words kept line flag h = by (saying_in line)
   where
     by : (saying : Saying) → (said_outcome files base words kept line flag saying).kept ≡ kept
     by Command =
-        ap (λ managed. record { managed = managed; texts = (kept_after files kept (change_in (command_in line)) line flag).texts }) (leaves files kept.managed line flag h)
-        ∙ ap (λ texts. record { managed = kept.managed; texts = texts })
-        (texts_stay (depth kept.managed) (change_in (command_in line)) (line_outcome files kept.managed line flag).reply kept.texts h)
+        let change = change_in (command_in line) in
+        let obeyed = line_outcome files kept.managed line flag in
+        ap (λ managed. record { managed = managed; texts = (kept_after files kept change obeyed).texts; origins = (kept_after files kept change obeyed).origins })
+        (leaves files kept.managed line flag h)
+        ∙ ap (λ texts. record { managed = kept.managed; texts = texts; origins = (kept_after files kept change obeyed).origins })
+        (texts_stay (depth kept.managed) change obeyed.reply kept.texts h)
+        ∙ ap (λ origins. record { managed = kept.managed; texts = kept.texts; origins = origins })
+        (origins_stay files (depth kept.managed) change obeyed.reply kept.origins h)
     by Help = refl
     by History = refl
     by Quit = refl

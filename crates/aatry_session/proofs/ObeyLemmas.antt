@@ -1,108 +1,133 @@
--- What obeying a line comes to, from what the machine says of it.
-use Rattle.std.proofs.Common.{◌≡◌, ◌++◌, ℕ, Bool, List, None, OnErr, OnOk, Option, Result, Ok, Err, Some, ap, inr, refl, subst}
-use Rattle.aa_set.specs.Manager.{Managed}
-use Rattle.aa_set.specs.Run.{Outcome, line_outcome}
+-- What obeying a command comes to, from what the machine says of it.
+use Rattle.std.proofs.Common.{◌≡◌, ◌∙◌, ◌++◌, ℕ, Bool, List, None, OnErr, OnOk, Option, Result, Ok, Err, Some, ap, inr, refl, subst}
+use Rattle.aa_set.specs.Run.{Outcome as Obeyed}
 use Rattle.aa_set.specs.declared.reply.Reply.{Reply}
+use Rattle.aa_set.specs.declared.reply.Reply.TheVariants.{Answered, Done, Refused, Silent}
 use Rattle.aa_set_commands.specs.Command.{PolicyChange}
 use Rattle.aa_text_files.specs.Files.{File}
-use Rattle.aatry_session.specs.History.{change_text, texts_after}
-use Rattle.aatry_session.specs.Turns.{Kept, LeavesAs, ObeysAs, depth, done_behind, kept_after, reply_told, texts_behind}
+use Rattle.aatry_policy.specs.declared.origins.Origin.{Origin}
+use Rattle.aatry_session.specs.History.{change_text, kept_with}
+use Rattle.aatry_session.specs.Origins.{change_origins}
+use Rattle.aatry_session.specs.Turns.{Kept, LeavesAs, ObeysAs, depth, done_behind, kept_after, origins_behind, reply_told, texts_behind}
 
--- the session after a line whose reply, manager and texts are those that its outcome gives
-kept_by : (files : List File) (before after : Managed) (texts now : List (List ℕ)) (change : Option PolicyChange) (line : List ℕ) (flag : Bool) (reply : Reply)
-    → ◌≡◌ {A = Outcome} (record { reply = reply; managed = after }) (line_outcome files before line flag)
-    → now ≡ texts_behind (depth before) change reply texts
-    → record { managed = after; texts = now } ≡ kept_after files (record { managed = before; texts = texts }) change line flag
-kept_by files before after texts now change line flag reply is kept =
-    subst (λ outcome. ◌≡◌ {A = Kept} (record { managed = after; texts = now }) (record { managed = outcome.managed; texts = texts_behind (depth before) change outcome.reply texts })) is
-    (ap (λ texts. record { managed = after; texts = texts }) kept)
+-- the session after a command whose reply, manager, texts and origins are those that its outcome gives
+kept_by : (files : List File) (before after : Kept) (change : Option PolicyChange) (obeyed : Obeyed) (reply : Reply)
+    → ◌≡◌ {A = Obeyed} (record { reply = reply; managed = after.managed }) obeyed
+    → after.texts ≡ texts_behind (depth before.managed) change reply before.texts
+    → after.origins ≡ origins_behind files (depth before.managed) change reply before.origins
+    → after ≡ kept_after files before change obeyed
+kept_by files before after change obeyed reply is texts origins =
+    subst (λ o. after ≡ kept_after files before change o) is
+    (ap (λ t. record { managed = after.managed; texts = t; origins = after.origins }) texts
+    ∙ ap (λ o. record { managed = after.managed; texts = texts_behind (depth before.managed) change reply before.texts; origins = o }) origins)
 
--- a line was obeyed whose reply, manager, texts and told text are those that its outcome gives
-pub obeyed : (files : List File) (base : List ℕ) (before after : Managed) (texts now : List (List ℕ)) (change : Option PolicyChange) (line old new : List ℕ)
-    → (flag : Bool) (words : List ℕ) (reply : Reply)
-    → ◌≡◌ {A = Outcome} (record { reply = reply; managed = after }) (line_outcome files before line flag)
-    → now ≡ texts_behind (depth before) change reply texts
-    → new ≡ old ++ reply_told files base words now (depth before) (done_behind before change after) reply
-    → ObeysAs files base before after texts now change line old new
-obeyed files base before after texts now change line old new flag words reply is kept told = (
-  flag,
-  words,
-  kept_by files before after texts now change line flag reply is kept,
-  subst (λ outcome. new ≡ old ++ reply_told files base words (texts_behind (depth before) change outcome.reply texts) (depth before)
-      (done_behind before change outcome.managed) outcome.reply) is
-      (subst (λ texts. new ≡ old ++ reply_told files base words texts (depth before) (done_behind before change after) reply) kept told),
-)
+-- what is told of its reply is what is told of it
+told_by : (files : List File) (base words : List ℕ) (before after : Kept) (change : Option PolicyChange) (obeyed : Obeyed) (reply : Reply) (old new : List ℕ)
+    → ◌≡◌ {A = Obeyed} (record { reply = reply; managed = after.managed }) obeyed
+    → after.texts ≡ texts_behind (depth before.managed) change reply before.texts
+    → new ≡ old ++ reply_told files base words after.texts (depth before.managed) (done_behind before.managed change after.managed) reply
+    → new ≡ old ++ reply_told files base words (texts_behind (depth before.managed) change obeyed.reply before.texts) (depth before.managed)
+    (done_behind before.managed change obeyed.managed) obeyed.reply
+told_by files base words before after change obeyed reply old new is texts told =
+    subst (λ o. new ≡ old ++ reply_told files base words (texts_behind (depth before.managed) change o.reply before.texts) (depth before.managed)
+    (done_behind before.managed change o.managed) o.reply) is
+    (subst (λ t. new ≡ old ++ reply_told files base words t (depth before.managed) (done_behind before.managed change after.managed) reply) texts told)
 
 on-ok : {A E : Type 0} (r : Result A E) (P Q : Type 0) → (P → Q) → OnOk r P → OnOk r Q
 on-ok (Ok x) P Q f p = f p
 on-ok (Err e) P Q f p = p
-
--- a line that makes no change was obeyed
-pub obeyed-other : {A E : Type 0} (r : Result A E) (files : List File) (base : List ℕ) (before after : Managed) (texts : List (List ℕ)) (line old new : List ℕ)
-    → (flag : Bool) (reply : Reply) (from to : ℕ)
-    → ◌≡◌ {A = Outcome} (record { reply = reply; managed = after }) (line_outcome files before line flag)
-    → from ≡ depth before
-    → to ≡ depth after
-    → OnOk r ((words : List ℕ) × (new ≡ old ++ reply_told files base words texts from to reply))
-    → OnOk r (ObeysAs files base before after texts texts None line old new)
-obeyed-other r files base before after texts line old new flag reply from to is first last told =
-    on-ok r ((words : List ℕ) × (new ≡ old ++ reply_told files base words texts from to reply)) (ObeysAs files base before after texts texts None line old new)
-    (λ pair. obeyed files base before after texts texts None line old new flag pair.0 reply is refl
-    (subst (λ n. new ≡ old ++ reply_told files base pair.0 texts (depth before) n reply) last
-    (subst (λ n. new ≡ old ++ reply_told files base pair.0 texts n to reply) first pair.1))) told
 
 -- what holds always holds at an error
 at-err : {A E : Type 0} (r : Result A E) (P : Type 0) → P → OnErr r P
 at-err (Ok x) P p = tt
 at-err (Err e) P p = p
 
--- it was obeyed where memory ran out for what is told of it, too
-pub left-other : {A E : Type 0} (r : Result A E) (files : List File) (before after : Managed) (texts : List (List ℕ)) (line : List ℕ) (flag : Bool) (reply : Reply)
-    → ◌≡◌ {A = Outcome} (record { reply = reply; managed = after }) (line_outcome files before line flag)
-    → OnErr r (LeavesAs files before after texts texts None line)
-left-other r files before after texts line flag reply is =
-    at-err r (LeavesAs files before after texts texts None line) (inr (flag, kept_by files before after texts texts None line flag reply is refl))
-
--- the texts of a change that was made or refused
-texts_of_change : (before : Managed) (texts room now : List (List ℕ)) (change : PolicyChange) (reply : Reply) (done : ℕ) (text : List ℕ)
-    → done ≡ depth before
-    → text ≡ change_text change
-    → room ≡ texts
-    → now ≡ texts_after done text reply room
-    → now ≡ texts_behind (depth before) (Some change) reply texts
-texts_of_change before texts room now change reply done text first named same kept =
-    subst (λ n. now ≡ texts_after n (change_text change) reply texts) first (subst (λ t. now ≡ texts_after done t reply texts) named
-    (subst (λ ts. now ≡ texts_after done text reply ts) same kept))
-
--- a line that makes a change was obeyed, also where memory ran out for what is told of it
-pub left-change : {A E : Type 0} (r : Result A E) (files : List File) (before after : Managed) (texts room now : List (List ℕ)) (change : PolicyChange)
-    → (line : List ℕ) (flag : Bool) (reply : Reply) (done : ℕ) (text : List ℕ)
-    → ◌≡◌ {A = Outcome} (record { reply = reply; managed = after }) (line_outcome files before line flag)
-    → done ≡ depth before
-    → text ≡ change_text change
-    → room ≡ texts
-    → now ≡ texts_after done text reply room
-    → OnErr r (LeavesAs files before after texts now (Some change) line)
-left-change r files before after texts room now change line flag reply done text is first named same kept =
-    at-err r (LeavesAs files before after texts now (Some change) line) (inr (
+-- a line that makes no change was obeyed
+pub obeyed-other : {A E : Type 0} (r : Result A E) (files : List File) (base : List ℕ) (before after : Kept) (obeyed : Bool → Obeyed) (old new : List ℕ)
+    → (flag : Bool) (reply : Reply) (from to : ℕ)
+    → ◌≡◌ {A = Obeyed} (record { reply = reply; managed = after.managed }) (obeyed flag)
+    → after.texts ≡ before.texts
+    → after.origins ≡ before.origins
+    → from ≡ depth before.managed
+    → to ≡ depth after.managed
+    → OnOk r ((words : List ℕ) × (new ≡ old ++ reply_told files base words after.texts from to reply))
+    → OnOk r (ObeysAs files base before after None obeyed old new)
+obeyed-other r files base before after obeyed old new flag reply from to is texts origins first last told =
+    on-ok r ((words : List ℕ) × (new ≡ old ++ reply_told files base words after.texts from to reply)) (ObeysAs files base before after None obeyed old new)
+    (λ pair. (
       flag,
-      kept_by files before after texts now (Some change) line flag reply is (texts_of_change before texts room now change reply done text first named same kept),
-    ))
+      pair.0,
+      kept_by files before after None (obeyed flag) reply is texts origins,
+      told_by files base pair.0 before after None (obeyed flag) reply old new is texts
+          (subst (λ n. new ≡ old ++ reply_told files base pair.0 after.texts (depth before.managed) n reply) last
+          (subst (λ n. new ≡ old ++ reply_told files base pair.0 after.texts n to reply) first pair.1)),
+    )) told
 
--- a line that makes a change was obeyed
-pub obeyed-change : {A E : Type 0} (r : Result A E) (files : List File) (base : List ℕ) (before after : Managed) (texts room now seen : List (List ℕ)) (change : PolicyChange)
-    → (line old new : List ℕ) (flag : Bool) (reply : Reply) (done : ℕ) (text : List ℕ)
-    → ◌≡◌ {A = Outcome} (record { reply = reply; managed = after }) (line_outcome files before line flag)
-    → done ≡ depth before
-    → text ≡ change_text change
-    → room ≡ texts
-    → now ≡ texts_after done text reply room
-    → seen ≡ now
-    → OnOk r ((words : List ℕ) × (new ≡ old ++ reply_told files base words seen done done reply))
-    → OnOk r (ObeysAs files base before after texts now (Some change) line old new)
-obeyed-change r files base before after texts room now seen change line old new flag reply done text is first named same kept shows told =
-    on-ok r ((words : List ℕ) × (new ≡ old ++ reply_told files base words seen done done reply)) (ObeysAs files base before after texts now (Some change) line old new)
-    (λ pair. obeyed files base before after texts now (Some change) line old new flag pair.0 reply is
-    (texts_of_change before texts room now change reply done text first named same kept)
-    (subst (λ n. new ≡ old ++ reply_told files base pair.0 now n n reply) first
-    (subst (λ ts. new ≡ old ++ reply_told files base pair.0 ts done done reply) shows pair.1))) told
+-- it was obeyed where memory ran out for what is told of it, too
+pub left-other : {A E : Type 0} (r : Result A E) (files : List File) (before after : Kept) (obeyed : Bool → Obeyed) (flag : Bool) (reply : Reply)
+    → ◌≡◌ {A = Obeyed} (record { reply = reply; managed = after.managed }) (obeyed flag)
+    → after.texts ≡ before.texts
+    → after.origins ≡ before.origins
+    → OnErr r (LeavesAs files before after None obeyed)
+left-other r files before after obeyed flag reply is texts origins =
+    at-err r (LeavesAs files before after None obeyed) (inr (flag, kept_by files before after None (obeyed flag) reply is texts origins))
+
+-- where an accepted change was kept so, it was kept with its own
+own_by : (files : List File) (done : ℕ) (change : PolicyChange) (reply : Reply) (own : List Origin) (origins : List (List Origin))
+    → (reply ≡ Done → own ≡ change_origins files change)
+    → kept_with done own reply origins ≡ kept_with done (change_origins files change) reply origins
+own_by files done change Done own origins h = ap (λ o. kept_with done o Done origins) (h refl)
+own_by files done change Silent own origins h = refl
+own_by files done change (Refused refusal) own origins h = refl
+own_by files done change (Answered lines) own origins h = refl
+
+-- How a command that makes a change came out, and what was kept of it: its reply, with where its profiles were read, the text of the change and how many
+-- changes were done before it, over what there was room for.
+pub record IsMade (files : List File) (before after : Kept) (change : PolicyChange) (obeyed : Bool → Obeyed) : Type 0 where
+  pub flag : Bool
+  pub reply : Reply
+  pub own : List Origin
+  pub done : ℕ
+  pub text : List ℕ
+  pub is : ◌≡◌ {A = Obeyed} (record { reply = reply; managed = after.managed }) (obeyed flag)
+  pub loaded : reply ≡ Done → own ≡ change_origins files change
+  pub first : done ≡ depth before.managed
+  pub named : text ≡ change_text change
+  pub texts : after.texts ≡ kept_with done text reply before.texts
+  pub origins : after.origins ≡ kept_with done own reply before.origins
+
+texts_made : (files : List File) (before after : Kept) (change : PolicyChange) (obeyed : Bool → Obeyed) → (made : IsMade files before after change obeyed)
+    → after.texts ≡ texts_behind (depth before.managed) (Some change) made.reply before.texts
+texts_made files before after change obeyed made =
+    subst (λ n. after.texts ≡ kept_with n (change_text change) made.reply before.texts) made.first
+    (subst (λ t. after.texts ≡ kept_with made.done t made.reply before.texts) made.named made.texts)
+
+kept_made : (files : List File) (before after : Kept) (change : PolicyChange) (obeyed : Bool → Obeyed) → (made : IsMade files before after change obeyed)
+    → after ≡ kept_after files before (Some change) (obeyed made.flag)
+kept_made files before after change obeyed made =
+    kept_by files before after (Some change) (obeyed made.flag) made.reply made.is (texts_made files before after change obeyed made)
+    (subst (λ n. after.origins ≡ kept_with n (change_origins files change) made.reply before.origins) made.first
+    (made.origins ∙ own_by files made.done change made.reply made.own before.origins made.loaded))
+
+-- a command that makes a change was obeyed
+pub obeyed-change : {A E : Type 0} (r : Result A E) (files : List File) (base : List ℕ) (before after : Kept) (change : PolicyChange) (obeyed : Bool → Obeyed)
+    → (old new : List ℕ) → (made : IsMade files before after change obeyed)
+    → OnOk r ((words : List ℕ) × (new ≡ old ++ reply_told files base words after.texts made.done made.done made.reply))
+    → OnOk r (ObeysAs files base before after (Some change) obeyed old new)
+obeyed-change r files base before after change obeyed old new made told =
+    on-ok r ((words : List ℕ) × (new ≡ old ++ reply_told files base words after.texts made.done made.done made.reply))
+    (ObeysAs files base before after (Some change) obeyed old new)
+    (λ pair. (
+      made.flag,
+      pair.0,
+      kept_made files before after change obeyed made,
+      told_by files base pair.0 before after (Some change) (obeyed made.flag) made.reply old new made.is (texts_made files before after change obeyed made)
+          (subst (λ n. new ≡ old ++ reply_told files base pair.0 after.texts n n made.reply) made.first pair.1),
+    )) told
+
+-- also where memory ran out for what is told of it
+pub left-change : {A E : Type 0} (r : Result A E) (files : List File) (before after : Kept) (change : PolicyChange) (obeyed : Bool → Obeyed)
+    → IsMade files before after change obeyed
+    → OnErr r (LeavesAs files before after (Some change) obeyed)
+left-change r files before after change obeyed made =
+    at-err r (LeavesAs files before after (Some change) obeyed) (inr (made.flag, kept_made files before after change obeyed made))

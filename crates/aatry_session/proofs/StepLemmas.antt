@@ -1,5 +1,5 @@
 -- That a session stays in step.
-use Rattle.std.proofs.Common.{◌≡◌, ℕ, ◌+◌, Bool, true, false, cond, leb, ◌&&◌, List, [], ◌∷◌, ◌++◌, length, take, Option, None, Some, Result, Ok, Err, refl, ap, arith, length-append}
+use Rattle.std.proofs.Common.{◌≡◌, ℕ, zero, suc, ◌+◌, Bool, true, false, cond, leb, ◌&&◌, List, [], ◌∷◌, ◌++◌, length, take, Option, None, Some, Result, Ok, Err, refl, ap, arith, length-append}
 use Rattle.std.proofs.lemmas.List.{length-take-le}
 use Rattle.aa_history.specs.Machine.{Machine, MarksItsSets, accepted, can_go_back, can_go_on, gone_back, gone_on, gone_to_mark, is_marked, with_mark}
 use Rattle.aa_history.specs.MachineLaws.{LengthsAfterBack, LengthsAfterOn}
@@ -17,15 +17,19 @@ use Rattle.aa_set_commands.specs.declared.refusal.RefusalKind.TheVariants.{BadRe
 use Rattle.aa_set_lines.specs.Limits.{longest_line}
 use Rattle.aa_set_answers.specs.List.{list_lines}
 use Rattle.aa_text_files.specs.Files.{File}
-use Rattle.aatry_session.specs.History.{change_in, change_text}
-use Rattle.aatry_session.specs.Turns.{Kept, depth, texts_behind}
+use Rattle.aa_set.specs.declared.reply.Reply.{Reply}
+use Rattle.aa_set.specs.declared.reply.Reply.TheVariants.{Answered, Done, Refused, Silent}
+use Rattle.aatry_policy.specs.declared.origins.Origin.{Origin}
+use Rattle.aatry_session.specs.History.{change_in, change_text, kept_with}
+use Rattle.aatry_session.specs.Origins.{change_origins}
+use Rattle.aatry_session.specs.Turns.{Kept, depth, origins_behind, texts_behind}
 
 -- as many texts as changes, and marks of the machine's own sets
 abbrev InStep : List (List ℕ) → Machine (List Loaded) → Type 0
 InStep texts machine = (length texts ≡ length machine.earlier + length machine.later) × MarksItsSets machine
 
 -- the same after an outcome
-abbrev Keeps : Kept → Option PolicyChange → Outcome → Type 0
+abbrev pub Keeps : Kept → Option PolicyChange → Outcome → Type 0
 Keeps kept change outcome = InStep (texts_behind (depth kept.managed) change outcome.reply kept.texts) outcome.managed.machine
 
 either_keeps : (t : Bool) (kept : Kept) (change : Option PolicyChange) (a b : Outcome) → Keeps kept change a → Keeps kept change b → Keeps kept change (cond t a b)
@@ -112,7 +116,7 @@ flag_keeps files kept flag command change h p =
     either_keeps (flag && takes_memory kept.managed command) kept change (refused kept.managed (plain Memory)) (obeyed files kept.managed command)
     (refusal_keeps kept change (plain Memory) h) p
 
-command_keeps : Known → (files : List File) (kept : Kept) (flag : Bool) (command : Result (Option Command) Refusal) → InStep kept.texts kept.managed.machine
+pub command_keeps : Known → (files : List File) (kept : Kept) (flag : Bool) (command : Result (Option Command) Refusal) → InStep kept.texts kept.managed.machine
     → Keeps kept (change_in command) (command_outcome files kept.managed flag command)
 command_keeps known files kept flag (Err refusal) h = h
 command_keeps known files kept flag (Ok None) h = h
@@ -135,3 +139,29 @@ pub line_keeps : Known → (files : List File) (kept : Kept) (line : List ℕ) (
 line_keeps known files kept line flag h =
     either_keeps (leb (length line) longest_line) kept (change_in (command_in line)) (command_outcome files kept.managed flag (command_in line))
     (refused kept.managed (plain LineTooLong)) (command_keeps known files kept flag (command_in line) h) (refusal_keeps kept (change_in (command_in line)) (plain LineTooLong) h)
+
+-- the first so many of two lists of one length have one length
+take_alike : {A B : Type 0} (n : ℕ) (xs : List A) (ys : List B) → length xs ≡ length ys → length (take n xs) ≡ length (take n ys)
+take_alike zero xs ys h = refl
+take_alike (suc n) [] [] h = refl
+take_alike (suc n) (x ∷ xs) (y ∷ ys) h = let behind : length xs ≡ length ys = omega (arith, h) in ap suc (take_alike n xs ys behind)
+take_alike (suc n) [] (y ∷ ys) h = absurd (cc)
+take_alike (suc n) (x ∷ xs) [] h = absurd (cc)
+
+-- so have two that are kept with one more
+kept_alike : {A B : Type 0} (done : ℕ) (x : A) (y : B) (reply : Reply) (xs : List A) (ys : List B) → length xs ≡ length ys
+    → length (kept_with done x reply xs) ≡ length (kept_with done y reply ys)
+kept_alike done x y Done xs ys h =
+    let front = take_alike done xs ys h in
+    let left = length-append (take done xs) (x ∷ []) in
+    let right = length-append (take done ys) (y ∷ []) in
+    omega (arith, front, left, right)
+kept_alike done x y Silent xs ys h = h
+kept_alike done x y (Refused refusal) xs ys h = h
+kept_alike done x y (Answered lines) xs ys h = h
+
+-- it is kept of as many changes where profiles were read as there are texts
+pub known_keeps : (files : List File) (done : ℕ) (change : Option PolicyChange) (reply : Reply) (texts : List (List ℕ)) (origins : List (List Origin))
+    → length origins ≡ length texts → length (origins_behind files done change reply origins) ≡ length (texts_behind done change reply texts)
+known_keeps files done None reply texts origins h = h
+known_keeps files done (Some change) reply texts origins h = kept_alike done (change_origins files change) (change_text change) reply origins texts h

@@ -24,11 +24,11 @@ change_text (Enforce name) = codes "enforce " ++ shown name
 change_text (Complain name) = codes "complain " ++ shown name
 change_text (Disable name) = codes "disable " ++ shown name
 
--- The texts after a change, where so many changes were done before it: if it was accepted its text stands behind theirs, and those that could be redone
--- are dropped.
-abbrev pub texts_after : ℕ → List ℕ → Reply → List (List ℕ) → List (List ℕ)
-texts_after done text Done texts = take done texts ++ text ∷ []
-texts_after done text _ texts = texts
+-- What is kept of each change, behind one more, where so many changes were done before it: if it was accepted its own stands behind theirs, and that
+-- of those that could be redone is dropped.
+abbrev pub kept_with : {A : Type 0} → ℕ → A → Reply → List A → List A
+kept_with done own Done list = take done list ++ own ∷ []
+kept_with done own _ list = list
 
 -- what stands between the number of a change and its text, where so many stand before it and so many are done
 abbrev pub behind_number : ℕ → ℕ → List ℕ

@@ -1,15 +1,20 @@
 -- What holds of a session whatever it is told.
-use Rattle.std.specs.Prelude.{◌≡◌, ℕ, ◌+◌, Bool, true, List, length}
+use Rattle.std.specs.Prelude.{◌≡◌, ℕ, ◌+◌, Bool, true, nat_le, List, length, Some, Ok}
 use Rattle.aa_history.specs.Machine.{MarksItsSets}
+use Rattle.aa_set.specs.Laws.{command_in}
 use Rattle.aa_set.specs.Reply.{is_refusal}
 use Rattle.aa_set.specs.Run.{line_outcome}
+use Rattle.aa_set_commands.specs.Command.{Add, Make}
+use Rattle.aa_set_lines.specs.Limits.{longest_line}
 use Rattle.aa_text_files.specs.Files.{File}
-use Rattle.aatry_session.specs.Turns.{IsLeft, Kept, begun, turn_outcome}
+use Rattle.aatry_session.specs.Sayings.{Command, saying_in}
+use Rattle.aatry_session.specs.Turns.{IsLeft, IsLeftAdding, Kept, add_outcome, begun, turn_outcome, unplaced}
 
--- The texts are in step with the manager: there are as many as there are changes that can be undone or redone. And each mark is of a policy set that the
--- manager has, which going to one asks for.
+-- The texts are in step with the manager: there are as many as there are changes that can be undone or redone, and of as many changes it is kept
+-- where profiles were read. And each mark is of a policy set that the manager has, which going to one asks for.
 pub record IsInStep (kept : Kept) : Type 0 where
   pub counted : length kept.texts ≡ length kept.managed.machine.earlier + length kept.managed.machine.later
+  pub known : length kept.origins ≡ length kept.texts
   pub marked : MarksItsSets kept.managed.machine
 
 -- a session begins in step
@@ -27,7 +32,31 @@ StaysInStep =
 abbrev pub LeavesInStep : Type 0
 LeavesInStep = (files : List File) (before after : Kept) (line : List ℕ) → IsLeft files before after line → IsInStep before → IsInStep after
 
--- a line that the machine refuses leaves the manager and the texts as they were
+-- so does adding the profiles of a file
+abbrev pub AddsInStep : Type 0
+AddsInStep =
+    (files : List File) (base words : List ℕ) (kept : Kept) (name : List ℕ) (flag : Bool)
+    → IsInStep kept
+    → IsInStep (add_outcome files base words kept name flag).kept
+
+-- also where memory ran out for it
+abbrev pub AddLeavesInStep : Type 0
+AddLeavesInStep = (files : List File) (before after : Kept) (name : List ℕ) → IsLeftAdding files before after name → IsInStep before → IsInStep after
+
+-- and so does forgetting the places
+abbrev pub ForgetsInStep : Type 0
+ForgetsInStep = (kept : Kept) → IsInStep kept → IsInStep (unplaced kept)
+
+-- adding the profiles of a file comes to what a line comes to that says so
+abbrev pub AddsAsLinesDo : Type 0
+AddsAsLinesDo =
+    (files : List File) (base words : List ℕ) (kept : Kept) (name line : List ℕ) (flag : Bool)
+    → saying_in line ≡ Command
+    → nat_le (length line) longest_line ≡ true
+    → command_in line ≡ Ok (Some (Make (Add name)))
+    → turn_outcome files base words kept line flag ≡ add_outcome files base words kept name flag
+
+-- a line that the machine refuses leaves the manager, the texts, and where profiles were read, as they were
 abbrev pub RefusedTurnLeavesAll : Type 0
 RefusedTurnLeavesAll =
     (files : List File) (base words : List ℕ) (kept : Kept) (line : List ℕ) (flag : Bool)

@@ -1,7 +1,9 @@
 pub mod Help
 pub mod History
 pub mod Laws
+pub mod Origins
 pub mod Refusals
 pub mod Sayings
+pub mod SeenSessions
 pub mod SeenTurns
 pub mod Turns

@@ -1,20 +1,19 @@
 //! The texts of a session's changes, and the history that they make.
 
-ghost use Rattle.std.specs.Prelude.{◌≡◌, ◌+◌, ◌<◌, ◌^◌, ◌++◌, ◌∷◌, [], OnOk, length, take, vec_capacity};
+ghost use Rattle.std.specs.Prelude.{◌≡◌, ◌+◌, ◌<◌, ◌^◌, ◌++◌, IfOk, OnOk};
 ghost use Rattle.std.specs.Option.{option_map};
 ghost use Rattle.aa_history.specs.SeenMarks.{seen_marks};
 ghost use Rattle.aa_set.specs.Laws.{command_in};
 ghost use Rattle.aa_set_commands.specs.Command.{seen_change};
 ghost use Rattle.aatry_report.specs.Shown.{shown};
 ghost use Rattle.aatry_session.specs.History.{behind_number, change_in, change_line, change_text, history_lines, mark_line, mark_lines};
-ghost use Rattle.aatry_session.specs.History.{texts_after};
 
 use aa_bytes::Sequence;
-use aa_set::{Mark, Reply};
+use aa_set::Mark;
 use aa_set_commands::{Command, PolicyChange, read};
 use aatry_report::push_shown;
 use itoa::Buffer;
-use std::alloc::AllocError;
+use std::alloc::{AllocError, Global};
 
 /// The change that the command of a line makes, if it is one that changes the policy set.
 pub fn change_in(line: &[u8]) -> Option<PolicyChange<'_>>
@@ -34,12 +33,8 @@ fn push_named(out: &mut Vec<u8>, word: &str, name: &[u8]) -> Result<(), AllocErr
     push_shown(out, name)
 }
 
-/// Puts the text of a change behind another: the words of its command.
-///
-/// # Errors
-///
-/// Where memory runs out. A beginning may have been put then.
-pub fn push_change(out: &mut Vec<u8>, change: PolicyChange<'_>) -> Result<(), AllocError>
+// Puts the text of a change behind another: the words of its command.
+fn push_change(out: &mut Vec<u8>, change: PolicyChange<'_>) -> Result<(), AllocError>
     ensures { OnOk result (out.new.items ≡ out.old.items ++ change_text (seen_change change.entry)) }
 {
     match change {
@@ -52,26 +47,17 @@ pub fn push_change(out: &mut Vec<u8>, change: PolicyChange<'_>) -> Result<(), Al
     }
 }
 
-/// Keeps the text of a change that was accepted, behind those of the changes that were done before it, in place of those that had been undone.
-pub fn keep(texts: &mut Vec<Sequence<u8>>, done: usize, text: Sequence<u8>, reply: &Reply)
-    requires { length texts.old.items < vec_capacity texts.old }
-    ensures { texts.new.items ≡ texts_after done text reply.now texts.old.items }
+/// The text of a change: the words of its command.
+///
+/// # Errors
+///
+/// Where memory runs out.
+pub fn text_of(alloc: Global, change: PolicyChange<'_>) -> Result<Sequence<u8>, AllocError>
+    ensures { IfOk result (λ text. text ≡ change_text (seen_change change.entry)) }
 {
-    if matches!(reply, Reply::Done) {
-        put(texts, done, text);
-    }
-}
-
-// Puts a text behind the first ones, as many as `done`, in place of those behind them.
-fn put(texts: &mut Vec<Sequence<u8>>, done: usize, text: Sequence<u8>)
-    requires { length texts.old.items < vec_capacity texts.old }
-    ensures { texts.new.items ≡ take done texts.old.items ++ text ∷ [] }
-{
-    texts.truncate(done);
-    match texts.push(text) {
-        Ok(()) => {}
-        Err(_) => unreachable!(),
-    }
+    let mut text = Vec::new(alloc);
+    push_change(&mut text, change)?;
+    Ok(Sequence::from_vec(text))
 }
 
 // What stands between the number of a change and its text.

@@ -1,19 +1,25 @@
 //! What holds of a session whatever it is told, as laws over the definitions that `Session::answer` is proved to follow.
 
-ghost use Rattle.aatry_session.specs.Laws.{BeginsInStep, LeavesInStep, RefusedTurnLeavesAll, StaysInStep};
+ghost use Rattle.aatry_session.specs.Laws.{AddLeavesInStep, AddsAsLinesDo, AddsInStep, BeginsInStep, ForgetsInStep};
+ghost use Rattle.aatry_session.specs.Laws.{LeavesInStep, RefusedTurnLeavesAll, StaysInStep};
 
 use aa_bytes::Sequence;
 use aa_decide::Entry;
 use aa_history::{what_going_to_marks_keeps, what_marks_mark, where_machines_go_back_to};
 use aa_set::the_way_back;
 
-/// A session begins with its history in step with its policy set, and stays so whatever it is told: there are as many texts as there are changes that can
-/// be undone or redone. So it does where memory runs out for the answer. A line that the machine refuses leaves the policy set, its history and the texts as
-/// they were.
+/// A session begins with its history in step with its policy set, and stays so whatever it is told, whichever file is added, and where places are
+/// forgotten: there are as many texts as there are changes that can be undone or redone, and of as many it is kept where profiles were read. So it
+/// does where memory runs out for the answer. To add a file by its name comes to what a line comes to that says so. A line that the machine refuses
+/// leaves the policy set, its history, the texts, and where profiles were read, as they were.
 pub fn the_history_is_in_step()
     ensures begins { BeginsInStep }
     ensures stays { StaysInStep }
     ensures left { LeavesInStep }
+    ensures adds { AddsInStep }
+    ensures left_adding { AddLeavesInStep }
+    ensures forgets { ForgetsInStep }
+    ensures as_lines { AddsAsLinesDo }
     ensures refused { RefusedTurnLeavesAll }
 {
     where_machines_go_back_to::<Sequence<Entry>>();

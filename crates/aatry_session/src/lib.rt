@@ -1,11 +1,14 @@
-//! A session of people at a terminal: the machine over commands, told in words, with the history of its changes.
+//! A session of people at a terminal: the machine over commands, told in words, with the history of its changes, and where its profiles were read.
 #![tactic(auto)]
 
+mod changes;
 mod help;
 mod history;
 mod laws;
+mod making;
 mod moves;
 mod obeying;
+mod origins;
 mod refusals;
 mod sayings;
 mod session;

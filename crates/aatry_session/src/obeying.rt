@@ -1,11 +1,16 @@
 //! A line for the machine over commands, obeyed, and what is told of it.
 
-ghost use Rattle.std.specs.Prelude.{◌≡◌, ◌++◌, ℕ, List, OnErr, OnOk, Some};
+ghost use Rattle.std.specs.Prelude.{◌≡◌, ◌<◌, ◌++◌, ℕ, List, OnErr, OnOk, None, Some, length, vec_capacity};
+ghost use Rattle.aa_set.specs.Laws.{command_in};
+ghost use Rattle.aa_set.specs.Run.{line_outcome};
 ghost use Rattle.aa_set_commands.specs.Command.{seen_change};
-ghost use Rattle.aatry_session.specs.History.{change_in};
-ghost use Rattle.aatry_session.specs.Turns.{Leaves, LeavesAs, Obeys, ObeysAs, reply_told};
+ghost use Rattle.aatry_session.specs.History.{change_in, kept_with};
+ghost use Rattle.aatry_session.specs.SeenSessions.{seen_session};
+ghost use Rattle.aatry_session.specs.Turns.{Adds, AddsOrLeaves, Leaves, LeavesAs, Obeys, ObeysAs, reply_told};
 
-use crate::history::{change_in, keep, push_change};
+use crate::changes::{Changes, keep, make_room};
+use crate::history::{change_in, text_of};
+use crate::making::{Made, add, make};
 use crate::moves::push_moves;
 use crate::refusals::push_refusal;
 use aa_bytes::Sequence;
@@ -38,28 +43,77 @@ fn push_reply(
     }
 }
 
+// Keeps a change that was made, where so many were done before it, and appends what is told of it.
+fn keep_and_tell(
+    alloc: Global,
+    files: &Files,
+    base: &[u8],
+    changes: &mut Changes,
+    done: usize,
+    text: Sequence<u8>,
+    made: Made,
+    out: &mut Vec<u8>,
+) -> Result<(), AllocError>
+    requires text_room { length changes.old.texts.items < vec_capacity changes.old.texts }
+    requires origin_room { length changes.old.origins.items < vec_capacity changes.old.origins }
+    ensures texts { changes.new.texts.items ≡ kept_with done text made.reply changes.old.texts.items }
+    ensures origins { changes.new.origins.items ≡ kept_with done made.origins made.reply changes.old.origins.items }
+    ensures told { OnOk result ((words : List ℕ)
+        × (out.new.items ≡ out.old.items ++ reply_told files.now base.now words changes.new.texts.items done done made.reply)) }
+{
+    let Made { reply, origins } = made;
+    keep(changes, done, text, origins, &reply);
+    push_reply(alloc, files, base, &changes.texts, done, done, &reply, out)
+}
+
 // Obeys a line that makes a change.
 fn obey_change(
     alloc: Global,
     files: &Files,
     base: &[u8],
     manager: &mut Manager,
-    texts: &mut Vec<Sequence<u8>>,
+    changes: &mut Changes,
     change: PolicyChange<'_>,
     line: &[u8],
     out: &mut Vec<u8>,
 ) -> Result<(), AllocError>
-    ensures told { OnOk result (ObeysAs files.now base.now manager.old manager.new texts.old.items texts.new.items (Some (seen_change change.entry))
-        line.now out.old.items out.new.items) }
-    ensures left { OnErr result (LeavesAs files.now manager.old manager.new texts.old.items texts.new.items (Some (seen_change change.entry)) line.now) }
+    requires { change_in (command_in line.now) ≡ Some (seen_change change) }
+    ensures told { OnOk result (ObeysAs files.now base.now (seen_session manager.old changes.old) (seen_session manager.new changes.new)
+        (Some (seen_change change.entry)) (line_outcome files.now manager.old line.now) out.old.items out.new.items) }
+    ensures left { OnErr result (LeavesAs files.now (seen_session manager.old changes.old) (seen_session manager.new changes.new)
+        (Some (seen_change change.entry)) (line_outcome files.now manager.old line.now)) }
 {
-    let mut text = Vec::new(alloc);
-    push_change(&mut text, change)?;
-    texts.reserve(1)?;
+    let text = text_of(alloc, change)?;
+    make_room(changes)?;
     let done = manager.depth();
-    let reply = reply_to(files, manager, line);
-    keep(texts, done, Sequence::from_vec(text), &reply);
-    push_reply(alloc, files, base, texts, done, done, &reply, out)
+    let made = make(alloc, files, manager, change, line);
+    keep_and_tell(alloc, files, base, changes, done, text, made, out)
+}
+
+/// Adds the profiles of a file, keeps that change, and appends what is told of it to a text.
+///
+/// # Errors
+///
+/// Where memory runs out: for what is kept, and nothing is added then; or for what is told, and the change is made and kept. A beginning of what is
+/// told may have been appended.
+pub fn obey_add(
+    alloc: Global,
+    files: &Files,
+    base: &[u8],
+    manager: &mut Manager,
+    changes: &mut Changes,
+    name: &[u8],
+    out: &mut Vec<u8>,
+) -> Result<(), AllocError>
+    ensures told { OnOk result (Adds files.now base.now (seen_session manager.old changes.old) (seen_session manager.new changes.new) name.now
+        out.old.items out.new.items) }
+    ensures left { OnErr result (AddsOrLeaves files.now (seen_session manager.old changes.old) (seen_session manager.new changes.new) name.now) }
+{
+    let text = text_of(alloc, PolicyChange::Add(name))?;
+    make_room(changes)?;
+    let done = manager.depth();
+    let made = add(alloc, files, manager, name);
+    keep_and_tell(alloc, files, base, changes, done, text, made, out)
 }
 
 // Obeys another line.
@@ -68,38 +122,42 @@ fn obey_other(
     files: &Files,
     base: &[u8],
     manager: &mut Manager,
-    texts: &[Sequence<u8>],
+    changes: &Changes,
     line: &[u8],
     out: &mut Vec<u8>,
 ) -> Result<(), AllocError>
-    ensures told { OnOk result (ObeysAs files.now base.now manager.old manager.new texts.now texts.now None line.now out.old.items out.new.items) }
-    ensures left { OnErr result (LeavesAs files.now manager.old manager.new texts.now texts.now None line.now) }
+    ensures told { OnOk result (ObeysAs files.now base.now (seen_session manager.old changes.now) (seen_session manager.new changes.now) None
+        (line_outcome files.now manager.old line.now) out.old.items out.new.items) }
+    ensures left { OnErr result (LeavesAs files.now (seen_session manager.old changes.now) (seen_session manager.new changes.now) None
+        (line_outcome files.now manager.old line.now)) }
 {
     let from = manager.depth();
     let reply = reply_to(files, manager, line);
     let to = manager.depth();
-    push_reply(alloc, files, base, texts, from, to, &reply, out)
+    push_reply(alloc, files, base, &changes.texts, from, to, &reply, out)
 }
 
-/// Obeys a line, keeps the text of its change, if it makes one, and puts what is told of it behind a text.
+/// Obeys a line, keeps the change that it makes, if it makes one, and appends what is told of it to a text.
 ///
 /// # Errors
 ///
-/// Where memory runs out: for the text of a change, and the line isn't obeyed then; or for what is told, and it is. A beginning of that may have been put.
+/// Where memory runs out: for what is kept of a change, and the line isn't obeyed then; or for what is told, and it is. A beginning of that may have
+/// been appended.
 pub fn obey(
     alloc: Global,
     files: &Files,
     base: &[u8],
     manager: &mut Manager,
-    texts: &mut Vec<Sequence<u8>>,
+    changes: &mut Changes,
     line: &[u8],
     out: &mut Vec<u8>,
 ) -> Result<(), AllocError>
-    ensures told { OnOk result (Obeys files.now base.now manager.old manager.new texts.old.items texts.new.items line.now out.old.items out.new.items) }
-    ensures left { OnErr result (Leaves files.now manager.old manager.new texts.old.items texts.new.items line.now) }
+    ensures told { OnOk result (Obeys files.now base.now (seen_session manager.old changes.old) (seen_session manager.new changes.new) line.now
+        out.old.items out.new.items) }
+    ensures left { OnErr result (Leaves files.now (seen_session manager.old changes.old) (seen_session manager.new changes.new) line.now) }
 {
     match change_in(line) {
-        Some(change) => obey_change(alloc, files, base, manager, texts, change, line, out),
-        None => obey_other(alloc, files, base, manager, texts, line, out),
+        Some(change) => obey_change(alloc, files, base, manager, changes, change, line, out),
+        None => obey_other(alloc, files, base, manager, changes, line, out),
     }
 }

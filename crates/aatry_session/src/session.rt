@@ -1,19 +1,22 @@
-//! A session: a manager, and the texts of its changes.
+//! A session: a manager, and what is kept of its changes.
 
-ghost use Rattle.std.specs.Prelude.{◌≡◌, Bool, ℕ, List, IfOk, OnErr};
+ghost use Rattle.std.specs.Prelude.{◌≡◌, Bool, ℕ, List, IfOk, OnErr, option_map};
 ghost use Rattle.aatry_session.specs.Help.{help_text};
 ghost use Rattle.aatry_session.specs.History.{history_lines};
-ghost use Rattle.aatry_session.specs.Turns.{IsLeft, Told, begun, depth, turn_outcome};
+ghost use Rattle.aatry_session.specs.Turns.{IsLeft, IsLeftAdding, Told, add_outcome, begun, depth, origin_of, turn_outcome, unplaced};
 ghost use Rattle.aatry_session.specs.SeenTurns.{IsAskable, seen_turn};
 
+use crate::changes::{Changes, no_changes};
 use crate::help::push_help;
 use crate::history::push_history;
-use crate::obeying::obey;
+use crate::obeying::{obey, obey_add};
+use crate::origins::{forget_all, origin_among};
 use crate::refusals::push_refusal;
 use crate::sayings::{Saying, saying_in};
 use aa_bytes::Sequence;
 use aa_set::{Manager, Question};
 use aa_text_files::Files;
+use aatry_policy::Origin;
 use std::alloc::{AllocError, Global};
 use std::marker::Model;
 
@@ -30,22 +33,23 @@ pub enum Turn<'a> {
     Why(Question<'a>),
 }
 
-/// A policy set with its history, and the texts of the changes that made it.
+/// A policy set with its history, and of each change that made it the text, and where the profiles were read that it loaded.
 ///
-/// Contracts see the manager and these texts: those of the changes that are done, oldest first, and then those of the changes that are undone, the
-/// next to redo first.
+/// Contracts see the manager, these texts and these origins: those of the changes that are done, oldest first, and then those of the changes that are
+/// undone, the next to redo first.
 #[derive(Drop)]
 pub struct Session {
     manager: Manager,
-    texts: Vec<Sequence<u8>>,
+    changes: Changes,
 }
 
 impl Model for Session {
+    ghost use Rattle.aatry_session.specs.SeenSessions.{seen_session};
     ghost use Rattle.aatry_session.specs.Turns.{Kept};
 
     ghost Value = { Kept };
 
-    ghost view = { λ s. record { managed = s.manager; texts = s.texts.items } };
+    ghost view = { λ s. seen_session s.manager s.changes };
 }
 
 impl Session {
@@ -55,7 +59,7 @@ impl Session {
     {
         Session {
             manager: Manager::new(alloc, force_complain),
-            texts: Vec::new(alloc),
+            changes: no_changes(alloc),
         }
     }
 
@@ -66,14 +70,62 @@ impl Session {
         &self.manager
     }
 
+    /// Where the loaded profile of a name was read, as far as that is known: by the last of those changes that are done and loaded a profile of the
+    /// name. So `undo` brings back what was known before. It takes no memory.
+    pub fn origin(&self, profile: &[u8]) -> Option<&Origin>
+        ensures { option_map (λ origin. origin.now) result ≡ origin_of self.now profile.now }
+    {
+        origin_among(&self.changes.origins, self.manager.depth(), profile)
+    }
+
+    /// Forgets where in the files the loaded profiles have what they have, also those of changes that are undone: it is for when the files were read
+    /// anew, and a place in them may hold something else. Of each profile the name of its file is known still. It takes no memory.
+    pub fn forget_places(&mut self)
+        ensures { self.new ≡ unplaced self.old }
+    {
+        forget_all(&mut self.changes.origins);
+    }
+
+    /// Adds the profiles of a file by its name, and tells what the line `add NAME` would be told. A line can't name each file: none names one that has
+    /// a quote in its name. `files` and `base` are as in `answer`.
+    ///
+    /// # Errors
+    ///
+    /// Where memory runs out: for what is kept of the change, and the change isn't made then; or for what is told, and the change is made and kept then
+    /// all the same. So the policy set and its history stay in step, and the session can go on.
+    pub fn add<'a>(
+        &mut self,
+        alloc: Global,
+        files: &Files,
+        base: &str,
+        name: &[u8],
+    ) -> Result<Turn<'a>, AllocError>
+        ensures told { IfOk result (λ turn. (flag : Bool) × (words : List ℕ)
+            × (record { answer = seen_turn turn; kept = self.new } ≡ add_outcome files.now base.now words self.old name.now flag)) }
+        ensures askable { IfOk result IsAskable }
+        ensures left { OnErr result (IsLeftAdding files.now self.old self.new name.now) }
+    {
+        let mut out = Vec::new(alloc);
+        obey_add(
+            alloc,
+            files,
+            base.as_bytes(),
+            &mut self.manager,
+            &mut self.changes,
+            name,
+            &mut out,
+        )?;
+        Ok(Turn::Told(Sequence::from_vec(out)))
+    }
+
     /// Answers a line, which has no line feed at its end: a command of the machine (`docs/commands.md`) is obeyed as the machine obeys it, and told in
     /// words; the session's own commands are `help`, `history`, `quit`, `reload` and `why`. `files` are those that changes load, taken from the folder
     /// `base`, which has no `/` at its end.
     ///
     /// # Errors
     ///
-    /// Where memory runs out: for the text of a change, and the change isn't made then; or for what is told, and a command of the machine is obeyed then
-    /// all the same, with its text kept. So the policy set and its history stay in step, and the session can go on.
+    /// Where memory runs out: for what is kept of a change, and the change isn't made then; or for what is told, and a command of the machine is obeyed
+    /// then all the same, with its change kept. So the policy set and its history stay in step, and the session can go on.
     pub fn answer<'a>(
         &mut self,
         alloc: Global,
@@ -94,7 +146,7 @@ impl Session {
                     files,
                     base.as_bytes(),
                     &mut self.manager,
-                    &mut self.texts,
+                    &mut self.changes,
                     line,
                     &mut out,
                 )?;
@@ -123,7 +175,7 @@ impl Session {
             &mut out,
             self.manager.depth(),
             self.manager.marks(),
-            &self.texts,
+            &self.changes.texts,
         )?;
         Ok(Turn::Told(Sequence::from_vec(out)))
     }

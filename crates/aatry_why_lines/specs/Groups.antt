@@ -1,6 +1,6 @@
 -- The rules behind an answer by what they do.
-use Rattle.std.specs.Prelude.{ℕ, Bool, not, ◌&&◌, ◌==◌, List, codes}
-use Rattle.std.specs.List.{filter}
+use Rattle.std.specs.Prelude.{ℕ, Bool, true, false, not, ◌&&◌, ◌==◌, List, codes}
+use Rattle.std.specs.List.{filter, list_any}
 use Rattle.aa_explain.specs.Laws.{places_of}
 use Rattle.aa_explain.specs.declared.told.ToldRule.{ToldRule}
 use Rattle.aatry_why_lines.specs.declared.groups.Group.{Group}
@@ -10,21 +10,26 @@ use Rattle.aatry_why_lines.specs.declared.groups.Group.TheVariants.{Allowing, Au
 abbrev pub heading : Group → List ℕ
 heading Denying = codes "denied by"
 heading Allowing = codes "allowed by"
-heading Auditing = codes "audited by"
+heading (Auditing denied) = codes "audited by"
 
 -- a rule covers something of what is asked for
 abbrev pub does_something : ToldRule → Bool
 does_something rule = not (rule.covered.0 == 0)
 
--- what a rule does puts it into a group
+-- What a rule does puts it into a group. What is logged is what rules deny, where something is denied, and else what they allow.
 abbrev pub does : Group → ToldRule → Bool
 does Denying rule = rule.denies
 does Allowing rule = not rule.denies
-does Auditing rule = rule.audited
+does (Auditing true) rule = rule.audited && rule.denies
+does (Auditing false) rule = rule.audited && not rule.denies
 
 -- a rule is in a group
 abbrev pub is_in : Group → ToldRule → Bool
 is_in group rule = does_something rule && does group rule
+
+-- some of the rules deny something of what is asked for
+abbrev pub is_denied : List ToldRule → Bool
+is_denied told = list_any (is_in Denying) told
 
 -- the places of the rules of a group
 abbrev pub places_in : Group → List ToldRule → List ℕ

@@ -1,4 +1,3 @@
-pub mod Askers
 pub mod Groups
 pub mod Lines
 pub mod Why

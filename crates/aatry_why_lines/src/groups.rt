@@ -1,7 +1,7 @@
 //! The rules behind an answer by what they do.
 
 ghost use Rattle.std.specs.Prelude.{◌≡◌, IfOk};
-ghost use Rattle.aatry_why_lines.specs.Groups.{does, does_something, heading, is_in, places_in};
+ghost use Rattle.aatry_why_lines.specs.Groups.{does, does_something, heading, is_denied, is_in, places_in};
 
 use aa_explain::ToldRule;
 use bitflags::Flags;
@@ -14,8 +14,11 @@ pub enum Group {
     Denying,
     /// They allow what they cover.
     Allowing,
-    /// What they do is logged.
-    Auditing,
+    /// What they do is logged: what they deny, where something is denied, and else what they allow.
+    Auditing {
+        /// Whether something is denied.
+        denied: bool,
+    },
 }
 
 /// The words over the rules of a group.
@@ -25,7 +28,7 @@ pub fn heading(group: Group) -> &'static str
     match group {
         Group::Denying => "denied by",
         Group::Allowing => "allowed by",
-        Group::Auditing => "audited by",
+        Group::Auditing { .. } => "audited by",
     }
 }
 
@@ -43,8 +46,16 @@ fn does(group: Group, rule: &ToldRule) -> bool
     match group {
         Group::Denying => rule.denies,
         Group::Allowing => !rule.denies,
-        Group::Auditing => rule.audited,
+        Group::Auditing { denied: true } => rule.audited && rule.denies,
+        Group::Auditing { denied: false } => rule.audited && !rule.denies,
     }
+}
+
+/// Whether some of the rules deny something of what is asked for.
+pub fn is_denied(told: &[ToldRule]) -> bool
+    ensures { result ≡ is_denied told.now }
+{
+    told.iter().any(|rule| is_in(Group::Denying, rule))
 }
 
 // Whether a rule is in a group.

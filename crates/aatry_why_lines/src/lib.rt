@@ -1,7 +1,6 @@
 //! What is told of the rules behind an answer, as lines or as records: each with the line and the column where it is written.
 #![tactic(auto)]
 
-mod asker;
 mod groups;
 mod lines;
 mod why;

@@ -1,26 +1,19 @@
 //! What is told of the rules behind an answer.
 
-ghost use Rattle.std.specs.Prelude.{◌≡◌, ◌≢◌, ◌++◌, ℕ, List, Option, true, false, Ok, Err, IfErr, IfOk, OnOk};
-ghost use Rattle.aa_profile.specs.FileReading.{file_profiles};
+ghost use Rattle.std.specs.Prelude.{◌≡◌, ◌++◌, IfOk, OnOk};
 ghost use Rattle.aa_profile_access.specs.SeenRequests.{request_of};
-ghost use Rattle.aa_profile_errors.specs.ProfileError.{plain};
-ghost use Rattle.aa_profile_errors.specs.declared.profile_error.ProfileRefusal.TheVariants.{Memory};
-ghost use Rattle.aatry_why_lines.specs.Askers.{HasNoAsker, IsAsker};
-ghost use Rattle.aatry_why_lines.specs.Why.{TellWhy, allowing_lines, audits_in, deciding, deciding_lines, lacking_lines, lines_of};
-ghost use Rattle.aatry_why_lines.specs.Why.{missing_lines, nearest_lines, rules_in, stands_in, told_lines, why_lines};
+ghost use Rattle.aatry_why_lines.specs.Why.{allowing_lines, auditing_lines, deciding, deciding_lines, lacking_lines, lines_of};
+ghost use Rattle.aatry_why_lines.specs.Why.{missing_lines, nearest_lines, told_lines, why_lines};
 ghost use Rattle.aatry_why_lines.specs.Written.{seen_rules};
 ghost use Rattle.aa_explain.specs.Missing.{missing_rule};
 ghost use Rattle.aa_explain.specs.Told.{told};
 
-use crate::asker::asker_in;
-use crate::groups::{Group, heading, places_in};
+use crate::groups::{Group, heading, is_denied, places_in};
 use crate::lines::{push_group, push_lines, push_missing};
 use crate::written::WrittenRules;
 use aa_explain::{ToldRule, leading_rules, missing_rule, near_rules, told_rules};
-use aa_profile::{Profile, ProfileError, Rule, read_file};
 use aa_profile_access::{Perms, Request};
-use aa_profile_places::{Place, ProfilePlaces, rule_places};
-use aa_text_files::Files;
+use aa_profile_data::Rule;
 use aatry_report::Form;
 use bitflags::Flags;
 use std::alloc::{AllocError, Global};
@@ -145,19 +138,38 @@ pub fn push_allowing(
     )
 }
 
+// Appends the lines of the rules to a text whose doings are logged; none where something of the request isn't allowed.
+fn push_auditing(
+    alloc: Global,
+    form: Form,
+    written: &WrittenRules<'_>,
+    told: &[ToldRule],
+    lacking: bool,
+    out: &mut Vec<u8>,
+) -> Result<(), AllocError>
+    ensures { OnOk result (out.new.items ≡ out.old.items ++ auditing_lines form (seen_rules written.now) lacking told.now) }
+{
+    if lacking {
+        return Ok(());
+    }
+    let denied = is_denied(told);
+    push_told_group(alloc, form, written, told, Group::Auditing { denied }, out)
+}
+
 // Puts the lines of the rules of each group behind a text.
 fn push_groups(
     alloc: Global,
     form: Form,
     written: &WrittenRules<'_>,
     told: &[ToldRule],
+    lacking: bool,
     out: &mut Vec<u8>,
 ) -> Result<(), AllocError>
-    ensures { OnOk result (out.new.items ≡ out.old.items ++ told_lines form (seen_rules written.now) told.now) }
+    ensures { OnOk result (out.new.items ≡ out.old.items ++ told_lines form (seen_rules written.now) lacking told.now) }
 {
     push_told_group(alloc, form, written, told, Group::Denying, out)?;
     push_told_group(alloc, form, written, told, Group::Allowing, out)?;
-    push_told_group(alloc, form, written, told, Group::Auditing, out)
+    push_auditing(alloc, form, written, told, lacking, out)
 }
 
 // Puts the lines of the rules that apply to a request behind a text.
@@ -166,18 +178,28 @@ fn push_applying(
     form: Form,
     written: &WrittenRules<'_>,
     request: &Request<'_>,
+    lacking: bool,
     out: &mut Vec<u8>,
 ) -> Result<(), AllocError>
     ensures { OnOk result (out.new.items
         ≡ out.old.items
-        ++ told_lines form (seen_rules written.now) (told written.now.audit (request_of request.entry.now) written.now.rules.now)) }
+        ++ told_lines form (seen_rules written.now) lacking (told written.now.audit (request_of request.entry.now) written.now.rules.now)) }
 {
     let told = told_rules(alloc, written.audit, written.rules, request)?;
-    push_groups(alloc, form, written, &told, out)
+    push_groups(alloc, form, written, &told, lacking, out)
 }
 
-// Puts the lines of the rules behind the answer to a request behind a text.
-fn push_rules(
+/// Appends the rules behind the answer to a request to a text, as they decide it: those that deny, that allow, and by which the answer is logged, those that
+/// decide where a program runs, where its start is asked for, each group below its words, and, where `lacking` says that something of it isn't allowed, the
+/// rule that is missing (`aa_explain::missing_rule`) and those that are near. A rule that is in two groups is told in both. Each has a line of its own:
+/// `base` with the file's name, the line and the column where it is written, and the rule as `show` tells it. As records, of the kind `rule`, these are
+/// `file`, `line` and `column`, and `rule`, with the words of the group, `group`, in each and none above; the missing rule, of the kind `missing`, has
+/// `rule` alone.
+///
+/// # Errors
+///
+/// Where memory runs out. A beginning may have been appended then.
+pub fn push_why(
     alloc: Global,
     form: Form,
     written: &WrittenRules<'_>,
@@ -187,124 +209,7 @@ fn push_rules(
 ) -> Result<(), AllocError>
     ensures { OnOk result (out.new.items ≡ out.old.items ++ why_lines form (seen_rules written.now) (request_of request.entry.now) lacking) }
 {
-    push_applying(alloc, form, written, request, out)?;
+    push_applying(alloc, form, written, request, lacking, out)?;
     push_deciding(alloc, form, written, request, out)?;
     push_lacking(alloc, form, written, request, lacking, out)
-}
-
-// The rules of the profile at an index, or of its child or hat.
-fn rules_in(profiles: &[Profile], index: usize, child: Option<usize>) -> &[Rule]
-    ensures { result.now ≡ rules_in profiles.now index child }
-{
-    let Some(profile) = profiles.get(index) else {
-        return &[];
-    };
-    match child {
-        None => profile.rules.as_slice(),
-        Some(child) => match profile.children.as_slice().get(child) {
-            None => &[],
-            Some(child) => child.rules.as_slice(),
-        },
-    }
-}
-
-// Whether its flag audits each of them.
-fn audits_in(profiles: &[Profile], index: usize, child: Option<usize>) -> bool
-    ensures { result ≡ audits_in profiles.now index child }
-{
-    let Some(profile) = profiles.get(index) else {
-        return false;
-    };
-    match child {
-        None => profile.audit,
-        Some(child) => match profile.children.as_slice().get(child) {
-            None => false,
-            Some(child) => child.audit,
-        },
-    }
-}
-
-// Where they stand.
-fn stands_in(places: &[ProfilePlaces], index: usize, child: Option<usize>) -> &[Option<Place>]
-    ensures { result.now ≡ stands_in places.now index child }
-{
-    let Some(own) = places.get(index) else {
-        return &[];
-    };
-    match child {
-        None => own.rules.as_slice(),
-        Some(child) => match own.children.as_slice().get(child) {
-            None => &[],
-            Some(places) => places.as_slice(),
-        },
-    }
-}
-
-// Puts the lines of the rules behind the answer to a request behind a text, of the profiles that a file spells.
-fn push_read(
-    alloc: Global,
-    form: Form,
-    files: &Files,
-    base: &[u8],
-    name: &[u8],
-    profiles: &[Profile],
-    index: usize,
-    child: Option<usize>,
-    request: &Request<'_>,
-    lacking: bool,
-    out: &mut Vec<u8>,
-) -> Result<(), AllocError>
-    requires { file_profiles files.now name.now ≡ Ok profiles.now }
-    ensures { OnOk result ((lines : List ℕ) × (out.new.items ≡ out.old.items ++ lines)
-        × TellWhy form files.now base.now name.now index child (request_of request.entry.now) lacking lines) }
-{
-    let places = rule_places(alloc, files, name)?;
-    let written = WrittenRules {
-        files,
-        base,
-        name,
-        audit: audits_in(profiles, index, child),
-        rules: rules_in(profiles, index, child),
-        places: stands_in(&places, index, child),
-    };
-    push_rules(alloc, form, &written, request, lacking, out)?;
-    Ok(())
-}
-
-/// Puts the rules behind the answer to a request behind a text, as who asks by a full name decides it, a profile of a file or a child or hat of one: the
-/// rules that deny, that allow and that audit what is asked for, those that decide where a program runs, where its start is asked for, each group below
-/// its words, and, where `lacking` says that something of it isn't allowed, the rule that is missing (`aa_explain::missing_rule`) and those that are near.
-/// A rule that is in two groups is told in both. Each has a line of its own: `base` with the file's name, the line and the column where it is written,
-/// and the rule as `show` tells it. As records, of the kind `rule`, these are `file`, `line` and `column`, and `rule`, with the words of the group,
-/// `group`, in each and none above; the missing rule, of the kind `missing`, has `rule` alone. It says whether the file has who asks; where it hasn't,
-/// nothing is put.
-///
-/// # Errors
-///
-/// As `aa_profile::read_file` refuses the file, or `Memory`, without a place, where memory ran out. A beginning may have been put then.
-pub fn push_why(
-    alloc: Global,
-    form: Form,
-    files: &Files,
-    base: &[u8],
-    name: &[u8],
-    who: &[u8],
-    request: &Request<'_>,
-    lacking: bool,
-    out: &mut Vec<u8>,
-) -> Result<bool, ProfileError>
-    ensures told { IfOk result (λ found. found ≡ true → (index : ℕ) × (child : Option ℕ) × (lines : List ℕ)
-        × IsAsker files.now name.now who.now index child × (out.new.items ≡ out.old.items ++ lines)
-        × TellWhy form files.now base.now name.now index child (request_of request.entry.now) lacking lines) }
-    ensures absent { IfOk result (λ found. found ≡ false → HasNoAsker files.now name.now who.now × (out.new.items ≡ out.old.items)) }
-    ensures refused { IfErr result (λ error. error ≢ plain Memory → file_profiles files.now name.now ≡ Err error) }
-{
-    let profiles = read_file(alloc, files, name)?;
-    let Some((index, child)) = asker_in(&profiles, who) else {
-        return Ok(false);
-    };
-    push_read(
-        alloc, form, files, base, name, &profiles, index, child, request, lacking, out,
-    )?;
-    Ok(true)
 }

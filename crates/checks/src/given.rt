@@ -33,7 +33,8 @@ fn last_of(profiles: Vec<Profile>) -> Option<Profile>
 pub fn last_profile(alloc: Global, files: &Files, name: &[u8]) -> Option<Profile>
     ensures { IfSome result (λ profile. profile_agrees profile ≡ true) }
 {
-    last_of(read_file(alloc, files, name).ok()?)
+    let read = read_file(alloc, files, name).ok()?;
+    last_of(read.profiles)
 }
 
 /// A manager with the profiles of a text.

@@ -1,27 +1,15 @@
 -- How far the look for the first conflict has come, told by what is there.
 use Rattle.std.specs.Option.{option_map}
-use Rattle.std.specs.Prelude.{◌≡◌, ℕ, Bool, ◌&&◌, is_none, List, [], ◌++◌, length, nat_le, Option, None}
-use Rattle.std.specs.List.{list_all}
+use Rattle.std.specs.Prelude.{◌≡◌, ℕ, List, [], ◌++◌, Option, None}
 use Rattle.aa_text_files.specs.declared.text_error.Place.{Place}
-use Rattle.aa_text_splicing.specs.Splicing.{Placed}
-use Rattle.aa_text_variables.specs.Expansions.{expansion_refusal, expansions}
 use Rattle.aa_text_variables.specs.Variables.{Variable}
 use Rattle.aa_profile_data.specs.Conflicts.{first_conflict}
 use Rattle.aa_profile_data.specs.declared.profile.Rule.{Rule}
 use Rattle.aa_profile_grammar.specs.Blocks.{Member}
-use Rattle.aa_profile_parsing.specs.Tokens.{place_of, text_of}
+use Rattle.aa_profile_parsing.specs.Tokens.{place_of}
 use Rattle.aa_profile_rules.specs.Rules.{Rule as WrittenRule}
 use Rattle.aa_profile.specs.Conflicts.{conflict_in_members, conflict_in_rule, conflict_in_rules}
-use Rattle.aa_profile_patterns.specs.Limits.{most_rules}
 use Rattle.aa_profile.specs.Profiles.{rules_of, rules_of_members, rules_of_rule}
-
--- a token has expansions, and no more than a file may have rules
-abbrev pub is_counted : List Variable → Placed → Bool
-is_counted variables token = is_none (expansion_refusal variables (text_of token)) && nat_le (length (expansions variables (text_of token))) most_rules
-
--- each of some tokens does
-abbrev pub are_counted : List Variable → List Placed → Bool
-are_counted variables tokens = list_all (is_counted variables) tokens
 
 -- What is told of a written rule, where the first conflict among its rules and those behind them stands so many rules on, if there is one: its
 -- pattern, if it stands in this one, and else how many rules on it stands behind this one.

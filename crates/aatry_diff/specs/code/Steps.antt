@@ -1,24 +1,27 @@
--- What is put for one question.
-use Rattle.std.specs.Prelude.{ℕ, if◌then◌else◌, List, [], Option, None, Some}
+-- What is found of one question, and what is told of folders by what is found.
+use Rattle.std.specs.Prelude.{ℕ, Bool, ◌==◌, ◌&&◌, if◌then◌else◌, List, [], ◌∷◌, ◌++◌, Option, None, Some, length}
 use Rattle.aa_decide_slots.specs.Entries.{Loaded}
-use Rattle.aatry_requests.specs.Tallies.{Tally}
-use Rattle.aatry_diff.specs.Differences.{difference_text, differs}
+use Rattle.aatry_changes.specs.Changes.{change_lines, changed_count}
+use Rattle.aatry_diff.specs.Differing.{Difference, difference_of, differs}
 use Rattle.aatry_diff.specs.Folders.{BothFolders}
+use Rattle.aatry_diff.specs.Sources.{told_requests}
 use Rattle.aatry_report.specs.declared.form.Form.{Form}
+use Rattle.aatry_requests.specs.Gathering.{Gathered}
+use Rattle.aatry_requests.specs.Tallies.{Tally}
 
--- what is told of it, where it is answered otherwise
-abbrev pub lines_of : Form → BothFolders → List Loaded → List Loaded → Tally → List ℕ
-lines_of form folders old new tally = if differs old new tally then difference_text form folders old new tally else []
-
--- how many questions that are
-abbrev pub count_of : List Loaded → List Loaded → Tally → ℕ
-count_of old new tally = if differs old new tally then 1 else 0
+-- the question with what the policy sets answer, where they answer it otherwise
+abbrev pub difference_if : List Loaded → List Loaded → Tally → List Difference
+difference_if old new tally = if differs old new tally then difference_of old new tally ∷ [] else []
 
 -- the same, if there is a question
-abbrev pub lines_at : Form → BothFolders → List Loaded → List Loaded → Option Tally → List ℕ
-lines_at form folders old new None = []
-lines_at form folders old new (Some tally) = lines_of form folders old new tally
+abbrev pub difference_at : List Loaded → List Loaded → Option Tally → List Difference
+difference_at old new None = []
+difference_at old new (Some tally) = difference_if old new tally
 
-abbrev pub count_at : List Loaded → List Loaded → Option Tally → ℕ
-count_at old new None = 0
-count_at old new (Some tally) = count_of old new tally
+-- what is told of two folders, of whose policy sets this is found
+abbrev pub compared_text : Form → BothFolders → Option Gathered → List Difference → List ℕ
+compared_text form folders requests found = change_lines form folders.old folders.new ++ told_requests form folders requests found
+
+-- nothing differs of them
+abbrev pub nothing_differs : BothFolders → List Difference → Bool
+nothing_differs folders found = changed_count folders.old folders.new == 0 && length found == 0

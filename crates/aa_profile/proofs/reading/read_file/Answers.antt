@@ -15,15 +15,15 @@ read_written-requires c = assignments-valued (seen_tokens c.deref.result.now) (s
 
 pub returns-clause-distinct : goal.returns-clause-distinct
 returns-clause-distinct c =
-    IfOk-weaker c.read_written.result _ _ (λ profiles fit. fit.distinct) (fit-told ProfilesFit (λ variables tokens written is fine. profiles-fit variables tokens written is) (seen_tokens c.deref.result.now) (seen_file c.in_ok-file.file) c.read_written.result c.in_ok-file.ensures.ok c.read_written.ensures.ok)
+    IfOk-weaker c.read_written.result _ _ (λ read fit. fit.distinct) (fit-told ProfilesFit (λ variables tokens written is fine. profiles-fit variables tokens written is) (seen_tokens c.deref.result.now) (seen_file c.in_ok-file.file) c.read_written.result c.in_ok-file.ensures.ok c.read_written.ensures.ok)
 
 pub returns-clause-named : goal.returns-clause-named
 returns-clause-named c =
-    IfOk-weaker c.read_written.result _ _ (λ profiles fit. fit.named) (fit-told ProfilesFit (λ variables tokens written is fine. profiles-fit variables tokens written is) (seen_tokens c.deref.result.now) (seen_file c.in_ok-file.file) c.read_written.result c.in_ok-file.ensures.ok c.read_written.ensures.ok)
+    IfOk-weaker c.read_written.result _ _ (λ read fit. fit.named) (fit-told ProfilesFit (λ variables tokens written is fine. profiles-fit variables tokens written is) (seen_tokens c.deref.result.now) (seen_file c.in_ok-file.file) c.read_written.result c.in_ok-file.ensures.ok c.read_written.ensures.ok)
 
 pub returns-clause-children : goal.returns-clause-children
 returns-clause-children c =
-    IfOk-weaker c.read_written.result _ _ (λ profiles fit. fit.children) (fit-told ProfilesFit (λ variables tokens written is fine. profiles-fit variables tokens written is) (seen_tokens c.deref.result.now) (seen_file c.in_ok-file.file) c.read_written.result c.in_ok-file.ensures.ok c.read_written.ensures.ok)
+    IfOk-weaker c.read_written.result _ _ (λ read fit. fit.children) (fit-told ProfilesFit (λ variables tokens written is fine. profiles-fit variables tokens written is) (seen_tokens c.deref.result.now) (seen_file c.in_ok-file.file) c.read_written.result c.in_ok-file.ensures.ok c.read_written.ensures.ok)
 
 pub returns-clause-numbers : goal.returns-clause-numbers
 returns-clause-numbers c =

@@ -8,7 +8,7 @@ use Rattle.aatry_policy.specs.SeenProfiles.{seen_part}
 -- the text so far, with what is told of the lines that are left, is all
 abbrev pub invariant-loop-rest : goal.invariant-loop-rest
 invariant-loop-rest l =
-    let text = told_lines l.form (seen_folder l.folder) (seen_part l.part) l.blanks l.side in
+    let text = told_lines l.form (seen_folder l.own.folder.now) (seen_part l.own.part.now) l.blanks l.own.side in
     l.out.items ++ text (seen_lines l.rest) ≡ l.initial.out.items ++ text (seen_lines l.lines)
 
 abbrev pub decreases-loop-rest : goal.decreases-loop-rest

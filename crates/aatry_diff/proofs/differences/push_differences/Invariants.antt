@@ -1,18 +1,14 @@
-use Rattle.std.proofs.Common.{◌≡◌, ◌≤◌, ◌+◌, ◌++◌, drop, length}
-use Rattle.aatry_diff.specs.Differences.{difference_lines, differing}
+use Rattle.std.proofs.Common.{◌≡◌, ◌++◌, length}
+use Rattle.aatry_diff.specs.Differences.{told_differences}
 use Rattle.aatry_diff.specs.Folders.{seen_folders}
+use Rattle.aatry_diff.specs.SeenDifferences.{seen_differences}
 use Rattle.aatry_diff.proofs.differences.push_differences.Given as goal
 
--- what was told so far and what the others give are all, and both policy sets are as they were
-abbrev pub invariant-loop-place : goal.invariant-loop-place
-invariant-loop-place l =
-    let old = l.initial.old.machine.now in
-    let new = l.initial.new.machine.now in
-    let folders = seen_folders l.folders in
-    record {
-      told : l.out.items ++ difference_lines l.form folders old new (drop l.place l.tallies) ≡ l.initial.out.items ++ difference_lines l.form folders old new l.tallies;
-      count : l.count + length (differing old new (drop l.place l.tallies)) ≡ length (differing old new l.tallies);
-      few : l.count ≤ l.place;
-      old : l.old ≡ l.initial.old;
-      new : l.new ≡ l.initial.new;
-    }
+-- the text so far, with what is told of the questions that are left, is all
+abbrev pub invariant-loop-rest : goal.invariant-loop-rest
+invariant-loop-rest l =
+    let text = told_differences l.form (seen_folders l.folders) in
+    l.out.items ++ text (seen_differences l.rest) ≡ l.initial.out.items ++ text (seen_differences l.differences)
+
+abbrev pub decreases-loop-rest : goal.decreases-loop-rest
+decreases-loop-rest l = length l.rest

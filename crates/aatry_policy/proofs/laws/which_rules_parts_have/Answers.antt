@@ -3,5 +3,5 @@ use Rattle.aatry_policy.proofs.laws.which_rules_parts_have.Goals as goal
 
 pub returns : goal.returns
 returns c =
-    which-rules c.what_changes_keep.ensures c.where_listed_names_lead.ensures c.where_rules_are_made.ensures
+    which-rules c.what_changes_keep.ensures c.where_listed_names_lead.ensures
     c.how_profiles_are_named.ensures.each_name_is_as_the_grammar_says c.how_profiles_are_named.ensures.no_two_children_have_one_name

@@ -3,11 +3,8 @@ use Rattle.std.proofs.lemmas.Result.{err_from_is_err_and}
 use Rattle.aatry_program.specs.code.Sessions.{standing}
 use Rattle.aatry_program.proofs.session.run.Goals as goal
 
-pub step-requires-clause-reads : goal.step-requires-clause-reads
-step-requires-clause-reads g c = omega (arith, c.loop-count.invariant.reads, c.requires.reads, c.loop-count-test.true)
-
-pub step-requires-clause-top : goal.step-requires-clause-top
-step-requires-clause-top g c = c.loop-count.invariant.top
+pub step-requires : goal.step-requires
+step-requires g c = omega (arith, c.loop-count.invariant.reads, c.requires, c.loop-count-test.true)
 
 -- the fault of a step, behind those so far
 pub returns-in_err-goes-clause-broken : goal.returns-in_err-goes-clause-broken
@@ -47,5 +44,4 @@ loop-count-preserved g c =
         omega (arith, so_far.answers.2),
       );
       reads = omega (arith, so_far.reads, c.step.ensures.bound);
-      top = c.step.ensures.top;
     }

@@ -2,7 +2,7 @@ use Rattle.std.proofs.Common.{◌≡◌, ◌≤◌, ◌+◌, ℕ, List, length}
 use Rattle.std.specs.Prelude.{◌*◌}
 use Rattle.aatry_program.specs.Inputs.{most_reads}
 use Rattle.aatry_program.specs.Session.{Answers}
-use Rattle.aatry_program.specs.code.Sessions.{AreAtTop, standing}
+use Rattle.aatry_program.specs.code.Sessions.{standing}
 use Rattle.aatry_program.proofs.session.run.Given as goal
 
 -- as many lines as were counted were answered one behind the other, each with no more reads than a line may take
@@ -13,5 +13,4 @@ invariant-loop-count g l = record {
       (standing (g.S.Source.left l.reader) l.lines.input (g.W.Sink.written l.writer) l.table)
       × (length lines ≡ l._count);
   reads : g.S.Source.reads l.reader ≤ g.S.Source.reads l.initial.reader + l._count * most_reads;
-  top : AreAtTop l.table.policy;
 }

@@ -1,21 +1,27 @@
-use Rattle.std.proofs.Common.{◌++◌, ◌∙◌, ap}
+use Rattle.std.proofs.Common.{◌∙◌, ap}
+use Rattle.aa_set.specs.Run.{line_outcome}
 use Rattle.aa_set_commands.specs.Command.{seen_change}
-use Rattle.aatry_session.specs.History.{change_text}
-use Rattle.aatry_session.proofs.ObeyLemmas.{left-change, obeyed-change}
+use Rattle.aatry_session.specs.History.{kept_with}
+use Rattle.aatry_session.specs.SeenSessions.{seen_session}
+use Rattle.aatry_session.proofs.ObeyLemmas.{obeyed-change}
 use Rattle.aatry_session.proofs.obeying.obey_change.Goals as goal
 
 pub returns-clause-told : goal.returns-clause-told
 returns-clause-told c =
-    obeyed-change c.push_reply.result c.args.files.now c.args.base.now c.args.manager.now c.reply_to-reply.new.manager c.args.texts.now.items c.reserve.new.self.items
-    c.keep.new.texts.items c.deref.result.now (seen_change c.args.change) c.args.line.now c.args.out.now.items c.push_reply.new.out.items c.reply_to-reply.ensures.0
-    c.reply_to-reply.result c.depth-done.result c.from_vec.result c.reply_to-reply.ensures.1 c.depth-done.ensures
-    (c.from_vec.ensures ∙ c.in_ok-push_change.ensures ∙ ap (λ l. l ++ change_text (seen_change c.args.change)) c.new-text.ensures.items) c.reserve.ensures.items
-    c.keep.ensures c.deref.ensures.value c.push_reply.ensures
-
-pub returns-clause-left : goal.returns-clause-left
-returns-clause-left c =
-    left-change c.push_reply.result c.args.files.now c.args.manager.now c.reply_to-reply.new.manager c.args.texts.now.items c.reserve.new.self.items
-    c.keep.new.texts.items (seen_change c.args.change) c.args.line.now c.reply_to-reply.ensures.0 c.reply_to-reply.result c.depth-done.result c.from_vec.result
-    c.reply_to-reply.ensures.1 c.depth-done.ensures
-    (c.from_vec.ensures ∙ c.in_ok-push_change.ensures ∙ ap (λ l. l ++ change_text (seen_change c.args.change)) c.new-text.ensures.items) c.reserve.ensures.items
-    c.keep.ensures
+    let before = seen_session c.args.manager.now c.args.changes.now in
+    let after = seen_session c.make-made.new.manager c.keep_and_tell.new.changes in
+    let reply = c.make-made.result.reply in
+    obeyed-change c.keep_and_tell.result c.args.files.now c.args.base.now before after (seen_change c.args.change) (line_outcome c.args.files.now c.args.manager.now c.args.line.now) c.args.out.now.items c.keep_and_tell.new.out.items
+    (record {
+      flag = c.make-made.ensures.reply.0;
+      reply = reply;
+      own = c.make-made.result.origins;
+      done = c.depth-done.result;
+      text = c.in_ok-text.text;
+      is = c.make-made.ensures.reply.1;
+      loaded = c.make-made.ensures.origins;
+      first = c.depth-done.ensures;
+      named = c.in_ok-text.ensures;
+      texts = c.keep_and_tell.ensures.texts ∙ ap (kept_with c.depth-done.result c.in_ok-text.text reply) c.make_room.ensures.texts;
+      origins = c.keep_and_tell.ensures.origins ∙ ap (kept_with c.depth-done.result c.make-made.result.origins reply) c.make_room.ensures.origins;
+    }) c.keep_and_tell.ensures.told

@@ -22,7 +22,7 @@ invariant_of-self c =
     (of-ok (λ exchange. with_removed (filled c.state.result.now) c.as_slice.result.now ≡ Ok (filled (after c.state.result.now exchange.parts)))
     (λ exchange. by_file (with_removed (filled c.self.inside.journal.machine.now)) (file_profiles c.args.files.now c.args.name.now) ≡ Ok (filled (after c.state.result.now exchange.parts))) c.removing-exchange.result c.removing-exchange.ensures.ok
     (λ exchange is. by-file with_removed c.args.files.now c.args.name.now (filled c.state.result.now) (filled c.self.inside.journal.machine.now) c.as_slice.result.now
-    (Ok (filled (after c.state.result.now exchange.parts))) (c.in_ok-profiles.ensures.ok ∙ ap (λ (profiles : List Profile). Ok profiles) (sym c.as_slice.ensures.value)) (entries-seen c.state.result.now c.self.inside.journal.machine.now c.state.ensures) is))
+    (Ok (filled (after c.state.result.now exchange.parts))) (c.in_ok-read.ensures.ok ∙ ap (λ (profiles : List Profile). Ok profiles) (sym c.as_slice.ensures.value)) (entries-seen c.state.result.now c.self.inside.journal.machine.now c.state.ensures) is))
     c.self.invariant
     (c.what_changes_keep.ensures c.args.files.now c.self.inside.force_complain (filled c.self.inside.journal.machine.now) (Remove c.args.name.now) (now-distinct c.self.inside.journal c.self.invariant))
 
@@ -35,9 +35,9 @@ returns-clause-ok c =
     (of-ok (λ exchange. with_removed (filled c.state.result.now) c.as_slice.result.now ≡ Ok (filled (after c.state.result.now exchange.parts)))
     (λ exchange. by_file (with_removed (filled c.self.inside.journal.machine.now)) (file_profiles c.args.files.now c.args.name.now) ≡ Ok (filled (after c.state.result.now exchange.parts))) c.removing-exchange.result c.removing-exchange.ensures.ok
     (λ exchange is. by-file with_removed c.args.files.now c.args.name.now (filled c.state.result.now) (filled c.self.inside.journal.machine.now) c.as_slice.result.now
-    (Ok (filled (after c.state.result.now exchange.parts))) (c.in_ok-profiles.ensures.ok ∙ ap (λ (profiles : List Profile). Ok profiles) (sym c.as_slice.ensures.value)) (entries-seen c.state.result.now c.self.inside.journal.machine.now c.state.ensures) is))
+    (Ok (filled (after c.state.result.now exchange.parts))) (c.in_ok-read.ensures.ok ∙ ap (λ (profiles : List Profile). Ok profiles) (sym c.as_slice.ensures.value)) (entries-seen c.state.result.now c.self.inside.journal.machine.now c.state.ensures) is))
     (of-ok (λ exchange. length exchange.parts ≡ length c.as_slice.result.now) (λ exchange. length exchange.parts ≡ profile_count (file_profiles c.args.files.now c.args.name.now)) c.removing-exchange.result
-    c.removing-exchange.ensures.parts (λ exchange is. file-parts c.args.files.now c.args.name.now c.as_slice.result.now (length exchange.parts) (c.in_ok-profiles.ensures.ok ∙ ap (λ (profiles : List Profile). Ok profiles) (sym c.as_slice.ensures.value)) is)))
+    c.removing-exchange.ensures.parts (λ exchange is. file-parts c.args.files.now c.args.name.now c.as_slice.result.now (length exchange.parts) (c.in_ok-read.ensures.ok ∙ ap (λ (profiles : List Profile). Ok profiles) (sym c.as_slice.ensures.value)) is)))
 
 pub returns-clause-refused : goal.returns-clause-refused
 returns-clause-refused c =
@@ -47,4 +47,4 @@ returns-clause-refused c =
     (of-err (IsRefusalOf (with_removed (filled c.state.result.now) c.as_slice.result.now)) (IsRefusalOf (by_file (with_removed (filled c.self.inside.journal.machine.now)) (file_profiles c.args.files.now c.args.name.now)))
     c.removing-exchange.result c.removing-exchange.ensures.refused
     (λ refusal is other. by-file with_removed c.args.files.now c.args.name.now (filled c.state.result.now) (filled c.self.inside.journal.machine.now) c.as_slice.result.now (Err refusal)
-    (c.in_ok-profiles.ensures.ok ∙ ap (λ (profiles : List Profile). Ok profiles) (sym c.as_slice.ensures.value)) (entries-seen c.state.result.now c.self.inside.journal.machine.now c.state.ensures) (is other))))
+    (c.in_ok-read.ensures.ok ∙ ap (λ (profiles : List Profile). Ok profiles) (sym c.as_slice.ensures.value)) (entries-seen c.state.result.now c.self.inside.journal.machine.now c.state.ensures) (is other))))

@@ -1,0 +1,101 @@
+//! What two policy sets are asked, and what they answer otherwise.
+
+ghost use Rattle.std.specs.Prelude.{◌≡◌, ◌++◌, IfOk, OnOk, option_map};
+ghost use Rattle.aatry_diff.specs.Folders.{seen_folders};
+ghost use Rattle.aatry_diff.specs.SeenDifferences.{seen_differences};
+ghost use Rattle.aatry_diff.specs.Sources.{differences_of, seen_source, summary_text, told_requests};
+ghost use Rattle.aatry_requests.specs.Gathering.{seen_requests};
+
+use crate::differences::push_differences;
+use crate::finding::{Difference, find_differences};
+use crate::folders::BothFolders;
+use crate::summary::push_summary;
+use aa_set::Manager;
+use aatry_report::Form;
+use aatry_requests::{Requests, Source, gather};
+use std::alloc::{AllocError, Global};
+
+/// What two policy sets are asked, and what they answer otherwise.
+#[derive(Clone, Copy)]
+pub struct Asked<'a> {
+    /// The requests; none where there is no source of them.
+    pub requests: &'a Option<Requests<'a>>,
+    /// Those of their questions that are answered otherwise, in order.
+    pub differences: &'a [Difference<'a, 'a>],
+}
+
+/// The requests of a source, by its kind and its bytes, if there is one.
+///
+/// # Errors
+///
+/// Where memory runs out.
+pub fn requests_of<'a>(
+    alloc: Global,
+    source: Option<(Source, &'a [u8])>,
+) -> Result<Option<Requests<'a>>, AllocError>
+    ensures { IfOk result (λ requests. option_map seen_requests requests ≡ seen_source source.entry) }
+{
+    match source {
+        None => Ok(None),
+        Some((kind, text)) => Ok(Some(gather(alloc, kind, text)?)),
+    }
+}
+
+/// What an old and a new policy set answer otherwise of the questions of requests, if there are some (`find_differences`).
+///
+/// # Errors
+///
+/// Where memory runs out, also in an answer.
+pub fn differences_of<'t, 'a>(
+    alloc: Global,
+    old: &mut Manager,
+    new: &mut Manager,
+    requests: &'t Option<Requests<'a>>,
+) -> Result<Vec<Difference<'t, 'a>>, AllocError>
+    ensures found { IfOk result (λ found. seen_differences found.items
+        ≡ differences_of old.old.machine.now new.old.machine.now (option_map seen_requests requests.now)) }
+    ensures old { old.new ≡ old.old }
+    ensures new { new.new ≡ new.old }
+{
+    match requests {
+        None => Ok(Vec::new(alloc)),
+        Some(requests) => find_differences(alloc, old, new, &requests.tallies),
+    }
+}
+
+// Appends what sums up to a text, by how many questions are answered otherwise, if there are requests.
+fn push_summary_of(
+    alloc: Global,
+    form: Form,
+    requests: &Option<Requests<'_>>,
+    differing: usize,
+    out: &mut Vec<u8>,
+) -> Result<(), AllocError>
+    ensures { OnOk result (out.new.items ≡ out.old.items ++ summary_text form (option_map seen_requests requests.now) differing) }
+{
+    match requests {
+        None => Ok(()),
+        Some(requests) => push_summary(alloc, form, requests, differing, out),
+    }
+}
+
+/// Appends what is told of requests to a text: each question that is answered otherwise (`push_differences`), and what sums up
+/// (`push_summary`). Where there is no source of requests, that is nothing.
+///
+/// # Errors
+///
+/// Where memory runs out. A beginning may have been appended then.
+pub fn push_asked(
+    alloc: Global,
+    form: Form,
+    folders: &BothFolders<'_>,
+    asked: &Asked<'_>,
+    out: &mut Vec<u8>,
+) -> Result<(), AllocError>
+    ensures { OnOk result (out.new.items ≡ out.old.items
+        ++ told_requests form (seen_folders folders.now) (option_map seen_requests asked.now.requests.now)
+        (seen_differences asked.now.differences.now)) }
+{
+    push_differences(alloc, form, folders, asked.differences, out)?;
+    push_summary_of(alloc, form, asked.requests, asked.differences.len(), out)
+}
