@@ -1,6 +1,6 @@
 -- Parts of children, and what has no rules.
-use Rattle.std.proofs.Common.{◌≡◌, ℕ, zero, suc, ◌+◌, ◌<◌, ◌≤◌, Bor, List, [], ◌∷◌, ◌++◌, length, reverse, take, get_or, Option, None, Some, arith, ap, refl}
-use Rattle.std.specs.Prelude.{IfSome, MatchOption, slice_get}
+use Rattle.std.proofs.Common.{◌≡◌, ℕ, zero, suc, ◌+◌, ◌<◌, ◌≤◌, Bor, List, [], ◌∷◌, ◌++◌, length, reverse, take, get_or, Option, None, Some, arith, ap, refl, sym, subst}
+use Rattle.std.specs.Prelude.{IfSome, MatchOption, slice_get, slice_set}
 use Rattle.aa_glob_syntax.specs.Patterns.{AreMatching}
 use Rattle.aa_profile_data.specs.declared.profile.Child.{Child}
 use Rattle.aa_profile_data.specs.declared.profile.Rule.{Rule}
@@ -37,6 +37,21 @@ part-there [] children at part are within is = absurd (omega arith)
 part-there (one ∷ parts) [] at part are within is = absurd are
 part-there (one ∷ parts) (first ∷ children) zero part are within is = rw is are.0
 part-there (one ∷ parts) (first ∷ children) (suc at) part are within is = part-there parts children at part are.1 (omega arith) is
+
+-- a part that is exchanged for one that was made of the same child
+pub parts-set : (parts : List Part) (children : List Child) (at : ℕ) (part old : Part) (child : Child) → ArePartsOf parts children → at < length parts
+    → old ≡ get_or parts at old → child ≡ get_or children at child
+    → (IsPartOf old child.rules child.attachments → IsPartOf part child.rules child.attachments) → ArePartsOf (slice_set parts at part) children
+parts-set [] children at part old child are within is of keeps = absurd (omega arith)
+parts-set (one ∷ parts) [] at part old child are within is of keeps = absurd are
+parts-set (one ∷ parts) (first ∷ children) zero part old child are within is of keeps = (
+  subst (λ (c : Child). IsPartOf part c.rules c.attachments) of
+      (keeps (subst (λ (p : Part). IsPartOf p child.rules child.attachments) (sym is)
+      (subst (λ (c : Child). IsPartOf one c.rules c.attachments) (sym of) are.0))),
+  are.1,
+)
+parts-set (one ∷ parts) (first ∷ children) (suc at) part old child are within is of keeps =
+    (are.0, parts-set parts children at part old child are.1 (omega arith) is of keeps)
 
 -- where no part is there is no child
 pub part-missing : (parts : List Part) (children : List Child) (at : ℕ) → ArePartsOf parts children → length parts ≤ at → slice_get children at ≡ None

@@ -6,9 +6,9 @@ ghost use Rattle.aa_glob_automaton.specs.Automata.{IsAutomatonOf};
 ghost use Rattle.aa_glob_syntax.specs.Patterns.{AreMatching};
 ghost use Rattle.aa_glob_automaton.specs.Built.{IsBuilt};
 ghost use Rattle.aa_glob_pattern.specs.Beginnings.{HasStates};
-ghost use Rattle.aa_decide_slots.specs.Visits.{AreAllVisitsOf, AreVisitsOf};
+ghost use Rattle.aa_decide_slots.specs.Visits.{AreAllVisitsOf, AreFewStates, AreVisitsOf};
 ghost use Rattle.aa_profile_data.specs.Matching.{AreMatchingRules};
-ghost use Rattle.aa_decide_slots.specs.code.Parts.{ArePartsOf, HoldsOf, IsPartOf};
+ghost use Rattle.aa_decide_slots.specs.code.Parts.{AreFileRulesOf, ArePartsOf, HoldsOf, IsPartOf};
 ghost use Rattle.aa_profile_data.specs.FileRules.{places_from, file_patterns};
 ghost use Rattle.aa_profile_data.specs.Picked.{picked};
 
@@ -19,14 +19,21 @@ use aa_glob_pattern::Pattern;
 use aa_profile_data::{Child, Rule, which_rules_match};
 use std::alloc::{AllocError, Global};
 
-/// The automata of a profile, or of a child or hat.
+/// What is made of the file rules among some rules.
+#[derive(Drop)]
+pub struct FileRules {
+    // The automaton of their patterns, in the order of the rules.
+    automaton: Automaton,
+    // Where they stand among all rules.
+    places: Sequence<usize>,
+}
+
+/// What is made of a profile, or of a child or hat.
 #[derive(Drop)]
 pub struct Part {
-    // That of the file rules' patterns, in the order of the rules.
-    files: Automaton,
-    // Where these rules stand among all rules.
-    places: Sequence<usize>,
-    // That of the attachments.
+    // What is made of the file rules: nothing, until a path is remembered for the first time.
+    files: Option<FileRules>,
+    // The automaton of the attachments.
     attachments: Automaton,
 }
 
@@ -93,33 +100,97 @@ pub fn picked(alloc: Global, numbers: &[usize], places: &[usize]) -> Result<Vec<
     Ok(found)
 }
 
-impl Part {
-    /// The automata of these rules and attachments.
+impl FileRules {
+    /// What is made of the file rules among these.
     ///
     /// # Errors
     ///
     /// Where memory runs out.
-    pub fn build(alloc: Global, rules: &[Rule], attachments: &[Pattern]) -> Result<Part, AllocError>
-        ensures { IfOk result (λ part. IsPartOf part rules.now attachments.now) }
+    pub fn build(alloc: Global, rules: &[Rule]) -> Result<FileRules, AllocError>
+        ensures { IfOk result (λ made. AreFileRulesOf made rules.now) }
     {
-        let files = files_of(alloc, rules)?;
+        let automaton = files_of(alloc, rules)?;
         let places = places_of(alloc, rules)?;
-        let attachments = Automaton::build(alloc, attachments)?;
-        Ok(Part {
-            files,
+        Ok(FileRules {
+            automaton,
             places: Sequence::from_vec(places),
-            attachments,
         })
     }
 
-    /// How many states the automaton of the file rules has.
-    pub fn states(&self) -> usize
-        ensures { HoldsOf self.now (λ rules attachments. HasStates (file_patterns rules) result) }
+    // How many states the automaton has.
+    fn states(&self) -> usize
+        ensures states { (rules : List Rule) → AreFileRulesOf self.now rules → HasStates (file_patterns rules) result }
+        ensures few { (rules : List Rule) → AreFileRulesOf self.now rules → AreFewStates rules result }
     {
-        self.files.states()
+        self.automaton.states()
     }
 
-    /// The places of the file rules whose pattern matches a path.
+    // The places of the file rules whose pattern matches a path.
+    fn matching(
+        &self,
+        alloc: Global,
+        path: &[u8],
+        steps: &mut Steps,
+    ) -> Result<Vec<usize>, AllocError>
+        ensures found { IfOk result (λ places. (rules : List Rule) → AreFileRulesOf self.now rules → AreMatchingRules rules path.now places.items) }
+        ensures rise { IfOk result (λ places. (rules : List Rule) → AreFileRulesOf self.now rules → IsStrictlyIncreasing places.items) }
+        ensures steps { (rules : List Rule) → AreFileRulesOf self.now rules → AreVisitsOf (file_patterns rules) path.now steps.old steps.new }
+        ensures all { (rules : List Rule) → AreFileRulesOf self.now rules
+            → OnOk result (AreAllVisitsOf (file_patterns rules) path.now steps.old steps.new) }
+    {
+        which_rules_match();
+        let found = self.automaton.matching(alloc, path, steps)?;
+        picked(alloc, self.places.as_slice(), found.as_slice())
+    }
+
+    // Remembers what follows at the places of a path (`Automaton::remember`), and reports whether all of it is remembered now.
+    fn remember(&mut self, alloc: Global, path: &[u8]) -> bool
+        ensures { self.new ≡ self.old }
+    {
+        self.automaton.remember(alloc, path)
+    }
+
+    // Forgets what was remembered.
+    fn forget(&mut self, alloc: Global)
+        ensures { self.new ≡ self.old }
+    {
+        self.automaton.forget(alloc);
+    }
+}
+
+impl Part {
+    /// What is made of some rules and these attachments at first: of the rules nothing yet.
+    ///
+    /// # Errors
+    ///
+    /// Where memory runs out.
+    pub fn build(alloc: Global, attachments: &[Pattern]) -> Result<Part, AllocError>
+        ensures { IfOk result (λ part. (rules : List Rule) → IsPartOf part rules attachments.now) }
+    {
+        Ok(Part {
+            files: None,
+            attachments: Automaton::build(alloc, attachments)?,
+        })
+    }
+
+    /// How many states the automaton of the file rules has, of which the part was made.
+    ///
+    /// # Errors
+    ///
+    /// Where memory runs out: where nothing was made of the rules yet, it is made for this.
+    pub fn states(&self, alloc: Global, rules: &[Rule]) -> Result<usize, AllocError>
+        ensures states { (attachments : List (List ℕ)) → IsPartOf self.now rules.now attachments
+            → IfOk result (HasStates (file_patterns rules.now)) }
+        ensures few { (attachments : List (List ℕ)) → IsPartOf self.now rules.now attachments → IfOk result (AreFewStates rules.now) }
+    {
+        match &self.files {
+            Some(files) => Ok(files.states()),
+            None => Ok(FileRules::build(alloc, rules)?.states()),
+        }
+    }
+
+    /// The places of the file rules whose pattern matches a path, among the rules of which the part was made. Where nothing was made of these yet, it is
+    /// made for this question alone.
     ///
     /// # Errors
     ///
@@ -127,17 +198,23 @@ impl Part {
     pub fn matching_rules(
         &self,
         alloc: Global,
+        rules: &[Rule],
         path: &[u8],
         steps: &mut Steps,
     ) -> Result<Vec<usize>, AllocError>
-        ensures found { IfOk result (λ places. HoldsOf self.now (λ rules attachments. AreMatchingRules rules path.now places.items)) }
-        ensures rise { IfOk result (λ places. HoldsOf self.now (λ rules attachments. IsStrictlyIncreasing places.items)) }
-        ensures steps { HoldsOf self.now (λ rules attachments. AreVisitsOf (file_patterns rules) path.now steps.old steps.new) }
-        ensures all { HoldsOf self.now (λ rules attachments. OnOk result (AreAllVisitsOf (file_patterns rules) path.now steps.old steps.new)) }
+        ensures found { (attachments : List (List ℕ)) → IsPartOf self.now rules.now attachments
+            → IfOk result (λ places. AreMatchingRules rules.now path.now places.items) }
+        ensures rise { (attachments : List (List ℕ)) → IsPartOf self.now rules.now attachments
+            → IfOk result (λ places. IsStrictlyIncreasing places.items) }
+        ensures steps { (attachments : List (List ℕ)) → IsPartOf self.now rules.now attachments
+            → AreVisitsOf (file_patterns rules.now) path.now steps.old steps.new }
+        ensures all { (attachments : List (List ℕ)) → IsPartOf self.now rules.now attachments
+            → OnOk result (AreAllVisitsOf (file_patterns rules.now) path.now steps.old steps.new) }
     {
-        which_rules_match();
-        let found = self.files.matching(alloc, path, steps)?;
-        picked(alloc, self.places.as_slice(), found.as_slice())
+        match &self.files {
+            Some(files) => files.matching(alloc, path, steps),
+            None => FileRules::build(alloc, rules)?.matching(alloc, path, steps),
+        }
     }
 
     /// The places of the attachments that match a path.
@@ -152,25 +229,51 @@ impl Part {
         steps: &mut Steps,
     ) -> Result<Vec<usize>, AllocError>
         ensures found { IfOk result (λ places. HoldsOf self.now (λ rules attachments. AreMatching attachments path.now places.items)) }
-        ensures rise { IfOk result (λ places. IsStrictlyIncreasing places.items) }
+        ensures rise { IfOk result (λ places. HoldsOf self.now (λ rules attachments. IsStrictlyIncreasing places.items)) }
         ensures steps { HoldsOf self.now (λ rules attachments. AreVisitsOf attachments path.now steps.old steps.new) }
         ensures all { HoldsOf self.now (λ rules attachments. OnOk result (AreAllVisitsOf attachments path.now steps.old steps.new)) }
     {
         self.attachments.matching(alloc, path, steps)
     }
 
-    /// Remembers what follows at the places of a path, of the file rules (`Automaton::remember`), and tells whether all of it is remembered now.
-    pub fn remember(&mut self, alloc: Global, path: &[u8]) -> bool
+    // Makes what is made of the file rules among those of which the part was made, if that wasn't done yet and there is memory for it.
+    fn make_files(&mut self, alloc: Global, rules: &[Rule])
+        ensures { (attachments : List (List ℕ)) → IsPartOf self.old rules.now attachments → IsPartOf self.new rules.now attachments }
+    {
+        if self.files.is_some() {
+            return;
+        }
+        if let Ok(made) = FileRules::build(alloc, rules) {
+            self.files = Some(made);
+        }
+    }
+
+    // Remembers what follows at the places of a path, as far as something was made of the file rules.
+    fn remember_made(&mut self, alloc: Global, path: &[u8]) -> bool
         ensures { self.new ≡ self.old }
     {
-        self.files.remember(alloc, path)
+        match &mut self.files {
+            None => false,
+            Some(files) => files.remember(alloc, path),
+        }
+    }
+
+    /// Remembers what follows at the places of a path, of the file rules among those of which the part was made (`Automaton::remember`), and reports
+    /// whether all of it is remembered now.
+    pub fn remember(&mut self, alloc: Global, rules: &[Rule], path: &[u8]) -> bool
+        ensures { (attachments : List (List ℕ)) → IsPartOf self.old rules.now attachments → IsPartOf self.new rules.now attachments }
+    {
+        self.make_files(alloc, rules);
+        self.remember_made(alloc, path)
     }
 
     /// Forgets what was remembered.
     pub fn forget(&mut self, alloc: Global)
         ensures { self.new ≡ self.old }
     {
-        self.files.forget(alloc);
+        if let Some(files) = &mut self.files {
+            files.forget(alloc);
+        }
     }
 }
 
@@ -184,8 +287,7 @@ pub fn parts_of(alloc: Global, children: &[Child]) -> Result<Vec<Part>, AllocErr
 {
     let mut parts = Vec::with_capacity(alloc, children.len())?;
     for child in children {
-        let (rules, attachments) = (child.rules.as_slice(), child.attachments.as_slice());
-        parts.push(Part::build(alloc, rules, attachments)?)?;
+        parts.push(Part::build(alloc, child.attachments.as_slice())?)?;
     }
     Ok(parts)
 }

@@ -12,7 +12,7 @@ ghost use Rattle.aa_profile_data.specs.FileRules.{file_patterns};
 ghost use Rattle.aa_profile_data.specs.Matching.{AreMatchingRules};
 ghost use Rattle.aa_decide_slots.specs.Ready.{audits, decided, rules_at};
 ghost use Rattle.aa_decide_rules.specs.Verdict.{is_for_file};
-ghost use Rattle.aa_decide_slots.specs.code.Parts.{HasNothingAt, IsPartAt};
+ghost use Rattle.aa_decide_slots.specs.code.Parts.{ArePartsOf, HasNothingAt, IsPartAt};
 ghost use Rattle.aa_profile_access.specs.SeenRequests.{request_of};
 
 use crate::part::{Part, parts_of};
@@ -21,7 +21,7 @@ use aa_decide_rules::{found_verdict, rules_verdict, what_matching_rules_decide};
 use aa_glob_front::Steps;
 use aa_glob_pattern::{Pattern, how_many_states_there_are};
 use aa_profile_access::Request;
-use aa_profile_data::{Mode, Profile, Rule, which_rules_match};
+use aa_profile_data::{Child, Mode, Profile, Rule, which_rules_match};
 use std::alloc::{AllocError, Global};
 use std::marker::Model;
 
@@ -53,9 +53,47 @@ impl Model for Ready {
         × IsTrue (profile_agrees r.profile) };
 }
 
+// The pattern of a rule on files reads.
+fn pattern_reads(rule: &Rule)
+    ensures { HasReadPattern rule.now }
+{
+    if let Rule::File(rule) = rule {
+        let _text = rule.pattern.text();
+    }
+}
+
+// So does that of each of some rules.
+fn patterns_read(rules: &[Rule])
+    ensures { All HasReadPattern rules.now }
+{
+    let mut rest = rules;
+    while let [rule, behind @ ..] = rest {
+        pattern_reads(rule);
+        rest = behind;
+    }
+}
+
+// Remembers what follows at the places of a path, of the rules of the child or hat at a place, if there is one, and reports whether all of it is
+// remembered now.
+fn remember_child(
+    alloc: Global,
+    children: &[Child],
+    parts: &mut Vec<Part>,
+    place: usize,
+    path: &[u8],
+) -> bool
+    ensures { ArePartsOf parts.old.items children.now → ArePartsOf parts.new.items children.now }
+{
+    if place >= parts.len() || place >= children.len() {
+        return true;
+    }
+    let rules = children[place].rules.as_slice();
+    parts[place].remember(alloc, rules, path)
+}
+
 impl Ready {
-    /// A profile whose rules agree, made ready: an automaton is made of the patterns of its file rules, one of its
-    /// attachments, and such of each child and hat.
+    /// A profile whose rules agree, made ready: an automaton is made of its attachments, and one of those of each child and hat. One of the patterns of
+    /// file rules is made where the first path is remembered (`remember`), and till then for each question anew.
     ///
     /// # Errors
     ///
@@ -64,11 +102,7 @@ impl Ready {
         requires { profile_agrees profile ≡ true }
         ensures { IfOk result (λ ready. ready ≡ profile) }
     {
-        let own = Part::build(
-            alloc,
-            profile.rules.as_slice(),
-            profile.attachments.as_slice(),
-        )?;
+        let own = Part::build(alloc, profile.attachments.as_slice())?;
         let parts = parts_of(alloc, profile.children.as_slice())?;
         Ok(Ready {
             profile,
@@ -84,7 +118,7 @@ impl Ready {
         ensures read { All HasReadPattern (rules_at self.now child) }
     {
         let _profile = &self.profile;
-        let _part = self.part_at(child);
+        patterns_read(self.rules_at(child));
     }
 
     /// The rules by which the profile decides, or its child or hat at a place; one that isn't there has none.
@@ -136,15 +170,19 @@ impl Ready {
         }
     }
 
-    /// How many states the automaton has that a request for a file asks (docs/policy.md, "Decisions"). It takes no memory.
-    pub fn states(&self, child: Option<usize>) -> usize
-        ensures states { HasStates (file_patterns (rules_at self.now child)) result }
-        ensures few { AreFewStates (rules_at self.now child) result }
+    /// How many states the automaton has that a request for a file asks (docs/policy.md, "Decisions").
+    ///
+    /// # Errors
+    ///
+    /// Where memory runs out: where nothing was made of the rules yet, it is made for this.
+    pub fn states(&self, alloc: Global, child: Option<usize>) -> Result<usize, AllocError>
+        ensures states { IfOk result (HasStates (file_patterns (rules_at self.now child))) }
+        ensures few { IfOk result (AreFewStates (rules_at self.now child)) }
     {
         how_many_states_there_are();
         match self.part_at(child) {
-            None => 0,
-            Some(part) => part.states(),
+            None => Ok(0),
+            Some(part) => part.states(alloc, self.rules_at(child)),
         }
     }
 
@@ -167,7 +205,7 @@ impl Ready {
     {
         match self.part_at(child) {
             None => Ok(Vec::new(alloc)),
-            Some(part) => part.matching_rules(alloc, path, steps),
+            Some(part) => part.matching_rules(alloc, self.rules_at(child), path, steps),
         }
     }
 
@@ -235,8 +273,18 @@ impl Ready {
         ensures { self.new ≡ self.old }
     {
         match child {
-            None => self.own.remember(alloc, path),
-            Some(place) => { place >= self.parts.len() || self.parts[place].remember(alloc, path) }
+            None => self
+                .own
+                .remember(alloc, self.profile.rules.as_slice(), path),
+            Some(place) => {
+                remember_child(
+                    alloc,
+                    self.profile.children.as_slice(),
+                    &mut self.parts,
+                    place,
+                    path,
+                )
+            }
         }
     }
 

@@ -18,7 +18,7 @@ with-none : (set : ℕ) → union set 0 ≡ set
 with-none set = same_from_bits (union set 0) set (λ i. let bits = bit_at_or set 0 i in let none = bit_at-zero i in omega arith)
 
 -- a rule that doesn't apply adds nothing
-unapplied : (request : Request) (test : Rule → Bool) (set : ℕ) (rule : Rule) → applies request rule ≡ false → with_rule request test set rule ≡ set
+pub unapplied : (request : Request) (test : Rule → Bool) (set : ℕ) (rule : Rule) → applies request rule ≡ false → with_rule request test set rule ≡ set
 unapplied request test set rule fails = by (test rule) refl
   where
     by : (b : Bool) → test rule ≡ b → with_rule request test set rule ≡ set

@@ -1,5 +1,5 @@
 -- A request is allowed with the rule that it lacks.
-use Rattle.std.proofs.Common.{◌≡◌, ◌≢◌, ◌∙◌, ℕ, zero, suc, ◌+◌, ◌-◌, ◌^◌, ◌<◌, ◌≤◌, Bool, true, false, List, [], ◌∷◌, ◌++◌, None, Some, Result, Ok, Err, IsTrue, ◌↔◌, refl, sym, ap, arith, inl, inr, min, w8}
+use Rattle.std.proofs.Common.{◌≡◌, ◌≢◌, ◌∙◌, ℕ, zero, suc, ◌-◌, ◌^◌, ◌<◌, ◌≤◌, Bool, true, false, List, [], ◌∷◌, ◌++◌, None, Some, Result, Ok, Err, IsTrue, ◌↔◌, refl, sym, ap, arith, inl, inr, min, w8}
 use Rattle.std.specs.Prelude.{bit_and, ◌&&◌, ◌==◌, nat_le, nat_lt, if◌then◌else◌, is_some, length}
 use Rattle.std.specs.Int.{bit_at}
 use Rattle.std.specs.Int.Bits.{or_zero_l}
@@ -25,7 +25,7 @@ use Rattle.aa_decide_rules.specs.Verdict.{allows, applies, covered_by, covers, d
 use Rattle.aa_explain.specs.Missing.{cap_rule_for, file_rule_for, lacked, letters_for, missing_rule, net_rule_for, rule_for, transition_for}
 
 -- what is missing where nothing is denied
-abbrev lacking : ℕ → ℕ → ℕ
+abbrev pub lacking : ℕ → ℕ → ℕ
 lacking needs granted = without needs (union 0 (without granted 0))
 
 -- its bits
@@ -39,7 +39,7 @@ module _ (needs granted : ℕ) where
   lacking-bit : (i : ℕ) → bit_at (lacking needs granted) i ≡ min (bit_at needs i) (bit_at (2 ^ 8 - 1 - kept) i)
   lacking-bit i = ap (λ b. bit_at (bit_and needs (2 ^ 8 - 1 - b)) i) (or_zero_l kept) ∙ bit_at_and needs (2 ^ 8 - 1 - kept) i
 
-  lacking-low : (i : ℕ) → i < 8 → bit_at (lacking needs granted) i ≡ min (bit_at needs i) (1 - min (bit_at granted i) 1)
+  pub lacking-low : (i : ℕ) → i < 8 → bit_at (lacking needs granted) i ≡ min (bit_at needs i) (1 - min (bit_at granted i) 1)
   lacking-low i low =
       let ones : bit_at (2 ^ 8 - 1 - 0) i ≡ 1 = bit_at_ones 8 i low in
       let bits = lacking-bit i in
@@ -47,7 +47,7 @@ module _ (needs granted : ℕ) where
       let own = bit_at_and granted (2 ^ 8 - 1 - 0) i in
       omega arith
 
-  lacking-high : (i : ℕ) → 8 ≤ i → bit_at (lacking needs granted) i ≡ 0
+  pub lacking-high : (i : ℕ) → 8 ≤ i → bit_at (lacking needs granted) i ≡ 0
   lacking-high i high =
       let small : 2 ^ 8 - 1 - kept < 2 ^ 8 = omega arith in
       let none = bit_at_above (2 ^ 8 - 1 - kept) 8 i small high in
@@ -69,7 +69,7 @@ filled needs granted more all = same_from_bits (lacking needs (union granted (co
         omega arith
 
 -- a mask with one rule more behind the others
-mask-behind : (request : Request) (test : Rule → Bool) (rules : List Rule) (rule : Rule) → mask request test (rules ++ rule ∷ []) ≡ with_rule request test (mask request test rules) rule
+pub mask-behind : (request : Request) (test : Rule → Bool) (rules : List Rule) (rule : Rule) → mask request test (rules ++ rule ∷ []) ≡ with_rule request test (mask request test rules) rule
 mask-behind request test rules rule = fold-append (with_rule request test) 0 rules (rule ∷ [])
 
 -- one allow rule more that has all that is missing lets the request
@@ -99,7 +99,7 @@ module _ (request : Request) (rules : List Rule) (rule : Rule) (lets : denies ru
       rw (verdict, none, few) refl
 
 -- a rule on files that is made for some needs covers them: of the 256 sets that needs can be each does
-abbrev covered_for : ℕ → ℕ
+abbrev pub covered_for : ℕ → ℕ
 covered_for needs = if is_some (transition_for needs) then union (covered (letters_for needs)) EXEC else covered (letters_for needs)
 
 abbrev fits : ℕ → Bool
@@ -134,18 +134,18 @@ covers-for needs i small =
     has-all needs (covered_for needs) i same
 
 -- what is missing is a set of eight bits
-missing-small : (request : Request) (rules : List Rule) → missing request rules < 256
+pub missing-small : (request : Request) (rules : List Rule) → missing request rules < 256
 missing-small request rules = let most = and_le_r (needs request) (2 ^ 8 - 1 - union (denied request rules) (without (granted request rules) (denied request rules))) in omega arith
 
 -- none of it is above what is needed
-missing-needed : (request : Request) (rules : List Rule) (i : ℕ) → bit_at (missing request rules) i ≤ bit_at (needs request) i
+pub missing-needed : (request : Request) (rules : List Rule) (i : ℕ) → bit_at (missing request rules) i ≤ bit_at (needs request) i
 missing-needed request rules i = let bits = bit_at_and (needs request) (2 ^ 8 - 1 - union (denied request rules) (without (granted request rules) (denied request rules))) i in omega arith
 
 -- where a rule is missing, nothing is denied, and it is one for what is missing
-abbrev IsFor : Request → List Rule → Rule → Type 0
+abbrev pub IsFor : Request → List Rule → Rule → Type 0
 IsFor request rules rule = (denied request rules ≡ 0) × (rule_for request (missing request rules) ≡ Some rule)
 
-made : (request : Request) (rules : List Rule) (rule : Rule) → missing_rule request rules ≡ Some rule → IsFor request rules rule
+pub made : (request : Request) (rules : List Rule) (rule : Rule) → missing_rule request rules ≡ Some rule → IsFor request rules rule
 made request rules rule h = by (denied request rules == 0) refl (lacked request rules == 0) refl h
   where
     by : (d : Bool) → (denied request rules == 0) ≡ d → (b : Bool) → (lacked request rules == 0) ≡ b → missing_rule request rules ≡ Some rule → IsFor request rules rule
@@ -158,7 +158,7 @@ made request rules rule h = by (denied request rules == 0) refl (lacked request 
         (none, ap (rule_for request) (sym same) ∙ own)
 
 -- a text that reads as a pattern has none of the faults that are told first
-reads-fine : (text : List ℕ) (items : Pattern) → reading text ≡ Ok items → HasNoFirstFault text
+pub reads-fine : (text : List ℕ) (items : Pattern) → reading text ≡ Ok items → HasNoFirstFault text
 reads-fine text items reads = by (nat_le (length text) longest) refl (has_zero text) refl (begins_with_slash text) refl reads
   where
     by : (l : Bool) → nat_le (length text) longest ≡ l → (z : Bool) → has_zero text ≡ z → (s : Bool) → begins_with_slash text ≡ s → reading text ≡ Ok items → HasNoFirstFault text
@@ -174,7 +174,7 @@ abbrev pub MatchesItself : Type 0
 MatchesItself = (text path : List ℕ) → HasNoFirstFault (quoted text) → (IsTrue (matches (items_of (quoted text)) path) ↔ (path ≡ text))
 
 -- a rule for a file applies to the request that it is made for
-file-applies : MatchesItself → (letters : ℕ) (owned : Bool) (path : List ℕ) (needs : ℕ) → HasNoFirstFault (quoted path)
+pub file-applies : MatchesItself → (letters : ℕ) (owned : Bool) (path : List ℕ) (needs : ℕ) → HasNoFirstFault (quoted path)
     → applies (ForFile letters owned path) (File (file_rule_for owned path needs)) ≡ true
 file-applies matched letters owned path needs fine = by owned
   where

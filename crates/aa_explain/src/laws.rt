@@ -1,7 +1,7 @@
 //! What holds of the rules behind an answer, of those that decide where a program runs, and of what its path is attached to, as laws over the definitions
 //! that the calls are proved to follow.
 
-ghost use Rattle.std.specs.Prelude.{◌++◌, ◌<◌, ◌↔◌, ◌∷◌, ◌≡◌, ◌≢◌, [], Bool, List, Some, false, map, option_and_then, slice_get, true, ℕ};
+ghost use Rattle.std.specs.Prelude.{◌++◌, ◌<◌, ◌==◌, ◌↔◌, ◌∷◌, ◌≡◌, ◌≢◌, ◌||◌, [], Bool, List, Some, false, is_some, map, not, option_and_then, slice_get, true, ℕ};
 ghost use Rattle.std.specs.List.Sorted.{IsStrictlyIncreasing};
 ghost use Rattle.aa_glob.specs.Laws.{quoted};
 ghost use Rattle.aa_glob_syntax.specs.Reading.{HasNoFirstFault};
@@ -11,7 +11,12 @@ ghost use Rattle.aa_profile_data.specs.declared.profile.Mode.{Mode};
 ghost use Rattle.aa_profile_data.specs.declared.profile.Rule.{Rule};
 ghost use Rattle.aa_profile_tables.specs.Kinds.{is_protocol};
 ghost use Rattle.aa_decide_audit.specs.declared.verdict.Answer.TheVariants.{Allow};
-ghost use Rattle.aa_decide_rules.specs.Verdict.{allowed, applies, denied, verdict};
+ghost use Rattle.aa_decide_rules.specs.Verdict.{allowed, applies, covers, denied, missing, verdict};
+ghost use Rattle.aa_profile_access.specs.Access.{EXEC, common, has, told_bit};
+ghost use Rattle.aa_profile_data.specs.declared.profile.FileRule.{FileRule};
+ghost use Rattle.aa_profile_data.specs.declared.profile.Rule.TheVariants.{File};
+ghost use Rattle.aa_explain.specs.Narrower.{but_letter, has_letter};
+ghost use Rattle.aa_explain.specs.Logged.{some_is_logged};
 ghost use Rattle.aa_explain.specs.Laws.{AreAllWith, but, is_told_to_allow, is_told_to_deny, places_of};
 ghost use Rattle.aa_explain.specs.Missing.{lacked, missing_rule};
 ghost use Rattle.aa_explain.specs.Told.{is_near, near, places_where, told};
@@ -20,7 +25,9 @@ ghost use Rattle.aa_decide.specs.Attachment.{attached, attached_child};
 ghost use Rattle.aa_decide_attachment.specs.StandingOut.{standing_out};
 ghost use Rattle.aa_decide_exec_rules.specs.Choices.{choice, denies, dominates, is_exact_lead};
 ghost use Rattle.aa_decide_exec_rules.specs.ExecRules.{exec_rules};
-ghost use Rattle.aa_decide_slots.specs.Entries.{Loaded};
+ghost use Rattle.aa_decide.specs.Exec.{Asker, Under, exec_answer};
+ghost use Rattle.aa_decide_slots.specs.Entries.{Loaded, is_in_force};
+ghost use Rattle.aa_decide_slots.specs.Ready.{rules_at};
 ghost use Rattle.aa_explain.specs.Standings.{standing_of};
 ghost use Rattle.aa_explain.specs.Candidates.{child_candidates, profile_candidates, rank_of};
 ghost use Rattle.aa_explain.specs.declared.standing.Standing.TheVariants.{Attached};
@@ -65,6 +72,56 @@ pub fn what_a_missing_rule_lets()
     quoted_text_reads_as_itself();
     quoted_text_matches_itself();
 }
+
+/// Where a request lacks `x`, the rule that it lacks lets the program of its path be started: who asks by a profile, or by a child or hat of it, whose
+/// rules have it behind the others is let, and in force it runs the program under what it runs under itself. With that rule without its exec word it
+/// isn't let.
+pub fn what_starts_with_a_missing_rule()
+    ensures it_is_let { (letters : ℕ) (owned : Bool) (path : List ℕ) (rules : List Rule) (rule : Rule) (entries : List Loaded) (who : Asker)
+        → missing_rule (ForFile letters owned path) rules ≡ Some rule
+        → has (lacked (ForFile letters owned path) rules) EXEC ≡ true
+        → rules_at who.entry.profile who.child ≡ rules ++ rule ∷ []
+        → (exec_answer entries (Some who) owned path).verdict.answer ≡ Allow }
+    ensures it_inherits { (letters : ℕ) (owned : Bool) (path : List ℕ) (rules : List Rule) (rule : Rule) (entries : List Loaded) (who : Asker)
+        → missing_rule (ForFile letters owned path) rules ≡ Some rule
+        → has (lacked (ForFile letters owned path) rules) EXEC ≡ true
+        → rules_at who.entry.profile who.child ≡ rules ++ rule ∷ []
+        → is_in_force who.entry.state ≡ true
+        → (exec_answer entries (Some who) owned path).to ≡ Under who.entry who.child }
+    ensures not_without_its_exec_word { (letters : ℕ) (owned : Bool) (path : List ℕ) (rules : List Rule) (rule : FileRule) (entries : List Loaded)
+        (who : Asker)
+        → missing_rule (ForFile letters owned path) rules ≡ Some (File rule)
+        → has (lacked (ForFile letters owned path) rules) EXEC ≡ true
+        → rules_at who.entry.profile who.child ≡ rules ++ File (but_letter EXEC rule) ∷ []
+        → is_in_force who.entry.state ≡ true
+        → (exec_answer entries (Some who) owned path).verdict.answer ≢ Allow }
+{
+    quoted_text_matches_itself();
+}
+
+/// The rule that a request lacks is the narrowest: as the rules are, the request isn't allowed; behind them no rule allows it that doesn't cover all that
+/// it lacks; and the missing rule on a file doesn't without any one of its letters, of which `x` is its exec word. A rule on a capability or on sockets
+/// has one need alone, without which it says nothing.
+pub fn how_narrow_a_missing_rule_is()
+    ensures not_allowed_without_it { (mode : Mode) (flag : Bool) (request : Request) (rules : List Rule) (rule : Rule)
+        → missing_rule request rules ≡ Some rule
+        → (verdict mode flag rules request).answer ≢ Allow }
+    ensures only_what_covers_all_lets { (mode : Mode) (flag : Bool) (request : Request) (rules : List Rule) (other : Rule)
+        → (verdict mode flag (rules ++ other ∷ []) request).answer ≡ Allow
+        → common (lacked request rules) (covers request other) ≡ lacked request rules }
+    ensures no_letter_can_go { (mode : Mode) (flag : Bool) (letters : ℕ) (owned : Bool) (path : List ℕ) (rules : List Rule) (rule : FileRule)
+        (code letter : ℕ)
+        → missing_rule (ForFile letters owned path) rules ≡ Some (File rule)
+        → told_bit code ≡ Some letter → has_letter letter rule ≡ true
+        → (verdict mode flag (rules ++ File (but_letter letter rule) ∷ []) (ForFile letters owned path)).answer ≢ Allow }
+{}
+
+/// An answer is logged exactly where something of the request is missing, or a rule that is told as audited covers something of it: one that denies,
+/// where something is denied, and else one that allows.
+pub fn what_is_logged()
+    ensures { (mode : Mode) (flag : Bool) (request : Request) (rules : List Rule)
+        → is_some (verdict mode flag rules request).tag ≡ (not (missing request rules == 0) || some_is_logged (told flag request rules)) }
+{}
 
 /// The places of those of some rules that pass a test are exactly the places of the rules that do, in rising order.
 pub fn where_rules_stand()

@@ -4,10 +4,12 @@ ghost use Rattle.std.specs.Prelude.{◌≡◌, IfOk, false};
 ghost use Rattle.std.specs.Option.{option_map};
 ghost use Rattle.aa_decide_exec_rules.specs.Choices.{denies, dominates, is_exact_lead};
 ghost use Rattle.aa_decide_exec_rules.specs.ExecRules.{applies_to, covers_exec};
-ghost use Rattle.aa_explain.specs.Leading.{first_transition, leading_places, says, some_says, transition_at, transition_of};
-ghost use Rattle.aa_explain.specs.Told.{places_where};
+ghost use Rattle.aa_explain.specs.Asked.{rules_of};
+ghost use Rattle.aa_explain.specs.Leading.{first_transition, leading_places, says, transition_at, transition_of};
+ghost use Rattle.aa_explain.specs.code.Among.{among, passes_at, some_among};
 
-use aa_profile_access::Perms;
+use crate::asked::AskedRules;
+use aa_profile_access::{Perms, Request};
 use aa_profile_data::{FileRule, Rule, Transition};
 use bitflags::Flags;
 use std::alloc::{AllocError, Global};
@@ -66,13 +68,43 @@ fn dominates(some_exact: bool, owned: bool, path: &[u8], rule: &Rule) -> bool
     }
 }
 
-// Whether some rule denies it.
-fn some_denies(owned: bool, path: &[u8], rules: &[Rule]) -> bool
-    ensures { result ≡ some_says denies owned path.now rules.now }
+// Whether the rule at a place denies it.
+fn denies_at(owned: bool, path: &[u8], rules: &[Rule], place: usize) -> bool
+    ensures { result ≡ passes_at (says denies false owned path.now) rules.now place }
 {
-    let mut rest = rules;
-    while let [rule, behind @ ..] = rest {
-        if denies(owned, path, rule) {
+    match rules.get(place) {
+        None => false,
+        Some(rule) => denies(owned, path, rule),
+    }
+}
+
+// Whether the rule at a place leads it somewhere by an exact pattern.
+fn is_exact_at(owned: bool, path: &[u8], rules: &[Rule], place: usize) -> bool
+    ensures { result ≡ passes_at (says is_exact_lead false owned path.now) rules.now place }
+{
+    match rules.get(place) {
+        None => false,
+        Some(rule) => is_exact_lead(owned, path, rule),
+    }
+}
+
+// Whether the rule at a place leads it somewhere, and is one of those that decide where to go.
+fn dominates_at(some_exact: bool, owned: bool, path: &[u8], rules: &[Rule], place: usize) -> bool
+    ensures { result ≡ passes_at (says (dominates some_exact) false owned path.now) rules.now place }
+{
+    match rules.get(place) {
+        None => false,
+        Some(rule) => dominates(some_exact, owned, path, rule),
+    }
+}
+
+// Whether a rule at some places denies it.
+fn some_denies(owned: bool, path: &[u8], rules: &[Rule], places: &[usize]) -> bool
+    ensures { result ≡ some_among (says denies false owned path.now) rules.now places.now }
+{
+    let mut rest = places;
+    while let [place, behind @ ..] = rest {
+        if denies_at(owned, path, rules, *place) {
             return true;
         }
         rest = behind;
@@ -80,13 +112,13 @@ fn some_denies(owned: bool, path: &[u8], rules: &[Rule]) -> bool
     false
 }
 
-// Whether some rule leads it somewhere by an exact pattern.
-fn some_is_exact(owned: bool, path: &[u8], rules: &[Rule]) -> bool
-    ensures { result ≡ some_says is_exact_lead owned path.now rules.now }
+// Whether a rule at some places leads it somewhere by an exact pattern.
+fn some_is_exact(owned: bool, path: &[u8], rules: &[Rule], places: &[usize]) -> bool
+    ensures { result ≡ some_among (says is_exact_lead false owned path.now) rules.now places.now }
 {
-    let mut rest = rules;
-    while let [rule, behind @ ..] = rest {
-        if is_exact_lead(owned, path, rule) {
+    let mut rest = places;
+    while let [place, behind @ ..] = rest {
+        if is_exact_at(owned, path, rules, *place) {
             return true;
         }
         rest = behind;
@@ -94,24 +126,23 @@ fn some_is_exact(owned: bool, path: &[u8], rules: &[Rule]) -> bool
     false
 }
 
-// The places of the rules that dominate.
+// Those of some places whose rules dominate.
 fn dominating(
     alloc: Global,
     some_exact: bool,
     owned: bool,
     path: &[u8],
     rules: &[Rule],
+    places: &[usize],
 ) -> Result<Vec<usize>, AllocError>
-    ensures { IfOk result (λ found. found.items ≡ places_where (says (dominates some_exact) false owned path.now) 0 rules.now) }
+    ensures { IfOk result (λ found. found.items ≡ among (says (dominates some_exact) false owned path.now) rules.now places.now) }
 {
     let mut found = Vec::new(alloc);
-    let mut place = 0;
-    let mut rest = rules;
-    while let [rule, behind @ ..] = rest {
-        if dominates(some_exact, owned, path, rule) {
-            found.push(place)?;
+    let mut rest = places;
+    while let [place, behind @ ..] = rest {
+        if dominates_at(some_exact, owned, path, rules, *place) {
+            found.push(*place)?;
         }
-        place += 1;
         rest = behind;
     }
     Ok(found)
@@ -119,23 +150,27 @@ fn dominating(
 
 /// The places of the rules that decide where the program of a path runs that is started (docs/policy.md, "The start of a program"), in their order:
 /// of those with an exec word that apply, the ones with an exact pattern, where there are some, and else all. None where a deny rule with `x`
-/// applies. `owned` says whether the task's user owns the file. Each pattern is tried by itself.
+/// applies. `owned` says whether the task's user owns the file.
 ///
 /// # Errors
 ///
 /// Where memory runs out.
 pub fn leading_rules(
     alloc: Global,
+    rules: AskedRules<'_>,
     owned: bool,
     path: &[u8],
-    rules: &[Rule],
 ) -> Result<Vec<usize>, AllocError>
-    ensures { IfOk result (λ found. found.items ≡ leading_places owned path.now rules.now) }
+    ensures { IfOk result (λ found. found.items ≡ leading_places owned path.now (rules_of rules.entry)) }
 {
-    if some_denies(owned, path, rules) {
+    let needs = Perms::EXEC;
+    let places = rules.concerned(alloc, &Request::File { needs, owned, path })?;
+    let rules = rules.as_slice();
+    if some_denies(owned, path, rules, &places) {
         return Ok(Vec::new(alloc));
     }
-    dominating(alloc, some_is_exact(owned, path, rules), owned, path, rules)
+    let some_exact = some_is_exact(owned, path, rules, &places);
+    dominating(alloc, some_exact, owned, path, rules, &places)
 }
 
 // The transition of a rule, if it has one.

@@ -2,6 +2,7 @@
 //! be attached to. What is found are values; no text is made of them here.
 #![tactic(auto)]
 
+mod asked;
 mod candidates;
 mod laws;
 mod leading;
@@ -11,12 +12,14 @@ mod ranks;
 mod standing;
 mod told;
 
+pub use asked::AskedRules;
 pub use candidates::{
     Candidate, child_candidates, patterns_of, profile_candidates, rank_of, ranks_of,
 };
 pub use laws::{
-    what_a_missing_rule_lets, what_is_told, what_told_rules_decide, where_rules_stand,
-    which_is_attached, which_rules_lead,
+    how_narrow_a_missing_rule_is, what_a_missing_rule_lets, what_is_logged, what_is_told,
+    what_starts_with_a_missing_rule, what_told_rules_decide, where_rules_stand, which_is_attached,
+    which_rules_lead,
 };
 pub use leading::{first_transition, leading_rules};
 pub use missing::missing_rule;

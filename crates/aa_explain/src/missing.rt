@@ -5,8 +5,11 @@ ghost use Rattle.aa_glob.specs.Laws.{needs_backslash, quoted};
 ghost use Rattle.aa_profile_access.specs.Request.{ForFile};
 ghost use Rattle.aa_profile_access.specs.SeenRequests.{request_of};
 ghost use Rattle.aa_profile_data.specs.declared.profile.Rule.TheVariants.{File as ForFiles};
+ghost use Rattle.aa_profile_data.specs.Picked.{picked};
+ghost use Rattle.aa_explain.specs.Asked.{rules_of};
 ghost use Rattle.aa_explain.specs.Missing.{file_rule_for, lacked, letters_for, missing_rule, rule_for, transition_for};
 
+use crate::asked::AskedRules;
 use aa_decide_rules::{covers, denies, needs};
 use aa_glob_pattern::Pattern;
 use aa_profile_access::{ExecWord, Perms, Request};
@@ -139,18 +142,20 @@ fn rule_for(
     }
 }
 
-// What a request lacks: the needs that no rule denies or allows, where none is denied.
-fn lacked(request: &Request<'_>, rules: &[Rule]) -> Perms
-    ensures { result.0 ≡ lacked (request_of request.entry.now) rules.now }
+// What a request lacks by the rules at some places: the needs that no rule denies or allows, where none is denied.
+fn lacked(request: &Request<'_>, rules: &[Rule], places: &[usize]) -> Perms
+    ensures { result.0 ≡ lacked (request_of request.entry.now) (picked rules.now places.now) }
 {
     let mut denied = Perms::empty();
     let mut granted = Perms::empty();
-    let mut rest = rules;
-    while let [rule, behind @ ..] = rest {
-        if denies(rule) {
-            denied = denied.union(covers(request, rule));
-        } else {
-            granted = granted.union(covers(request, rule));
+    let mut rest = places;
+    while let [place, behind @ ..] = rest {
+        if let Some(rule) = rules.get(*place) {
+            if denies(rule) {
+                denied = denied.union(covers(request, rule));
+            } else {
+                granted = granted.union(covers(request, rule));
+            }
         }
         rest = behind;
     }
@@ -170,12 +175,13 @@ fn lacked(request: &Request<'_>, rules: &[Rule]) -> Perms
 /// Where memory runs out.
 pub fn missing_rule(
     alloc: Global,
-    rules: &[Rule],
+    rules: AskedRules<'_>,
     request: &Request<'_>,
 ) -> Result<Option<Rule>, AllocError>
-    ensures { IfOk result (λ rule. rule ≡ missing_rule (request_of request.entry.now) rules.now) }
+    ensures { IfOk result (λ rule. rule ≡ missing_rule (request_of request.entry.now) (rules_of rules.entry)) }
 {
-    let needs = lacked(request, rules);
+    let places = rules.concerned(alloc, request)?;
+    let needs = lacked(request, rules.as_slice(), &places);
     if needs.is_empty() {
         return Ok(None);
     }

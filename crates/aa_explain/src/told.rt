@@ -2,8 +2,11 @@
 
 ghost use Rattle.std.specs.Prelude.{◌≡◌, IfOk};
 ghost use Rattle.aa_profile_access.specs.SeenRequests.{request_of};
-ghost use Rattle.aa_explain.specs.Told.{near, told, told_rule};
+ghost use Rattle.aa_explain.specs.Asked.{audits_of, rules_of};
+ghost use Rattle.aa_explain.specs.Told.{is_near, near, told, told_rule};
+ghost use Rattle.aa_explain.specs.code.Among.{among, passes_at, told_among, told_at};
 
+use crate::asked::AskedRules;
 use crate::near::is_near;
 use aa_decide_rules::{applies, covers, denies, is_audited};
 use aa_profile_access::{Perms, Request};
@@ -35,28 +38,84 @@ fn told_rule(audit: bool, request: &Request<'_>, place: usize, rule: &Rule) -> T
     }
 }
 
+// What is told of the rule at a place, if it applies to a request.
+fn told_at(audit: bool, request: &Request<'_>, rules: &[Rule], place: usize) -> Option<ToldRule>
+    ensures { result ≡ told_at audit (request_of request.entry.now) rules.now place }
+{
+    match rules.get(place) {
+        None => None,
+        Some(rule) => {
+            if applies(request, rule) {
+                Some(told_rule(audit, request, place, rule))
+            } else {
+                None
+            }
+        }
+    }
+}
+
+// What is told of the rules at some places that apply to a request.
+fn told_among(
+    alloc: Global,
+    audit: bool,
+    rules: &[Rule],
+    request: &Request<'_>,
+    places: &[usize],
+) -> Result<Vec<ToldRule>, AllocError>
+    ensures { IfOk result (λ found. found.items ≡ told_among audit (request_of request.entry.now) rules.now places.now) }
+{
+    let mut found = Vec::new(alloc);
+    let mut rest = places;
+    while let [place, behind @ ..] = rest {
+        if let Some(told) = told_at(audit, request, rules, *place) {
+            found.push(told)?;
+        }
+        rest = behind;
+    }
+    Ok(found)
+}
+
 /// The rules that apply to a request, and what each of them does, in their order: those by which `aa_decide_slots::Ready::decide` answers it.
-/// `audit` says whether each of the rules is audited, whatever its own words are: that is the flag of their profile. Each pattern is tried by itself.
 ///
 /// # Errors
 ///
 /// Where memory runs out.
 pub fn told_rules(
     alloc: Global,
-    audit: bool,
-    rules: &[Rule],
+    rules: AskedRules<'_>,
     request: &Request<'_>,
 ) -> Result<Vec<ToldRule>, AllocError>
-    ensures { IfOk result (λ found. found.items ≡ told audit (request_of request.entry.now) rules.now) }
+    ensures { IfOk result (λ found. found.items ≡ told (audits_of rules.entry) (request_of request.entry.now) (rules_of rules.entry)) }
+{
+    let places = rules.concerned(alloc, request)?;
+    told_among(alloc, rules.audits(), rules.as_slice(), request, &places)
+}
+
+// Whether the rule at a place is near a request.
+fn is_near_at(request: &Request<'_>, rules: &[Rule], place: usize) -> bool
+    ensures { result ≡ passes_at (is_near (request_of request.entry.now)) rules.now place }
+{
+    match rules.get(place) {
+        None => false,
+        Some(rule) => is_near(request, rule),
+    }
+}
+
+// Those of some places whose rules are near a request.
+fn near_among(
+    alloc: Global,
+    rules: &[Rule],
+    request: &Request<'_>,
+    places: &[usize],
+) -> Result<Vec<usize>, AllocError>
+    ensures { IfOk result (λ found. found.items ≡ among (is_near (request_of request.entry.now)) rules.now places.now) }
 {
     let mut found = Vec::new(alloc);
-    let mut place = 0;
-    let mut rest = rules;
-    while let [rule, behind @ ..] = rest {
-        if applies(request, rule) {
-            found.push(told_rule(audit, request, place, rule))?;
+    let mut rest = places;
+    while let [place, behind @ ..] = rest {
+        if is_near_at(request, rules, *place) {
+            found.push(*place)?;
         }
-        place += 1;
         rest = behind;
     }
     Ok(found)
@@ -70,20 +129,11 @@ pub fn told_rules(
 /// Where memory runs out.
 pub fn near_rules(
     alloc: Global,
-    rules: &[Rule],
+    rules: AskedRules<'_>,
     request: &Request<'_>,
 ) -> Result<Vec<usize>, AllocError>
-    ensures { IfOk result (λ found. found.items ≡ near (request_of request.entry.now) rules.now) }
+    ensures { IfOk result (λ found. found.items ≡ near (request_of request.entry.now) (rules_of rules.entry)) }
 {
-    let mut found = Vec::new(alloc);
-    let mut place = 0;
-    let mut rest = rules;
-    while let [rule, behind @ ..] = rest {
-        if is_near(request, rule) {
-            found.push(place)?;
-        }
-        place += 1;
-        rest = behind;
-    }
-    Ok(found)
+    let places = rules.concerned(alloc, request)?;
+    near_among(alloc, rules.as_slice(), request, &places)
 }

@@ -10,6 +10,7 @@ mod writing;
 pub use aa_history::Mark;
 pub use aa_profile::{GrammarRefusal, ProfileRefusal};
 pub use aa_profile_access::Perms;
+pub use aa_set_answers::Answered;
 pub use aa_set_changes::PolicySet;
 pub use aa_set_commands::{Question, Refusal, RefusalKind};
 pub use aa_set_lines::{Failed, FromRead, Sink, Source, ToWrite, comes_to_end};

@@ -2,7 +2,7 @@
 
 ghost use Rattle.std.specs.Prelude.{◌≡◌, Ok, Err, IfOk, IfErr, OnOk, OnErr, false, length, true, sum};
 ghost use Rattle.aa_history.specs.SeenMarks.{seen_marks};
-ghost use Rattle.aa_set_answers.specs.Answers.{asks_absent, reply_lines, shown, shows_absent};
+ghost use Rattle.aa_set_answers.specs.Answers.{answered, asks_absent, reply_lines, shown, shows_absent};
 ghost use Rattle.aa_set_changes.specs.Changes.{is_disabled, is_loaded};
 ghost use Rattle.aa_set_commands.specs.Command.{Add, Remove, Replace};
 ghost use Rattle.aa_set_commands.specs.Question.{IsWellFormed, seen_question};
@@ -20,7 +20,9 @@ use aa_history::{
 };
 use aa_profile::{how_profiles_are_named, read_file, which_rules_agree};
 use aa_profile_data::{Mode, Profile};
-use aa_set_answers::{access_lines, exec_lines, find_asker, list_lines, shown_lines};
+use aa_set_answers::{
+    Answered, access_answer, exec_answer, find_asker, lines_of, list_lines, shown_lines,
+};
 use aa_set_changes::{
     PolicySet, adding, disabling, removing, replacing, switching, what_changes_keep,
 };
@@ -438,17 +440,17 @@ impl Manager {
         shown_lines(self.alloc, &self.policy_set().slots(), name)
     }
 
-    /// The lines of the reply to a question, each with its line feed: the word of the answer, and behind it the line that logs it, where it is
-    /// logged (docs/commands.md, "Questions"). The caller sees to it that the question is well-formed, as one of `Question::read` is: it needs
-    /// known letters alone, and its numbers stand in the tables.
+    /// What a question is answered, as values: the answer, what is told of it, and the line that logs it, where it is logged (docs/commands.md,
+    /// "Questions"). The caller sees to it that the question is well-formed, as one of `Question::read` is: it needs known letters alone, and its numbers
+    /// stand in the tables.
     ///
     /// # Errors
     ///
     /// `Absent` where no profile, child or hat of the full name is loaded, and `Memory` where memory ran out.
-    pub fn ask(&self, question: &Question<'_>) -> Result<Vec<u8>, Refusal>
+    pub fn answered(&self, question: &Question<'_>) -> Result<Answered, Refusal>
         requires { IsWellFormed question.now }
-        ensures answered { IfOk result (λ lines. reply_lines self.now.machine.now (seen_question question.entry.now) ≡ Ok lines.items) }
-        ensures refused { IfErr result (IsRefusalOf (reply_lines self.now.machine.now (seen_question question.entry.now))) }
+        ensures answered { IfOk result (λ told. answered self.now.machine.now (seen_question question.entry.now) ≡ Ok told) }
+        ensures refused { IfErr result (IsRefusalOf (answered self.now.machine.now (seen_question question.entry.now))) }
         // That it is absent is found without memory.
         ensures memory { IfErr result (λ refusal.
             refusal ≡ plain Memory → asks_absent self.now.machine.now (seen_question question.entry.now) ≡ false) }
@@ -466,20 +468,58 @@ impl Manager {
                     owned: *owned,
                     path,
                 };
-                access_lines(self.alloc, slots, who, &request)
+                access_answer(self.alloc, slots, who, &request)
             }
-            Question::Exec { who, owned, path } => exec_lines(self.alloc, slots, who, *owned, path),
+            Question::Exec { who, owned, path } => exec_answer(
+                self.alloc, slots, who, *owned, path,
+            ),
             Question::Cap { who, number } => {
-                access_lines(self.alloc, slots, who, &Request::Cap(*number))
+                access_answer(self.alloc, slots, who, &Request::Cap(*number))
             }
             Question::Net { who, domain, kind } => {
                 let request = Request::Net {
                     domain: *domain,
                     kind: *kind,
                 };
-                access_lines(self.alloc, slots, who, &request)
+                access_answer(self.alloc, slots, who, &request)
             }
         }
+    }
+
+    /// The same, and remembers what the question passes (`remember`), so that it is answered quicker the next time. Nothing of the policy set or its
+    /// history changes.
+    ///
+    /// # Errors
+    ///
+    /// As `answered`.
+    pub fn answer(&mut self, question: &Question<'_>) -> Result<Answered, Refusal>
+        requires { IsWellFormed question.now }
+        ensures answered { IfOk result (λ told. answered self.old.machine.now (seen_question question.entry.now) ≡ Ok told) }
+        ensures refused { IfErr result (IsRefusalOf (answered self.old.machine.now (seen_question question.entry.now))) }
+        ensures memory { IfErr result (λ refusal.
+            refusal ≡ plain Memory → asks_absent self.old.machine.now (seen_question question.entry.now) ≡ false) }
+        ensures unchanged { self.new ≡ self.old }
+    {
+        self.remember(question);
+        self.answered(question)
+    }
+
+    /// The lines of the reply to a question, each with its line feed: the word of the answer, and behind it the line that logs it, where it is
+    /// logged. The question is as in `answered`.
+    ///
+    /// # Errors
+    ///
+    /// As `answered`.
+    pub fn ask(&self, question: &Question<'_>) -> Result<Vec<u8>, Refusal>
+        requires { IsWellFormed question.now }
+        ensures answered { IfOk result (λ lines. reply_lines self.now.machine.now (seen_question question.entry.now) ≡ Ok lines.items) }
+        ensures refused { IfErr result (IsRefusalOf (reply_lines self.now.machine.now (seen_question question.entry.now))) }
+        // That it is absent is found without memory.
+        ensures memory { IfErr result (λ refusal.
+            refusal ≡ plain Memory → asks_absent self.now.machine.now (seen_question question.entry.now) ≡ false) }
+    {
+        let told = self.answered(question)?;
+        Ok(lines_of(self.alloc, &told)?)
     }
 }
 

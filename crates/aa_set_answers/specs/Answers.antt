@@ -18,6 +18,7 @@ use Rattle.aa_profile_data.specs.declared.profile.Profile.{Profile}
 use Rattle.aa_bytes.specs.Quoting.{written_text}
 use Rattle.aa_profile_access.specs.FullNames.{full_name}
 use Rattle.aa_set_answers.specs.ProfileNames.{full_name_at}
+use Rattle.aa_set_answers.specs.declared.answers.Answered.{Answered}
 use Rattle.aa_set_answers.specs.Show.{show_lines}
 use Rattle.aa_set_answers.specs.Askers.{asker, confinement, named_asker}
 
@@ -30,14 +31,18 @@ abbrev pub confined_answer : Confinement → Request → Option Verdict
 confined_answer Unconfined request = None
 confined_answer (By profile child mode) request = Some (decided profile child mode request)
 
--- the lines of an answer: its word, and the line that logs it, where it is logged
-abbrev pub answer_lines : List ℕ → Request → Option Verdict → List ℕ
-answer_lines who request None = line_with (codes "unconfined")
-answer_lines who request (Some verdict) = line_with (answer_word verdict.answer) ++ log_line who request verdict
+-- what a request is answered by a verdict: its word, and the line that logs it, where it is logged; where nothing confines who asks, the word says so
+abbrev pub told_verdict : List ℕ → Request → Option Verdict → Answered
+told_verdict who request None = record { answer = None; text = codes "unconfined"; logged = [] }
+told_verdict who request (Some verdict) = record {
+  answer = Some verdict.answer;
+  text = answer_word verdict.answer;
+  logged = log_line who request verdict;
+}
 
--- the lines of the answer to a request, by what confines who asks
-abbrev pub confined_lines : List ℕ → Request → Confinement → List ℕ
-confined_lines who request confinement = answer_lines who request (confined_answer confinement request)
+-- what it is answered by what confines who asks
+abbrev pub confined_told : List ℕ → Request → Confinement → Answered
+confined_told who request confinement = told_verdict who request (confined_answer confinement request)
 
 -- how it is told that a program's environment is scrubbed
 abbrev pub scrub_text : Bool → List ℕ
@@ -58,26 +63,43 @@ started_text answer Free scrub = unconfined_text scrub
 started_text answer Null scrub = codes "complain null"
 started_text answer Nowhere scrub = answer_word answer
 
--- the lines of an answer on the start of a program: under what it runs, and the line that logs it, where it is logged
-abbrev pub exec_lines : List ℕ → List ℕ → ExecAnswer → List ℕ
-exec_lines who path answer = line_with (started_text answer.verdict.answer answer.to answer.scrub) ++ exec_line who path answer.verdict
+-- what the start of a program is answered: under what it runs, and the line that logs it, where it is logged
+abbrev pub exec_told : List ℕ → List ℕ → ExecAnswer → Answered
+exec_told who path answer = record {
+  answer = Some answer.verdict.answer;
+  text = started_text answer.verdict.answer answer.to answer.scrub;
+  logged = exec_line who path answer.verdict;
+}
 
--- the lines of the reply, by who asks, if it is there
-abbrev pub lines_by : List Loaded → Question → Option Asker → List ℕ
-lines_by entries (OfAccess who request) asker = confined_lines who request (confinement asker)
-lines_by entries (OfExec who owned path) asker = exec_lines who path (exec_answer entries asker owned path)
+-- what a question is answered, by who asks, if it is there
+abbrev pub told_by : List Loaded → Question → Option Asker → Answered
+told_by entries (OfAccess who request) asker = confined_told who request (confinement asker)
+told_by entries (OfExec who owned path) asker = exec_told who path (exec_answer entries asker owned path)
 
 -- who a question says asks
 abbrev pub who_asks : Question → List ℕ
 who_asks (OfAccess who request) = who
 who_asks (OfExec who owned path) = who
 
+-- what a question is answered
+abbrev pub answered : List Loaded → Question → Result Answered Refusal
+answered entries question = elim (asker entries (who_asks question)) [
+  | None ↦ Err (plain Absent)
+  | Some asker ↦ Ok (told_by entries question asker)
+]
+
+-- the lines of an answer: what is told of it, and the line that logs it, where it is logged
+abbrev pub lines_of : Answered → List ℕ
+lines_of told = line_with told.text ++ told.logged
+
+-- the lines of what was answered, or the refusal
+abbrev pub reply_of : Result Answered Refusal → Result (List ℕ) Refusal
+reply_of (Ok told) = Ok (lines_of told)
+reply_of (Err refusal) = Err refusal
+
 -- the lines of the reply to a question
 abbrev pub reply_lines : List Loaded → Question → Result (List ℕ) Refusal
-reply_lines entries question = elim (asker entries (who_asks question)) [
-  | None ↦ Err (plain Absent)
-  | Some asker ↦ Ok (lines_by entries question asker)
-]
+reply_lines entries question = reply_of (answered entries question)
 
 -- a question is asked of a profile, a child or a hat that isn't there
 abbrev pub asks_absent : List Loaded → Question → Bool

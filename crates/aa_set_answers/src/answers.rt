@@ -1,6 +1,6 @@
-//! The lines that answer questions, and those that tell what a profile consists of.
+//! What questions are answered, and the lines that tell what a profile consists of.
 
-ghost use Rattle.std.specs.Prelude.{◌≡◌, ◌++◌, Ok, Err, IfOk, IfErr, OnOk, false};
+ghost use Rattle.std.specs.Prelude.{◌≡◌, ◌++◌, [], codes, None, Some, Ok, IfOk, IfErr, OnOk, false};
 ghost use Rattle.aa_set_commands.specs.Question.{OfAccess, OfExec};
 ghost use Rattle.aa_set_commands.specs.Refusal.{IsRefusalOf, plain};
 ghost use Rattle.aa_set_commands.specs.declared.refusal.RefusalKind.TheVariants.{Memory};
@@ -8,73 +8,100 @@ ghost use Rattle.aa_decide_slots.specs.Slots.{filled};
 ghost use Rattle.aa_decide_slots.specs.Confinement.{found};
 ghost use Rattle.aa_profile_access.specs.SeenRequests.{request_of};
 ghost use Rattle.aa_decide_audit.specs.LogLines.{exec_line};
-ghost use Rattle.aa_set_answers.specs.Answers.{asks_absent, confined_lines, line_with, reply_lines};
+ghost use Rattle.aa_set_answers.specs.Answers.{answered, asks_absent, confined_told, lines_of, told_verdict};
 ghost use Rattle.aa_set_answers.specs.Answers.{scrub_text, shown, shows_absent, unconfined_text, under_text};
 ghost use Rattle.aa_set_answers.specs.code.SeenTexts.{seen_text};
 
 use crate::asker::{confinement, find_asker, find_loaded};
 use crate::names::full_name;
 use crate::show::show_lines;
-use aa_bytes::push_text;
+use aa_bytes::{Sequence, push_text};
 use aa_decide::{
-    Confinement, ExecTo, ExecVerdict, IndexedSlots, Request, Steps, entry_at, exec_by, exec_line,
-    log_line,
+    Answer, Confinement, ExecTo, ExecVerdict, IndexedSlots, Request, Steps, Verdict, entry_at,
+    exec_by, exec_line, log_line,
 };
 use aa_profile_data::Profile;
 use aa_set_commands::{Refusal, RefusalKind, plain};
 use std::alloc::{AllocError, Global};
 
-// The line of a text, and what stands behind it.
-fn lines_of(alloc: Global, text: &[u8], behind: &[u8]) -> Result<Vec<u8>, AllocError>
-    ensures { IfOk result (λ lines. lines.items ≡ line_with text.now ++ behind.now) }
-{
-    let size = text.len().saturating_add(1).saturating_add(behind.len());
-    let mut lines = Vec::with_capacity(alloc, size)?;
-    lines.extend_from_slice(text)?;
-    lines.push(b'\n')?;
-    lines.extend_from_slice(behind)?;
-    Ok(lines)
+/// What a question is answered.
+#[derive(Drop)]
+pub struct Answered {
+    /// The answer of the verdict on what is asked; none where nothing confines who asks for something else than the start of a program.
+    pub answer: Option<Answer>,
+    /// What is told of it, in one line without its line feed: the answer's word, `unconfined`, or under what a program runs that is started.
+    pub text: Sequence<u8>,
+    /// The line that logs it, with its line feed; empty where it isn't logged.
+    pub logged: Sequence<u8>,
 }
 
-// The lines of the answer to a request, by what confines who asks.
-fn confined_lines(
+// What anything is answered where nothing confines who asks.
+fn unconfined(alloc: Global) -> Result<Answered, AllocError>
+    ensures { IfOk result (λ told. told ≡ record { answer = None; text = codes "unconfined"; logged = [] }) }
+{
+    Ok(Answered {
+        answer: None,
+        text: Sequence::from_vec(Vec::from_slice(alloc, b"unconfined")?),
+        logged: Sequence::from_vec(Vec::new(alloc)),
+    })
+}
+
+// What it is answered by a verdict.
+fn told_verdict(
+    alloc: Global,
+    who: &[u8],
+    request: &Request<'_>,
+    verdict: &Verdict,
+) -> Result<Answered, AllocError>
+    ensures { IfOk result (λ told. told ≡ told_verdict who.now (request_of request.entry.now) (Some verdict.now)) }
+{
+    let text = Vec::from_slice(alloc, verdict.answer.word().as_bytes())?;
+    let logged = log_line(alloc, who, request, verdict)?;
+    Ok(Answered {
+        answer: Some(verdict.answer),
+        text: Sequence::from_vec(text),
+        logged: Sequence::from_vec(logged),
+    })
+}
+
+// What it is answered by what confines who asks.
+fn confined_told(
     alloc: Global,
     who: &[u8],
     request: &Request<'_>,
     confinement: Confinement<'_>,
-) -> Result<Vec<u8>, AllocError>
-    ensures { IfOk result (λ lines. lines.items ≡ confined_lines who.now (request_of request.entry.now) (found confinement.entry)) }
+) -> Result<Answered, AllocError>
+    ensures { IfOk result (λ told. told ≡ confined_told who.now (request_of request.entry.now) (found confinement.entry)) }
 {
     match confinement {
-        Confinement::Unconfined => lines_of(alloc, b"unconfined", b""),
+        Confinement::Unconfined => unconfined(alloc),
         Confinement::By { ready, child, mode } => {
             let verdict = ready.decide(alloc, child, mode, request, &mut Steps::new())?;
-            let logged = log_line(alloc, who, request, &verdict)?;
-            lines_of(alloc, verdict.answer.word().as_bytes(), logged.as_slice())
+            told_verdict(alloc, who, request, &verdict)
         }
     }
 }
 
-/// The lines of the reply to a request of who asks by this full name, or as the word `unconfined`.
+/// What a request of who asks by this full name, or as the word `unconfined`, is answered.
 ///
 /// # Errors
 ///
 /// `Absent` where no profile, child or hat of the full name is loaded, which is found without memory, and `Memory` where memory ran out.
-pub fn access_lines(
+pub fn access_answer(
     alloc: Global,
     slots: &IndexedSlots<'_>,
     who: &[u8],
     request: &Request<'_>,
-) -> Result<Vec<u8>, Refusal>
-    ensures answered { IfOk result (λ lines. reply_lines (filled slots.now) (OfAccess who.now (request_of request.entry.now)) ≡ Ok lines.items) }
-    ensures refused { IfErr result (IsRefusalOf (reply_lines (filled slots.now) (OfAccess who.now (request_of request.entry.now)))) }
+) -> Result<Answered, Refusal>
+    ensures answered { IfOk result (λ told. answered (filled slots.now) (OfAccess who.now (request_of request.entry.now)) ≡ Ok told) }
+    ensures refused { IfErr result (IsRefusalOf (answered (filled slots.now) (OfAccess who.now (request_of request.entry.now)))) }
     ensures memory { IfErr result (λ refusal.
         refusal ≡ plain Memory → asks_absent (filled slots.now) (OfAccess who.now (request_of request.entry.now)) ≡ false) }
 {
     let Some(asker) = find_asker(slots, who) else {
         return Err(plain(RefusalKind::Absent));
     };
-    Ok(confined_lines(alloc, who, request, confinement(asker))?)
+    Ok(confined_told(alloc, who, request, confinement(asker))?)
 }
 
 // Puts behind a text that a program's environment is scrubbed, if it is.
@@ -131,42 +158,67 @@ fn started_text(
     }
 }
 
-// The lines of the answer on the start of the program of a path.
-fn verdict_lines(
+// What is answered on the start of the program of a path.
+fn exec_told(
     alloc: Global,
     slots: &IndexedSlots<'_>,
     who: &[u8],
     path: &[u8],
     verdict: &ExecVerdict,
-) -> Result<Vec<u8>, AllocError>
-    ensures { IfOk result (λ lines. lines.items ≡ line_with (seen_text slots.now verdict.now) ++ exec_line who.now path.now verdict.now.verdict) }
+) -> Result<Answered, AllocError>
+    ensures { IfOk result (λ told. told ≡ record {
+      answer = Some verdict.now.verdict.answer;
+      text = seen_text slots.now verdict.now;
+      logged = exec_line who.now path.now verdict.now.verdict;
+    }) }
 {
     let text = started_text(alloc, slots, verdict)?;
     let logged = exec_line(alloc, who, path, verdict)?;
-    lines_of(alloc, text.as_slice(), logged.as_slice())
+    Ok(Answered {
+        answer: Some(verdict.verdict.answer),
+        text: Sequence::from_vec(text),
+        logged: Sequence::from_vec(logged),
+    })
 }
 
-/// The lines of the reply to the start of the program of a path, of who asks by this full name, or as the word `unconfined`.
+/// What the start of the program of a path is answered, of who asks by this full name, or as the word `unconfined`.
 ///
 /// # Errors
 ///
 /// `Absent` where no profile, child or hat of the full name is loaded, which is found without memory, and `Memory` where memory ran out.
-pub fn exec_lines(
+pub fn exec_answer(
     alloc: Global,
     slots: &IndexedSlots<'_>,
     who: &[u8],
     owned: bool,
     path: &[u8],
-) -> Result<Vec<u8>, Refusal>
-    ensures answered { IfOk result (λ lines. reply_lines (filled slots.now) (OfExec who.now owned path.now) ≡ Ok lines.items) }
-    ensures refused { IfErr result (IsRefusalOf (reply_lines (filled slots.now) (OfExec who.now owned path.now))) }
+) -> Result<Answered, Refusal>
+    ensures answered { IfOk result (λ told. answered (filled slots.now) (OfExec who.now owned path.now) ≡ Ok told) }
+    ensures refused { IfErr result (IsRefusalOf (answered (filled slots.now) (OfExec who.now owned path.now))) }
     ensures memory { IfErr result (λ refusal. refusal ≡ plain Memory → asks_absent (filled slots.now) (OfExec who.now owned path.now) ≡ false) }
 {
     let Some(asker) = find_asker(slots, who) else {
         return Err(plain(RefusalKind::Absent));
     };
     let verdict = exec_by(alloc, slots, asker, owned, path)?;
-    Ok(verdict_lines(alloc, slots, who, path, &verdict)?)
+    Ok(exec_told(alloc, slots, who, path, &verdict)?)
+}
+
+/// The lines of the reply by an answer, each with its line feed: what is told of it, and the line that logs it, where it is logged.
+///
+/// # Errors
+///
+/// Where memory runs out.
+pub fn lines_of(alloc: Global, told: &Answered) -> Result<Vec<u8>, AllocError>
+    ensures { IfOk result (λ lines. lines.items ≡ lines_of told.now) }
+{
+    let (text, logged) = (told.text.as_slice(), told.logged.as_slice());
+    let size = text.len().saturating_add(1).saturating_add(logged.len());
+    let mut lines = Vec::with_capacity(alloc, size)?;
+    lines.extend_from_slice(text)?;
+    lines.push(b'\n')?;
+    lines.extend_from_slice(logged)?;
+    Ok(lines)
 }
 
 /// The lines of the reply to `show NAME`: what the profile, child or hat of this full name consists of (docs/commands.md, "What is loaded").

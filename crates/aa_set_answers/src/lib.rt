@@ -1,4 +1,4 @@
-//! What a policy set answers: the lines of the replies to questions, to those who ask what a profile consists of, and to those who list
+//! What a policy set answers: to questions, as values and as the lines of the replies, to those who ask what a profile consists of, and to those who list
 //! all that is loaded.
 #![tactic(auto)]
 
@@ -11,7 +11,7 @@ mod rule_lines;
 mod show;
 mod states;
 
-pub use answers::{access_lines, exec_lines, shown_lines};
+pub use answers::{Answered, access_answer, exec_answer, lines_of, shown_lines};
 pub use asker::find_asker;
 pub use laws::where_listed_names_lead;
 pub use list::list_lines;

@@ -82,7 +82,7 @@ pub fn start<D: FileSystem, S: Source, W: Sink, E: Sink>(
     requires whole_input { S.failed input.old ≡ false }
     requires whole_output { W.failed output.old ≡ false }
     requires reads { S.reads input.old ≤ 2 ^ 63 }
-    ensures { (prepared : Result Ready Stop) × ArePrepared (D.bytes_at disk.now) words prepared
+    ensures { (prepared : Result Ready Stop) × ArePrepared (D.known disk.now) words prepared
         × IsPerformed prepared
         (read_from (S.left input.old) (S.left input.new) (S.reads input.old) (S.reads input.new)
         (S.ended input.old) (S.ended input.new) (S.failed input.new))

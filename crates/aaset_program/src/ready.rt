@@ -21,7 +21,7 @@ pub struct Ready {
 
 // Takes the files of a plan.
 fn gather<D: FileSystem>(alloc: Global, plan: Plan, disk: &D) -> Result<Ready, Stop>
-    ensures { IsPrepared (D.bytes_at disk.now) (ForRun (run_of plan)) result }
+    ensures { IsPrepared (D.known disk.now) (ForRun (run_of plan)) result }
 {
     let Plan {
         force_complain,
@@ -37,7 +37,7 @@ fn gather<D: FileSystem>(alloc: Global, plan: Plan, disk: &D) -> Result<Ready, S
 
 // Takes the files that the words of the start ask for, the first of which is the program's own name.
 fn prepare_for<D: FileSystem>(alloc: Global, words: &[String], disk: &D) -> Result<Ready, Stop>
-    ensures { IsPrepared (D.bytes_at disk.now) (asked (drop 1 (map string_bytes words.now))) result }
+    ensures { IsPrepared (D.known disk.now) (asked (drop 1 (map string_bytes words.now))) result }
 {
     let plan = aaset_start::plan(alloc, words)?;
     gather(alloc, plan, disk)
@@ -49,7 +49,7 @@ pub fn prepare<D: FileSystem>(
     words: Result<Vec<String>, Fault>,
     disk: &D,
 ) -> Result<Ready, Stop>
-    ensures { ArePrepared (D.bytes_at disk.now) words result }
+    ensures { ArePrepared (D.known disk.now) words result }
 {
     match words {
         Ok(words) => prepare_for(alloc, words.as_slice(), disk),

@@ -1,8 +1,9 @@
 -- The files that are taken, and why some can't be.
-use Rattle.std.specs.Prelude.{◌≡◌, ◌≤◌, ℕ, List, ◌∷◌, ◌++◌, length, map, Option, IfSome, IsFalse, IsTrue, Vec, String, string_bytes, false}
+use Rattle.std.specs.Prelude.{◌≡◌, ◌<◌, ◌≤◌, ◌⊎◌, ℕ, List, ◌∷◌, ◌++◌, length, map, IfSome, IsFalse, IsTrue, Vec, String, string_bytes, false}
 use Rattle.aa_text_files.specs.Files.{File, is_bad_file, is_folder_name}
 use Rattle.aa_text_files.specs.Limit.{most_bytes}
-use Rattle.aaset_start.specs.Names.{AreGoodNames, is_refused_behind, may_be_untaken}
+use Rattle.aaset_start.specs.Known.{Known}
+use Rattle.aaset_start.specs.Names.{AreGoodNames, is_refused_behind}
 use Rattle.aaset_start.specs.Reading.{path_of}
 use Rattle.aaset_start.specs.declared.gathering.GatherFault.{GatherFault}
 use Rattle.aaset_start.specs.declared.gathering.GatherFault.TheVariants.{Untaken, Memory}
@@ -20,19 +21,29 @@ abbrev pub IsTakable : File → Type 0
 IsTakable file = (length file.1 ≤ most_bytes) × (is_bad_file file.0 file.1 ≡ false)
 
 -- The file has the bytes that lie at the path of its name, where they are known. A folder isn't read.
-abbrev pub IsReadBelow : (List ℕ → Option (List ℕ)) → List ℕ → File → Type 0
-IsReadBelow bytes_at base file = IsFalse (is_folder_name file.0) → IfSome (bytes_at (path_of base file.0)) (λ bytes. file.1 ≡ bytes)
+abbrev pub IsReadBelow : Known → List ℕ → File → Type 0
+IsReadBelow known base file = IsFalse (is_folder_name file.0) → IfSome (known.bytes_at (path_of base file.0)) (λ bytes. file.1 ≡ bytes)
 
--- The fault of a name behind these: the name is told, where it may be. Memory is never told of one that is refused, which is found without it.
-abbrev pub IsFaultBehind : List (List ℕ) → List ℕ → GatherFault → Type 0
-IsFaultBehind before name (Untaken text) = (string_bytes text ≡ name) × IsTrue (may_be_untaken before name)
-IsFaultBehind before name Memory = IsFalse (is_refused_behind before name)
+-- No file can be read at a path, or the one that lies there is too long.
+abbrev pub IsUnreadableAt : Known → List ℕ → Type 0
+IsUnreadableAt known path = known.IsUnreadable path ⊎ IfSome (known.bytes_at path) (λ bytes. most_bytes < length bytes)
+
+-- The file that a name stands for can't be read. A folder isn't read.
+abbrev pub IsUnreadableBelow : Known → List ℕ → List ℕ → Type 0
+IsUnreadableBelow known base name = IsFalse (is_folder_name name) × IsUnreadableAt known (path_of base name)
+
+-- The fault of a name behind these: the name is told where it is refused, whatever its file is, or its file can't be read. Memory is never told of
+-- one that is refused, which is found without it.
+abbrev pub IsFaultBehind : Known → List ℕ → List (List ℕ) → List ℕ → GatherFault → Type 0
+IsFaultBehind known base before name (Untaken text) =
+    (string_bytes text ≡ name) × (IsTrue (is_refused_behind before name) ⊎ IsUnreadableBelow known base name)
+IsFaultBehind known base before name Memory = IsFalse (is_refused_behind before name)
 
 -- The fault is that of the first name at which there is one: those before it are good and different from each other.
-pub record IsFirstFault (names : List (List ℕ)) (fault : GatherFault) : Type 0 where
+pub record IsFirstFault (known : Known) (base : List ℕ) (names : List (List ℕ)) (fault : GatherFault) : Type 0 where
   pub before : List (List ℕ)
   pub name : List ℕ
   pub behind : List (List ℕ)
   pub stands : names ≡ before ++ name ∷ behind
   pub good : AreGoodNames before
-  pub reported : IsFaultBehind before name fault
+  pub reported : IsFaultBehind known base before name fault

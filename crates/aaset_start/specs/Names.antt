@@ -1,8 +1,8 @@
 -- Names that files and folders are taken under, and what is wrong with some.
-use Rattle.std.specs.Prelude.{◌≡◌, ℕ, Bool, false, ◌||◌, not, List, [], All}
+use Rattle.std.specs.Prelude.{◌≡◌, ℕ, Bool, false, ◌||◌, List, [], All}
 use Rattle.std.specs.List.{IsDistinct, list_any}
 use Rattle.std.specs.Str.{bytes_eq}
-use Rattle.aa_text_files.specs.Files.{is_bad_file, is_folder_name}
+use Rattle.aa_text_files.specs.Files.{is_bad_file}
 
 -- A bad name: neither a file nor a folder has it, since it is empty or holds a control byte.
 abbrev pub is_bad_name : List ℕ → Bool
@@ -15,11 +15,6 @@ is_among names name = list_any (bytes_eq name) names
 -- a name that can't come behind these, whatever its file is: it is bad, or one of them
 abbrev pub is_refused_behind : List (List ℕ) → List ℕ → Bool
 is_refused_behind before name = is_bad_name name || is_among before name
-
--- A name that may be told as one that can't be taken behind these: it is refused, or is that of a file, which may be unreadable. A good
--- folder's name that comes first isn't such a name.
-abbrev pub may_be_untaken : List (List ℕ) → List ℕ → Bool
-may_be_untaken before name = is_refused_behind before name || not (is_folder_name name)
 
 -- names that may come together: none is bad, and they are different from each other
 pub record AreGoodNames (names : List (List ℕ)) : Type 0 where

@@ -53,9 +53,9 @@ fn take<D: FileSystem>(
     files: &mut Files,
 ) -> Result<(), GatherFault>
     ensures ok { OnOk result ((bytes : List ℕ) × (files.new ≡ files.old ++ (string_bytes name, bytes) ∷ [])
-        × IsTakable (string_bytes name, bytes) × IsReadBelow (D.bytes_at disk.now) base.now (string_bytes name, bytes)) }
+        × IsTakable (string_bytes name, bytes) × IsReadBelow (D.known disk.now) base.now (string_bytes name, bytes)) }
     ensures fits { OnOk result (is_refused_behind (names_of files.old) (string_bytes name) ≡ false) }
-    ensures err { IfErr result (IsFaultBehind (names_of files.old) (string_bytes name)) }
+    ensures err { IfErr result (IsFaultBehind (D.known disk.now) base.now (names_of files.old) (string_bytes name)) }
 {
     if is_refused(files, name.as_bytes()) {
         return Err(GatherFault::Untaken(name));
@@ -81,7 +81,7 @@ fn take<D: FileSystem>(
 ///
 /// The first in the order of the names. What was taken before is dropped.
 /// - `Untaken`, with the first name that can't be taken: it is empty, holds a byte below the space or comes twice, all of which is found and
-///   told without memory, or its file can't be opened or read, is longer than 16,777,216 bytes or hasn't ended after 16,777,217 reads.
+///   told without memory, or its file can't be opened or read, as the file system says, or is longer than 16,777,216 bytes.
 /// - `Memory` where memory ran out at a name with which nothing is wrong.
 pub fn gather<D: FileSystem>(
     disk: &D,
@@ -92,8 +92,8 @@ pub fn gather<D: FileSystem>(
     ensures names { IfOk result (λ files. names_of files ≡ texts_of names) }
     ensures good { OnOk result (AreGoodNames (texts_of names)) }
     ensures takable { IfOk result (All IsTakable) }
-    ensures read { IfOk result (All (IsReadBelow (D.bytes_at disk.now) base.now)) }
-    ensures err { IfErr result (IsFirstFault (texts_of names)) }
+    ensures read { IfOk result (All (IsReadBelow (D.known disk.now) base.now)) }
+    ensures err { IfErr result (IsFirstFault (D.known disk.now) base.now (texts_of names)) }
 {
     let mut files = Files::new(alloc);
     for name in names {

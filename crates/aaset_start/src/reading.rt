@@ -1,17 +1,17 @@
 //! Reading of a file's bytes, whole.
-ghost use Rattle.std.specs.Prelude.{◌≡◌, ◌<◌, ◌≤◌, [], IsFalse, IsTrue, IfOk, IfSome, OnOk, IsOkAnd, length, string_bytes, vec_len};
+ghost use Rattle.std.specs.Prelude.{◌≡◌, ◌⊎◌, ◌+◌, ◌<◌, ◌≤◌, [], IsFalse, IsTrue, IfErr, IfOk, IfSome, OnOk, IsOkAnd, length, string_bytes, vec_len};
 ghost use Rattle.std.specs.Io.KnownBytes.{IsAtEnd};
 ghost use Rattle.std.specs.IoError.{error_kind};
 ghost use Rattle.aa_text_files.specs.Files.{is_folder_name};
 ghost use Rattle.aa_text_files.specs.Limit.{most_bytes};
-ghost use Rattle.aaset_start.specs.Gathering.{IsReadBelow};
+ghost use Rattle.aaset_start.specs.Gathering.{IsReadBelow, IsUnreadableBelow};
 ghost use Rattle.aaset_start.specs.Reading.{ReadsBehind, is_whole_path, path_of, read_fault_of};
 ghost use Rattle.aaset_start.specs.declared.reading.ReadFault.TheVariants as read;
 
 use crate::file_system::FileSystem;
 use aa_text_files::{Files, MOST_BYTES};
 use std::alloc::{AllocError, Global};
-use std::io::{self, ErrorKind, Read};
+use std::io::{self, ErrorKind};
 
 /// Why the bytes of a file aren't there.
 #[derive(Clone, Copy, Debug, PartialEq, Eq)]
@@ -45,19 +45,23 @@ impl From<io::Error> for ReadFault {
 const PIECE: usize = 8_192;
 
 // Reads a piece behind the bytes that are there, and says whether the reader is at its end.
-fn is_read_to_end<F: Read>(
-    file: &mut F,
+fn is_read_to_end<D: FileSystem>(
+    disk: &D,
+    path: &str,
+    file: &mut D::File,
     piece: &mut [u8],
     bytes: &mut Vec<u8>,
 ) -> Result<bool, ReadFault>
     requires room { 0 < length piece.old }
     requires within { vec_len bytes.old ≤ most_bytes }
     ensures within { OnOk result (vec_len bytes.new ≤ most_bytes) }
-    ensures read { OnOk result (ReadsBehind (F.remaining file.old) bytes.old.items (F.remaining file.new) bytes.new.items) }
+    ensures read { OnOk result (ReadsBehind (D.File.remaining file.old) bytes.old.items (D.File.remaining file.new) bytes.new.items) }
     ensures grows { IfOk result (λ at_end. IsFalse at_end → vec_len bytes.old < vec_len bytes.new) }
-    ensures end { IfOk result (λ at_end. IsTrue at_end → IsAtEnd (F.remaining file.new)) }
+    ensures end { IfOk result (λ at_end. IsTrue at_end → IsAtEnd (D.File.remaining file.new)) }
+    ensures err { IfErr result (λ fault. fault ≡ read.Unreadable → (D.known disk.now).IsUnreadable path.now
+        ⊎ IfSome (D.File.remaining file.old) (λ left. most_bytes < vec_len bytes.old + length left)) }
 {
-    let count = file.read(piece)?;
+    let count = disk.read_piece(path, file, piece)?;
     if count > MOST_BYTES - bytes.len() {
         return Err(ReadFault::Unreadable);
     }
@@ -73,15 +77,22 @@ fn piece_room(alloc: Global) -> Result<Vec<u8>, AllocError>
 }
 
 // All the bytes that a reader has left, where they are at most MOST_BYTES.
-fn read_whole<F: Read>(alloc: Global, file: &mut F) -> Result<Vec<u8>, ReadFault>
+fn read_whole<D: FileSystem>(
+    alloc: Global,
+    disk: &D,
+    path: &str,
+    file: &mut D::File,
+) -> Result<Vec<u8>, ReadFault>
     ensures within { IfOk result (λ bytes. vec_len bytes ≤ most_bytes) }
-    ensures whole { IfOk result (λ bytes. IfSome (F.remaining file.old) (λ left. bytes.items ≡ left)) }
+    ensures whole { IfOk result (λ bytes. IfSome (D.File.remaining file.old) (λ left. bytes.items ≡ left)) }
+    ensures err { IfErr result (λ fault. fault ≡ read.Unreadable → (D.known disk.now).IsUnreadable path.now
+        ⊎ IfSome (D.File.remaining file.old) (λ left. most_bytes < length left)) }
 {
     let mut piece = piece_room(alloc)?;
     let mut bytes = Vec::new(alloc);
-    // Even a reader that gives a byte at a time has then come to the end of a file that isn't too long.
-    for _ in 0..=MOST_BYTES {
-        if is_read_to_end(file, piece.as_mut_slice(), &mut bytes)? {
+    // Each read that isn't at the end gives a byte, so no more reads than that are made, even where a reader gives a byte at a time.
+    for _count in 0..MOST_BYTES + 1 {
+        if is_read_to_end(disk, path, file, piece.as_mut_slice(), &mut bytes)? {
             return Ok(bytes);
         }
     }
@@ -116,7 +127,7 @@ fn path_of(alloc: Global, base: &str, name: &str) -> Result<String, AllocError>
 ///
 /// # Errors
 ///
-/// - `Unreadable` where the file can't be opened or read, is longer than 16,777,216 bytes, or hasn't ended after 16,777,217 reads.
+/// - `Unreadable` where the file can't be opened or read, as the file system says, or is longer than 16,777,216 bytes.
 /// - `Memory` where memory ran out.
 pub fn bytes_of<D: FileSystem>(
     disk: &D,
@@ -126,12 +137,13 @@ pub fn bytes_of<D: FileSystem>(
 ) -> Result<Vec<u8>, ReadFault>
     ensures folder { IsTrue (is_folder_name name.now) → IsOkAnd result (λ bytes. bytes.items ≡ []) }
     ensures within { IfOk result (λ bytes. vec_len bytes ≤ most_bytes) }
-    ensures read { IfOk result (λ bytes. IsReadBelow (D.bytes_at disk.now) base.now (name.now, bytes.items)) }
+    ensures read { IfOk result (λ bytes. IsReadBelow (D.known disk.now) base.now (name.now, bytes.items)) }
+    ensures err { IfErr result (λ fault. fault ≡ read.Unreadable → IsUnreadableBelow (D.known disk.now) base.now name.now) }
 {
     if Files::is_folder(name.as_bytes()) {
         return Ok(Vec::new(alloc));
     }
     let path = path_of(alloc, base, name)?;
     let mut file = disk.open(path.as_str())?;
-    read_whole(alloc, &mut file)
+    read_whole(alloc, disk, path.as_str(), &mut file)
 }

@@ -1,14 +1,17 @@
 -- What is told of questions to the policy of a folder (docs/aatry.md).
-use Rattle.std.specs.Prelude.{◌≡◌, ◌||◌, ℕ, Bool, not, List, [], ◌∷◌, ◌++◌, codes, is_ok, Option, Some, Result, Ok, Err}
-use Rattle.std.specs.List.{after_first, before_first}
+use Rattle.std.specs.Prelude.{◌≡◌, ℕ, Bool, true, false, not, List, [], ◌∷◌, ◌++◌, codes, is_ok, Option, None, Some, Result, Ok, Err}
+use Rattle.std.specs.List.{before_first}
 use Rattle.serde_json.specs.Data.{Members}
 use Rattle.aa_bytes.specs.Bytes.{line_feed}
-use Rattle.aa_bytes.specs.Texts.{begins_with, is_empty}
+use Rattle.aa_bytes.specs.Texts.{is_empty}
 use Rattle.aa_decide.specs.Exec.{Asker}
+use Rattle.aa_decide_audit.specs.declared.verdict.Answer.{Answer}
+use Rattle.aa_decide_audit.specs.declared.verdict.Answer.TheVariants.{Allow, Complain, Deny, Refuse}
 use Rattle.aa_decide_slots.specs.Entries.{Loaded}
 use Rattle.aa_profile_access.specs.Request.{Request}
-use Rattle.aa_set_answers.specs.Answers.{reply_lines, who_asks}
+use Rattle.aa_set_answers.specs.Answers.{answered, lines_of, who_asks}
 use Rattle.aa_set_answers.specs.Askers.{asker}
+use Rattle.aa_set_answers.specs.declared.answers.Answered.{Answered}
 use Rattle.aa_set_commands.specs.Question.{OfAccess, OfExec, Question, question_of}
 use Rattle.aa_set_commands.specs.Refusal.{name_of, number_of}
 use Rattle.aa_set_commands.specs.declared.refusal.Refusal.{Refusal}
@@ -31,21 +34,18 @@ abbrev pub how_of : Form → List Loaded → Question → List ℕ
 how_of form entries (OfAccess who request) = []
 how_of form entries (OfExec who owned path) = how_lines form entries who owned path
 
--- the first line of a reply, which is the answer, and the one behind it, which logs it, if there is one
-abbrev pub answer_line : List ℕ → List ℕ
-answer_line reply = before_first is_line_feed reply
+-- the line that logs an answer, without its line feed; empty where none does
+abbrev pub audit_line : Answered → List ℕ
+audit_line told = before_first is_line_feed told.logged
 
-abbrev pub audit_line : List ℕ → List ℕ
-audit_line reply = before_first is_line_feed (after_first is_line_feed reply)
+-- a record of what a question is answered
+abbrev pub reply_record : Answered → Members
+reply_record told = with_text (codes "audit") (audit_line told) (with_text (codes "answer") told.text (record_of (codes "answer")))
 
--- a record of a reply
-abbrev pub reply_record : List ℕ → Members
-reply_record reply = with_text (codes "audit") (audit_line reply) (with_text (codes "answer") (answer_line reply) (record_of (codes "answer")))
-
--- what is told of a reply
-abbrev pub reply_text : Form → List ℕ → List ℕ
-reply_text Lines reply = reply
-reply_text Records reply = record_line (reply_record reply)
+-- what is told of it: the lines of the reply, or the record
+abbrev pub reply_text : Form → Answered → List ℕ
+reply_text Lines told = lines_of told
+reply_text Records told = record_line (reply_record told)
 
 -- a record of a question that is refused
 abbrev pub refused_record : Refusal → Members
@@ -57,28 +57,33 @@ abbrev pub refused_text : Form → Refusal → List ℕ
 refused_text Lines refusal = codes "refused " ++ refusal_text refusal ++ line_feed ∷ []
 refused_text Records refusal = record_line (refused_record refusal)
 
--- no rule allows something that was asked for, or nothing confines who asks: the answer's word says so
-abbrev pub is_lacking : List ℕ → Bool
-is_lacking reply = begins_with (codes "refuse") reply || begins_with (codes "complain") reply || begins_with (codes "unconfined") reply
+-- no rule allows something that was asked for, or nothing confines who asks
+abbrev pub is_lacking : Option Answer → Bool
+is_lacking None = true
+is_lacking (Some Allow) = false
+is_lacking (Some Deny) = false
+is_lacking (Some Refuse) = true
+is_lacking (Some Complain) = true
 
 -- the rules behind the answer to who asks: those by which it decides; no one in particular has none
 abbrev pub reasons : Form → Sources → Option (Option Asker) → Request → Bool → List ℕ
 reasons form sources (Some (Some who)) request lacking = why_lines form (written_by sources who) request lacking
 reasons form sources _ request lacking = []
 
--- what is told of the reply to a question: itself, the rules behind it, and how it came about; or why the question is refused
-abbrev pub replied_text : Form → Sources → List Loaded → Question → Result (List ℕ) Refusal → List ℕ
-replied_text form sources entries question (Ok reply) =
-    reply_text form reply ++ reasons form sources (asker entries (who_asks question)) (rule_request question) (is_lacking reply) ++ how_of form entries question
+-- what is told of what a question is answered: that itself, the rules behind it, and how it came about; or why the question is refused
+abbrev pub replied_text : Form → Sources → List Loaded → Question → Result Answered Refusal → List ℕ
+replied_text form sources entries question (Ok told) =
+    reply_text form told ++ reasons form sources (asker entries (who_asks question)) (rule_request question) (is_lacking told.answer)
+    ++ how_of form entries question
 replied_text form sources entries question (Err refusal) = refused_text form refusal
 
 -- what a policy set answers to a question, with the rules behind it
 abbrev pub answered_text : Form → Sources → List Loaded → Question → List ℕ
-answered_text form sources entries question = replied_text form sources entries question (reply_lines entries question)
+answered_text form sources entries question = replied_text form sources entries question (answered entries question)
 
 -- a question has an answer
 abbrev pub has_answer : List Loaded → Question → Bool
-has_answer entries question = is_ok (reply_lines entries question)
+has_answer entries question = is_ok (answered entries question)
 
 -- where the rules of who asks are written, of a folder
 abbrev pub sources_in : Folder → Question → Sources

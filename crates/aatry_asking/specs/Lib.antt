@@ -1,4 +1,5 @@
 pub mod Asking
+pub mod Laws
 pub mod Questions
 pub mod Sources
 pub mod Who

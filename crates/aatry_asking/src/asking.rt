@@ -16,7 +16,7 @@ use crate::question::{QuestionFault, letting_question, question_by};
 use crate::replies::{is_lacking, push_refused, push_reply};
 use crate::sources::{Sources, asked_origin, sources_at, written_by};
 use aa_set::Manager;
-use aa_set_answers::find_asker;
+use aa_set_answers::{Answered, find_asker};
 use aa_set_commands::{Question, RefusalKind};
 use aatry_policy::{Folder, Policy, by_parts, load_folder, parts_of};
 use aatry_report::Form;
@@ -27,7 +27,7 @@ use std::alloc::{AllocError, Global};
 
 /// What a question came to.
 #[derive(Drop)]
-pub struct Answered {
+pub struct Told {
     /// What is told, each line or record with its line feed.
     pub text: Vec<u8>,
     /// Whether the question has an answer, or whether there is somebody whom it is about.
@@ -83,27 +83,27 @@ fn push_reasons(
     }
 }
 
-// Appends what is told of a reply to a question to a text: the reply, the rules behind it, and how it came about.
+// Appends what a question is answered to a text, the rules behind that, and how it came about.
 fn push_replied(
     alloc: Global,
     form: Form,
     sources: &Sources<'_>,
     manager: &Manager,
     question: &Question<'_>,
-    reply: &[u8],
+    told: &Answered,
     out: &mut Vec<u8>,
 ) -> Result<(), AllocError>
     ensures { OnOk result (out.new.items ≡ out.old.items
-        ++ replied_text form (seen_sources sources.now) manager.now.machine.now (seen_question question.entry.now) (Ok reply.now)) }
+        ++ replied_text form (seen_sources sources.now) manager.now.machine.now (seen_question question.entry.now) (Ok told.now)) }
 {
-    push_reply(alloc, form, reply, out)?;
+    push_reply(alloc, form, told, out)?;
     push_reasons(
         alloc,
         form,
         sources,
         manager,
         question,
-        is_lacking(reply),
+        is_lacking(told.answer),
         out,
     )?;
     push_how_of(alloc, form, manager, question, out)
@@ -129,9 +129,9 @@ pub fn push_answer(
         ++ answered_text form (seen_sources sources.now) manager.now.machine.now (seen_question question.entry.now)) }
     ensures found { IfOk result (λ found. found ≡ has_answer manager.now.machine.now (seen_question question.entry.now)) }
 {
-    match manager.ask(question) {
-        Ok(reply) => {
-            push_replied(alloc, form, sources, manager, question, &reply, out)?;
+    match manager.answered(question) {
+        Ok(told) => {
+            push_replied(alloc, form, sources, manager, question, &told, out)?;
             Ok(true)
         }
         Err(refusal) => {
@@ -161,17 +161,18 @@ pub fn why(
     form: Form,
     folder: &Folder<'_>,
     words: &[String],
-) -> Result<Answered, QuestionFault>
-    ensures told { IfOk result (λ answered. IsWhyTold form (seen_folder folder.now) (map string_bytes words.now) answered.text.items answered.found) }
+) -> Result<Told, QuestionFault>
+    ensures told { IfOk result (λ told. IsWhyTold form (seen_folder folder.now) (map string_bytes words.now) told.text.items told.found) }
     ensures bad { IfErr result (λ told. told ≡ fault.Bad → is_ok (question_of (map string_bytes words.now)) ≡ false) }
 {
     let question = question_by(alloc, words)?;
     let mut text = Vec::new(alloc);
-    let policy = load_folder(alloc, form, folder, &mut text)?;
+    let mut policy = load_folder(alloc, form, folder, &mut text)?;
+    policy.manager.remember(&question);
     let origin = asked_origin(&policy.origins, &question);
     let sources = sources_at(folder.files, folder.base, origin);
     let found = push_answer(alloc, form, &sources, &policy.manager, &question, &mut text)?;
-    Ok(Answered { text, found })
+    Ok(Told { text, found })
 }
 
 // Whether a text tells somebody.
@@ -216,8 +217,8 @@ pub fn who(
     form: Form,
     folder: &Folder<'_>,
     words: &[String],
-) -> Result<Answered, QuestionFault>
-    ensures told { IfOk result (λ answered. IsWhoTold form (seen_folder folder.now) (map string_bytes words.now) answered.text.items answered.found) }
+) -> Result<Told, QuestionFault>
+    ensures told { IfOk result (λ told. IsWhoTold form (seen_folder folder.now) (map string_bytes words.now) told.text.items told.found) }
     ensures bad { IfErr result (λ told. told ≡ fault.Bad → is_ok (question_of (letting_words (map string_bytes words.now))) ≡ false) }
 {
     let question = letting_question(alloc, words)?;
@@ -225,7 +226,7 @@ pub fn who(
     let policy = load_folder(alloc, form, folder, &mut text)?;
     let own = let_by(alloc, form, folder, &policy, &question)?;
     text.extend_from_slice(&own)?;
-    Ok(Answered {
+    Ok(Told {
         text,
         found: is_let(&own),
     })

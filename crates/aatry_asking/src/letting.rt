@@ -15,6 +15,7 @@ ghost use Rattle.aatry_report.specs.declared.form.Form.TheVariants as form;
 ghost use Rattle.aatry_why_lines.specs.Written.{seen_rules};
 
 use aa_decide::{Answer, Confinement, Entry, Request, Steps};
+use aa_explain::AskedRules;
 use aa_profile_data::Child;
 use aa_set_answers::full_name;
 use aa_set_changes::PolicySet;
@@ -78,8 +79,10 @@ fn written_of<'a>(folder: &FolderParts<'a>, part: &Part<'a>) -> WrittenRules<'a>
         files: folder.files,
         base: folder.base,
         name: part.file,
-        audit: part.audit,
-        rules: part.rules,
+        rules: AskedRules::Listed {
+            audit: part.audit,
+            rules: part.rules,
+        },
         places: part.places,
     }
 }

@@ -1,78 +1,77 @@
 //! What is told of replies to questions.
 
 ghost use Rattle.std.specs.Prelude.{◌≡◌, ◌++◌, IfOk, OnOk};
-ghost use Rattle.std.specs.List.{after_first};
-ghost use Rattle.aa_set_lines.specs.Lines.{is_line_feed};
-ghost use Rattle.aatry_asking.specs.Asking.{answer_line, audit_line, is_lacking, refused_record, refused_text, reply_record, reply_text};
+ghost use Rattle.aa_set_answers.specs.Answers.{lines_of};
+ghost use Rattle.aatry_asking.specs.Asking.{audit_line, is_lacking, refused_record, refused_text, reply_record, reply_text};
 ghost use Rattle.aatry_report.specs.SeenRecord.{seen_record};
 ghost use Rattle.aatry_report.specs.declared.form.Form.TheVariants as form;
 
-use aa_bytes::{begins_with, behind, length_while};
+use aa_bytes::length_while;
+use aa_decide::Answer;
+use aa_set_answers::Answered;
 use aa_set_commands::Refusal;
 use aatry_policy::push_refusal;
 use aatry_report::{Form, Record};
 use std::alloc::{AllocError, Global};
 
-/// Whether no rule allows something that was asked for, or nothing confines who asks, for the word of the answer.
-pub fn is_lacking(reply: &[u8]) -> bool
-    ensures { result ≡ is_lacking reply.now }
+/// Whether no rule allows something that was asked for, or nothing confines who asks.
+pub fn is_lacking(answer: Option<Answer>) -> bool
+    ensures { result ≡ is_lacking answer }
 {
-    begins_with(b"refuse", reply)
-        || begins_with(b"complain", reply)
-        || begins_with(b"unconfined", reply)
-}
-
-// The first of some lines.
-fn answer_line(lines: &[u8]) -> &[u8]
-    ensures { result.now ≡ answer_line lines.now }
-{
-    &lines[..length_while(lines, |byte| byte != b'\n')]
-}
-
-// The lines behind the first of some.
-fn lines_behind(lines: &[u8]) -> &[u8]
-    ensures { result.now ≡ after_first is_line_feed lines.now }
-{
-    behind(length_while(lines, |byte| byte != b'\n') + 1, lines)
-}
-
-// The second of some lines.
-fn audit_line(lines: &[u8]) -> &[u8]
-    ensures { result.now ≡ audit_line lines.now }
-{
-    answer_line(lines_behind(lines))
-}
-
-// The record of a reply.
-fn reply_record(alloc: Global, reply: &[u8]) -> Result<Record, AllocError>
-    ensures { IfOk result (λ made. seen_record made ≡ reply_record reply.now) }
-{
-    let mut made = Record::new(alloc, "answer")?;
-    made.put_text(alloc, "answer", answer_line(reply))?;
-    made.put_text(alloc, "audit", audit_line(reply))?;
-    Ok(made)
-}
-
-/// Puts what is told of a reply behind a text: its lines, or a record of the answer and the line that logs it.
-///
-/// # Errors
-///
-/// Where memory runs out. A beginning may have been put then.
-pub fn push_reply(
-    alloc: Global,
-    form: Form,
-    reply: &[u8],
-    out: &mut Vec<u8>,
-) -> Result<(), AllocError>
-    ensures { OnOk result (out.new.items ≡ out.old.items ++ reply_text form reply.now) }
-{
-    match form {
-        Form::Lines => out.extend_from_slice(reply),
-        Form::Records => reply_record(alloc, reply)?.push(alloc, out),
+    match answer {
+        None => true,
+        Some(Answer::Allow | Answer::Deny) => false,
+        Some(Answer::Refuse | Answer::Complain) => true,
     }
 }
 
-// Puts the line of a question that is refused behind a text.
+// The line that logs an answer, without its line feed; empty where none does.
+fn audit_line(told: &Answered) -> &[u8]
+    ensures { result.now ≡ audit_line told.now }
+{
+    let logged = told.logged.as_slice();
+    &logged[..length_while(logged, |byte| byte != b'\n')]
+}
+
+// The record of what a question is answered.
+fn reply_record(alloc: Global, told: &Answered) -> Result<Record, AllocError>
+    ensures { IfOk result (λ made. seen_record made ≡ reply_record told.now) }
+{
+    let mut made = Record::new(alloc, "answer")?;
+    made.put_text(alloc, "answer", told.text.as_slice())?;
+    made.put_text(alloc, "audit", audit_line(told))?;
+    Ok(made)
+}
+
+// Appends the lines of what a question is answered to a text.
+fn push_lines(told: &Answered, out: &mut Vec<u8>) -> Result<(), AllocError>
+    ensures { OnOk result (out.new.items ≡ out.old.items ++ lines_of told.now) }
+{
+    out.extend_from_slice(told.text.as_slice())?;
+    out.push(b'\n')?;
+    out.extend_from_slice(told.logged.as_slice())
+}
+
+/// Appends what a question is answered to a text: the lines of the reply, or a record of the answer and the line that logs it.
+///
+/// # Errors
+///
+/// Where memory runs out. A beginning may have been appended then.
+pub fn push_reply(
+    alloc: Global,
+    form: Form,
+    told: &Answered,
+    out: &mut Vec<u8>,
+) -> Result<(), AllocError>
+    ensures { OnOk result (out.new.items ≡ out.old.items ++ reply_text form told.now) }
+{
+    match form {
+        Form::Lines => push_lines(told, out),
+        Form::Records => reply_record(alloc, told)?.push(alloc, out),
+    }
+}
+
+// Appends the line of a question that is refused to a text.
 fn push_refused_line(out: &mut Vec<u8>, refusal: Refusal) -> Result<(), AllocError>
     ensures { OnOk result (out.new.items ≡ out.old.items ++ refused_text form.Lines refusal) }
 {
@@ -92,11 +91,11 @@ fn refused_record(alloc: Global, refusal: Refusal) -> Result<Record, AllocError>
     Ok(made)
 }
 
-/// Puts what is told of a question that is refused behind a text.
+/// Appends what is told of a question that is refused to a text.
 ///
 /// # Errors
 ///
-/// Where memory runs out. A beginning may have been put then.
+/// Where memory runs out. A beginning may have been appended then.
 pub fn push_refused(
     alloc: Global,
     form: Form,

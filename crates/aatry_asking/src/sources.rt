@@ -7,6 +7,7 @@ ghost use Rattle.aatry_asking.specs.Sources.{asked_origin, seen_sources, written
 ghost use Rattle.aatry_why_lines.specs.Written.{seen_rules};
 
 use aa_decide::Asker;
+use aa_explain::AskedRules;
 use aa_profile_access::cut_full_name;
 use aa_set_commands::Question;
 use aa_text_files::Files;
@@ -48,13 +49,14 @@ pub fn asked_origin<'a>(origins: &'a [Origin], question: &Question<'_>) -> Optio
 pub fn written_by<'a>(sources: &Sources<'a>, asker: Asker<'a>) -> WrittenRules<'a>
     ensures { seen_rules result ≡ written_by (seen_sources sources.now) (seen_asker asker.entry) }
 {
-    let ready = asker.entry.ready();
     WrittenRules {
         files: sources.files,
         base: sources.base,
         name: file_of(sources.origin),
-        audit: ready.audits(asker.child),
-        rules: ready.rules_at(asker.child),
+        rules: AskedRules::Loaded {
+            ready: asker.entry.ready(),
+            child: asker.child,
+        },
         places: rule_places(sources.origin, asker.child),
     }
 }

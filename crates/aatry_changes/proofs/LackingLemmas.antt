@@ -1,9 +1,10 @@
 -- One more text, among those that lines tell.
-use Rattle.std.proofs.Common.{◌≡◌, ℕ, Bool, true, false, ◌||◌, if◌then◌else◌, List, [], ◌∷◌, ◌++◌, refl, sym, ap, ◌∙◌}
+use Rattle.std.proofs.Common.{◌≡◌, ℕ, zero, suc, ◌<◌, Bool, true, false, ◌||◌, if◌then◌else◌, List, [], ◌∷◌, ◌++◌, length, get_or, arith, refl, sym, ap, ◌∙◌}
 use Rattle.std.proofs.Math.Bool.{or-false}
 use Rattle.std.proofs.lemmas.List.Folds.{list_any-append}
 use Rattle.std.proofs.lemmas.Slice.Eq.{bytes_eq-Decides}
 use Rattle.std.specs.Borrow.{Bor}
+use Rattle.std.specs.Prelude.{IsTrue}
 use Rattle.std.specs.Str.{bytes_eq}
 use Rattle.indexmap.specs.IndexSet.{insert_key}
 use Rattle.aatry_changes.specs.Lacking.{has_text}
@@ -41,3 +42,16 @@ pub has-more : (lines : List Line) (line : Line) (text : List ℕ)
     → has_text (lines ++ line ∷ []) text ≡ (has_text lines text || bytes_eq text line.text)
 has-more lines line text =
     list_any-append (λ other. bytes_eq text other.text) lines (line ∷ []) ∙ ap (λ b. has_text lines text || b) (or-false (bytes_eq text line.text))
+
+-- a line at a place that tells a text is one of those that do
+pub has-at : (lines : List Line) (place : ℕ) (line : Line) (text : List ℕ) → place < length lines → line ≡ get_or lines place line
+    → IsTrue (bytes_eq line.text text) → has_text lines text ≡ true
+has-at [] place line text within is told = absurd (omega arith)
+has-at (one ∷ lines) zero line text within is told =
+    let first : text ≡ one.text = sym ((bytes_eq-Decides line.text text).0 told) ∙ ap (λ (l : Line). l.text) is in
+    ap (λ b. b || has_text lines text) ((bytes_eq-Decides text one.text).1 first)
+has-at (one ∷ lines) (suc place) line text within is told = by (bytes_eq text one.text) (has-at lines place line text (omega arith) is told)
+  where
+    by : (same : Bool) → has_text lines text ≡ true → (same || has_text lines text) ≡ true
+    by true there = refl
+    by false there = there

@@ -8,6 +8,7 @@ use Rattle.aatry_changes.specs.declared.side.Side.{Side}
 use Rattle.aatry_policy.specs.FolderParts.{FolderParts}
 use Rattle.aatry_policy.specs.Parts.{Part}
 use Rattle.aatry_report.specs.Records.{record_line, record_of, with_text}
+use Rattle.aatry_report.specs.Shown.{shown}
 use Rattle.aatry_report.specs.declared.form.Form.{Form}
 use Rattle.aatry_report.specs.declared.form.Form.TheVariants.{Lines, Records}
 use Rattle.aatry_why_lines.specs.Lines.{where_text, with_where}
@@ -22,7 +23,7 @@ with_where_of folder file line members = if line.rule then with_where folder.fil
 
 -- a line of a part that one side has alone, behind blanks and a sign
 abbrev pub line_text : FolderParts → Part → List ℕ → Side → Line → List ℕ
-line_text folder part blanks side line = blanks ++ sign side ++ where_of folder part.file line ++ line.text ++ line_feed ∷ []
+line_text folder part blanks side line = blanks ++ sign side ++ where_of folder part.file line ++ shown line.text ++ line_feed ∷ []
 
 -- the same as a record, with the part's name
 abbrev pub line_record : FolderParts → Part → Side → Line → Members

@@ -1,7 +1,10 @@
--- How a line is told that one of two folders has alone.
-use Rattle.std.specs.Prelude.{ℕ, List, codes}
+-- The two folders that are compared, and how a line is told that one of them has alone.
+use Rattle.std.specs.Prelude.{◌≡◌, ℕ, List, codes}
 use Rattle.aatry_changes.specs.declared.side.Side.{Side}
 use Rattle.aatry_changes.specs.declared.side.Side.TheVariants.{New, Old}
+use Rattle.aatry_changes.specs.declared.side.Finders.{Finders}
+use Rattle.aatry_policy.specs.FolderParts.{FolderParts}
+use Rattle.aatry_why_lines.specs.Finding.{Folder}
 
 -- the sign before it, in lines
 abbrev pub sign : Side → List ℕ
@@ -12,3 +15,11 @@ sign New = codes "+ "
 abbrev pub kind : Side → List ℕ
 kind Old = codes "less"
 kind New = codes "more"
+
+-- the folder in which the rules of parts stand
+abbrev pub folder_in : FolderParts → Folder
+folder_in folder = record { files = folder.files; base = folder.base }
+
+-- Places are found in these two folders.
+abbrev pub FindIn : FolderParts → FolderParts → Finders → Type 0
+FindIn old new finders = (finders.of_old ≡ folder_in old) × (finders.of_new ≡ folder_in new)

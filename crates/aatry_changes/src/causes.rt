@@ -9,7 +9,7 @@ ghost use Rattle.aatry_policy.specs.SeenProfiles.{seen_part};
 use crate::differing::push_lines;
 use crate::lacking::lacking;
 use crate::lines::{Line, covering_lines};
-use crate::side::{Side, SidePart};
+use crate::side::{Side, SidePart, finder_in};
 use aa_profile_access::Request;
 use aatry_policy::{FolderParts, Part, part_of};
 use aatry_report::Form;
@@ -43,7 +43,8 @@ fn push_lacking(
         ++ causes_of form (seen_folder own.now.folder.now) (Some (seen_part own.now.part.now)) own.now.side others.now lines.now) }
 {
     let found = lacking(alloc, others, lines)?;
-    push_lines(alloc, form, own, "  ", &found, out)
+    let mut finder = finder_in(alloc, own.folder);
+    push_lines(&mut finder, form, own, "  ", &found, out)
 }
 
 // The same of a part, if there is one.

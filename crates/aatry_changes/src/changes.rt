@@ -5,6 +5,7 @@ ghost use Rattle.aatry_changes.specs.Changes.{below_text, change_lines, changed_
 ghost use Rattle.aatry_changes.specs.Changes.{headed_record, is_changed, is_gone_or_changed, is_new, new_text, old_text};
 ghost use Rattle.aatry_changes.specs.Lacking.{lacking};
 ghost use Rattle.aatry_changes.specs.SeenLines.{seen_lines};
+ghost use Rattle.aatry_changes.specs.Sides.{FindIn};
 ghost use Rattle.aatry_policy.specs.FolderParts.{seen_folder};
 ghost use Rattle.aatry_policy.specs.SeenProfiles.{seen_part};
 ghost use Rattle.aatry_report.specs.SeenRecord.{seen_record};
@@ -13,7 +14,7 @@ ghost use Rattle.aatry_report.specs.Taken.{counted};
 use crate::differing::push_lines;
 use crate::lacking::lacking;
 use crate::lines::{Line, lines_of};
-use crate::side::{PartPair, Side, SidePart};
+use crate::side::{Finders, PartPair, Side, SidePart, finders_in};
 use aatry_policy::{FolderParts, Part, part_of};
 use aatry_report::{Form, Record, push_shown};
 use std::alloc::{AllocError, Global};
@@ -56,16 +57,18 @@ fn push_headed(
 
 // Puts the lines behind a text that the old part has alone, and then those that the new one has alone.
 fn push_below(
-    alloc: Global,
+    finders: &mut Finders<'_>,
     form: Form,
     pair: &PartPair<'_>,
     less: &[&Line],
     more: &[&Line],
     out: &mut Vec<u8>,
 ) -> Result<(), AllocError>
-    ensures { OnOk result (out.new.items ≡ out.old.items
+    requires { FindIn (seen_folder pair.now.old.now) (seen_folder pair.now.new.now) finders.old }
+    ensures told { OnOk result (out.new.items ≡ out.old.items
         ++ below_text form (seen_folder pair.now.old.now) (seen_folder pair.now.new.now) (seen_part pair.now.part.now) (seen_part pair.now.other.now)
         (seen_lines less.now) (seen_lines more.now)) }
+    ensures same { finders.new ≡ finders.old }
 {
     let old = SidePart {
         folder: pair.old,
@@ -77,82 +80,99 @@ fn push_below(
         part: pair.other,
         side: Side::New,
     };
-    push_lines(alloc, form, &old, "", less, out)?;
-    push_lines(alloc, form, &new, "", more, out)
+    push_lines(&mut finders.of_old, form, &old, "", less, out)?;
+    push_lines(&mut finders.of_new, form, &new, "", more, out)
 }
 
 // Puts what is told of a part of both folders behind a text, by the lines that either has alone, and says whether it is changed.
 fn push_differing(
-    alloc: Global,
+    finders: &mut Finders<'_>,
     form: Form,
     pair: &PartPair<'_>,
     less: &[&Line],
     more: &[&Line],
     out: &mut Vec<u8>,
 ) -> Result<bool, AllocError>
+    requires { FindIn (seen_folder pair.now.old.now) (seen_folder pair.now.new.now) finders.old }
     ensures told { OnOk result (out.new.items ≡ out.old.items
         ++ changed_by form (seen_folder pair.now.old.now) (seen_folder pair.now.new.now) (seen_part pair.now.part.now) (seen_part pair.now.other.now)
         (seen_lines less.now) (seen_lines more.now)) }
     ensures whether { IfOk result (λ told. told ≡ differ (seen_lines less.now) (seen_lines more.now)) }
+    ensures same { finders.new ≡ finders.old }
 {
     if less.is_empty() && more.is_empty() {
         return Ok(false);
     }
-    push_headed(alloc, form, "changed", pair.part.name.as_slice(), out)?;
-    push_below(alloc, form, pair, less, more, out)?;
+    push_headed(
+        finders.of_old.alloc(),
+        form,
+        "changed",
+        pair.part.name.as_slice(),
+        out,
+    )?;
+    push_below(finders, form, pair, less, more, out)?;
     Ok(true)
 }
 
 // The same by the lines of both.
 fn push_between(
-    alloc: Global,
+    finders: &mut Finders<'_>,
     form: Form,
     pair: &PartPair<'_>,
     before: &[Line],
     after: &[Line],
     out: &mut Vec<u8>,
 ) -> Result<bool, AllocError>
+    requires { FindIn (seen_folder pair.now.old.now) (seen_folder pair.now.new.now) finders.old }
     ensures told { OnOk result (out.new.items ≡ out.old.items
         ++ changed_by form (seen_folder pair.now.old.now) (seen_folder pair.now.new.now) (seen_part pair.now.part.now) (seen_part pair.now.other.now)
         (lacking after.now before.now) (lacking before.now after.now)) }
     ensures whether { IfOk result (λ told. told ≡ differ (lacking after.now before.now) (lacking before.now after.now)) }
+    ensures same { finders.new ≡ finders.old }
 {
+    let alloc = finders.of_old.alloc();
     let less = lacking(alloc, after, before)?;
     let more = lacking(alloc, before, after)?;
-    push_differing(alloc, form, pair, &less, &more, out)
+    push_differing(finders, form, pair, &less, &more, out)
 }
 
 // Puts what is told of a part of both folders behind a text, and says whether it is changed.
 fn push_changed(
-    alloc: Global,
+    finders: &mut Finders<'_>,
     form: Form,
     pair: &PartPair<'_>,
     out: &mut Vec<u8>,
 ) -> Result<bool, AllocError>
+    requires { FindIn (seen_folder pair.now.old.now) (seen_folder pair.now.new.now) finders.old }
     ensures told { OnOk result (out.new.items ≡ out.old.items
         ++ changed_text form (seen_folder pair.now.old.now) (seen_folder pair.now.new.now) (seen_part pair.now.part.now)
         (seen_part pair.now.other.now)) }
     ensures whether { IfOk result (λ told. told ≡ is_changed (seen_part pair.now.part.now) (seen_part pair.now.other.now)) }
+    ensures same { finders.new ≡ finders.old }
 {
+    let alloc = finders.of_old.alloc();
     let before = lines_of(alloc, pair.part)?;
     let after = lines_of(alloc, pair.other)?;
-    push_between(alloc, form, pair, &before, &after, out)
+    push_between(finders, form, pair, &before, &after, out)
 }
 
 // Puts what is told of a part of the old folder behind a text, and says whether it is gone or changed.
 fn push_old(
-    alloc: Global,
+    finders: &mut Finders<'_>,
     form: Form,
     old: &FolderParts<'_>,
     new: &FolderParts<'_>,
     part: &Part<'_>,
     out: &mut Vec<u8>,
 ) -> Result<bool, AllocError>
+    requires { FindIn (seen_folder old.now) (seen_folder new.now) finders.old }
     ensures told { OnOk result (out.new.items ≡ out.old.items ++ old_text form (seen_folder old.now) (seen_folder new.now) (seen_part part.now)) }
     ensures whether { IfOk result (λ told. told ≡ is_gone_or_changed (seen_folder new.now) (seen_part part.now)) }
+    ensures same { finders.new ≡ finders.old }
 {
     match part_of(new.parts, part.name.as_slice()) {
         None => {
+            let alloc = finders.of_old.alloc();
             push_headed(alloc, form, "gone", part.name.as_slice(), out)?;
             Ok(true)
         }
@@ -163,7 +183,7 @@ fn push_old(
                 part,
                 other,
             };
-            push_changed(alloc, form, &pair, out)
+            push_changed(finders, form, &pair, out)
         }
     }
 }
@@ -190,21 +210,23 @@ fn push_new(
 
 // Puts what is told of parts of the old folder behind a text, and says how many are gone or changed.
 fn push_old_parts(
-    alloc: Global,
+    finders: &mut Finders<'_>,
     form: Form,
     old: &FolderParts<'_>,
     new: &FolderParts<'_>,
     parts: &[Part<'_>],
     out: &mut Vec<u8>,
 ) -> Result<usize, AllocError>
+    requires { FindIn (seen_folder old.now) (seen_folder new.now) finders.old }
     ensures told { OnOk result (out.new.items
         ≡ out.old.items ++ flat_map (old_text form (seen_folder old.now) (seen_folder new.now)) (map seen_part parts.now)) }
     ensures count { IfOk result (λ count. count ≡ length (filter (is_gone_or_changed (seen_folder new.now)) (map seen_part parts.now))) }
+    ensures same { finders.new ≡ finders.old }
 {
     let mut count = 0;
     let mut rest = parts;
     while let [part, behind @ ..] = rest {
-        if push_old(alloc, form, old, new, part, out)? {
+        if push_old(finders, form, old, new, part, out)? {
             count += 1;
         }
         rest = behind;
@@ -256,7 +278,8 @@ pub fn push_changes(
     ensures told { OnOk result (out.new.items ≡ out.old.items ++ change_lines form (seen_folder old.now) (seen_folder new.now)) }
     ensures count { IfOk result (λ count. count ≡ counted (changed_count (seen_folder old.now) (seen_folder new.now))) }
 {
-    let before = push_old_parts(alloc, form, old, new, old.parts, out)?;
+    let mut finders = finders_in(alloc, old, new);
+    let before = push_old_parts(&mut finders, form, old, new, old.parts, out)?;
     let after = push_new_parts(alloc, form, old, new.parts, out)?;
     Ok(before.saturating_add(after))
 }

@@ -28,6 +28,9 @@ pub struct Line {
     pub place: Option<Place>,
 }
 
+// In so many bytes most rules are told. Of these memory is taken at once, and of more as they come.
+const RULE_BYTES: usize = 64;
+
 // The line of a word at the head of a part.
 fn head_line(alloc: Global, word: &str) -> Result<Line, AllocError>
     ensures { IfOk result (λ line. line ≡ head_line word.now) }
@@ -56,7 +59,7 @@ fn attachment_line(alloc: Global, pattern: &Pattern) -> Result<Line, AllocError>
 fn rule_line(alloc: Global, rule: &Rule, place: Option<Place>) -> Result<Line, AllocError>
     ensures { IfOk result (λ line. line ≡ rule_line rule.now place) }
 {
-    let mut text = Vec::new(alloc);
+    let mut text = Vec::with_capacity(alloc, RULE_BYTES)?;
     push_rule(&mut text, rule)?;
     Ok(Line {
         text: Sequence::from_vec(text),
@@ -148,7 +151,8 @@ fn push_rules(
 pub fn lines_of(alloc: Global, part: &Part<'_>) -> Result<Vec<Line>, AllocError>
     ensures { IfOk result (λ lines. lines.items ≡ lines_of (seen_part part.now)) }
 {
-    let mut lines = Vec::new(alloc);
+    let heads = part.attachments.len().saturating_add(3);
+    let mut lines = Vec::with_capacity(alloc, part.rules.len().saturating_add(heads))?;
     push_head(alloc, part, &mut lines)?;
     push_rules(alloc, part.rules, part.places, &mut lines)?;
     Ok(lines)

@@ -1,9 +1,12 @@
 //! The folders that are compared.
 
 ghost use Rattle.std.specs.Prelude.{◌≡◌};
-ghost use Rattle.aatry_changes.specs.Sides.{kind, sign};
+ghost use Rattle.aatry_changes.specs.Sides.{FindIn, folder_in, kind, sign};
+ghost use Rattle.aatry_policy.specs.FolderParts.{seen_folder};
 
 use aatry_policy::{FolderParts, Part};
+use aatry_why_lines::Finder;
+use std::alloc::Global;
 
 /// One of two folders that are compared.
 #[derive(Clone, Copy)]
@@ -55,5 +58,31 @@ pub fn kind_of(side: Side) -> &'static str
     match side {
         Side::Old => "less",
         Side::New => "more",
+    }
+}
+
+/// What finds the places of rules in both of two folders that are compared.
+#[derive(Drop)]
+pub struct Finders<'a> {
+    /// In the old one.
+    pub of_old: Finder<'a>,
+    /// In the new one.
+    pub of_new: Finder<'a>,
+}
+
+/// What finds the places of rules in a folder. It takes no memory.
+pub fn finder_in<'a>(alloc: Global, folder: &FolderParts<'a>) -> Finder<'a>
+    ensures { result ≡ folder_in (seen_folder folder.now) }
+{
+    Finder::new(alloc, folder.files, folder.base)
+}
+
+/// What finds them in both of two folders. It takes no memory.
+pub fn finders_in<'a>(alloc: Global, old: &FolderParts<'a>, new: &FolderParts<'a>) -> Finders<'a>
+    ensures { FindIn (seen_folder old.now) (seen_folder new.now) result }
+{
+    Finders {
+        of_old: finder_in(alloc, old),
+        of_new: finder_in(alloc, new),
     }
 }

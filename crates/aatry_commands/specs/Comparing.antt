@@ -10,6 +10,8 @@ use Rattle.aatry_report.specs.declared.form.Form.{Form}
 use Rattle.aatry_requests.specs.Gathering.{Gathered, gathered}
 use Rattle.aatry_requests.specs.declared.sources.Source.{Source}
 use Rattle.aatry_requests.specs.declared.sources.Source.TheVariants.{Log, Questions}
+use Rattle.aatry_folder.specs.Told.{ToldFolders}
+use Rattle.aaset_start.specs.Known.{Known}
 
 -- of which form a source of requests is
 abbrev pub form_of : SourceAsked → Source
@@ -22,19 +24,19 @@ path_of (LogAt path) = path
 path_of (QuestionsAt path) = path
 
 -- What a source of requests tells of is gathered from the file at its path; where there is no source, nothing is.
-abbrev pub IsGathered : (List ℕ → Option (List ℕ)) → Option SourceAsked → Option Gathered → Type 0
-IsGathered bytes_at None requests = requests ≡ None
-IsGathered bytes_at (Some source) requests =
-    (bytes : List ℕ) × IsFileAt bytes_at (path_of source) ((path_of source, bytes) ∷ []) × (requests ≡ Some (gathered (form_of source) bytes))
+abbrev pub IsGathered : Known → Option SourceAsked → Option Gathered → Type 0
+IsGathered known None requests = requests ≡ None
+IsGathered known (Some source) requests =
+    (bytes : List ℕ) × IsFileAt known (path_of source) ((path_of source, bytes) ∷ []) × (requests ≡ Some (gathered (form_of source) bytes))
 
 -- The two folders, each with all that lies below it, were compared, by what the file of requests tells of too, if there is one, and the text tells how
 -- they differ. One failed where something differs.
-pub record IsComparedBelow (form : Form) (members_at : List ℕ → Option (List (List ℕ))) (bytes_at : List ℕ → Option (List ℕ)) (asked : ComparisonAsked) (text : List ℕ) (failed : ℕ) : Type 0 where
+pub record IsComparedBelow (form : Form) (folders : ToldFolders) (known : Known) (asked : ComparisonAsked) (text : List ℕ) (failed : ℕ) : Type 0 where
   pub old_files : List File
   pub new_files : List File
-  pub old_below : AreBelow members_at bytes_at asked.old old_files
-  pub new_below : AreBelow members_at bytes_at asked.new new_files
+  pub old_below : AreBelow folders known asked.old old_files
+  pub new_below : AreBelow folders known asked.new new_files
   pub requests : Option Gathered
-  pub gathered : IsGathered bytes_at asked.source requests
+  pub gathered : IsGathered known asked.source requests
   pub told : text ≡ diff_text form (folder_at asked.old old_files) (folder_at asked.new new_files) requests
   pub counted : failed ≡ failed_by (are_alike (folder_at asked.old old_files) (folder_at asked.new new_files) requests)

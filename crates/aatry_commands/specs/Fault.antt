@@ -1,5 +1,5 @@
 -- What keeps the program from doing what it is asked for, and what is told of it.
-use Rattle.std.specs.Prelude.{ℕ, List, [], ◌∷◌, ◌++◌, codes, string_bytes, ⊤}
+use Rattle.std.specs.Prelude.{ℕ, List, [], ◌∷◌, ◌++◌, codes, string_bytes}
 use Rattle.aa_bytes.specs.Bytes.{line_feed}
 use Rattle.aaset_start.specs.declared.gathering.GatherFault.{GatherFault}
 use Rattle.aaset_start.specs.declared.gathering.GatherFault.TheVariants as files
@@ -23,13 +23,6 @@ fault_of_files files.Memory = NoMemory
 abbrev pub fault_of_question : QuestionFault → Fault
 fault_of_question question.Bad = BadQuestion
 fault_of_question question.Memory = NoMemory
-
--- a fault that keeps a folder of policy from being read: one of its files or folders can't be, there are too many, or memory ran out
-abbrev pub IsOfFolder : Fault → Type 0
-IsOfFolder (Unreadable name) = ⊤
-IsOfFolder TooMany = ⊤
-IsOfFolder NoMemory = ⊤
-IsOfFolder fault = ⊥
 
 -- the words that tell a fault
 abbrev pub words_of : Fault → List ℕ

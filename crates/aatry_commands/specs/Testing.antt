@@ -1,34 +1,36 @@
 -- What a test of transcripts over a folder of policy comes to.
-use Rattle.std.specs.Prelude.{◌≡◌, ◌+◌, ℕ, Bool, false, if◌then◌else◌, List, [], ◌∷◌, ◌++◌, Option, codes}
+use Rattle.std.specs.Prelude.{◌≡◌, ◌+◌, ℕ, Bool, false, if◌then◌else◌, List, [], ◌∷◌, ◌++◌, codes}
 use Rattle.aa_text_files.specs.Files.{File, is_folder_name}
 use Rattle.aaset_start.specs.Gathering.{IsReadBelow}
 use Rattle.aatry_commands.specs.Checking.{AreBelow}
 use Rattle.aatry_test.specs.Tests.{IsTested}
+use Rattle.aatry_folder.specs.Told.{ToldFolders}
+use Rattle.aaset_start.specs.Known.{Known}
 
 -- The one of these files is that of this path: it has the bytes that lie there, where they are known. A path that isn't whole begins in the current
 -- folder, and one that ends in `/` is that of no file.
-abbrev pub IsFileAt : (List ℕ → Option (List ℕ)) → List ℕ → List File → Type 0
-IsFileAt bytes_at path files =
-    (bytes : List ℕ) × (files ≡ (path, bytes) ∷ []) × (is_folder_name path ≡ false) × IsReadBelow bytes_at (codes ".") (path, bytes)
+abbrev pub IsFileAt : Known → List ℕ → List File → Type 0
+IsFileAt known path files =
+    (bytes : List ℕ) × (files ≡ (path, bytes) ∷ []) × (is_folder_name path ≡ false) × IsReadBelow known (codes ".") (path, bytes)
 
 -- how many failed, where one was tried
 abbrev pub failed_by : Bool → ℕ
 failed_by passed = if passed then 0 else 1
 
 -- The transcript of this path was tested, the text tells how it came out, and so many failed: one or none.
-abbrev pub IsFileTested : (List ℕ → Option (List ℕ)) → List File → List ℕ → List ℕ → ℕ → Type 0
-IsFileTested bytes_at files path text failed =
-    (bytes : List ℕ) × (passed : Bool) × IsFileAt bytes_at path ((path, bytes) ∷ []) × IsTested files path bytes passed text × (failed ≡ failed_by passed)
+abbrev pub IsFileTested : Known → List File → List ℕ → List ℕ → ℕ → Type 0
+IsFileTested known files path text failed =
+    (bytes : List ℕ) × (passed : Bool) × IsFileAt known path ((path, bytes) ∷ []) × IsTested files path bytes passed text × (failed ≡ failed_by passed)
 
 -- a text tells each of these transcripts in turn, and so many failed
-abbrev pub TestsEach : (List ℕ → Option (List ℕ)) → List File → List (List ℕ) → List ℕ → ℕ → Type 0
-TestsEach bytes_at files [] text failed = (text ≡ []) × (failed ≡ 0)
-TestsEach bytes_at files (path ∷ paths) text failed =
+abbrev pub TestsEach : Known → List File → List (List ℕ) → List ℕ → ℕ → Type 0
+TestsEach known files [] text failed = (text ≡ []) × (failed ≡ 0)
+TestsEach known files (path ∷ paths) text failed =
     (first rest : List ℕ) × (one left : ℕ) × (text ≡ first ++ rest) × (failed ≡ one + left)
-    × IsFileTested bytes_at files path first one × TestsEach bytes_at files paths rest left
+    × IsFileTested known files path first one × TestsEach known files paths rest left
 
 -- The transcripts were tested over all that lies below the folder, the text tells each of them, and so many failed.
-pub record IsTestedBelow (members_at : List ℕ → Option (List (List ℕ))) (bytes_at : List ℕ → Option (List ℕ)) (base : List ℕ) (paths : List (List ℕ)) (text : List ℕ) (failed : ℕ) : Type 0 where
+pub record IsTestedBelow (folders : ToldFolders) (known : Known) (base : List ℕ) (paths : List (List ℕ)) (text : List ℕ) (failed : ℕ) : Type 0 where
   pub files : List File
-  pub below : AreBelow members_at bytes_at base files
-  pub each : TestsEach bytes_at files paths text failed
+  pub below : AreBelow folders known base files
+  pub each : TestsEach known files paths text failed

@@ -3,9 +3,11 @@
 ghost use Rattle.std.specs.Prelude.{◌≡◌, IfErr, IfOk, string_bytes};
 ghost use Rattle.aaset_start.specs.Gathering.{names_of};
 ghost use Rattle.aaset_start.specs.Gathering.{texts_of};
+ghost use Rattle.aatry_arguments.specs.Arguments.{ForWho, ForWhy};
+ghost use Rattle.aatry_arguments.specs.Given.{meant_asking};
 ghost use Rattle.aatry_commands.specs.Asking.{IsWhoToldBelow, IsWhyToldBelow};
 ghost use Rattle.aatry_commands.specs.Checking.{AreBelow, top_names};
-ghost use Rattle.aatry_commands.specs.Fault.{IsOfFolder};
+ghost use Rattle.aatry_commands.specs.Ends.{IsOfFolder, MayEndWith};
 ghost use Rattle.aatry_commands.specs.Folders.{folder_with};
 ghost use Rattle.aatry_commands.specs.Testing.{failed_by};
 ghost use Rattle.aatry_policy.specs.Folders.{seen_folder};
@@ -16,7 +18,7 @@ use crate::testing::failed_by;
 use aa_text_files::Files;
 use aaset_start::{FileSystem, gather};
 use aatry_arguments::Asking;
-use aatry_asking::{Answered, who, why};
+use aatry_asking::{Told, who, why};
 use aatry_folder::{Folders, names_below};
 use aatry_policy::Folder;
 use aatry_report::Form;
@@ -44,9 +46,9 @@ pub fn policy_below<F: Folders, D: FileSystem>(
     disk: &D,
     base: &str,
 ) -> Result<PolicyFiles, Fault>
-    ensures below { IfOk result (λ policy. AreBelow (F.members_at folders.now) (D.bytes_at disk.now) base.now policy.files) }
+    ensures below { IfOk result (λ policy. AreBelow (F.told folders.now) (D.known disk.now) base.now policy.files) }
     ensures top { IfOk result (λ policy. texts_of policy.top ≡ top_names (names_of policy.files)) }
-    ensures fault { IfErr result IsOfFolder }
+    ensures fault { IfErr result (IsOfFolder (F.told folders.now) (D.known disk.now) base.now) }
 {
     let names = names_below(folders, alloc, base)?;
     let top = top_names(alloc, &names)?;
@@ -66,13 +68,13 @@ pub fn folder_at<'a>(base: &'a str, policy: &'a PolicyFiles) -> Folder<'a>
 }
 
 // What a question came to, as the program reports it.
-fn report_of(answered: Answered) -> Report
-    ensures text { result.text.items ≡ answered.text.items }
-    ensures failed { result.failed ≡ failed_by answered.found }
+fn report_of(told: Told) -> Report
+    ensures text { result.text.items ≡ told.text.items }
+    ensures failed { result.failed ≡ failed_by told.found }
 {
     Report {
-        failed: failed_by(answered.found),
-        text: answered.text,
+        failed: failed_by(told.found),
+        text: told.text,
     }
 }
 
@@ -92,13 +94,14 @@ pub fn why_folder<F: Folders, D: FileSystem>(
     disk: &D,
     asked: Asking,
 ) -> Result<Report, Fault>
-    ensures { IfOk result (λ report. IsWhyToldBelow form (F.members_at folders.now) (D.bytes_at disk.now) (string_bytes asked.base) (texts_of asked.words)
+    ensures told { IfOk result (λ report. IsWhyToldBelow form (F.told folders.now) (D.known disk.now) (string_bytes asked.base) (texts_of asked.words)
         report.text.items report.failed) }
+    ensures fault { IfErr result (MayEndWith (F.told folders.now) (D.known disk.now) (ForWhy (meant_asking asked))) }
 {
     let Asking { base, words } = asked;
     let policy = policy_below(alloc, folders, disk, base.as_str())?;
-    let answered = why(alloc, form, &folder_at(base.as_str(), &policy), &words)?;
-    Ok(report_of(answered))
+    let told = why(alloc, form, &folder_at(base.as_str(), &policy), &words)?;
+    Ok(report_of(told))
 }
 
 /// Tells who would be let through by the policy of a folder: finds and reads all files below it as `check_folder` does, and tells what
@@ -114,11 +117,12 @@ pub fn who_folder<F: Folders, D: FileSystem>(
     disk: &D,
     asked: Asking,
 ) -> Result<Report, Fault>
-    ensures { IfOk result (λ report. IsWhoToldBelow form (F.members_at folders.now) (D.bytes_at disk.now) (string_bytes asked.base) (texts_of asked.words)
+    ensures told { IfOk result (λ report. IsWhoToldBelow form (F.told folders.now) (D.known disk.now) (string_bytes asked.base) (texts_of asked.words)
         report.text.items report.failed) }
+    ensures fault { IfErr result (MayEndWith (F.told folders.now) (D.known disk.now) (ForWho (meant_asking asked))) }
 {
     let Asking { base, words } = asked;
     let policy = policy_below(alloc, folders, disk, base.as_str())?;
-    let answered = who(alloc, form, &folder_at(base.as_str(), &policy), &words)?;
-    Ok(report_of(answered))
+    let told = who(alloc, form, &folder_at(base.as_str(), &policy), &words)?;
+    Ok(report_of(told))
 }

@@ -1,17 +1,21 @@
 //! The check of a folder of policy.
 
-ghost use Rattle.std.specs.Prelude.{◌≡◌, ◌++◌, ◌∷◌, [], IfOk, OnOk, map, string_bytes};
+ghost use Rattle.std.specs.Prelude.{◌≡◌, ◌++◌, ◌∷◌, [], IfErr, IfOk, OnOk, map, string_bytes};
 ghost use Rattle.aaset_start.specs.Gathering.{texts_of};
+ghost use Rattle.aatry_arguments.specs.Arguments.{ForCheck};
+ghost use Rattle.aatry_arguments.specs.Given.{meant_check};
 ghost use Rattle.aatry_check.specs.Checks.{TellsEach, refused_count};
-ghost use Rattle.aatry_commands.specs.Checking.{IsChecked, is_at_top, meant, top_names};
+ghost use Rattle.aatry_commands.specs.Checking.{IsChecked, given_or, is_at_top, top_names};
+ghost use Rattle.aatry_commands.specs.Ends.{MayEndWith};
 
+use crate::asking::{PolicyFiles, policy_below};
 use crate::fault::Fault;
 use aa_bytes::has_byte;
 use aa_text_files::Files;
-use aaset_start::{FileSystem, gather};
+use aaset_start::FileSystem;
 use aatry_arguments::Check;
 use aatry_check::check;
-use aatry_folder::{Folders, names_below};
+use aatry_folder::Folders;
 use aatry_report::Form;
 use std::alloc::{AllocError, Global};
 
@@ -31,7 +35,7 @@ fn is_at_top(name: &str) -> bool
     !has_byte(b'/', name.as_bytes())
 }
 
-// Puts a name behind others, if its file stands at the top of the folder.
+// Appends a name to others, if its file stands at the top of the folder.
 fn push_top(alloc: Global, names: &mut Vec<String>, name: &str) -> Result<(), AllocError>
     ensures { OnOk result (texts_of names.new ≡ texts_of names.old ++ top_names (name.now ∷ [])) }
 {
@@ -53,14 +57,10 @@ pub fn top_names(alloc: Global, names: &[String]) -> Result<Vec<String>, AllocEr
 }
 
 // The files that are meant: those that are given, and all at the top where none is.
-fn meant(alloc: Global, names: &[String], given: Vec<String>) -> Result<Vec<String>, AllocError>
-    ensures { IfOk result (λ found. texts_of found ≡ meant (map string_bytes names.now) (texts_of given)) }
+fn meant(top: Vec<String>, given: Vec<String>) -> Vec<String>
+    ensures { texts_of result ≡ given_or (texts_of top) (texts_of given) }
 {
-    if given.is_empty() {
-        top_names(alloc, names)
-    } else {
-        Ok(given)
-    }
+    if given.is_empty() { top } else { given }
 }
 
 // Checks files, and keeps what is told of them.
@@ -98,12 +98,12 @@ pub fn check_folder<F: Folders, D: FileSystem>(
     disk: &D,
     asked: Check,
 ) -> Result<Report, Fault>
-    ensures { IfOk result (λ report. IsChecked form (F.members_at folders.now) (D.bytes_at disk.now) (string_bytes asked.base) (texts_of asked.names)
+    ensures checked { IfOk result (λ report. IsChecked form (F.told folders.now) (D.known disk.now) (string_bytes asked.base) (texts_of asked.names)
         report.text.items report.failed) }
+    ensures fault { IfErr result (MayEndWith (F.told folders.now) (D.known disk.now) (ForCheck (meant_check asked))) }
 {
     let Check { base, names: given } = asked;
-    let names = names_below(folders, alloc, base.as_str())?;
-    let meant = meant(alloc, &names, given)?;
-    let files = gather(disk, alloc, base.as_str(), names)?;
+    let PolicyFiles { files, top } = policy_below(alloc, folders, disk, base.as_str())?;
+    let meant = meant(top, given);
     Ok(report_on(alloc, form, &files, base.as_str(), &meant)?)
 }

@@ -1,9 +1,11 @@
 //! Two folders of policy, compared.
 
-ghost use Rattle.std.specs.Prelude.{◌≡◌, IfOk, option_map, string_bytes};
+ghost use Rattle.std.specs.Prelude.{◌≡◌, IfErr, IfOk, MatchOption, option_map, string_bytes};
 ghost use Rattle.aaset_start.specs.Gathering.{texts_of};
+ghost use Rattle.aatry_arguments.specs.Arguments.{ForDiff};
 ghost use Rattle.aatry_arguments.specs.Given.{meant_comparison, meant_source};
 ghost use Rattle.aatry_commands.specs.Comparing.{IsComparedBelow, IsGathered, form_of, path_of};
+ghost use Rattle.aatry_commands.specs.Ends.{IsOfFile, MayEndWith};
 ghost use Rattle.aatry_commands.specs.Folders.{folder_with};
 ghost use Rattle.aatry_commands.specs.Testing.{failed_by};
 ghost use Rattle.aatry_commands.specs.code.Requests.{gathered_of};
@@ -49,7 +51,8 @@ fn requests_at<D: FileSystem>(
     disk: &D,
     source: Option<RequestSource>,
 ) -> Result<Option<(Source, Files)>, Fault>
-    ensures { IfOk result (λ found. IsGathered (D.bytes_at disk.now) (option_map meant_source source) (gathered_of found)) }
+    ensures gathered { IfOk result (λ found. IsGathered (D.known disk.now) (option_map meant_source source) (gathered_of found)) }
+    ensures fault { IfErr result (λ fault. MatchOption (option_map meant_source source) ⊥ (λ source. IsOfFile (D.known disk.now) (path_of source) fault)) }
 {
     match source {
         None => Ok(None),
@@ -110,8 +113,9 @@ pub fn diff_folders<F: Folders, D: FileSystem>(
     disk: &D,
     asked: Comparison,
 ) -> Result<Report, Fault>
-    ensures { IfOk result (λ report. IsComparedBelow form (F.members_at folders.now) (D.bytes_at disk.now) (meant_comparison asked)
+    ensures told { IfOk result (λ report. IsComparedBelow form (F.told folders.now) (D.known disk.now) (meant_comparison asked)
         report.text.items report.failed) }
+    ensures fault { IfErr result (MayEndWith (F.told folders.now) (D.known disk.now) (ForDiff (meant_comparison asked))) }
 {
     let Comparison { old, new, source } = asked;
     let before = policy_below(alloc, folders, disk, old.as_str())?;

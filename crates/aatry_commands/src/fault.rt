@@ -97,11 +97,11 @@ pub fn name_of(fault: &Fault) -> &str
     }
 }
 
-/// Puts the line that tells a fault behind a text: its words and its name, as `aatry_report::push_shown` shows it.
+/// Appends the line that tells a fault to a text: its words and its name, as `aatry_report::push_shown` shows it.
 ///
 /// # Errors
 ///
-/// Where memory runs out. Some of the line may have been put then.
+/// Where memory runs out. Some of the line may have been appended then.
 pub fn push_told(fault: &Fault, out: &mut Vec<u8>) -> Result<(), AllocError>
     ensures { OnOk result (out.new.items ≡ out.old.items ++ told_line fault.now) }
 {

@@ -1,34 +1,24 @@
 //! The test of transcripts over a folder of policy.
 
-ghost use Rattle.std.specs.Prelude.{◌≡◌, ◌++◌, ◌∷◌, [], ◌≤◌, ℕ, List, IfOk, string_bytes};
+ghost use Rattle.std.specs.Prelude.{◌≡◌, ◌++◌, ◌∷◌, [], ◌≤◌, ℕ, List, IfErr, IfOk, string_bytes};
 ghost use Rattle.aaset_start.specs.Gathering.{texts_of};
-ghost use Rattle.aatry_commands.specs.Checking.{AreBelow};
+ghost use Rattle.aatry_arguments.specs.Arguments.{ForTest};
+ghost use Rattle.aatry_arguments.specs.Given.{meant_test};
+ghost use Rattle.aatry_commands.specs.Ends.{IsOfFile, IsOfOneFile, MayEndWith};
 ghost use Rattle.aatry_commands.specs.Testing.{IsFileTested, IsTestedBelow, IsFileAt, TestsEach, failed_by};
 
+use crate::asking::{PolicyFiles, policy_below};
 use crate::checking::Report;
 use crate::fault::Fault;
 use aa_text_files::Files;
 use aaset_start::{FileSystem, gather};
 use aatry_arguments::Test;
-use aatry_folder::{Folders, names_below};
+use aatry_folder::Folders;
 use aatry_test::test;
 use std::alloc::{AllocError, Global};
 
 // The folder that the path of a file begins in, where it is no whole path.
 const CURRENT: &str = ".";
-
-// All files below the folder of policy.
-fn files_below<F: Folders, D: FileSystem>(
-    alloc: Global,
-    folders: &F,
-    disk: &D,
-    base: &str,
-) -> Result<Files, Fault>
-    ensures { IfOk result (λ files. AreBelow (F.members_at folders.now) (D.bytes_at disk.now) base.now files) }
-{
-    let names = names_below(folders, alloc, base)?;
-    Ok(gather(disk, alloc, base, names)?)
-}
 
 // A path alone.
 fn one_path(alloc: Global, path: String) -> Result<Vec<String>, AllocError>
@@ -46,7 +36,8 @@ fn one_path(alloc: Global, path: String) -> Result<Vec<String>, AllocError>
 /// - `Unreadable` with the path, where no file can be read there.
 /// - `NoMemory` where memory ran out.
 pub fn file_at<D: FileSystem>(alloc: Global, disk: &D, path: String) -> Result<Files, Fault>
-    ensures { IfOk result (λ found. IsFileAt (D.bytes_at disk.now) (string_bytes path) found) }
+    ensures found { IfOk result (λ found. IsFileAt (D.known disk.now) (string_bytes path) found) }
+    ensures fault { IfErr result (IsOfFile (D.known disk.now) (string_bytes path)) }
 {
     if Files::is_folder(path.as_bytes()) {
         return Err(Fault::Unreadable(path));
@@ -55,7 +46,7 @@ pub fn file_at<D: FileSystem>(alloc: Global, disk: &D, path: String) -> Result<F
     Ok(gather(disk, alloc, CURRENT, paths)?)
 }
 
-// Tests a transcript, puts what is told of it behind a text, and says how many failed: one or none.
+// Tests a transcript, appends what is told of it to a text, and says how many failed: one or none.
 fn test_at<D: FileSystem>(
     alloc: Global,
     disk: &D,
@@ -64,8 +55,9 @@ fn test_at<D: FileSystem>(
     text: &mut Vec<u8>,
 ) -> Result<usize, Fault>
     ensures told { IfOk result (λ failed. (own : List ℕ) × (text.new.items ≡ text.old.items ++ own)
-        × IsFileTested (D.bytes_at disk.now) files.now (string_bytes path) own failed) }
+        × IsFileTested (D.known disk.now) files.now (string_bytes path) own failed) }
     ensures few { IfOk result (λ failed. failed ≤ 1) }
+    ensures fault { IfErr result (IsOfFile (D.known disk.now) (string_bytes path)) }
 {
     let transcript = file_at(alloc, disk, path)?;
     let passed = test(
@@ -93,7 +85,8 @@ fn test_each<D: FileSystem>(
     files: &Files,
     paths: Vec<String>,
 ) -> Result<Report, Fault>
-    ensures { IfOk result (λ report. TestsEach (D.bytes_at disk.now) files.now (texts_of paths) report.text.items report.failed) }
+    ensures told { IfOk result (λ report. TestsEach (D.known disk.now) files.now (texts_of paths) report.text.items report.failed) }
+    ensures fault { IfErr result (IsOfOneFile (D.known disk.now) (texts_of paths)) }
 {
     let mut text = Vec::new(alloc);
     let mut failed = 0;
@@ -118,10 +111,11 @@ pub fn test_folder<F: Folders, D: FileSystem>(
     disk: &D,
     asked: Test,
 ) -> Result<Report, Fault>
-    ensures { IfOk result (λ report. IsTestedBelow (F.members_at folders.now) (D.bytes_at disk.now) (string_bytes asked.base) (texts_of asked.paths)
+    ensures tested { IfOk result (λ report. IsTestedBelow (F.told folders.now) (D.known disk.now) (string_bytes asked.base) (texts_of asked.paths)
         report.text.items report.failed) }
+    ensures fault { IfErr result (MayEndWith (F.told folders.now) (D.known disk.now) (ForTest (meant_test asked))) }
 {
     let Test { base, paths } = asked;
-    let files = files_below(alloc, folders, disk, base.as_str())?;
+    let PolicyFiles { files, top: _ } = policy_below(alloc, folders, disk, base.as_str())?;
     test_each(alloc, disk, &files, paths)
 }

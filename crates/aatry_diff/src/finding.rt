@@ -39,13 +39,13 @@ fn push_difference<'t, 'a>(
     let question = tally.question.question();
     let before = answer(alloc, old, &question)?;
     let after = answer(alloc, new, &question)?;
-    if before == after {
+    if before.as_slice() == after.as_slice() {
         return Ok(());
     }
     found.push(Difference {
         tally,
-        before: Sequence::from_vec(before),
-        after: Sequence::from_vec(after),
+        before,
+        after,
     })?;
     Ok(())
 }

@@ -2,5 +2,6 @@ pub mod FoundLemmas
 pub mod ListingLemmas
 pub mod MemberLemmas
 pub mod MissingLemmas
+pub mod OrderLemmas
 pub mod StandingLemmas
 pub mod StepLemmas

@@ -1,5 +1,5 @@
 -- Includes whose files aren't there, and what stands in a folder of policy.
-use Rattle.std.specs.Prelude.{◌≡◌, ◌⊎◌, ℕ, IsTrue, false, true, List, [], ◌∷◌, ◌++◌, Option, None, Some, Ok, Contains, length}
+use Rattle.std.specs.Prelude.{◌≡◌, ◌⊎◌, ℕ, IsTrue, false, true, List, [], ◌∷◌, ◌++◌, None, Ok, Contains, length}
 use Rattle.aa_bytes.specs.Bytes.{slash}
 use Rattle.aa_text_files.specs.Files.{File, bytes_at, file_at, has_file, is_folder_name}
 use Rattle.aa_text_files.specs.declared.text_error.Place.{Place}
@@ -7,24 +7,37 @@ use Rattle.aa_text_splicing.specs.Splicing.{looked_up}
 use Rattle.aa_text_tokens.specs.Cut.{Seen, cut}
 use Rattle.aa_text_tokens.specs.declared.cut.TokenKind.TheVariants.{Include}
 use Rattle.aatry_folder.specs.Members.{is_folder, is_taken}
-use Rattle.aatry_folder.specs.NamesBelow.{path_of}
+use Rattle.aatry_folder.specs.NamesBelow.{Answer, path_of}
+use Rattle.aatry_folder.specs.Told.{ToldFolders}
 
--- a member stands in a folder of this name below the base, which is known to have it, and isn't passed over
-pub record IsMember (members_at : List ℕ → Option (List (List ℕ))) (base : List ℕ) (folder : List ℕ) (member : List ℕ) : Type 0 where
+-- a folder of this name below the base has the member, and that isn't passed over
+pub record IsMember (Has : List ℕ → List (List ℕ) → Type 0) (folder : List ℕ) (member : List ℕ) : Type 0 where
   pub is_one : IsTrue (is_folder folder)
-  pub known : List (List ℕ)
-  pub read : members_at (path_of base folder) ≡ Some known
-  pub among : Contains known member
+  pub members : List (List ℕ)
+  pub has : Has folder members
+  pub among : Contains members member
   pub taken : is_taken member ≡ true
 
 -- A way leads from a folder down to a name: its first member stands in the folder, and each other one in the folder that those before it lead to.
-abbrev pub LeadsTo : (List ℕ → Option (List (List ℕ))) → List ℕ → List ℕ → List (List ℕ) → List ℕ → Type 0
-LeadsTo members_at base folder [] name = name ≡ folder
-LeadsTo members_at base folder (member ∷ way) name = IsMember members_at base folder member × LeadsTo members_at base (folder ++ member) way name
+abbrev pub LeadsTo : (List ℕ → List (List ℕ) → Type 0) → List ℕ → List (List ℕ) → List ℕ → Type 0
+LeadsTo Has folder [] name = name ≡ folder
+LeadsTo Has folder (member ∷ way) name = IsMember Has folder member × LeadsTo Has (folder ++ member) way name
 
--- A file or folder of this name stands in the folder of policy and isn't passed over: a way leads down to it.
-abbrev pub Stands : (List ℕ → Option (List (List ℕ))) → List ℕ → List ℕ → Type 0
-Stands members_at base name = (member : List ℕ) × (way : List (List ℕ)) × LeadsTo members_at base [] (member ∷ way) name
+-- A file or folder of this name stands in the folder of policy and isn't passed over: a way leads down to it, by the members that folders have.
+abbrev pub Stands : (List ℕ → List (List ℕ) → Type 0) → List ℕ → Type 0
+Stands Has name = (member : List ℕ) × (way : List (List ℕ)) × LeadsTo Has [] (member ∷ way) name
+
+-- the members that a folder of this name has by what was answered when it was asked
+abbrev pub Answered : List Answer → List ℕ → List (List ℕ) → Type 0
+Answered answers folder members = Contains answers (record { name = folder; members = members })
+
+-- the members that it has by whatever the file system tells, of the folder at its path below the base
+abbrev pub ToldBelow : ToldFolders → List ℕ → List ℕ → List (List ℕ) → Type 0
+ToldBelow told base folder members = told.HasMembers (path_of base folder) members
+
+-- The file system tells the same of a folder as often as it is asked.
+abbrev pub IsSteady : ToldFolders → Type 0
+IsSteady told = (path : List ℕ) (one other : List (List ℕ)) → told.HasMembers path one → told.HasMembers path other → one ≡ other
 
 -- An include that has to find something stands at this place, and of what it asks for this holds.
 pub record IsMissing (files : List File) (place : Place) (Holds : List ℕ → Type 0) : Type 0 where
@@ -45,7 +58,7 @@ abbrev pub IsMissingAsAWhole : List File → List ℕ → Type 0
 IsMissingAsAWhole files name = file_at files name ≡ None
 
 -- No file of the name that is looked up stands in the folder of policy, and no folder of it. That name may itself end as a folder's does, which no file's does.
-abbrev pub NothingStandsFor : (List ℕ → Option (List (List ℕ))) → List ℕ → List ℕ → Type 0
-NothingStandsFor members_at base name =
-    (is_folder_name (looked_up name) ≡ false → Stands members_at base (looked_up name) → ⊥)
-    × (Stands members_at base (looked_up name ++ slash ∷ []) → ⊥)
+abbrev pub NothingStandsFor : (List ℕ → List (List ℕ) → Type 0) → List ℕ → Type 0
+NothingStandsFor Has name =
+    (is_folder_name (looked_up name) ≡ false → Stands Has (looked_up name) → ⊥)
+    × (Stands Has (looked_up name ++ slash ∷ []) → ⊥)

@@ -3,4 +3,5 @@ pub mod Links
 pub mod Members
 pub mod NamesBelow
 pub mod PassedOver
+pub mod Told
 pub mod code

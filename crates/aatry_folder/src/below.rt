@@ -1,10 +1,10 @@
 //! The names of all files and folders below a folder of policy.
-ghost use Rattle.std.specs.Prelude.{◌≡◌, ◌+◌, ◌<◌, ◌≤◌, [], ◌∷◌, ◌++◌, false, IfErr, IfOk, IfSome, IsTrue, OnErr, OnOk, string_bytes, vec_len};
+ghost use Rattle.std.specs.Prelude.{◌≡◌, ◌+◌, ◌<◌, ◌≤◌, [], List, ◌++◌, false, true, IfErr, IfOk, IfSome, IsTrue, OnErr, OnOk, string_bytes, vec_len};
 ghost use Rattle.aatry_folder.specs.Links.{is_for_memory};
 ghost use Rattle.aatry_folder.specs.Members.{is_folder, texts_of};
-ghost use Rattle.aatry_folder.specs.NamesBelow.{AreFound, ComeOf, IsClosed, IsFault, IsListing, most_names, path_of};
+ghost use Rattle.aatry_folder.specs.NamesBelow.{Answer, AreFound, IsFault, IsWalk, most_names, path_of};
 ghost use Rattle.aatry_folder.specs.declared.below.FolderFault.TheVariants as fault;
-ghost use Rattle.aatry_folder.specs.code.Step.{ComeBehind, IsFaultAt, IsFaultBehind, IsFaultOfMore, name_at};
+ghost use Rattle.aatry_folder.specs.code.Step.{ComeBehind, ComeOf, IsFaultAt, IsFaultBehind, IsFaultOfMore, IsFaultSince, name_at};
 
 use crate::folders::Folders;
 use crate::member::{is_folder, names_in};
@@ -49,13 +49,20 @@ fn path_of(alloc: Global, base: &str, name: &str) -> Result<String, AllocError>
     Ok(path)
 }
 
+// Whether an error is for want of memory.
+fn is_for_memory(kind: ErrorKind) -> bool
+    ensures { result ≡ is_for_memory kind }
+{
+    matches!(kind, ErrorKind::OutOfMemory)
+}
+
 // The fault of a folder that can't be read, by the kind of error, and by what the folder is told by, if there was memory for that.
 fn fault_by(kind: ErrorKind, told: Result<String, AllocError>) -> FolderFault
-    ensures memory { kind ≡ ErrorKind.OutOfMemory → result ≡ FolderFault.Memory }
+    ensures memory { is_for_memory kind ≡ true → result ≡ FolderFault.Memory }
     ensures unreadable { is_for_memory kind ≡ false → IfOk told (λ told. result ≡ fault.Unreadable told) }
     ensures untold { OnErr told (result ≡ FolderFault.Memory) }
 {
-    if let ErrorKind::OutOfMemory = kind {
+    if is_for_memory(kind) {
         return FolderFault::Memory;
     }
     match told {
@@ -67,8 +74,7 @@ fn fault_by(kind: ErrorKind, told: Result<String, AllocError>) -> FolderFault
 // The same by the folder's name below the base.
 fn fault_of(alloc: Global, base: &str, name: &str, kind: ErrorKind) -> FolderFault
     requires { IsTrue (is_folder name.now) }
-    ensures told { IsFaultAt base.now name.now result }
-    ensures memory { kind ≡ ErrorKind.OutOfMemory → result ≡ FolderFault.Memory }
+    ensures told { IsFaultSince (is_for_memory kind ≡ false) base.now name.now result }
 {
     let told = if name.is_empty() { base } else { name };
     fault_by(kind, String::from_str(alloc, told))
@@ -82,8 +88,8 @@ fn members_of<F: Folders>(
     name: &str,
 ) -> Result<Vec<String>, FolderFault>
     requires { IsTrue (is_folder name.now) }
-    ensures ok { IfOk result (λ members. IfSome (F.members_at folders.now (path_of base.now name.now)) (λ known. texts_of members ≡ known)) }
-    ensures err { IfErr result (IsFaultAt base.now name.now) }
+    ensures ok { IfOk result (λ members. (F.told folders.now).HasMembers (path_of base.now name.now) (texts_of members)) }
+    ensures err { IfErr result (IsFaultAt (F.told folders.now) base.now name.now) }
 {
     let path = path_of(alloc, base, name)?;
     match folders.members(alloc, path.as_str()) {
@@ -99,8 +105,8 @@ fn names_of<F: Folders>(
     base: &str,
     name: &str,
 ) -> Result<Vec<String>, FolderFault>
-    ensures ok { IfOk result (λ names. ComeOf (F.members_at folders.now) base.now name.now (texts_of names)) }
-    ensures err { IfErr result (IsFaultAt base.now name.now) }
+    ensures ok { IfOk result (λ names. ComeOf (F.told folders.now) base.now name.now (texts_of names)) }
+    ensures err { IfErr result (IsFaultAt (F.told folders.now) base.now name.now) }
 {
     if !is_folder(name.as_bytes()) {
         return Ok(Vec::new(alloc));
@@ -109,7 +115,7 @@ fn names_of<F: Folders>(
     Ok(names_in(alloc, name, members)?)
 }
 
-// Puts names behind others, if they aren't too many together.
+// Appends names to others, if they aren't too many together.
 fn put_behind(names: &mut Vec<String>, mut more: Vec<String>) -> Result<(), FolderFault>
     requires { vec_len names.old ≤ most_names }
     ensures ok { OnOk result (texts_of names.new ≡ texts_of names.old ++ texts_of more) }
@@ -123,7 +129,7 @@ fn put_behind(names: &mut Vec<String>, mut more: Vec<String>) -> Result<(), Fold
     Ok(())
 }
 
-// Puts what comes of the name at a place behind the names.
+// Appends what comes of the name at a place to the names.
 fn put_names_of<F: Folders>(
     folders: &F,
     alloc: Global,
@@ -133,10 +139,10 @@ fn put_names_of<F: Folders>(
 ) -> Result<(), FolderFault>
     requires at { at < vec_len names.old }
     requires within { vec_len names.old ≤ most_names }
-    ensures ok { OnOk result (ComeBehind (F.members_at folders.now) base.now (name_at (texts_of names.old) at)
+    ensures ok { OnOk result (ComeBehind (F.told folders.now) base.now (name_at (texts_of names.old) at)
         (texts_of names.old) (texts_of names.new)) }
     ensures within { OnOk result (vec_len names.new ≤ most_names) }
-    ensures err { IfErr result (IsFaultBehind (F.members_at folders.now) base.now (texts_of names.old)
+    ensures err { IfErr result (IsFaultBehind (F.told folders.now) base.now (texts_of names.old)
         (name_at (texts_of names.old) at)) }
 {
     let more = names_of(folders, alloc, base, names[at].as_str())?;
@@ -149,9 +155,9 @@ fn base_names<F: Folders>(
     alloc: Global,
     base: &str,
 ) -> Result<Vec<String>, FolderFault>
-    ensures ok { IfOk result (λ names. ComeOf (F.members_at folders.now) base.now [] (texts_of names)) }
+    ensures ok { IfOk result (λ names. ComeOf (F.told folders.now) base.now [] (texts_of names)) }
     ensures within { IfOk result (λ names. vec_len names ≤ most_names) }
-    ensures err { IfErr result (IsFaultBehind (F.members_at folders.now) base.now [] []) }
+    ensures err { IfErr result (IsFaultBehind (F.told folders.now) base.now [] []) }
 {
     let names = names_of(folders, alloc, base, "")?;
     if names.len() > MOST_NAMES {
@@ -175,11 +181,10 @@ pub fn names_below<F: Folders>(
     alloc: Global,
     base: &str,
 ) -> Result<Vec<String>, FolderFault>
-    ensures listed { IfOk result (λ names. IsListing (F.members_at folders.now) base.now ([] ∷ texts_of names) (texts_of names)) }
-    ensures closed { IfOk result (λ names. IsClosed (F.members_at folders.now) base.now (texts_of names)) }
-    ensures found { IfOk result (λ names. AreFound (F.members_at folders.now) base.now [] (texts_of names)) }
+    ensures walked { IfOk result (λ names. (answers : List Answer) × IsWalk (F.told folders.now) base.now answers (texts_of names)) }
+    ensures found { IfOk result (λ names. AreFound (F.told folders.now) base.now [] (texts_of names)) }
     ensures within { IfOk result (λ names. vec_len names ≤ most_names) }
-    ensures err { IfErr result (IsFault (F.members_at folders.now) base.now) }
+    ensures err { IfErr result (IsFault (F.told folders.now) base.now) }
 {
     let mut names = base_names(folders, alloc, base)?;
     let mut next = 0;

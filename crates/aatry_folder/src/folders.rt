@@ -1,11 +1,10 @@
 //! Where the members of folders are read from.
-ghost use Rattle.std.specs.Prelude.{◌≡◌, ℕ, List, ◌++◌, Option, None, Ok, Err, IfErr, IfOk, IfSome, IsNone, codes, false, is_err, option_map, string_bytes, true};
+ghost use Rattle.std.specs.Prelude.{◌≡◌, ◌++◌, None, Ok, Err, IfErr, IfOk, IfSome, IsNone, codes, false, is_err, option_map, string_bytes, true};
 ghost use Rattle.std.specs.Fs.{IsDir, IsFile};
 ghost use Rattle.std.specs.IoError.{error_kind};
-ghost use Rattle.std.specs.List.Sorted.{IsSorted};
-ghost use Rattle.std.specs.String.{string_cmp};
 ghost use Rattle.aatry_folder.specs.Members.{texts_of};
 ghost use Rattle.aatry_folder.specs.Links.{leads_nowhere};
+ghost use Rattle.aatry_folder.specs.Told.{SaysUnreadable, ToldFolders, anything_in_order};
 
 use std::alloc::{AllocError, Global};
 use std::fs::FileType;
@@ -14,8 +13,8 @@ use std::{fs, io, rt};
 
 /// A file system, as far as its folders are read.
 pub trait Folders {
-    // The names of the members of the folder at a path, where they are known.
-    ghost members_at: { Self → List ℕ → Option (List (List ℕ)) };
+    // What it tells of its folders: their members, and which can't be read.
+    ghost told: { Self → ToldFolders };
 
     /// The members of the folder at a path, each by its name, a folder's with `/` at its end. Links are followed. What is neither a file nor
     /// a folder is left out: a socket, a pipe, a device, and a link that leads nowhere.
@@ -24,10 +23,11 @@ pub trait Folders {
     ///
     /// That of the system. Its kind is `OutOfMemory` for want of memory alone.
     fn members(&self, alloc: Global, path: &str) -> io::Result<Vec<String>>
-        ensures { IfOk result (λ names. IfSome (members_at self.now path.now) (λ known. texts_of names ≡ known)) };
+        ensures ok { IfOk result (λ names. (told self.now).HasMembers path.now (texts_of names)) }
+        ensures err { IfErr result (λ error. SaysUnreadable (told self.now) path.now (error_kind error)) };
 }
 
-/// The folders of a runtime's file system. Nothing is known of their members before they are read, which come in the order of their
+/// The folders of a runtime's file system. Whatever it tells of their members is believed. They come in the order of their
 /// names' bytes, a folder's `/` included, whatever the order of the system is. A folder with a name in it that isn't text (UTF-8) can't be
 /// read: its kind of error is `InvalidFilename`.
 #[derive(Drop)]
@@ -103,7 +103,7 @@ fn member_name(alloc: Global, name: &str, kind: Option<FileType>) -> io::Result<
     }
 }
 
-// Takes a member behind the others, if it is a file or a folder. One that can't be read fails.
+// Appends a member to the others, if it is a file or a folder. One that can't be read fails.
 fn take_member<R: rt::Files + Drop>(
     rt: &R,
     alloc: Global,
@@ -134,12 +134,10 @@ fn read_members<R: rt::Files + AllocGlobal + Clone + Drop>(
 }
 
 impl<R: rt::Files + AllocGlobal + Clone + Drop> Folders for RuntimeFolders<R> {
-    ghost members_at = { λ _ _. None };
+    ghost told = { λ _. anything_in_order };
 
     // They are in order, whatever the order of the system is.
-    fn members(&self, alloc: Global, path: &str) -> io::Result<Vec<String>>
-        ensures { IfOk result (λ names. IsSorted string_cmp names.items) }
-    {
+    fn members(&self, alloc: Global, path: &str) -> io::Result<Vec<String>> {
         let mut names = read_members(&self.rt, alloc, path)?;
         names.sort()?;
         Ok(names)

@@ -1,19 +1,28 @@
 //! What holds of includes whose files aren't there, as laws over the definitions that the calls are proved to follow.
 
-ghost use Rattle.std.specs.Prelude.{◌≡◌, ℕ, List, Option, Contains, None, Some, Err};
+ghost use Rattle.std.specs.Prelude.{◌≡◌, ℕ, [], ◌∷◌, IsTrue, List, Contains, None, Some, Err};
 ghost use Rattle.aa_text_files.specs.Files.{File};
 ghost use Rattle.aa_text_files.specs.declared.text_error.Place.{Place};
 ghost use Rattle.aa_text_files.specs.declared.text_error.TextRefusal.TheVariants.{NoFile};
 ghost use Rattle.aa_text_splicing.specs.Splicing.{spliced};
 ghost use Rattle.aaset_start.specs.Gathering.{names_of};
-ghost use Rattle.aatry_folder.specs.NamesBelow.{IsClosed};
-ghost use Rattle.aatry_folder.specs.Includes.{IsMissing, IsMissingAsAWhole, Lacks, NothingStandsFor, Stands};
+ghost use Rattle.aatry_folder.specs.Includes.{Answered, IsMissing, IsMissingAsAWhole, IsSteady, Lacks, NothingStandsFor, Stands, ToldBelow};
+ghost use Rattle.aatry_folder.specs.Members.{is_folder};
+ghost use Rattle.aatry_folder.specs.NamesBelow.{Answer, IsWalk};
 
-/// Where names are closed, as those that `aatry_folder::names_below` finds, each file and folder that stands in the folder of policy and isn't passed
-/// over is among them, however deep it lies.
-pub fn what_stands_is_among_the_names()
-    ensures { (members_at : List ℕ → Option (List (List ℕ))) (base : List ℕ) (names : List (List ℕ)) (name : List ℕ)
-        → IsClosed members_at base names → Stands members_at base name → Contains names name }
+use crate::folders::Folders;
+
+/// Where names come of a walk, as those that `aatry_folder::names_below` finds, each file and folder that stands in the folder of policy and isn't passed
+/// over is among them, however deep it lies: each that stands there by what the file system answered in the walk, which asked for the members of the base
+/// and of each folder among the names; and where a file system tells the same as often as it is asked, each that stands there by what it tells.
+pub fn what_stands_is_among_the_names<F: Folders>(folders: &F)
+    ensures answered { (base : List ℕ) (answers : List Answer) (names : List (List ℕ)) (name : List ℕ)
+        → IsWalk (F.told folders.now) base answers names → Stands (Answered answers) name → Contains names name }
+    ensures asked { (base : List ℕ) (answers : List Answer) (names : List (List ℕ)) (folder : List ℕ)
+        → IsWalk (F.told folders.now) base answers names → Contains ([] ∷ names) folder → IsTrue (is_folder folder)
+        → (members : List (List ℕ)) × Answered answers folder members × ToldBelow (F.told folders.now) base folder members }
+    ensures steady { (base : List ℕ) (answers : List Answer) (names : List (List ℕ)) (name : List ℕ)
+        → IsWalk (F.told folders.now) base answers names → IsSteady (F.told folders.now) → Stands (ToldBelow (F.told folders.now) base) name → Contains names name }
 {}
 
 /// Where a file can't be spliced since a file is missing, the place of the fault is that of an include, in a file that was entered, that has to find
@@ -24,11 +33,17 @@ pub fn what_is_missing_is_asked_for()
     ensures itself { (files : List File) (name : List ℕ) → spliced files name ≡ Err (NoFile, None) → IsMissingAsAWhole files name }
 {}
 
-/// So nothing is missing that stands in the folder of policy: where the names of the files are closed, nothing stands there for the include that the
-/// fault is told at. This is so of all that `aatry_commands::check_folder` and the other commands read.
-pub fn nothing_that_stands_is_missing()
-    ensures { (members_at : List ℕ → Option (List (List ℕ))) (base : List ℕ) (files : List File) (name : List ℕ) (place : Place)
-        → IsClosed members_at base (names_of files)
+/// So nothing is missing that stands in the folder of policy: where the names of the files come of a walk, nothing stands there for the include that the
+/// fault is told at, by what the file system answered in the walk; and where it tells the same as often as it is asked, by what it tells. This is so of all
+/// that `aatry_commands::check_folder` and the other commands read.
+pub fn nothing_that_stands_is_missing<F: Folders>(folders: &F)
+    ensures answered { (base : List ℕ) (answers : List Answer) (files : List File) (name : List ℕ) (place : Place)
+        → IsWalk (F.told folders.now) base answers (names_of files)
         → spliced files name ≡ Err (NoFile, Some place)
-        → IsMissing files place (NothingStandsFor members_at base) }
+        → IsMissing files place (NothingStandsFor (Answered answers)) }
+    ensures steady { (base : List ℕ) (answers : List Answer) (files : List File) (name : List ℕ) (place : Place)
+        → IsWalk (F.told folders.now) base answers (names_of files)
+        → IsSteady (F.told folders.now)
+        → spliced files name ≡ Err (NoFile, Some place)
+        → IsMissing files place (NothingStandsFor (ToldBelow (F.told folders.now) base)) }
 {}

@@ -32,7 +32,7 @@ fn is_taken(member: &[u8]) -> bool
     !(is_passed_over(without_slash(member)) || is_kept_aside(member))
 }
 
-// Puts a member of a folder behind the names, by its name below the base, if it is taken.
+// Appends a member of a folder to the names, by its name below the base, if it is taken.
 fn push_taken(
     names: &mut Vec<String>,
     alloc: Global,

@@ -1,4 +1,5 @@
 mod LoadLemmas
 mod OriginLemmas
 mod PartLemmas
+mod PlaceLemmas
 mod ReadLemmas

@@ -34,11 +34,11 @@ use Rattle.aatry_policy.specs.Parts.{set_parts}
 use Rattle.aatry_policy.specs.Profiles.{FileProfiles, file_at, file_if_taken, read_profiles}
 
 -- a profile as it is loaded, in the mode of its own flags
-abbrev taken : Profile → Loaded
+abbrev pub taken : Profile → Loaded
 taken profile = taken_by false profile
 
 -- all profiles of files that are read
-abbrev profiles_in : List FileProfiles → List Profile
+abbrev pub profiles_in : List FileProfiles → List Profile
 profiles_in read = flat_map (λ file. file.profiles) read
 
 -- what files load: the profiles of those that are read, behind what there was
@@ -64,7 +64,7 @@ added_if managed profiles there =
     after_change managed (length profiles)
     (cond there (Err (plain Exists)) (Ok (managed.machine.now ++ map (taken_by managed.force_complain) profiles)))
 
-file-is : (files : List File) (name : List ℕ) (profiles : List Profile) (places : List ProfilePlaces)
+pub file-is : (files : List File) (name : List ℕ) (profiles : List Profile) (places : List ProfilePlaces)
     → file_profiles files name ≡ Ok profiles → file_places files name ≡ Some places
     → file_at files name ≡ record { name = name; profiles = profiles; places = places } ∷ []
 file-is files name profiles places read there =
@@ -107,7 +107,7 @@ step files managed name names rest = by (file_profiles files name) refl
         subst (LoadsFrom files managed name names) (sym came) (rest managed)
     by (Ok profiles) e = by_profiles profiles e (are_there profiles managed.machine.now) refl
 
-loads : (files : List File) (names : List (List ℕ)) (managed : Managed) → Loads files names managed
+pub loads : (files : List File) (names : List (List ℕ)) (managed : Managed) → Loads files names managed
 loads files [] managed = sym (append-nil managed.machine.now)
 loads files (name ∷ names) managed = step files managed name names (loads files names)
 
@@ -136,20 +136,26 @@ all-named files (file ∷ read) well apart is =
     (read-named files file (well files file.name) (apart files file.name) (All-head (IsRead files) file read is))
     (all-named files read well apart (All-tail (IsRead files) file read is))
 
--- the part of the full name of who is loaded has its rules
-pub which-rules : ChangesKeepNamesApart → ListedNamesLeadBack → HaveNames is_named_well → HaveNames has_distinct_children
-    → (folder : Folder) (who : Asker) → IsListed (policy_in folder) who → HasOwnRules (parts_in folder) who
-which-rules keeps lead well apart folder =
+-- the full name of who is loaded leads back to it
+pub leads-back : ChangesKeepNamesApart → ListedNamesLeadBack → HaveNames is_named_well → HaveNames has_distinct_children
+    → (folder : Folder) (who : Asker) → IsListed (policy_in folder) who
+    → asker (policy_in folder) (full_name_at who.entry.profile who.child) ≡ Some (Some who)
+leads-back keeps lead well apart folder who listed =
     let files = folder.files in
     let read = read_profiles files folder.names (outcomes_in folder) in
     let entries = policy_in folder in
-    let parts = set_parts entries (origins_in folder) in
     let is : entries ≡ map taken (profiles_in read) = loads files folder.names (new_manager false) in
     let names : have_distinct_names entries ≡ true = distinct files folder.names (new_manager false) keeps refl in
     let named : All (λ entry. HasFileNames entry.profile) entries =
     subst (All (λ entry. HasFileNames entry.profile)) (sym is)
     (All-map (λ entry. HasFileNames entry.profile) taken (profiles_in read)
     (all-named files read well apart (all-read files folder.names (outcomes_in folder)))) in
-    let leads : (who : Asker) → IsListed entries who → asker entries (full_name_at who.entry.profile who.child) ≡ Some (Some who) =
-    λ who listed. (lead entries who names (All-contains (λ entry. HasFileNames entry.profile) entries who.entry named listed.0) listed).0 in
-    rules-of (asker entries) entries parts leads (has-set entries (origins_in folder)) (are-set entries entries (origins_in folder) (λ entry there. there))
+    (lead entries who names (All-contains (λ entry. HasFileNames entry.profile) entries who.entry named listed.0) listed).0
+
+-- the part of the full name of who is loaded has its rules
+pub which-rules : ChangesKeepNamesApart → ListedNamesLeadBack → HaveNames is_named_well → HaveNames has_distinct_children
+    → (folder : Folder) (who : Asker) → IsListed (policy_in folder) who → HasOwnRules (parts_in folder) who
+which-rules keeps lead well apart folder =
+    let entries = policy_in folder in
+    rules-of (asker entries) entries (set_parts entries (origins_in folder)) (leads-back keeps lead well apart folder) (has-set entries (origins_in folder))
+    (are-set entries entries (origins_in folder) (λ entry there. there))

@@ -4,6 +4,8 @@ pub mod Laws
 pub mod LeftOut
 pub mod Origins
 pub mod Parts
+pub mod PlaceLaws
 pub mod Policies
 pub mod Profiles
 pub mod SeenProfiles
+pub mod code

@@ -71,15 +71,6 @@ abbrev pub set_parts : List Loaded → List Origin → List Part
 set_parts [] origins = []
 set_parts (entry ∷ entries) origins = profile_parts (first_of origins) entry.profile ++ set_parts entries (behind_first origins)
 
--- the parts of what a slot holds, and the origins that are left behind it
-abbrev pub slot_parts : Option Loaded → List Origin → List Part
-slot_parts None origins = []
-slot_parts (Some entry) origins = profile_parts (first_of origins) entry.profile
-
-abbrev pub left_behind : Option Loaded → List Origin → List Origin
-left_behind None origins = origins
-left_behind (Some entry) origins = behind_first origins
-
 -- the first part of a full name, if there is one
 abbrev pub part_of : List Part → List ℕ → Option Part
 part_of [] who = None

@@ -1,21 +1,72 @@
-//! What holds of the parts of a folder, as a law over the definitions that the calls are proved to follow.
+//! What holds of the profiles and the parts of a folder, as laws over the definitions that the calls are proved to follow.
 
+ghost use Rattle.std.specs.Prelude.{◌≡◌, ℕ, Bool, List, Ok, Option, Some, map};
+ghost use Rattle.std.specs.List.{All};
 ghost use Rattle.aa_decide.specs.Exec.{Asker};
-ghost use Rattle.aa_set_answers.specs.Laws.{IsListed};
+ghost use Rattle.aa_decide_slots.specs.Entries.{Loaded};
+ghost use Rattle.aa_decide_slots.specs.Named.{entry_named};
+ghost use Rattle.aa_decide_slots.specs.Ready.{rules_at};
+ghost use Rattle.aa_profile.specs.FileReading.{file_profiles};
+ghost use Rattle.aa_profile_data.specs.declared.profile.Profile.{Profile};
+ghost use Rattle.aa_set_answers.specs.Askers.{asker};
+ghost use Rattle.aa_set_answers.specs.Laws.{IsListed, StandsAt};
+ghost use Rattle.aa_set_answers.specs.ProfileNames.{full_name_at};
+ghost use Rattle.aa_set_changes.specs.Changes.{loaded};
+ghost use Rattle.aa_text_files.specs.Files.{File};
 ghost use Rattle.aatry_policy.specs.Laws.{HasOwnRules};
-ghost use Rattle.aatry_policy.specs.Folders.{Folder, policy_in};
+ghost use Rattle.aatry_policy.specs.Folders.{Folder, origins_in, policy_in};
 ghost use Rattle.aatry_policy.specs.FolderParts.{parts_in};
+ghost use Rattle.aatry_policy.specs.Origins.{origins_of, rule_places};
+ghost use Rattle.aatry_policy.specs.PlaceLaws.{AreReadAt, AreWrittenIn, IsFoundAt, IsPartWritten, IsReadAt};
+ghost use Rattle.aatry_policy.specs.Profiles.{file_at};
+ghost use Rattle.aatry_policy.specs.declared.origins.Origin.{Origin};
 
-use aa_profile::how_profiles_are_named;
+use aa_profile::{how_profiles_are_named, where_rules_are_made};
 use aa_set_answers::where_listed_names_lead;
 use aa_set_changes::what_changes_keep;
 
-/// Of each profile, child and hat that the files of a folder load, the folder has a part of its full name, and the first of that name has exactly the
-/// rules by which it decides, and its flag that audits them. So what `aatry who` tells below a name are rules of who has it.
+/// Of each profile, child and hat that the files of a folder load, its full name leads back to it as a name that asks; and the folder has a part of that
+/// name, of which the first has exactly the rules by which it decides, and its flag that audits them. So what `aatry who` tells below a name are rules
+/// of who has it.
 pub fn which_rules_parts_have()
-    ensures { (folder : Folder) (who : Asker) → IsListed (policy_in folder) who → HasOwnRules (parts_in folder) who }
+    ensures names_lead_back { (folder : Folder) (who : Asker)
+        → IsListed (policy_in folder) who
+        → asker (policy_in folder) (full_name_at who.entry.profile who.child) ≡ Some (Some who) }
+    ensures own_rules { (folder : Folder) (who : Asker) → IsListed (policy_in folder) who → HasOwnRules (parts_in folder) who }
 {
     how_profiles_are_named();
     where_listed_names_lead();
     what_changes_keep();
+}
+
+/// Each profile that a file spells has an origin of its own, in the order of the file, and each that the files of a folder load has one, in the order of
+/// the set: the file of the origin spells that profile, and the origin has the places that the file has for it. So the first origin of a name is that
+/// of the loaded profile of this name.
+pub fn where_loaded_profiles_are_read()
+    ensures of_a_file { (files : List File) (name : List ℕ) (profiles : List Profile) (force_complain : Bool)
+        → file_profiles files name ≡ Ok profiles
+        → AreReadAt files (map (loaded force_complain) profiles) (origins_of (file_at files name)) }
+    ensures of_each_name { (files : List File) (name : List ℕ) (entries : List Loaded) (origins : List Origin) (entry : Loaded)
+        → AreReadAt files entries origins
+        → entry_named name entries ≡ Some entry
+        → IsFoundAt files origins name entry.profile }
+    ensures each { (folder : Folder) → AreReadAt folder.files (policy_in folder) (origins_in folder) }
+    ensures by_name { (folder : Folder) (name : List ℕ) (entry : Loaded)
+        → entry_named name (policy_in folder) ≡ Some entry
+        → IsFoundAt folder.files (origins_in folder) name entry.profile }
+{
+    where_rules_are_made();
+}
+
+/// Each rule stands where it is told to: a profile that was read, or its child or hat at a place, has as many rules as its origin has places for it, and
+/// each of them is made by a rule of its own block in the file, with the file's variables, that is written at the place beside it. So it is of all
+/// parts of a folder, by which `who` and `diff` tell rules.
+pub fn where_loaded_rules_are_written()
+    ensures of_profiles { (files : List File) (profile : Profile) (origin : Origin) (child : Option ℕ)
+        → IsReadAt files profile origin
+        → StandsAt profile child
+        → AreWrittenIn files origin.file child (rules_at profile child) (rule_places (Some origin) child) }
+    ensures of_parts { (folder : Folder) → All (IsPartWritten folder.files) (parts_in folder) }
+{
+    where_rules_are_made();
 }

@@ -12,7 +12,9 @@ mod policy;
 
 pub use folder::{Folder, by_parts, load_folder};
 pub use folder_parts::FolderParts;
-pub use laws::which_rules_parts_have;
+pub use laws::{
+    where_loaded_profiles_are_read, where_loaded_rules_are_written, which_rules_parts_have,
+};
 pub use left_out::push_refusal;
 pub use origins::{Origin, file_of, origin_in, origins_of, rule_places};
 pub use parts::{Part, part_of, parts_of};

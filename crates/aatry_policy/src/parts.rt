@@ -2,7 +2,8 @@
 
 ghost use Rattle.std.specs.Prelude.{◌≡◌, ◌++◌, Some, IfOk, OnOk, map, option_map};
 ghost use Rattle.aa_decide_slots.specs.Slots.{filled};
-ghost use Rattle.aatry_policy.specs.Parts.{child_part, child_parts, first_of, left_behind, part_of, profile_part, profile_parts, set_parts, slot_parts};
+ghost use Rattle.aatry_policy.specs.Parts.{child_part, child_parts, first_of, part_of, profile_part, profile_parts, set_parts};
+ghost use Rattle.aatry_policy.specs.code.Slots.{left_behind, slot_parts};
 ghost use Rattle.aatry_policy.specs.SeenProfiles.{seen_part};
 
 use crate::origins::{Origin, file_of, rule_places};

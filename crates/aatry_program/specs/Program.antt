@@ -10,6 +10,7 @@ use Rattle.aatry_arguments.specs.declared.arguments.ArgumentFault.TheVariants.{H
 use Rattle.aatry_commands.specs.Asking.{IsWhoToldBelow, IsWhyToldBelow}
 use Rattle.aatry_commands.specs.Checking.{IsChecked}
 use Rattle.aatry_commands.specs.Comparing.{IsComparedBelow}
+use Rattle.aatry_commands.specs.Ends.{MayEndWith}
 use Rattle.aatry_commands.specs.Testing.{IsTestedBelow}
 use Rattle.aatry_commands.specs.declared.checking.Report.{Report}
 use Rattle.aatry_commands.specs.declared.fault.Fault.{Fault}
@@ -18,6 +19,8 @@ use Rattle.aatry_program.specs.Broken.{IsBrokenSession}
 use Rattle.aatry_program.specs.Session.{IsSession}
 use Rattle.aatry_program.specs.Status.{failure_status, status_of}
 use Rattle.aatry_report.specs.declared.form.Form.{Form}
+use Rattle.aatry_folder.specs.Told.{ToldFolders}
+use Rattle.aaset_start.specs.Known.{Known}
 
 -- standard output: what stood there before and stands there now, where that is known, and whether a write failed
 pub record Output : Type 0 where
@@ -53,39 +56,39 @@ IsFaultShown (Version text) output status = IsShown (string_bytes text) 0 output
 IsFaultShown Bad output status = IsReported BadArguments output status
 IsFaultShown Memory output status = IsReported NoMemory output status
 
--- What a command came to is shown, the status telling whether some of it failed; or some fault kept the program from it, and is reported.
-abbrev pub IsCommandDone : (List ℕ → ℕ → Type 0) → Output → ℕ → Type 0
-IsCommandDone Tells output status =
+-- What a command came to is shown, the status telling whether some of it failed; or a fault that it may end with kept the program from it, and is reported.
+abbrev pub IsCommandDone : (List ℕ → ℕ → Type 0) → (Fault → Type 0) → Output → ℕ → Type 0
+IsCommandDone Tells Ends output status =
     ((text : List ℕ) × (failed : ℕ) × Tells text failed × IsShown text (failure_status failed) output status)
-    ⊎ ((fault : Fault) × IsReported fault output status)
+    ⊎ ((fault : Fault) × Ends fault × IsReported fault output status)
 
 -- A session over a folder was had to its end, and the status is 0; or some fault ended it, a beginning of what a session writes stands on standard output,
 -- and the status is that of the fault.
-abbrev pub IsSessionDone : (List ℕ → Option (List (List ℕ))) → (List ℕ → Option (List ℕ)) → List ℕ → Input → Output → ℕ → Type 0
-IsSessionDone members_at bytes_at base input output status =
-    (IsSession members_at bytes_at base input.prompt input.left output.before output.after × (status ≡ 0))
-    ⊎ ((fault : Fault) × IsBrokenSession members_at bytes_at base input.prompt input.left output.before output.after fault × (status ≡ status_of fault))
+abbrev pub IsSessionDone : ToldFolders → Known → List ℕ → Input → Output → ℕ → Type 0
+IsSessionDone folders known base input output status =
+    (IsSession folders known base input.prompt input.left output.before output.after × (status ≡ 0))
+    ⊎ ((fault : Fault) × IsBrokenSession folders known base input.prompt input.left output.before output.after fault × (status ≡ status_of fault))
 
 -- A command is done: what it comes to is shown in a form, of a test in lines alone; and a session is had.
-abbrev pub IsDoneBy : Form → (List ℕ → Option (List (List ℕ))) → (List ℕ → Option (List ℕ)) → Input → CommandAsked → Output → ℕ → Type 0
-IsDoneBy form members_at bytes_at input (ForCheck check) output status = IsCommandDone (IsChecked form members_at bytes_at check.base check.names) output status
-IsDoneBy form members_at bytes_at input (ForTest test) output status = IsCommandDone (IsTestedBelow members_at bytes_at test.base test.paths) output status
-IsDoneBy form members_at bytes_at input (ForWho asking) output status = IsCommandDone (IsWhoToldBelow form members_at bytes_at asking.base asking.words) output status
-IsDoneBy form members_at bytes_at input (ForWhy asking) output status = IsCommandDone (IsWhyToldBelow form members_at bytes_at asking.base asking.words) output status
-IsDoneBy form members_at bytes_at input (ForDiff comparison) output status = IsCommandDone (IsComparedBelow form members_at bytes_at comparison) output status
-IsDoneBy form members_at bytes_at input (ForSession session) output status = IsSessionDone members_at bytes_at session.base input output status
+abbrev pub IsDoneBy : Form → ToldFolders → Known → Input → CommandAsked → Output → ℕ → Type 0
+IsDoneBy form folders known input (ForCheck check) output status = IsCommandDone (IsChecked form folders known check.base check.names) (MayEndWith folders known (ForCheck check)) output status
+IsDoneBy form folders known input (ForTest test) output status = IsCommandDone (IsTestedBelow folders known test.base test.paths) (MayEndWith folders known (ForTest test)) output status
+IsDoneBy form folders known input (ForWho asking) output status = IsCommandDone (IsWhoToldBelow form folders known asking.base asking.words) (MayEndWith folders known (ForWho asking)) output status
+IsDoneBy form folders known input (ForWhy asking) output status = IsCommandDone (IsWhyToldBelow form folders known asking.base asking.words) (MayEndWith folders known (ForWhy asking)) output status
+IsDoneBy form folders known input (ForDiff comparison) output status = IsCommandDone (IsComparedBelow form folders known comparison) (MayEndWith folders known (ForDiff comparison)) output status
+IsDoneBy form folders known input (ForSession session) output status = IsSessionDone folders known session.base input output status
 
 -- What is asked for is done: a command, or help or the version is shown, if memory allows; all else is reported as bad arguments.
-abbrev pub IsDone : (List ℕ → Option (List (List ℕ))) → (List ℕ → Option (List ℕ)) → Input → Asked CallAsked → Output → ℕ → Type 0
-IsDone members_at bytes_at input (ForThis call) output status = IsDoneBy call.form members_at bytes_at input call.command output status
-IsDone members_at bytes_at input ForHelp output status = ((text : List ℕ) × IsShown text 0 output status) ⊎ IsReported NoMemory output status
-IsDone members_at bytes_at input ForVersion output status = ((text : List ℕ) × IsShown text 0 output status) ⊎ IsReported NoMemory output status
-IsDone members_at bytes_at input Nothing output status = IsReported BadArguments output status ⊎ IsReported NoMemory output status
+abbrev pub IsDone : ToldFolders → Known → Input → Asked CallAsked → Output → ℕ → Type 0
+IsDone folders known input (ForThis call) output status = IsDoneBy call.form folders known input call.command output status
+IsDone folders known input ForHelp output status = ((text : List ℕ) × IsShown text 0 output status) ⊎ IsReported NoMemory output status
+IsDone folders known input ForVersion output status = ((text : List ℕ) × IsShown text 0 output status) ⊎ IsReported NoMemory output status
+IsDone folders known input Nothing output status = IsReported BadArguments output status ⊎ IsReported NoMemory output status
 
 -- The words of the start ask for it, all but the first, which is the program's own name. Where they can't be had, that fault is reported.
-abbrev pub IsStarted : {A B : Type 0} → (List ℕ → Option (List (List ℕ))) → (List ℕ → Option (List ℕ)) → Input → Result (Vec (String A) B) Fault → Output → ℕ → Type 0
-IsStarted members_at bytes_at input (Ok words) output status = IsDone members_at bytes_at input (asked_call (drop 1 (map string_bytes words.items))) output status
-IsStarted members_at bytes_at input (Err fault) output status = IsReported fault output status
+abbrev pub IsStarted : {A B : Type 0} → ToldFolders → Known → Input → Result (Vec (String A) B) Fault → Output → ℕ → Type 0
+IsStarted folders known input (Ok words) output status = IsDone folders known input (asked_call (drop 1 (map string_bytes words.items))) output status
+IsStarted folders known input (Err fault) output status = IsReported fault output status
 
 -- the output of a stream, by what was written to it before and after, and whether it failed
 abbrev pub output_of : Option (List ℕ) → Option (List ℕ) → Bool → Output

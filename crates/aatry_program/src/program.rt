@@ -71,7 +71,7 @@ fn have_session<F: Folders, D: FileSystem, S: Source, W: Sink, E: Sink>(
     streams: &mut Streams<S, W, E>,
 ) -> u8
     requires { S.reads streams.old.input ≤ 2 ^ 62 }
-    ensures { IsSessionDone (F.members_at folders.now) (D.bytes_at disk.now) base.now (input_of (S.left streams.old.input) prompt.now)
+    ensures { IsSessionDone (F.told folders.now) (D.known disk.now) base.now (input_of (S.left streams.old.input) prompt.now)
         (output_of (W.written streams.old.output) (W.written streams.new.output) (W.failed streams.new.output)) result }
 {
     let outcome = session_over(
@@ -96,7 +96,7 @@ fn perform<F: Folders, D: FileSystem, S: Source, W: Sink, E: Sink>(
     streams: &mut Streams<S, W, E>,
 ) -> u8
     requires { S.reads streams.old.input ≤ 2 ^ 62 }
-    ensures { IsDoneBy call.form (F.members_at folders.now) (D.bytes_at disk.now) (input_of (S.left streams.old.input) prompt.now)
+    ensures { IsDoneBy call.form (F.told folders.now) (D.known disk.now) (input_of (S.left streams.old.input) prompt.now)
         (meant_command call.command)
         (output_of (W.written streams.old.output) (W.written streams.new.output) (W.failed streams.new.output)) result }
 {
@@ -160,7 +160,7 @@ fn do_asked<F: Folders, D: FileSystem, S: Source, W: Sink, E: Sink>(
     streams: &mut Streams<S, W, E>,
 ) -> u8
     requires { S.reads streams.old.input ≤ 2 ^ 62 }
-    ensures { IsDone (F.members_at folders.now) (D.bytes_at disk.now) (input_of (S.left streams.old.input) prompt.now)
+    ensures { IsDone (F.told folders.now) (D.known disk.now) (input_of (S.left streams.old.input) prompt.now)
         (asked_call (drop 1 (map string_bytes words.now)))
         (output_of (W.written streams.old.output) (W.written streams.new.output) (W.failed streams.new.output)) result }
 {
@@ -185,7 +185,7 @@ pub fn start<F: Folders, D: FileSystem, S: Source, W: Sink, E: Sink>(
     streams: &mut Streams<S, W, E>,
 ) -> u8
     requires { S.reads streams.old.input ≤ 2 ^ 62 }
-    ensures { IsStarted (F.members_at folders.now) (D.bytes_at disk.now) (input_of (S.left streams.old.input) prompt.now) words
+    ensures { IsStarted (F.told folders.now) (D.known disk.now) (input_of (S.left streams.old.input) prompt.now) words
         (output_of (W.written streams.old.output) (W.written streams.new.output) (W.failed streams.new.output)) result }
 {
     match words {

@@ -6,7 +6,9 @@ ghost use Rattle.aa_set_commands.specs.Question.{IsWellFormed, seen_question};
 ghost use Rattle.aa_set_lines.specs.Streams.{AppendsFront};
 ghost use Rattle.aatry_asking.specs.Asking.{answered_text};
 ghost use Rattle.aatry_asking.specs.Sources.{seen_sources};
-ghost use Rattle.aatry_commands.specs.Fault.{IsOfFolder};
+ghost use Rattle.aatry_arguments.specs.Arguments.{ForSession};
+ghost use Rattle.aatry_arguments.specs.SessionWords.{session_with};
+ghost use Rattle.aatry_commands.specs.Ends.{IsOfFolder, MayEndWith};
 ghost use Rattle.aatry_commands.specs.declared.fault.Fault.TheVariants as fault;
 ghost use Rattle.aatry_program.specs.Broken.{IsBrokenRun, IsBrokenSession, IsBrokenStep};
 ghost use Rattle.aatry_program.specs.Inputs.{GivesLine, most_reads};
@@ -60,7 +62,7 @@ struct Lines {
     line: LineBuffer,
 }
 
-// Puts the line of a file that is left out behind a text.
+// Appends the line of a file that is left out to a text.
 fn push_left_out(name: &str, out: &mut Vec<u8>) -> Result<(), AllocError>
     ensures { OnOk result (out.new.items ≡ out.old.items ++ left_out_line name.now) }
 {
@@ -70,7 +72,7 @@ fn push_left_out(name: &str, out: &mut Vec<u8>) -> Result<(), AllocError>
     Ok(())
 }
 
-// Puts what is told of a file behind a text, as it is loaded: that it is left out, and why; and nothing of one that is taken.
+// Appends what is told of a file to a text, as it is loaded: that it is left out, and why; and nothing of one that is taken.
 fn push_loading(name: &str, turn: &Turn<'_>, out: &mut Vec<u8>) -> Result<(), AllocError>
     ensures { OnOk result (out.new.items ≡ out.old.items ++ loading_text name.now (seen_turn turn.now)) }
 {
@@ -126,7 +128,7 @@ fn reload<F: Folders, D: FileSystem>(
     out: &mut Vec<u8>,
 ) -> Result<(), AllocError>
     ensures { OnOk result ((text : List ℕ) × (out.new.items ≡ out.old.items ++ text)
-        × IsReadAnew (F.members_at setting.now.folders.now) (D.bytes_at setting.now.disk.now) setting.now.base.now
+        × IsReadAnew (F.told setting.now.folders.now) (D.known setting.now.disk.now) setting.now.base.now
         (seen_table table.old) (seen_table table.new) text) }
 {
     match policy_below(alloc, setting.folders, setting.disk, setting.base) {
@@ -187,7 +189,7 @@ fn tell<F: Folders, D: FileSystem>(
 ) -> Result<bool, AllocError>
     requires { IsAskable turn }
     ensures told { IfOk result (λ _. (text : List ℕ) × (out.new.items ≡ out.old.items ++ text)
-        × IsTold (F.members_at setting.now.folders.now) (D.bytes_at setting.now.disk.now) setting.now.base.now
+        × IsTold (F.told setting.now.folders.now) (D.known setting.now.disk.now) setting.now.base.now
         (seen_table table.old) (seen_turn turn.entry) (seen_table table.new) text) }
     ensures goes { IfOk result (λ goes. goes ≡ goes_on (seen_turn turn.entry)) }
 {
@@ -202,6 +204,7 @@ fn tell<F: Folders, D: FileSystem>(
             Ok(true)
         }
         Turn::Why(question) => {
+            table.session.remember(&question);
             answer_question(alloc, setting.base, table, &question, out)?;
             Ok(true)
         }
@@ -217,7 +220,7 @@ fn answer_line<F: Folders, D: FileSystem>(
     out: &mut Vec<u8>,
 ) -> Result<bool, AllocError>
     ensures turn { IfOk result (λ goes. (text : List ℕ) × (out.new.items ≡ out.old.items ++ text)
-        × IsTurn (F.members_at setting.now.folders.now) (D.bytes_at setting.now.disk.now) setting.now.base.now
+        × IsTurn (F.told setting.now.folders.now) (D.known setting.now.disk.now) setting.now.base.now
         (seen_table table.old) line.now (seen_table table.new) text goes) }
 {
     let turn = table
@@ -263,14 +266,14 @@ fn step<F: Folders, D: FileSystem, S: Source, W: Sink>(
 ) -> Result<bool, Fault>
     requires { S.reads reader.old ≤ 2 ^ 63 }
     ensures on { IfOk result (λ goes. goes ≡ true → (taken : List ℕ)
-        × IsStep (F.members_at setting.now.folders.now) (D.bytes_at setting.now.disk.now) setting.now.base.now setting.now.prompt.now
+        × IsStep (F.told setting.now.folders.now) (D.known setting.now.disk.now) setting.now.base.now setting.now.prompt.now
         (standing (S.left reader.old) lines.old.input (W.written writer.old) table.old) taken
         (standing (S.left reader.new) lines.new.input (W.written writer.new) table.new) true) }
     ensures off { IfOk result (λ goes. goes ≡ false
-        → IsLastStep (F.members_at setting.now.folders.now) (D.bytes_at setting.now.disk.now) setting.now.base.now setting.now.prompt.now
+        → IsLastStep (F.told setting.now.folders.now) (D.known setting.now.disk.now) setting.now.base.now setting.now.prompt.now
         (standing (S.left reader.old) lines.old.input (W.written writer.old) table.old)
         (standing (S.left reader.new) lines.new.input (W.written writer.new) table.new)) }
-    ensures broken { IfErr result (IsBrokenStep (F.members_at setting.now.folders.now) (D.bytes_at setting.now.disk.now) setting.now.base.now setting.now.prompt.now
+    ensures broken { IfErr result (IsBrokenStep (F.told setting.now.folders.now) (D.known setting.now.disk.now) setting.now.base.now setting.now.prompt.now
         (standing (S.left reader.old) lines.old.input (W.written writer.old) table.old) (W.written writer.new)) }
     ensures failed { IsErrOf result Fault.Write → W.failed writer.new ≡ true }
     ensures bound { S.reads reader.new ≤ S.reads reader.old + most_reads }
@@ -295,10 +298,10 @@ fn run<F: Folders, D: FileSystem, S: Source, W: Sink>(
     writer: &mut W,
 ) -> Result<(), Fault>
     requires { S.reads reader.old ≤ 2 ^ 62 }
-    ensures ran { OnOk result (IsRun (F.members_at setting.now.folders.now) (D.bytes_at setting.now.disk.now) setting.now.base.now setting.now.prompt.now
+    ensures ran { OnOk result (IsRun (F.told setting.now.folders.now) (D.known setting.now.disk.now) setting.now.base.now setting.now.prompt.now
         (standing (S.left reader.old) lines.old.input (W.written writer.old) table.old)
         (standing (S.left reader.new) lines.new.input (W.written writer.new) table.new)) }
-    ensures broken { IfErr result (IsBrokenRun (F.members_at setting.now.folders.now) (D.bytes_at setting.now.disk.now) setting.now.base.now setting.now.prompt.now
+    ensures broken { IfErr result (IsBrokenRun (F.told setting.now.folders.now) (D.known setting.now.disk.now) setting.now.base.now setting.now.prompt.now
         (standing (S.left reader.old) lines.old.input (W.written writer.old) table.old) (W.written writer.new)) }
     ensures failed { IsErrOf result Fault.Write → W.failed writer.new ≡ true }
 {
@@ -311,16 +314,16 @@ fn run<F: Folders, D: FileSystem, S: Source, W: Sink>(
     Err(Fault::Read)
 }
 
-// Begins a session over a folder: the files at its top are added, each in its turn, and those that are refused are told behind a text.
+// Begins a session over a folder: the files at its top are added, each in its turn, and what is told of those that are refused is appended to a text.
 fn begin<F: Folders, D: FileSystem>(
     alloc: Global,
     setting: &Setting<'_, F, D>,
     out: &mut Vec<u8>,
 ) -> Result<Table, Fault>
     ensures loaded { IfOk result (λ table. (text : List ℕ) × (out.new.items ≡ out.old.items ++ text)
-        × IsLoaded (F.members_at setting.now.folders.now) (D.bytes_at setting.now.disk.now) setting.now.base.now
+        × IsLoaded (F.told setting.now.folders.now) (D.known setting.now.disk.now) setting.now.base.now
         (seen_table table) text) }
-    ensures fault { IfErr result IsOfFolder }
+    ensures fault { IfErr result (IsOfFolder (F.told setting.now.folders.now) (D.known setting.now.disk.now) setting.now.base.now) }
 {
     let PolicyFiles { files, top } = policy_below(
         alloc,
@@ -365,10 +368,11 @@ pub fn session_over<F: Folders, D: FileSystem, S: Source, W: Sink>(
     writer: &mut W,
 ) -> Result<(), Fault>
     requires { S.reads reader.old ≤ 2 ^ 62 }
-    ensures had { OnOk result (IsSession (F.members_at folders.now) (D.bytes_at disk.now) base.now prompt.now
+    ensures had { OnOk result (IsSession (F.told folders.now) (D.known disk.now) base.now prompt.now
         (S.left reader.old) (W.written writer.old) (W.written writer.new)) }
-    ensures broken { IfErr result (IsBrokenSession (F.members_at folders.now) (D.bytes_at disk.now) base.now prompt.now
+    ensures broken { IfErr result (IsBrokenSession (F.told folders.now) (D.known disk.now) base.now prompt.now
         (S.left reader.old) (W.written writer.old) (W.written writer.new)) }
+    ensures fault { IfErr result (MayEndWith (F.told folders.now) (D.known disk.now) (ForSession (session_with base.now))) }
     ensures failed { IsErrOf result Fault.Write → W.failed writer.new ≡ true }
 {
     let setting = Setting {

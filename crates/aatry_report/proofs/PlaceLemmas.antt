@@ -51,3 +51,13 @@ one_place text at other begins begins_other line same =
     let up : at < other → column text at < column text other = later text at other begins begins_other.0 line in
     let down : other < at → column text other < column text at = later text other at begins_other begins.0 (sym line) in
     grind arith
+
+-- the line, and the column, of a place, by what stands before a place that isn't behind it, and what stands between both
+pub line_number-on : (text part : List ℕ) (at other : ℕ) → take other text ≡ take at text ++ part → line_number text at + line_feed_count part ≡ line_number text other
+line_number-on text part at other whole = omega (arith, ap line_feed_count whole, line_feed_count-append (take at text) part)
+
+pub column-on : (text part : List ℕ) (at other : ℕ) → take other text ≡ take at text ++ part → line_feed_count part ≡ 0
+    → column text at + character_count part ≡ column text other
+column-on text part at other whole none =
+    let line : last_line (take other text) ≡ last_line (take at text) ++ part = ap last_line whole ∙ after_last-append is_line_feed (take at text) part none in
+    omega (arith, ap character_count line, character_count-append (last_line (take at text)) part)

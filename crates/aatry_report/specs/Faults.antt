@@ -10,9 +10,13 @@ use Rattle.aatry_report.specs.Lines.{line_at, line_number}
 use Rattle.aatry_report.specs.Records.{with_number, with_text}
 use Rattle.aatry_report.specs.Shown.{shown}
 
--- `PATH:LINE:COLUMN: `, of a place in a file's bytes
+-- `PATH:LINE:COLUMN: `
+abbrev pub line_place_text : List ℕ → ℕ → ℕ → List ℕ
+line_place_text path line column = shown path ++ codes ":" ++ decimal line ++ codes ":" ++ decimal column ++ codes ": "
+
+-- the same, of a place in a file's bytes
 abbrev pub place_text : List ℕ → List ℕ → ℕ → List ℕ
-place_text path text at = shown path ++ codes ":" ++ decimal (line_number text at) ++ codes ":" ++ decimal (column text at) ++ codes ": "
+place_text path text at = line_place_text path (line_number text at) (column text at)
 
 -- the words that tell the fault, with its number, and the line's end
 abbrev pub words_text : List ℕ → ℕ → List ℕ

@@ -20,7 +20,10 @@ without_slashes (b ∷ bs) = if are_slashes (b ∷ bs) then [] else b ∷ withou
 abbrev pub path_below : List ℕ → List ℕ → List ℕ
 path_below base name = without_slashes base ++ codes "/" ++ name
 
--- a record with a place in a file's bytes: by what the file is told, the line and the column
+-- a record with a place in a file: by what the file is told, the line and the column
+abbrev pub with_line_place : List ℕ → ℕ → ℕ → Members → Members
+with_line_place path line column members = with_number (codes "column") column (with_number (codes "line") line (with_text (codes "file") path members))
+
+-- the same, of a place in the file's bytes
 abbrev pub with_place : List ℕ → List ℕ → ℕ → Members → Members
-with_place path text at members =
-    with_number (codes "column") (column text at) (with_number (codes "line") (line_number text at) (with_text (codes "file") path members))
+with_place path text at members = with_line_place path (line_number text at) (column text at) members

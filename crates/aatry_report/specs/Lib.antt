@@ -9,3 +9,4 @@ pub mod Records
 pub mod SeenRecord
 pub mod Shown
 pub mod Taken
+pub mod Walks

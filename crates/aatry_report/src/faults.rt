@@ -1,28 +1,26 @@
 //! What is told of a fault in a file of policy.
 
 ghost use Rattle.std.specs.Prelude.{◌≡◌, ◌++◌, [], None, OnOk, Some};
-ghost use Rattle.aatry_report.specs.Faults.{fault_lines, marked_line, place_text, with_fault, with_words, words_text};
+ghost use Rattle.aatry_report.specs.Faults.{fault_lines, line_place_text, marked_line, with_fault, with_words, words_text};
 ghost use Rattle.aatry_report.specs.SeenRecord.{seen_record};
 
 use crate::caret_line::push_caret_line;
 use crate::file_places::put_place;
 use crate::line::line_at;
 use crate::numbers::push_number;
-use crate::place::line_place;
+use crate::place::{LinePlace, line_place};
 use crate::record::Record;
 use crate::shown::push_shown;
 use std::alloc::{AllocError, Global};
 
-/// Puts a place in a file's bytes behind a text: `PATH:LINE:COLUMN: `. `path` is what the file is told by, `text` are its bytes, and `at` says how many of
-/// them stand before the place; lines and columns are counted from 1.
+/// Puts a place in a file behind a text: `PATH:LINE:COLUMN: `. `path` is what the file is told by.
 ///
 /// # Errors
 ///
 /// Where memory runs out. A beginning may have been put then.
-pub fn push_place(out: &mut Vec<u8>, path: &[u8], text: &[u8], at: usize) -> Result<(), AllocError>
-    ensures { OnOk result (out.new.items ≡ out.old.items ++ place_text path.now text.now at) }
+pub fn push_place(out: &mut Vec<u8>, path: &[u8], place: LinePlace) -> Result<(), AllocError>
+    ensures { OnOk result (out.new.items ≡ out.old.items ++ line_place_text path.now place.line place.column) }
 {
-    let place = line_place(text, at);
     push_shown(out, path)?;
     push_number(out, ":", place.line)?;
     push_number(out, ":", place.column)?;
@@ -89,7 +87,7 @@ pub fn push_fault_at(
 ) -> Result<(), AllocError>
     ensures { OnOk result (out.new.items ≡ out.old.items ++ fault_lines words.now path.now number (Some at) text.now) }
 {
-    push_place(out, path, text, at)?;
+    push_place(out, path, line_place(text, at))?;
     push_words(out, words, number)?;
     push_marked_line(out, text, at)
 }
@@ -130,6 +128,6 @@ pub fn put_fault_at(
     ensures { OnOk result (seen_record into.new ≡ with_fault words.now path.now number (Some at) text.now (seen_record into.old)) }
 {
     put_words(alloc, words, number, into)?;
-    put_place(alloc, path, text, at, into)?;
+    put_place(alloc, path, line_place(text, at), into)?;
     into.put_text(alloc, "text", line_at(text, at))
 }

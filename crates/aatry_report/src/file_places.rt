@@ -1,10 +1,10 @@
 //! Files of a folder of policy, and places in them.
 
 ghost use Rattle.std.specs.Prelude.{◌≡◌, IfOk, OnOk};
-ghost use Rattle.aatry_report.specs.FilePlaces.{path_below, with_place, without_slashes};
+ghost use Rattle.aatry_report.specs.FilePlaces.{path_below, with_line_place, without_slashes};
 ghost use Rattle.aatry_report.specs.SeenRecord.{seen_record};
 
-use crate::place::line_place;
+use crate::place::LinePlace;
 use crate::record::Record;
 use std::alloc::{AllocError, Global};
 
@@ -36,8 +36,7 @@ pub fn path_below(alloc: Global, base: &[u8], name: &[u8]) -> Result<Vec<u8>, Al
     Ok(path)
 }
 
-/// Puts a place in a file's bytes into a record: `file`, what the file is told by, and `line` and `column`, counted from 1. `at` says how many bytes of
-/// `text` stand before the place.
+/// Puts a place in a file into a record: `file`, what the file is told by, and `line` and `column`.
 ///
 /// # Errors
 ///
@@ -45,13 +44,11 @@ pub fn path_below(alloc: Global, base: &[u8], name: &[u8]) -> Result<Vec<u8>, Al
 pub fn put_place(
     alloc: Global,
     path: &[u8],
-    text: &[u8],
-    at: usize,
+    place: LinePlace,
     into: &mut Record,
 ) -> Result<(), AllocError>
-    ensures { OnOk result (seen_record into.new ≡ with_place path.now text.now at (seen_record into.old)) }
+    ensures { OnOk result (seen_record into.new ≡ with_line_place path.now place.line place.column (seen_record into.old)) }
 {
-    let place = line_place(text, at);
     into.put_text(alloc, "file", path)?;
     into.put_number(alloc, "line", place.line)?;
     into.put_number(alloc, "column", place.column)

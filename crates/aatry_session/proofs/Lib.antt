@@ -1,5 +1,7 @@
+pub mod KnownLemmas
 pub mod LawLemmas
 pub mod MakeLemmas
+pub mod NamedLemmas
 pub mod ObeyLemmas
 pub mod OriginLemmas
 pub mod StepLemmas

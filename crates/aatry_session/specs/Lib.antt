@@ -2,6 +2,7 @@ pub mod Help
 pub mod History
 pub mod Laws
 pub mod Origins
+pub mod PlaceLaws
 pub mod Refusals
 pub mod Sayings
 pub mod SeenSessions

@@ -9,6 +9,7 @@ use Rattle.aa_set_commands.specs.Command.{Add, Make, PolicyChange}
 use Rattle.aa_set_commands.specs.Question.{Question}
 use Rattle.aa_text_files.specs.Files.{File}
 use Rattle.aatry_policy.specs.declared.origins.Origin.{Origin}
+use Rattle.aatry_report.specs.Shown.{shown_lines}
 use Rattle.aatry_session.specs.Help.{help_text}
 use Rattle.aatry_session.specs.History.{change_in, change_text, history_lines, kept_with, moves_text}
 use Rattle.aatry_session.specs.Origins.{change_origins, origin_among, unplaced_origin}
@@ -42,7 +43,7 @@ unplaced kept = record kept { origins = map (map unplaced_origin) kept.origins }
 abbrev pub reply_told : List File → List ℕ → List ℕ → List (List ℕ) → ℕ → ℕ → Reply → List ℕ
 reply_told files base words texts from to Silent = []
 reply_told files base words texts from to Done = moves_text from to texts
-reply_told files base words texts from to (Answered lines) = lines
+reply_told files base words texts from to (Answered lines) = shown_lines lines
 reply_told files base words texts from to (Refused refusal) = refusal_told files base words refusal
 
 -- the texts after this change, if one is made, that was given this reply

@@ -2,11 +2,17 @@
 
 ghost use Rattle.aatry_session.specs.Laws.{AddLeavesInStep, AddsAsLinesDo, AddsInStep, BeginsInStep, ForgetsInStep};
 ghost use Rattle.aatry_session.specs.Laws.{LeavesInStep, RefusedTurnLeavesAll, StaysInStep};
+ghost use Rattle.aatry_session.specs.PlaceLaws.{AddLeavesKnowing, AddsKnowing, BeginsKnowing, ForgetsForAnyFiles};
+ghost use Rattle.aatry_session.specs.PlaceLaws.{KnowsTheLoaded, LeavesKnowing, StaysKnowing};
 
 use aa_bytes::Sequence;
 use aa_decide::Entry;
-use aa_history::{what_going_to_marks_keeps, what_marks_mark, where_machines_go_back_to};
+use aa_history::{
+    what_going_to_marks_keeps, what_machines_keep, what_marks_mark, where_machines_go_back_to,
+};
+use aa_profile::how_profiles_are_named;
 use aa_set::the_way_back;
+use aatry_policy::where_loaded_profiles_are_read;
 
 /// A session begins with its history in step with its policy set, and stays so whatever it is told, whichever file is added, and where places are
 /// forgotten: there are as many texts as there are changes that can be undone or redone, and of as many it is kept where profiles were read. So it
@@ -26,4 +32,23 @@ pub fn the_history_is_in_step()
     what_marks_mark::<Sequence<Entry>>();
     what_going_to_marks_keeps::<Sequence<Entry>>();
     the_way_back();
+}
+
+/// A session knows of each loaded profile where it was read, and stays so whatever it is told and whichever file is added, also where memory runs out for
+/// the answer: the profile's origin, by the last change that is done and loaded one of its name, is that of a file that spells it, with the places that
+/// this file has for it, where these are known still. It knows so much of each policy set that can be undone or redone too. Where places are
+/// forgotten, that holds for any files, so also for those that are read anew.
+pub fn where_profiles_of_a_session_are_read()
+    ensures begins { BeginsKnowing }
+    ensures stays { StaysKnowing }
+    ensures left { LeavesKnowing }
+    ensures adds { AddsKnowing }
+    ensures left_adding { AddLeavesKnowing }
+    ensures forgets { ForgetsForAnyFiles }
+    ensures loaded { KnowsTheLoaded }
+{
+    what_machines_keep::<Sequence<Entry>>();
+    what_going_to_marks_keeps::<Sequence<Entry>>();
+    how_profiles_are_named();
+    where_loaded_profiles_are_read();
 }

@@ -13,5 +13,5 @@ mod refusals;
 mod sayings;
 mod session;
 
-pub use laws::the_history_is_in_step;
+pub use laws::{the_history_is_in_step, where_profiles_of_a_session_are_read};
 pub use session::{Session, Turn};

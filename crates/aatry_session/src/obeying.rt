@@ -17,6 +17,7 @@ use aa_bytes::Sequence;
 use aa_set::{Manager, Reply, reply_to};
 use aa_set_commands::PolicyChange;
 use aa_text_files::Files;
+use aatry_report::push_shown_lines;
 use std::alloc::{AllocError, Global};
 
 // Puts what is told of a reply behind a text. `from` is how many changes were done before it, `to` how many are done now.
@@ -35,10 +36,7 @@ fn push_reply(
     match reply {
         Reply::Silent => Ok(()),
         Reply::Done => push_moves(out, texts, from, to),
-        Reply::Answered(lines) => {
-            out.extend_from_slice(lines.as_slice())?;
-            Ok(())
-        }
+        Reply::Answered(lines) => push_shown_lines(out, lines.as_slice()),
         Reply::Refused(refusal) => push_refusal(alloc, files, base, *refusal, out),
     }
 }

@@ -70,6 +70,13 @@ impl Session {
         &self.manager
     }
 
+    /// Remembers what a question passes (`Manager::remember`), so that it is answered quicker from now on. Nothing of the session changes by it.
+    pub fn remember(&mut self, question: &Question<'_>)
+        ensures { self.new ≡ self.old }
+    {
+        self.manager.remember(question);
+    }
+
     /// Where the loaded profile of a name was read, as far as that is known: by the last of those changes that are done and loaded a profile of the
     /// name. So `undo` brings back what was known before. It takes no memory.
     pub fn origin(&self, profile: &[u8]) -> Option<&Origin>

@@ -17,7 +17,7 @@ use crate::transition::push_transition;
 use aa_bytes::SharedBytes;
 use aa_decide::{Asker, Confinement, IndexedSlots, Ready};
 use aa_explain::{
-    Candidate, child_candidates, first_transition, leading_rules, profile_candidates,
+    AskedRules, Candidate, child_candidates, first_transition, leading_rules, profile_candidates,
     which_rules_lead,
 };
 use aa_profile_access::Destination;
@@ -151,7 +151,7 @@ fn lead_at<'a>(
 {
     which_rules_lead();
     let rules = ready.rules_at(child);
-    let places = leading_rules(alloc, owned, path, rules)?;
+    let places = leading_rules(alloc, AskedRules::Loaded { ready, child }, owned, path)?;
     Ok(first_transition(rules, &places))
 }
 

@@ -1,0 +1,2 @@
+mod FindingLemmas
+mod GroupLemmas

@@ -1,7 +1,8 @@
 -- The rules behind an answer by what they do.
-use Rattle.std.specs.Prelude.{ℕ, Bool, true, false, not, ◌&&◌, ◌==◌, List, codes}
-use Rattle.std.specs.List.{filter, list_any}
+use Rattle.std.specs.Prelude.{ℕ, Bool, true, false, not, ◌&&◌, List, codes}
+use Rattle.std.specs.List.{filter}
 use Rattle.aa_explain.specs.Laws.{places_of}
+use Rattle.aa_explain.specs.Logged.{does_something}
 use Rattle.aa_explain.specs.declared.told.ToldRule.{ToldRule}
 use Rattle.aatry_why_lines.specs.declared.groups.Group.{Group}
 use Rattle.aatry_why_lines.specs.declared.groups.Group.TheVariants.{Allowing, Auditing, Denying}
@@ -11,10 +12,6 @@ abbrev pub heading : Group → List ℕ
 heading Denying = codes "denied by"
 heading Allowing = codes "allowed by"
 heading (Auditing denied) = codes "audited by"
-
--- a rule covers something of what is asked for
-abbrev pub does_something : ToldRule → Bool
-does_something rule = not (rule.covered.0 == 0)
 
 -- What a rule does puts it into a group. What is logged is what rules deny, where something is denied, and else what they allow.
 abbrev pub does : Group → ToldRule → Bool
@@ -26,10 +23,6 @@ does (Auditing false) rule = rule.audited && not rule.denies
 -- a rule is in a group
 abbrev pub is_in : Group → ToldRule → Bool
 is_in group rule = does_something rule && does group rule
-
--- some of the rules deny something of what is asked for
-abbrev pub is_denied : List ToldRule → Bool
-is_denied told = list_any (is_in Denying) told
 
 -- the places of the rules of a group
 abbrev pub places_in : Group → List ToldRule → List ℕ

@@ -1,3 +1,4 @@
+pub mod Finding
 pub mod Groups
 pub mod Lines
 pub mod Why

@@ -14,7 +14,8 @@ use Rattle.aatry_report.specs.Records.{record_line, record_of, with_text}
 use Rattle.aatry_report.specs.Shown.{shown}
 use Rattle.aatry_report.specs.declared.form.Form.{Form}
 use Rattle.aatry_report.specs.declared.form.Form.TheVariants.{Lines, Records}
-use Rattle.aatry_why_lines.specs.Written.{Written}
+use Rattle.aatry_why_lines.specs.Finding.{Folder}
+use Rattle.aatry_why_lines.specs.Written.{Written, folder_of}
 
 -- where a rule stands: its file, line and column, or the profile's file alone
 abbrev pub where_text : List File → List ℕ → List ℕ → Option Place → List ℕ
@@ -28,16 +29,19 @@ with_where files base name (Some place) members =
     with_place (path_below base (name_at files place.file)) (bytes_at files place.file) place.at members
 
 -- the record of a rule: the words over its group, where it stands, and the rule as `show` tells it
-abbrev pub rule_record : Written → List ℕ → Option Place → Rule → Members
-rule_record written words place rule =
+abbrev pub rule_record : Folder → List ℕ → List ℕ → Option Place → Rule → Members
+rule_record folder name words place rule =
     with_text (codes "rule") (rule_text rule)
-    (with_where written.files written.base written.name place (with_text (codes "group") words (record_of (codes "rule"))))
+    (with_where folder.files folder.base name place (with_text (codes "group") words (record_of (codes "rule"))))
+
+-- a rule as `show` tells it, as it is shown
+abbrev pub shown_rule : Rule → List ℕ
+shown_rule rule = shown (rule_text rule)
 
 -- the line of a rule: where it stands, and the rule as `show` tells it; the words over its group stand in a record alone
-abbrev pub told_line : Form → Written → List ℕ → Option Place → Rule → List ℕ
-told_line Lines written words place rule =
-    codes "  " ++ where_text written.files written.base written.name place ++ rule_text rule ++ line_feed ∷ []
-told_line Records written words place rule = record_line (rule_record written words place rule)
+abbrev pub told_line : Form → Folder → List ℕ → List ℕ → Option Place → Rule → List ℕ
+told_line Lines folder name words place rule = codes "  " ++ where_text folder.files folder.base name place ++ shown_rule rule ++ line_feed ∷ []
+told_line Records folder name words place rule = record_line (rule_record folder name words place rule)
 
 -- where the rule at an index stands
 abbrev pub place_at : List (Option Place) → ℕ → Option Place
@@ -47,7 +51,7 @@ place_at places index = elim (slice_get places index) [ None ↦ None | Some pla
 abbrev pub line_at : Form → Written → List ℕ → ℕ → List ℕ
 line_at form written words index = elim (slice_get written.rules index) [
   | None ↦ []
-  | Some rule ↦ told_line form written words (place_at written.places index) rule
+  | Some rule ↦ told_line form (folder_of written) written.name words (place_at written.places index) rule
 ]
 
 -- the lines of the rules at some indexes, below these words; none where there is no index
@@ -60,5 +64,5 @@ missing_record rule = with_text (codes "rule") (rule_text rule) (record_of (code
 
 -- the line of a rule that isn't there, below words of its own
 abbrev pub missing_line : Form → Rule → List ℕ
-missing_line Lines rule = heading_line Lines (codes "missing rule") ++ codes "  " ++ rule_text rule ++ line_feed ∷ []
+missing_line Lines rule = heading_line Lines (codes "missing rule") ++ codes "  " ++ shown_rule rule ++ line_feed ∷ []
 missing_line Records rule = record_line (missing_record rule)

@@ -1,7 +1,8 @@
 //! The rules behind an answer by what they do.
 
 ghost use Rattle.std.specs.Prelude.{◌≡◌, IfOk};
-ghost use Rattle.aatry_why_lines.specs.Groups.{does, does_something, heading, is_denied, is_in, places_in};
+ghost use Rattle.aa_explain.specs.Logged.{does_something, is_denied};
+ghost use Rattle.aatry_why_lines.specs.Groups.{does, heading, is_in, places_in};
 
 use aa_explain::ToldRule;
 use bitflags::Flags;

@@ -1,11 +1,15 @@
 //! What is told of the rules behind an answer, as lines or as records: each with the line and the column where it is written.
 #![tactic(auto)]
 
+mod finding;
 mod groups;
+mod laws;
 mod lines;
 mod why;
 mod written;
 
+pub use finding::Finder;
+pub use laws::what_is_told_as_audited;
 pub use lines::{push_where, put_where};
 pub use why::{push_allowing, push_why};
 pub use written::WrittenRules;

@@ -1,73 +1,75 @@
 //! The lines and the records that tell rules with the places where they are written.
 
-ghost use Rattle.std.specs.Prelude.{◌≡◌, ◌++◌, IfOk, OnOk, codes, flat_map};
+ghost use Rattle.std.specs.Prelude.{◌≡◌, ◌++◌, [], IfOk, OnOk, codes, flat_map};
 ghost use Rattle.aa_set_answers.specs.RuleLines.{rule_text};
 ghost use Rattle.aatry_report.specs.Records.{with_text};
 ghost use Rattle.aatry_report.specs.SeenRecord.{seen_record};
 ghost use Rattle.aatry_why_lines.specs.Lines.{group_lines, line_at, missing_line, missing_record, place_at, told_line};
-ghost use Rattle.aatry_why_lines.specs.Lines.{rule_record, where_text, with_where};
-ghost use Rattle.aatry_why_lines.specs.Written.{seen_rules};
+ghost use Rattle.aatry_why_lines.specs.Lines.{rule_record, shown_rule, where_text, with_where};
+ghost use Rattle.aatry_why_lines.specs.Written.{folder_of, seen_rules};
+ghost use Rattle.aatry_report.specs.declared.form.Form.TheVariants.{Lines};
 
+use crate::finding::Finder;
 use crate::written::WrittenRules;
 use aa_profile_data::Rule;
 use aa_set_answers::push_rule;
-use aa_text_files::{Files, Place};
-use aatry_report::{Form, Record, path_below, push_heading, push_place, push_shown, put_place};
+use aa_text_files::Place;
+use aatry_report::{Form, Record, push_heading, push_place, push_shown, put_place};
 use std::alloc::{AllocError, Global};
 
-/// Puts where a rule stands behind a text: `base` with the name of the file, the line and the column where it is written. One without a place
-/// stands in the profile's file, that of the name.
+/// Puts where a rule stands behind a text: the folder's path with the name of the file, the line and the column where it is written. One without a
+/// place stands in the profile's file, that of the name.
 ///
 /// # Errors
 ///
 /// Where memory runs out. A beginning may have been put then.
 pub fn push_where(
-    alloc: Global,
-    files: &Files,
-    base: &[u8],
+    finder: &mut Finder<'_>,
     name: &[u8],
     place: Option<Place>,
     out: &mut Vec<u8>,
 ) -> Result<(), AllocError>
-    ensures { OnOk result (out.new.items ≡ out.old.items ++ where_text files.now base.now name.now place) }
+    ensures told { OnOk result (out.new.items ≡ out.old.items ++ where_text finder.old.files finder.old.base name.now place) }
+    ensures same { finder.new ≡ finder.old }
 {
     match place {
         None => {
-            let path = path_below(alloc, base, name)?;
+            let path = finder.path_below(name)?;
             push_shown(out, &path)?;
             out.extend_from_slice(b": ")
         }
         Some(place) => {
-            let path = path_below(alloc, base, files.name_at(place.file))?;
-            push_place(out, &path, files.bytes_at(place.file), place.at)
+            let path = finder.path_of(place)?;
+            let found = finder.line_place(place)?;
+            push_place(out, &path, found)
         }
     }
 }
 
-/// Puts where a rule stands into a record: by the name `file`, `base` with the name of the file, and by `line` and `column` where it is written.
-/// One without a place stands in the profile's file, that of the name, which is put alone.
+/// Puts where a rule stands into a record: by the name `file`, the folder's path with the name of the file, and by `line` and `column` where it is
+/// written. One without a place stands in the profile's file, that of the name, which is put alone.
 ///
 /// # Errors
 ///
 /// Where memory runs out. Some of it may have been put then.
 pub fn put_where(
-    alloc: Global,
-    files: &Files,
-    base: &[u8],
+    finder: &mut Finder<'_>,
     name: &[u8],
     place: Option<Place>,
     into: &mut Record,
 ) -> Result<(), AllocError>
-    ensures { OnOk result (seen_record into.new ≡ with_where files.now base.now name.now place (seen_record into.old)) }
+    ensures told { OnOk result (seen_record into.new ≡ with_where finder.old.files finder.old.base name.now place (seen_record into.old)) }
+    ensures same { finder.new ≡ finder.old }
 {
     match place {
         None => {
-            let path = path_below(alloc, base, name)?;
-            into.put_text(alloc, "file", &path)
+            let path = finder.path_below(name)?;
+            into.put_text(finder.alloc(), "file", &path)
         }
         Some(place) => {
-            let path = path_below(alloc, base, files.name_at(place.file))?;
-            put_place(alloc, &path, files.bytes_at(place.file), place.at, into)
+            let path = finder.path_of(place)?;
+            let found = finder.line_place(place)?;
+            put_place(finder.alloc(), &path, found, into)
         }
     }
 }
@@ -81,51 +83,70 @@ fn put_rule(alloc: Global, rule: &Rule, into: &mut Record) -> Result<(), AllocEr
     into.put_text(alloc, "rule", &text)
 }
 
+// Puts a rule behind a text, as `show` tells it: as it is shown.
+fn push_shown_rule(alloc: Global, rule: &Rule, out: &mut Vec<u8>) -> Result<(), AllocError>
+    ensures { OnOk result (out.new.items ≡ out.old.items ++ shown_rule rule.now) }
+{
+    let mut text = Vec::new(alloc);
+    push_rule(&mut text, rule)?;
+    push_shown(out, &text)
+}
+
 // The record of a rule of a group below these words.
 fn rule_record(
-    alloc: Global,
-    written: &WrittenRules<'_>,
+    finder: &mut Finder<'_>,
+    name: &[u8],
     words: &str,
     place: Option<Place>,
     rule: &Rule,
 ) -> Result<Record, AllocError>
-    ensures { IfOk result (λ made. seen_record made ≡ rule_record (seen_rules written.now) words.now place rule.now) }
+    ensures told { IfOk result (λ made. seen_record made ≡ rule_record finder.old name.now words.now place rule.now) }
+    ensures same { finder.new ≡ finder.old }
 {
+    let alloc = finder.alloc();
     let mut made = Record::new(alloc, "rule")?;
     made.put_text(alloc, "group", words.as_bytes())?;
-    put_where(
-        alloc,
-        written.files,
-        written.base,
-        written.name,
-        place,
-        &mut made,
-    )?;
+    put_where(finder, name, place, &mut made)?;
     put_rule(alloc, rule, &mut made)?;
     Ok(made)
 }
 
+// Puts the line of a rule of a group behind a text.
+fn push_rule_line(
+    finder: &mut Finder<'_>,
+    name: &[u8],
+    place: Option<Place>,
+    rule: &Rule,
+    out: &mut Vec<u8>,
+) -> Result<(), AllocError>
+    ensures told { OnOk result (out.new.items ≡ out.old.items ++ told_line Lines finder.old name.now [] place rule.now) }
+    ensures same { finder.new ≡ finder.old }
+{
+    out.extend_from_slice(b"  ")?;
+    push_where(finder, name, place, out)?;
+    push_shown_rule(finder.alloc(), rule, out)?;
+    out.push(b'\n')?;
+    Ok(())
+}
+
 // Puts the line of a rule of a group below these words behind a text.
 fn push_told(
-    alloc: Global,
+    finder: &mut Finder<'_>,
     form: Form,
-    written: &WrittenRules<'_>,
+    name: &[u8],
     words: &str,
     place: Option<Place>,
     rule: &Rule,
     out: &mut Vec<u8>,
 ) -> Result<(), AllocError>
-    ensures { OnOk result (out.new.items ≡ out.old.items ++ told_line form (seen_rules written.now) words.now place rule.now) }
+    ensures told { OnOk result (out.new.items ≡ out.old.items ++ told_line form finder.old name.now words.now place rule.now) }
+    ensures same { finder.new ≡ finder.old }
 {
     match form {
-        Form::Lines => {
-            out.extend_from_slice(b"  ")?;
-            push_where(alloc, written.files, written.base, written.name, place, out)?;
-            push_rule(out, rule)?;
-            out.push(b'\n')?;
-            Ok(())
+        Form::Lines => push_rule_line(finder, name, place, rule, out),
+        Form::Records => {
+            rule_record(finder, name, words, place, rule)?.push(finder.alloc(), out)
         }
-        Form::Records => rule_record(alloc, written, words, place, rule)?.push(alloc, out),
     }
 }
 
@@ -141,20 +162,22 @@ fn place_at(places: &[Option<Place>], index: usize) -> Option<Place>
 
 // Puts the line of the rule at an index behind a text, if there is one.
 fn push_line(
-    alloc: Global,
+    finder: &mut Finder<'_>,
     form: Form,
     written: &WrittenRules<'_>,
     words: &str,
     index: usize,
     out: &mut Vec<u8>,
 ) -> Result<(), AllocError>
-    ensures { OnOk result (out.new.items ≡ out.old.items ++ line_at form (seen_rules written.now) words.now index) }
+    requires { finder.old ≡ folder_of (seen_rules written.now) }
+    ensures told { OnOk result (out.new.items ≡ out.old.items ++ line_at form (seen_rules written.now) words.now index) }
+    ensures same { finder.new ≡ finder.old }
 {
-    match written.rules.get(index) {
+    match written.rules.as_slice().get(index) {
         None => Ok(()),
         Some(rule) => {
             let place = place_at(written.places, index);
-            push_told(alloc, form, written, words, place, rule, out)
+            push_told(finder, form, written.name, words, place, rule, out)
         }
     }
 }
@@ -174,9 +197,10 @@ pub fn push_lines(
 ) -> Result<(), AllocError>
     ensures { OnOk result (out.new.items ≡ out.old.items ++ flat_map (line_at form (seen_rules written.now) words.now) indexes.now) }
 {
+    let mut finder = Finder::new(alloc, written.files, written.base);
     let mut rest = indexes;
     while let [index, behind @ ..] = rest {
-        push_line(alloc, form, written, words, *index, out)?;
+        push_line(&mut finder, form, written, words, *index, out)?;
         rest = behind;
     }
     Ok(())
@@ -214,6 +238,17 @@ fn missing_record(alloc: Global, rule: &Rule) -> Result<Record, AllocError>
     Ok(made)
 }
 
+// Puts the line of a rule that isn't there behind a text, below words of its own.
+fn push_missing_line(alloc: Global, rule: &Rule, out: &mut Vec<u8>) -> Result<(), AllocError>
+    ensures { OnOk result (out.new.items ≡ out.old.items ++ missing_line Lines rule.now) }
+{
+    push_heading(Form::Lines, "missing rule", out)?;
+    out.extend_from_slice(b"  ")?;
+    push_shown_rule(alloc, rule, out)?;
+    out.push(b'\n')?;
+    Ok(())
+}
+
 /// Puts the line of a rule that isn't there behind a text, below words of its own; or a record of it, of the kind `missing`.
 ///
 /// # Errors
@@ -228,13 +263,7 @@ pub fn push_missing(
     ensures { OnOk result (out.new.items ≡ out.old.items ++ missing_line form rule.now) }
 {
     match form {
-        Form::Lines => {
-            push_heading(form, "missing rule", out)?;
-            out.extend_from_slice(b"  ")?;
-            push_rule(out, rule)?;
-            out.push(b'\n')?;
-            Ok(())
-        }
+        Form::Lines => push_missing_line(alloc, rule, out),
         Form::Records => missing_record(alloc, rule)?.push(alloc, out),
     }
 }

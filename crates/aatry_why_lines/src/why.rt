@@ -5,15 +5,15 @@ ghost use Rattle.aa_profile_access.specs.SeenRequests.{request_of};
 ghost use Rattle.aatry_why_lines.specs.Why.{allowing_lines, auditing_lines, deciding, deciding_lines, lacking_lines, lines_of};
 ghost use Rattle.aatry_why_lines.specs.Why.{missing_lines, nearest_lines, told_lines, why_lines};
 ghost use Rattle.aatry_why_lines.specs.Written.{seen_rules};
+ghost use Rattle.aa_explain.specs.Asked.{audits_of, rules_of};
 ghost use Rattle.aa_explain.specs.Missing.{missing_rule};
 ghost use Rattle.aa_explain.specs.Told.{told};
 
 use crate::groups::{Group, heading, is_denied, places_in};
 use crate::lines::{push_group, push_lines, push_missing};
 use crate::written::WrittenRules;
-use aa_explain::{ToldRule, leading_rules, missing_rule, near_rules, told_rules};
+use aa_explain::{AskedRules, ToldRule, leading_rules, missing_rule, near_rules, told_rules};
 use aa_profile_access::{Perms, Request};
-use aa_profile_data::Rule;
 use aatry_report::Form;
 use bitflags::Flags;
 use std::alloc::{AllocError, Global};
@@ -34,13 +34,17 @@ fn push_told_group(
 }
 
 // The places of the rules that decide where a program runs, where its start is asked for.
-fn deciding(alloc: Global, request: &Request<'_>, rules: &[Rule]) -> Result<Vec<usize>, AllocError>
-    ensures { IfOk result (λ places. places.items ≡ deciding (request_of request.entry.now) rules.now) }
+fn deciding(
+    alloc: Global,
+    request: &Request<'_>,
+    rules: AskedRules<'_>,
+) -> Result<Vec<usize>, AllocError>
+    ensures { IfOk result (λ places. places.items ≡ deciding (request_of request.entry.now) (rules_of rules.entry)) }
 {
     match request {
         Request::File { needs, owned, path } => {
             if needs.contains(Perms::EXEC) {
-                leading_rules(alloc, *owned, path, rules)
+                leading_rules(alloc, rules, *owned, path)
             } else {
                 Ok(Vec::new(alloc))
             }
@@ -67,11 +71,11 @@ fn push_deciding(
 fn push_missing_rule(
     alloc: Global,
     form: Form,
-    rules: &[Rule],
+    rules: AskedRules<'_>,
     request: &Request<'_>,
     out: &mut Vec<u8>,
 ) -> Result<(), AllocError>
-    ensures { OnOk result (out.new.items ≡ out.old.items ++ missing_lines form (missing_rule (request_of request.entry.now) rules.now)) }
+    ensures { OnOk result (out.new.items ≡ out.old.items ++ missing_lines form (missing_rule (request_of request.entry.now) (rules_of rules.entry))) }
 {
     match missing_rule(alloc, rules, request)? {
         None => Ok(()),
@@ -126,7 +130,7 @@ pub fn push_allowing(
 ) -> Result<(), AllocError>
     ensures { OnOk result (out.new.items ≡ out.old.items ++ allowing_lines form (seen_rules written.now) (request_of request.entry.now)) }
 {
-    let told = told_rules(alloc, written.audit, written.rules, request)?;
+    let told = told_rules(alloc, written.rules, request)?;
     let indexes = places_in(alloc, Group::Allowing, &told)?;
     push_lines(
         alloc,
@@ -183,9 +187,9 @@ fn push_applying(
 ) -> Result<(), AllocError>
     ensures { OnOk result (out.new.items
         ≡ out.old.items
-        ++ told_lines form (seen_rules written.now) lacking (told written.now.audit (request_of request.entry.now) written.now.rules.now)) }
+        ++ told_lines form (seen_rules written.now) lacking (told (audits_of written.now.rules) (request_of request.entry.now) (rules_of written.now.rules))) }
 {
-    let told = told_rules(alloc, written.audit, written.rules, request)?;
+    let told = told_rules(alloc, written.rules, request)?;
     push_groups(alloc, form, written, &told, lacking, out)
 }
 

@@ -1,6 +1,6 @@
 //! Rules with where they are written.
 
-use aa_profile_data::Rule;
+use aa_explain::AskedRules;
 use aa_text_files::{Files, Place};
 
 /// The rules of a profile, or of a child or hat, with where they are written.
@@ -12,10 +12,8 @@ pub struct WrittenRules<'a> {
     pub base: &'a [u8],
     /// The name of the file that has the profile.
     pub name: &'a [u8],
-    /// Whether each of the rules is audited, whatever its own words are: the flag of their profile.
-    pub audit: bool,
-    /// The rules, in their order.
-    pub rules: &'a [Rule],
+    /// The rules.
+    pub rules: AskedRules<'a>,
     /// Where each of them is written, in the same order; one without a place stands in the profile's file.
     pub places: &'a [Option<Place>],
 }

@@ -1,5 +1,5 @@
-//! Calls of the libraries whose answers no row can tell: the copy of a profile, the slots that may attach a path, and the start of a
-//! program by one of whom the slot is known.
+//! Calls of the libraries whose answers no row can tell: the copy of a profile, the slots that may attach a path, the start of a program by one of whom
+//! the slot is known, and what a question is answered as values.
 
 ghost use Rattle.std.specs.Prelude.{◌≡◌, true, IfSome};
 ghost use Rattle.aa_profile_data.specs.Conflicts.{profile_agrees};
@@ -7,7 +7,7 @@ ghost use Rattle.aa_profile_data.specs.Conflicts.{profile_agrees};
 use crate::given::{files, last_profile, managed};
 use aa_decide::{Answer, ExecTo, Who, exec, find_named};
 use aa_profile::Profile;
-use aa_set::{Manager, Question};
+use aa_set::{Answered, Manager, Question};
 use std::alloc::Global;
 
 fn read(alloc: Global, text: &[u8]) -> Option<Profile>
@@ -102,4 +102,70 @@ fn starts(alloc: Global) -> Option<bool> {
 #[test]
 fn a_program_is_started_by_its_slot(rt: HostRuntime) {
     assert!(rt; starts(rt.alloc()) == Some(true));
+}
+
+// Whether an answer is this one, told so, and logged or not.
+fn is_answer(found: &Answered, answer: Option<Answer>, text: &[u8], is_logged: bool) -> bool {
+    found.answer == answer
+        && found.text.as_slice() == text
+        && found.logged.as_slice().is_empty() != is_logged
+}
+
+// Whether the words behind `ask` are answered so, without what is remembered and with it.
+fn is_answered(
+    manager: &mut Manager,
+    words: &[&[u8]],
+    answer: Option<Answer>,
+    text: &[u8],
+    is_logged: bool,
+) -> Option<bool> {
+    let Ok(question) = Question::read(words) else {
+        return None;
+    };
+    let first = manager.answered(&question).ok()?;
+    let second = manager.answer(&question).ok()?;
+    let third = manager.answered(&question).ok()?;
+    Some(
+        is_answer(&first, answer, text, is_logged)
+            && is_answer(&second, answer, text, is_logged)
+            && is_answer(&third, answer, text, is_logged),
+    )
+}
+
+fn answers(alloc: Global) -> Option<bool> {
+    let manager = &mut managed(alloc, b"profile p { /a r, /b Ux, }")?;
+    let read = is_answered(
+        manager,
+        &[b"file", b"p", b"r", b"other", b"/a"],
+        Some(Answer::Allow),
+        b"allow",
+        false,
+    )?;
+    let written = is_answered(
+        manager,
+        &[b"file", b"p", b"w", b"other", b"/a"],
+        Some(Answer::Refuse),
+        b"refuse",
+        true,
+    )?;
+    let started = is_answered(
+        manager,
+        &[b"exec", b"p", b"other", b"/b"],
+        Some(Answer::Allow),
+        b"allow unconfined scrub",
+        false,
+    )?;
+    let free = is_answered(
+        manager,
+        &[b"cap", b"unconfined", b"chown"],
+        None,
+        b"unconfined",
+        false,
+    )?;
+    Some(read && written && started && free)
+}
+
+#[test]
+fn a_question_is_answered_as_values(rt: HostRuntime) {
+    assert!(rt; answers(rt.alloc()) == Some(true));
 }

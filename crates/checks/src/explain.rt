@@ -3,8 +3,8 @@
 use crate::given::{first_wrong, managed};
 use aa_decide::{Entry, Request, find_named};
 use aa_explain::{
-    attached_child, child_candidates, leading_rules, missing_rule, near_rules, profile_candidates,
-    ranks_of, told_rules,
+    AskedRules, attached_child, child_candidates, leading_rules, missing_rule, near_rules,
+    profile_candidates, ranks_of, told_rules,
 };
 use aa_profile::{Perms, Rule};
 use std::alloc::Global;
@@ -22,8 +22,8 @@ fn write(path: &[u8]) -> Request<'_> {
 }
 
 // A rule that reads the path applies to its being written, and one denies it.
-fn are_told(alloc: Global, rules: &[Rule]) -> bool {
-    match told_rules(alloc, false, rules, &write(b"/srv/x")) {
+fn are_told(alloc: Global, rules: AskedRules<'_>) -> bool {
+    match told_rules(alloc, rules, &write(b"/srv/x")) {
         Ok(found) => match found.as_slice() {
             [read, denied] => read.place == 0 && !read.denies && denied.place == 1 && denied.denies,
             _ => false,
@@ -32,14 +32,14 @@ fn are_told(alloc: Global, rules: &[Rule]) -> bool {
     }
 }
 
-fn are_near(alloc: Global, rules: &[Rule]) -> bool {
+fn are_near(alloc: Global, rules: AskedRules<'_>) -> bool {
     match near_rules(alloc, rules, &write(b"/srv/y")) {
         Ok(places) => places.as_slice() == [0].as_slice(),
         Err(_) => false,
     }
 }
 
-fn is_missing(alloc: Global, rules: &[Rule]) -> bool {
+fn is_missing(alloc: Global, rules: AskedRules<'_>) -> bool {
     match missing_rule(alloc, rules, &write(b"/srv/y")) {
         Ok(Some(Rule::File(rule))) => {
             rule.access == Perms::WRITE && rule.pattern.text() == b"/srv/y".as_slice()
@@ -49,8 +49,8 @@ fn is_missing(alloc: Global, rules: &[Rule]) -> bool {
 }
 
 // Whether this rule alone leads the program of a path.
-fn leads(alloc: Global, rules: &[Rule], path: &[u8], place: usize) -> bool {
-    match leading_rules(alloc, false, path, rules) {
+fn leads(alloc: Global, rules: AskedRules<'_>, path: &[u8], place: usize) -> bool {
+    match leading_rules(alloc, rules, false, path) {
         Ok(places) => places.as_slice() == [place].as_slice(),
         Err(_) => false,
     }
@@ -81,9 +81,18 @@ fn is_attached(alloc: Global, entry: &Entry) -> bool {
     }
 }
 
+// Rules concern a request whose patterns match its path, whoever owns the file.
+fn are_concerned(alloc: Global, rules: AskedRules<'_>) -> bool {
+    match rules.concerned(alloc, &write(b"/srv/x")) {
+        Ok(places) => places.as_slice() == [0, 1].as_slice(),
+        Err(_) => false,
+    }
+}
+
 // What is found of a request, and whether that is what it should be.
-fn rows(alloc: Global, rules: &[Rule]) -> [(&'static str, bool); 5] {
+fn rows(alloc: Global, rules: AskedRules<'_>) -> [(&'static str, bool); 6] {
     [
+        ("concerned", are_concerned(alloc, rules)),
         ("told_rules", are_told(alloc, rules)),
         ("near_rules", are_near(alloc, rules)),
         ("missing_rule", is_missing(alloc, rules)),
@@ -93,6 +102,20 @@ fn rows(alloc: Global, rules: &[Rule]) -> [(&'static str, bool); 5] {
             leads(alloc, rules, b"/usr/bin/vi", 3),
         ),
     ]
+}
+
+// What is wrong of the rules of a profile, each of which is tried by itself.
+fn wrong_listed(alloc: Global, entry: &Entry) -> Option<&'static str> {
+    let rules = entry.ready().rules_at(None);
+    let audit = false;
+    first_wrong(&rows(alloc, AskedRules::Listed { audit, rules }))
+}
+
+// And of the same rules, as the automaton of their profile finds them.
+fn wrong_loaded(alloc: Global, entry: &Entry) -> Option<&'static str> {
+    let ready = entry.ready();
+    let child = None;
+    first_wrong(&rows(alloc, AskedRules::Loaded { ready, child }))
 }
 
 fn wrong(alloc: Global) -> Option<&'static str> {
@@ -108,9 +131,10 @@ fn wrong(alloc: Global) -> Option<&'static str> {
         ("child_candidates", has_child(alloc, web)),
         ("attached_child", is_attached(alloc, web)),
     ];
-    match first_wrong(&rows(alloc, web.ready().rules_at(None))) {
-        None => first_wrong(&attachments),
-        found => found,
+    match (wrong_listed(alloc, web), wrong_loaded(alloc, web)) {
+        (None, None) => first_wrong(&attachments),
+        (None, found) => found,
+        (found, _) => found,
     }
 }
 

@@ -4,7 +4,7 @@ use aa_set::{FromRead, ToWrite};
 use aaset_program::start;
 use aaset_start::FileSystem;
 use std::alloc::{AllocError, Global};
-use std::io::{self, ErrorKind};
+use std::io::{self, ErrorKind, Read};
 use std::test::Fail;
 
 // A file system of one file, at `/srv/web`.
@@ -12,17 +12,26 @@ use std::test::Fail;
 struct Served;
 
 impl FileSystem for Served {
-    ghost use Rattle.std.specs.Prelude.{None};
+    ghost use Rattle.aaset_start.specs.Known.{nothing_known};
 
     type File = &'static [u8];
 
-    ghost bytes_at = { λ _ _. None };
+    ghost known = { λ _. nothing_known };
 
     fn open(&self, path: &str) -> io::Result<&'static [u8]> {
         match path {
             "/srv/web" => Ok(b"profile web { /srv/** r, }\n"),
             _ => Err(io::Error::from(ErrorKind::NotFound)),
         }
+    }
+
+    fn read_piece(
+        &self,
+        _path: &str,
+        file: &mut &'static [u8],
+        piece: &mut [u8],
+    ) -> io::Result<usize> {
+        file.read(piece)
     }
 }
 

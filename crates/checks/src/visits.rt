@@ -39,21 +39,23 @@ fn refuses(alloc: Global, ready: &Ready, path: &[u8]) -> Option<bool> {
         path,
     };
     let verdict = ready.decide(alloc, None, Mode::Enforce, &request, &mut steps);
-    Some(verdict.ok()?.answer == Answer::Refuse && are_many(&steps, ready.states(None)))
+    Some(
+        verdict.ok()?.answer == Answer::Refuse && are_many(&steps, ready.states(alloc, None).ok()?),
+    )
 }
 
 // Whether the path matches no attachment, and takes many visits for that.
 fn is_unattached(alloc: Global, ready: &Ready, path: &[u8]) -> Option<bool> {
     let mut steps = Steps::new();
     let found = ready.matching_attachments(alloc, None, path, &mut steps);
-    Some(found.ok()?.is_empty() && are_many(&steps, ready.states(None)))
+    Some(found.ok()?.is_empty() && are_many(&steps, ready.states(alloc, None).ok()?))
 }
 
 // Whether the states are few, and the visits many.
 fn visits_many(alloc: Global, ready: &Ready, path: &[u8]) -> Option<bool> {
     let is_refused = refuses(alloc, ready, path)?;
     let is_unattached = is_unattached(alloc, ready, path)?;
-    Some(ready.states(None) <= 32 && is_refused && is_unattached)
+    Some(ready.states(alloc, None).ok()? <= 32 && is_refused && is_unattached)
 }
 
 fn takes_many(alloc: Global) -> Option<bool> {

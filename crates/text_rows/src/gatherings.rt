@@ -54,11 +54,11 @@ impl<'a> Disk<'a> {
 }
 
 impl<'a> FileSystem for Disk<'a> {
-    ghost use Rattle.std.specs.Prelude.{None};
+    ghost use Rattle.aaset_start.specs.Known.{nothing_known};
 
     type File = Stored<'a>;
 
-    ghost bytes_at = { λ _ _. None };
+    ghost known = { λ _. nothing_known };
 
     fn open(&self, path: &str) -> io::Result<Stored<'a>> {
         for part in self.parts {
@@ -67,6 +67,15 @@ impl<'a> FileSystem for Disk<'a> {
             }
         }
         Err(io::Error::from(ErrorKind::NotFound))
+    }
+
+    fn read_piece(
+        &self,
+        _path: &str,
+        file: &mut Stored<'a>,
+        piece: &mut [u8],
+    ) -> io::Result<usize> {
+        file.read(piece)
     }
 }
 

@@ -1,18 +1,23 @@
 -- What is made ready of a profile and of each of its children: automata, and where file rules stand.
-use Rattle.std.specs.Prelude.{◌≡◌, ℕ, List, [], ◌∷◌, Option}
+use Rattle.std.specs.Prelude.{◌≡◌, ℕ, List, [], ◌∷◌, IfSome, Option}
 use Rattle.aa_glob_automaton.specs.Automata.{IsAutomatonOf}
 use Rattle.aa_profile_data.specs.declared.profile.Child.{Child}
 use Rattle.aa_profile_data.specs.declared.profile.Profile.{Profile}
 use Rattle.aa_profile_data.specs.declared.profile.Rule.{Rule}
 use Rattle.aa_decide_slots.specs.Visits.{attachments_at}
 use Rattle.aa_decide_slots.specs.Ready.{rules_at}
+use Rattle.aa_decide_slots.specs.declared.part.FileRules.{FileRules}
 use Rattle.aa_decide_slots.specs.declared.part.Part.{Part}
 use Rattle.aa_profile_data.specs.FileRules.{places_from, file_patterns}
 
--- a part was made of these rules and attachments
+-- this was made of the file rules among some
+pub record AreFileRulesOf (made : FileRules) (rules : List Rule) : Type 0 where
+  pub automaton : IsAutomatonOf made.automaton (file_patterns rules)
+  pub places : made.places ≡ places_from 0 rules
+
+-- a part was made of these rules and attachments: of the rules nothing may be made yet
 pub record IsPartOf (part : Part) (rules : List Rule) (attachments : List (List ℕ)) : Type 0 where
-  pub files : IsAutomatonOf part.files (file_patterns rules)
-  pub places : part.places ≡ places_from 0 rules
+  pub files : IfSome part.files (λ made. AreFileRulesOf made rules)
   pub attached : IsAutomatonOf part.attachments attachments
 
 -- something holds of the rules and attachments that a part was made of

@@ -1,7 +1,8 @@
 -- One name's step: what comes of it stands behind the names that were found, or can't be told.
-use Rattle.std.specs.Prelude.{◌≡◌, ◌<◌, ℕ, IsTrue, List, [], ◌++◌, length, slice_index_or, Option, string_bytes}
-use Rattle.aatry_folder.specs.Members.{is_folder}
-use Rattle.aatry_folder.specs.NamesBelow.{ComeOf, most_names, told_name}
+use Rattle.std.specs.Prelude.{◌≡◌, ◌<◌, ℕ, IsTrue, List, [], ◌∷◌, ◌++◌, length, slice_index_or, string_bytes}
+use Rattle.aatry_folder.specs.Members.{is_folder, names_in}
+use Rattle.aatry_folder.specs.NamesBelow.{MayHave, most_names, path_of, told_name}
+use Rattle.aatry_folder.specs.Told.{ToldFolders}
 use Rattle.aatry_folder.specs.declared.below.FolderFault.{FolderFault}
 use Rattle.aatry_folder.specs.declared.below.FolderFault.TheVariants.{Unreadable, TooMany, Memory}
 
@@ -9,15 +10,29 @@ use Rattle.aatry_folder.specs.declared.below.FolderFault.TheVariants.{Unreadable
 abbrev pub name_at : List (List ℕ) → ℕ → List ℕ
 name_at names at = slice_index_or names at []
 
--- what comes of a name stands behind the others
-abbrev pub ComeBehind : (List ℕ → Option (List (List ℕ))) → List ℕ → List ℕ → List (List ℕ) → List (List ℕ) → Type 0
-ComeBehind members_at base name names after = (more : List (List ℕ)) × ComeOf members_at base name more × (after ≡ names ++ more)
+-- The names that come of one name, by what is told: of a folder those of its members that are taken, and of a file none.
+abbrev pub ComeOf : ToldFolders → List ℕ → List ℕ → List (List ℕ) → Type 0
+ComeOf told base name names = (members : List (List ℕ)) × MayHave told base name members × (names ≡ names_in name members)
 
--- The fault of a folder that can't be read tells it, or memory ran out.
-abbrev pub IsFaultAt : List ℕ → List ℕ → FolderFault → Type 0
-IsFaultAt base name (Unreadable text) = IsTrue (is_folder name) × (string_bytes text ≡ told_name base name)
-IsFaultAt base name TooMany = ⊥
-IsFaultAt base name Memory = Unit {0}
+-- The names are those that come of all these, one's behind the other's.
+abbrev pub IsListing : ToldFolders → List ℕ → List (List ℕ) → List (List ℕ) → Type 0
+IsListing told base [] names = names ≡ []
+IsListing told base (name ∷ others) names =
+    (own more : List (List ℕ)) × ComeOf told base name own × (names ≡ own ++ more) × IsListing told base others more
+
+-- what comes of a name stands behind the others
+abbrev pub ComeBehind : ToldFolders → List ℕ → List ℕ → List (List ℕ) → List (List ℕ) → Type 0
+ComeBehind told base name names after = (more : List (List ℕ)) × ComeOf told base name more × (after ≡ names ++ more)
+
+-- The fault of a folder that can't be read, since this holds, tells it, or memory ran out.
+abbrev pub IsFaultSince : Type 0 → List ℕ → List ℕ → FolderFault → Type 0
+IsFaultSince Holds base name (Unreadable text) = IsTrue (is_folder name) × Holds × (string_bytes text ≡ told_name base name)
+IsFaultSince Holds base name TooMany = ⊥
+IsFaultSince Holds base name Memory = Unit {0}
+
+-- The fault of a folder that can't be read, as the file system says.
+abbrev pub IsFaultAt : ToldFolders → List ℕ → List ℕ → FolderFault → Type 0
+IsFaultAt told base name fault = IsFaultSince (told.IsUnreadable (path_of base name)) base name fault
 
 -- The fault of so many names: they are too many, or memory ran out.
 abbrev pub IsFaultOfMore : ℕ → FolderFault → Type 0
@@ -26,8 +41,9 @@ IsFaultOfMore count TooMany = most_names < count
 IsFaultOfMore count Memory = Unit {0}
 
 -- The fault of a name, what comes of which was to stand behind these.
-abbrev pub IsFaultBehind : (List ℕ → Option (List (List ℕ))) → List ℕ → List (List ℕ) → List ℕ → FolderFault → Type 0
-IsFaultBehind members_at base names name (Unreadable text) = IsTrue (is_folder name) × (string_bytes text ≡ told_name base name)
-IsFaultBehind members_at base names name TooMany =
-    (after : List (List ℕ)) × ComeBehind members_at base name names after × (most_names < length after)
-IsFaultBehind members_at base names name Memory = Unit {0}
+abbrev pub IsFaultBehind : ToldFolders → List ℕ → List (List ℕ) → List ℕ → FolderFault → Type 0
+IsFaultBehind told base names name (Unreadable text) =
+    IsTrue (is_folder name) × told.IsUnreadable (path_of base name) × (string_bytes text ≡ told_name base name)
+IsFaultBehind told base names name TooMany =
+    (after : List (List ℕ)) × ComeBehind told base name names after × (most_names < length after)
+IsFaultBehind told base names name Memory = Unit {0}

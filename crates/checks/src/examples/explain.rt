@@ -1,7 +1,7 @@
 //! Which rules deny a request.
 
 use aa_decide::Request;
-use aa_explain::told_rules;
+use aa_explain::{AskedRules, told_rules};
 use aa_profile::{Perms, Rule};
 use std::alloc::{AllocError, Global};
 
@@ -16,8 +16,9 @@ pub fn denying_places(
         owned: true,
         path,
     };
+    let audit = false;
     let mut places = Vec::new(alloc);
-    for told in told_rules(alloc, false, rules, &request)? {
+    for told in told_rules(alloc, AskedRules::Listed { audit, rules }, &request)? {
         if told.denies {
             places.push(told.place)?;
         }

@@ -7,5 +7,5 @@ pub loop-child-preserved : goal.loop-child-preserved
 loop-child-preserved c =
     let child = c.child-item.result in
     let part = c.in_ok-build.field-0 in
-    let made : IsPartOf part child.rules child.attachments = rw (sym c.as_slice-rules.ensures, sym c.as_slice-attachments.ensures) c.in_ok-build.ensures in
+    let made : IsPartOf part child.rules child.attachments = rw (sym c.as_slice.ensures) (c.in_ok-build.ensures child.rules) in
     rw (c.in_ok-push.ensures.items) (parts-more c.loop-child.parts.items c.args.children.now c.loop-child.child-index part child c.loop-child-test.true c.child-item.is c.loop-child.invariant made)

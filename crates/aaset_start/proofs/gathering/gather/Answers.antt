@@ -19,7 +19,7 @@ loop-name-init g c =
       names = ap (map string_bytes) (sym all) ∙ ap (λ files. names_of files ++ map string_bytes items) none;
       good = subst (λ files. AreGoodNames (names_of files)) none good-none;
       takable = subst (All IsTakable) none (All-nil IsTakable);
-      read = let IsRead = IsReadBelow (g.D.FileSystem.bytes_at c.args.disk.now) c.args.base.now in subst (All IsRead) none (All-nil IsRead);
+      read = let IsRead = IsReadBelow (g.D.FileSystem.known c.args.disk.now) c.args.base.now in subst (All IsRead) none (All-nil IsRead);
     }
 
 -- The file that was taken stands behind the others under its name, which is the first of those that were left.
@@ -33,6 +33,6 @@ loop-name-preserved g c =
           (c.loop-name.invariant.names ∙ ap (λ items. names_of files ++ map string_bytes items) c.in-Some.ensures.steps.0);
       good = subst AreGoodNames (sym (names_of-more files c.take.new.files name taken.0 taken.1)) (good-push (names_of files) name c.loop-name.invariant.good c.in_ok-take.ensures.fits);
       takable = subst (All IsTakable) (sym taken.1) (All-push IsTakable files (name, taken.0) c.loop-name.invariant.takable taken.2);
-      read = let IsRead = IsReadBelow (g.D.FileSystem.bytes_at c.args.disk.now) c.args.base.now in
+      read = let IsRead = IsReadBelow (g.D.FileSystem.known c.args.disk.now) c.args.base.now in
           subst (All IsRead) (sym taken.1) (All-push IsRead files (name, taken.0) c.loop-name.invariant.read taken.3);
     }

@@ -12,5 +12,5 @@ invariant-loop-name g l = record {
   names : texts_of l.fn.names ≡ names_of l.files ++ map string_bytes (into_iter_items l.name-iterator);
   good : AreGoodNames (names_of l.files);
   takable : All IsTakable l.files;
-  read : All (IsReadBelow (g.D.FileSystem.bytes_at l.disk) l.base) l.files;
+  read : All (IsReadBelow (g.D.FileSystem.known l.disk) l.base) l.files;
 }

@@ -4,7 +4,8 @@ use Rattle.aatry_changes.proofs.changes.push_old_parts.Given as goal
 use Rattle.aatry_policy.specs.FolderParts.{seen_folder}
 use Rattle.aatry_policy.specs.SeenProfiles.{seen_part}
 
--- what was told so far, with what is told of the parts that are left, is all; and so is how many these are
+-- what was told so far, with what is told of the parts that are left, is all; and so is how many these are; and places are
+-- found in both folders
 abbrev pub invariant-loop-rest : goal.invariant-loop-rest
 invariant-loop-rest l =
     let text = old_text l.form (seen_folder l.old) (seen_folder l.new) in
@@ -13,6 +14,7 @@ invariant-loop-rest l =
       told : l.out.items ++ flat_map text (map seen_part l.rest) ≡ l.initial.out.items ++ flat_map text (map seen_part l.parts);
       count : l.count + length (filter counts (map seen_part l.rest)) ≡ length (filter counts (map seen_part l.parts));
       few : l.count + length l.rest ≤ length l.parts;
+      same : l.finders ≡ l.initial.finders;
     }
 
 abbrev pub decreases-loop-rest : goal.decreases-loop-rest

@@ -5,11 +5,14 @@ use Rattle.aatry_changes.proofs.differing.push_lines.Given as goal
 use Rattle.aatry_policy.specs.FolderParts.{seen_folder}
 use Rattle.aatry_policy.specs.SeenProfiles.{seen_part}
 
--- the text so far, with what is told of the lines that are left, is all
+-- the text so far, with what is told of the lines that are left, is all; and places are found in the part's folder
 abbrev pub invariant-loop-rest : goal.invariant-loop-rest
 invariant-loop-rest l =
     let text = told_lines l.form (seen_folder l.own.folder.now) (seen_part l.own.part.now) l.blanks l.own.side in
-    l.out.items ++ text (seen_lines l.rest) ≡ l.initial.out.items ++ text (seen_lines l.lines)
+    record {
+      told : l.out.items ++ text (seen_lines l.rest) ≡ l.initial.out.items ++ text (seen_lines l.lines);
+      same : l.finder ≡ l.initial.finder;
+    }
 
 abbrev pub decreases-loop-rest : goal.decreases-loop-rest
 decreases-loop-rest l = length l.rest

@@ -5,11 +5,11 @@ use Rattle.aatry_program.proofs.program.have_session.Goals as goal
 
 pub returns : goal.returns
 returns g c =
-    let members_at = g.F.Folders.members_at c.args.folders.now in
-    let bytes_at = g.D.FileSystem.bytes_at c.args.disk.now in
+    let folders = g.F.Folders.told c.args.folders.now in
+    let known = g.D.FileSystem.known c.args.disk.now in
     let left = g.S.Source.left c.args.streams.now.input in
     let before = g.W.Sink.written c.args.streams.now.output in
     let after = g.W.Sink.written c.session_over-outcome.new.writer in
-    session_done (IsSession members_at bytes_at c.args.base.now c.args.prompt.now left before after)
-    (IsBrokenSession members_at bytes_at c.args.base.now c.args.prompt.now left before after)
+    session_done (IsSession folders known c.args.base.now c.args.prompt.now left before after)
+    (IsBrokenSession folders known c.args.base.now c.args.prompt.now left before after)
     c.session_status.result c.session_over-outcome.result c.session_over-outcome.ensures.had c.session_over-outcome.ensures.broken c.session_status.ensures

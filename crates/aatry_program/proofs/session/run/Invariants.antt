@@ -8,7 +8,7 @@ use Rattle.aatry_program.proofs.session.run.Given as goal
 -- as many lines as were counted were answered one behind the other, each with no more reads than a line may take
 abbrev pub invariant-loop-count : goal.invariant-loop-count
 invariant-loop-count g l = record {
-  answers : (lines : List (List ℕ)) × Answers (g.F.Folders.members_at l.setting.folders.now) (g.D.FileSystem.bytes_at l.setting.disk.now) l.setting.base.now l.setting.prompt.now
+  answers : (lines : List (List ℕ)) × Answers (g.F.Folders.told l.setting.folders.now) (g.D.FileSystem.known l.setting.disk.now) l.setting.base.now l.setting.prompt.now
       (standing (g.S.Source.left l.initial.reader) l.initial.lines.input (g.W.Sink.written l.initial.writer) l.initial.table) lines
       (standing (g.S.Source.left l.reader) l.lines.input (g.W.Sink.written l.writer) l.table)
       × (length lines ≡ l._count);

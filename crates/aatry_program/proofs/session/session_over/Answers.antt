@@ -11,8 +11,8 @@ use Rattle.aatry_program.proofs.session.session_over.Goals as goal
 -- what is loaded and told, and the run of the lines behind it
 pub returns-clause-had : goal.returns-clause-had
 returns-clause-had g c =
-    let members_at = g.F.Folders.members_at c.args.folders.now in
-    let bytes_at = g.D.FileSystem.bytes_at c.args.disk.now in
+    let folders = g.F.Folders.told c.args.folders.now in
+    let known = g.D.FileSystem.known c.args.disk.now in
     let state = seen_table c.in_ok-table.table in
     let got = c.in_ok-table.ensures.loaded in
     let put : c.begin.new.out.items ≡ got.0 = got.1 ∙ ap (λ t. t ++ got.0) c.new-text.ensures.items in
@@ -27,15 +27,15 @@ returns-clause-had g c =
       written = mid;
       told = subst (λ t. Appends before mid t) (c.deref.ensures.value ∙ put) c.in_ok-show.ensures.ok;
       last = end;
-      run = subst (λ waits. IsRun members_at bytes_at c.args.base.now c.args.prompt.now (record { left = left; waits = waits; written = mid; state = state }) end) c.in_ok-lines.ensures ran;
+      run = subst (λ waits. IsRun folders known c.args.base.now c.args.prompt.now (record { left = left; waits = waits; written = mid; state = state }) end) c.in_ok-lines.ensures ran;
       ended = refl;
     }) c.run.ensures.ran
 
 -- or the fault that ended it
 pub returns-clause-broken : goal.returns-clause-broken
 returns-clause-broken g c =
-    let members_at = g.F.Folders.members_at c.args.folders.now in
-    let bytes_at = g.D.FileSystem.bytes_at c.args.disk.now in
+    let folders = g.F.Folders.told c.args.folders.now in
+    let known = g.D.FileSystem.known c.args.disk.now in
     let state = seen_table c.in_ok-table.table in
     let got = c.in_ok-table.ensures.loaded in
     let put : c.begin.new.out.items ≡ got.0 = got.1 ∙ ap (λ t. t ++ got.0) c.new-text.ensures.items in
@@ -44,8 +44,8 @@ returns-clause-broken g c =
     let after = g.W.Sink.written c.run.new.writer in
     let left = g.S.Source.left c.args.reader.now in
     let told = subst (λ t. Appends before mid t) (c.deref.ensures.value ∙ put) c.in_ok-show.ensures.ok in
-    let broken : List ℕ → Fault → Type 0 = λ waits fault. IsBrokenRun members_at bytes_at c.args.base.now c.args.prompt.now (record { left = left; waits = waits; written = mid; state = state }) after fault in
-    IfErr-weaker c.run.result (broken c.in_ok-lines.lines.input) (IsBrokenSession members_at bytes_at c.args.base.now c.args.prompt.now left before after)
+    let broken : List ℕ → Fault → Type 0 = λ waits fault. IsBrokenRun folders known c.args.base.now c.args.prompt.now (record { left = left; waits = waits; written = mid; state = state }) after fault in
+    IfErr-weaker c.run.result (broken c.in_ok-lines.lines.input) (IsBrokenSession folders known c.args.base.now c.args.prompt.now left before after)
     (λ fault ended. inr (state, got.0, got.2, inr (mid, told, subst (λ waits. broken waits fault) c.in_ok-lines.ensures ended))) c.run.ensures.broken
 
 -- a front of what is told of the files was written

@@ -1,5 +1,4 @@
 use Rattle.std.proofs.Common.{List, subst, sym}
-use Rattle.std.proofs.lemmas.Result.{IfOk-weaker}
 use Rattle.aa_profile_data.specs.FileRules.{file_patterns}
 use Rattle.aa_profile_data.specs.declared.profile.Rule.{Rule}
 use Rattle.aa_decide_slots.proofs.PartLemmas.{no-visits-all}
@@ -9,13 +8,14 @@ use Rattle.aa_decide_slots.proofs.ready.Ready.matching_rules.Goals as goal
 
 pub returns-in-Some-clause-found : goal.returns-in-Some-clause-found
 returns-in-Some-clause-found c =
-    IfOk-weaker c.matching_rules.result _ _
-    (λ places found. found (rules_at c.args.self.now c.args.child) (attachments_at c.args.self.now c.args.child) c.in-Some.ensures)
-    c.matching_rules.ensures.found
+    rw (sym c.rules_at.ensures) (c.matching_rules.ensures.found (attachments_at c.args.self.now c.args.child) (rw c.rules_at.ensures c.in-Some.ensures))
+
+pub returns-in-Some-clause-rise : goal.returns-in-Some-clause-rise
+returns-in-Some-clause-rise c = c.matching_rules.ensures.rise (attachments_at c.args.self.now c.args.child) (rw c.rules_at.ensures c.in-Some.ensures)
 
 pub returns-in-Some-clause-steps : goal.returns-in-Some-clause-steps
 returns-in-Some-clause-steps c =
-    c.matching_rules.ensures.steps (rules_at c.args.self.now c.args.child) (attachments_at c.args.self.now c.args.child) c.in-Some.ensures
+    rw (sym c.rules_at.ensures) (c.matching_rules.ensures.steps (attachments_at c.args.self.now c.args.child) (rw c.rules_at.ensures c.in-Some.ensures))
 
 pub returns-in-None-clause-all : goal.returns-in-None-clause-all
 returns-in-None-clause-all c =

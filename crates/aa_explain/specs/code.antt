@@ -1,0 +1,2 @@
+-- What is about the code: how rules are gone over at some of their places.
+pub mod Among

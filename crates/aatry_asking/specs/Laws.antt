@@ -1,0 +1,29 @@
+-- What the laws on the rules that `why` tells, and on whom `who` tells, speak of.
+use Rattle.std.specs.Prelude.{◌≡◌, Ok}
+use Rattle.aa_decide.specs.Exec.{Asker}
+use Rattle.aa_decide_slots.specs.Ready.{audits, rules_at}
+use Rattle.aa_profile_access.specs.Request.{Request}
+use Rattle.aa_set_answers.specs.Answers.{answered}
+use Rattle.aa_set_answers.specs.ProfileNames.{full_name_at}
+use Rattle.aa_set_answers.specs.declared.answers.Answered.{Answered}
+use Rattle.aa_set_commands.specs.Question.{OfAccess}
+use Rattle.aatry_asking.specs.Who.{lines_by, lines_of}
+use Rattle.aatry_policy.specs.FolderParts.{by_parts}
+use Rattle.aatry_policy.specs.Folders.{Folder, policy_in}
+use Rattle.aatry_policy.specs.PlaceLaws.{AreWrittenIn}
+use Rattle.aatry_report.specs.declared.form.Form.{Form}
+use Rattle.aatry_why_lines.specs.Written.{Written}
+
+-- These are the rules by which who asks decides, and its flag that audits them; and each of them is written at the place beside it.
+abbrev pub AreOwnRules : Folder → Asker → Written → Type 0
+AreOwnRules folder who written =
+    (written.rules ≡ rules_at who.entry.profile who.child)
+    × (written.audit ≡ audits who.entry.profile who.child)
+    × AreWrittenIn folder.files written.name who.child written.rules written.places
+
+-- What is told of who is loaded, as one that lets a request through or none, goes by the answer that a question of its full name is given.
+abbrev pub IsToldByAnswer : Form → Folder → Request → Asker → Type 0
+IsToldByAnswer form folder request who =
+    let name = full_name_at who.entry.profile who.child in
+    (told : Answered) × (answered (policy_in folder) (OfAccess name request) ≡ Ok told)
+    × (lines_of form (by_parts folder) request who.entry who.child ≡ lines_by form (by_parts folder) request name told.answer)

@@ -1,0 +1,2 @@
+-- What is about the code: the parts of one slot.
+pub mod Slots

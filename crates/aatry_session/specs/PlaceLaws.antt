@@ -1,0 +1,75 @@
+-- What the law on places speaks of: where the profiles of a session were read, as far as it knows.
+use Rattle.std.specs.Prelude.{◌≡◌, ℕ, Bool, List, IfSome, Option, None, Some, slice_get}
+use Rattle.aa_decide_slots.specs.Entries.{Loaded}
+use Rattle.aa_decide_slots.specs.Named.{entry_named}
+use Rattle.aa_history.specs.Machine.{all_sets}
+use Rattle.aa_profile_data.specs.declared.profile.Profile.{Profile}
+use Rattle.aa_text_files.specs.Files.{File}
+use Rattle.aatry_policy.specs.PlaceLaws.{IsReadAt}
+use Rattle.aatry_policy.specs.declared.origins.Origin.{Origin}
+use Rattle.aatry_session.specs.Laws.{IsInStep}
+use Rattle.aatry_session.specs.Origins.{origin_among}
+use Rattle.aatry_session.specs.Turns.{IsLeft, IsLeftAdding, Kept, add_outcome, begun, origin_of, turn_outcome, unplaced}
+
+-- A profile has an origin, and where its places are known still, its file spells the profile at these.
+abbrev pub IsKnown : List File → Profile → Option Origin → Type 0
+IsKnown files profile None = ⊥
+IsKnown files profile (Some origin) = IfSome origin.places (λ _. IsReadAt files profile origin)
+
+-- so it is of each profile of each policy set, by the changes that led to that set
+abbrev pub KnowsEach : List File → List (List Loaded) → List (List Origin) → Type 0
+KnowsEach files sets origins =
+    (done : ℕ) (set : List Loaded) (name : List ℕ) (entry : Loaded)
+    → slice_get sets done ≡ Some set
+    → entry_named name set ≡ Some entry
+    → IsKnown files entry.profile (origin_among name done origins)
+
+-- a session knows of each profile of each of its policy sets where it was read
+abbrev pub Knows : List File → Kept → Type 0
+Knows files kept = KnowsEach files (all_sets kept.managed.machine) kept.origins
+
+-- a session begins so
+abbrev pub BeginsKnowing : Type 0
+BeginsKnowing = (files : List File) (force_complain : Bool) → Knows files (begun force_complain)
+
+-- and any line leaves it so
+abbrev pub StaysKnowing : Type 0
+StaysKnowing =
+    (files : List File) (base words : List ℕ) (kept : Kept) (line : List ℕ) (flag : Bool)
+    → IsInStep kept
+    → Knows files kept
+    → Knows files (turn_outcome files base words kept line flag).kept
+
+-- also one that memory ran out for
+abbrev pub LeavesKnowing : Type 0
+LeavesKnowing =
+    (files : List File) (before after : Kept) (line : List ℕ) → IsLeft files before after line → IsInStep before → Knows files before → Knows files after
+
+-- so does adding the profiles of a file
+abbrev pub AddsKnowing : Type 0
+AddsKnowing =
+    (files : List File) (base words : List ℕ) (kept : Kept) (name : List ℕ) (flag : Bool)
+    → IsInStep kept
+    → Knows files kept
+    → Knows files (add_outcome files base words kept name flag).kept
+
+-- also where memory ran out for it
+abbrev pub AddLeavesKnowing : Type 0
+AddLeavesKnowing =
+    (files : List File) (before after : Kept) (name : List ℕ)
+    → IsLeftAdding files before after name
+    → IsInStep before
+    → Knows files before
+    → Knows files after
+
+-- Where the places are forgotten, files that were read anew take nothing from it.
+abbrev pub ForgetsForAnyFiles : Type 0
+ForgetsForAnyFiles = (files others : List File) (kept : Kept) → Knows files kept → Knows others (unplaced kept)
+
+-- what it knows of a loaded profile
+abbrev pub KnowsTheLoaded : Type 0
+KnowsTheLoaded =
+    (files : List File) (kept : Kept) (name : List ℕ) (entry : Loaded)
+    → Knows files kept
+    → entry_named name kept.managed.machine.now ≡ Some entry
+    → IsKnown files entry.profile (origin_of kept name)
