@@ -23,7 +23,7 @@ use Rattle.aa_profile_data.specs.declared.profile.Transition.{Transition}
 use Rattle.aa_decide.specs.Attachment.{attached}
 use Rattle.aa_decide_slots.specs.Confinement.{By, Confinement, Unconfined as NotConfined, in_state}
 use Rattle.aa_decide_slots.specs.Entries.{Loaded, is_in_force}
-use Rattle.aa_decide.specs.Exec.{Asker, ExecAnswer, Nowhere, Null, Started, Unconfined, Under, by_choice, by_full_name, carried_out, confined_start, exec_answer, in_profile, is_named_in_force, led, led_by, missing, named_in_force, place_of_child, started, to_child, to_profile, unconfined_start}
+use Rattle.aa_decide.specs.Exec.{Asker, ExecAnswer, Nowhere, Null, Started, Unconfined, Under, by_choice, by_full_name, carried_out, confined_start, entry_asker, exec_answer, is_named_in_force, led, led_by, missing, named_in_force, place_of_child, started, to_child, to_profile, unconfined_start, under}
 use Rattle.aa_decide.specs.ExecLaws.{DifferInOrder, SomeRuleDenies}
 use Rattle.aa_decide_slots.specs.Ready.{audits, rules_at}
 use Rattle.aa_decide_slots.specs.declared.entry.State.{State}
@@ -92,22 +92,25 @@ IsInForce Unconfined = Unit {0}
 IsInForce Null = Unit {0}
 IsInForce Nowhere = Unit {0}
 
-in_profile-in_force : (child : Option (List ℕ)) (entry : Loaded) → is_in_force entry.state ≡ true → IfSome (in_profile child entry) IsInForce
-in_profile-in_force None entry h = h
-in_profile-in_force (Some name) entry h = by (child_place name entry.profile.children)
+entry_asker-in_force : (child : Option (List ℕ)) (entry : Loaded) → is_in_force entry.state ≡ true → IfSome (option_map under (entry_asker child entry)) IsInForce
+entry_asker-in_force None entry h = h
+entry_asker-in_force (Some name) entry h = by (child_place name entry.profile.children)
   where
-    by : (place : Option ℕ) → IfSome (option_map (λ place. Under entry (Some place)) place) IsInForce
+    asker_at : ℕ → Asker
+    asker_at place = record { entry = entry; child = Some place }
+
+    by : (place : Option ℕ) → IfSome (option_map under (option_map asker_at place)) IsInForce
     by None = tt
     by (Some place) = h
 
 by_full_name-in_force : (name : List ℕ) (entries : List Loaded) → IfSome (by_full_name name entries) IsInForce
 by_full_name-in_force name entries = by (named_in_force (full_name name).profile entries) refl
   where
-    by : (found : Option Loaded) → named_in_force (full_name name).profile entries ≡ found → IfSome (option_and_then (in_profile (full_name name).child) found) IsInForce
+    by : (found : Option Loaded) → named_in_force (full_name name).profile entries ≡ found → IfSome (option_map under (option_and_then (entry_asker (full_name name).child) found)) IsInForce
     by None e = tt
     by (Some entry) e =
         let found = found-there (is_named_in_force (full_name name).profile) entries entry e in
-        in_profile-in_force (full_name name).child entry (and_parts (is_in_force entry.state) (bytes_eq entry.profile.name (full_name name).profile) found.0).0
+        entry_asker-in_force (full_name name).child entry (and_parts (is_in_force entry.state) (bytes_eq entry.profile.name (full_name name).profile) found.0).0
 
 to_child-in_force : (path : List ℕ) (target : Option (List ℕ)) (asker : Asker) → is_in_force asker.entry.state ≡ true → IfSome (to_child path target asker) IsInForce
 to_child-in_force path target asker h = by asker.child (place_of_child path target asker.entry.profile)
@@ -194,7 +197,7 @@ module _ (law : RankLaw) where
   to_profile-order : (path : List ℕ) (target : Option (List ℕ)) (entries others : List Loaded) → DifferInOrder entries others → to_profile path target entries ≡ to_profile path target others
   to_profile-order path None entries others same = ap (option_map (λ entry. Under entry None)) (attached-order law path entries others same)
   to_profile-order path (Some name) entries others same =
-      ap (option_and_then (in_profile (full_name name).child)) (named-order (full_name name).profile entries others same)
+      ap (λ found. option_map under (option_and_then (entry_asker (full_name name).child) found)) (named-order (full_name name).profile entries others same)
 
   led-order : (path : List ℕ) (target : Option (List ℕ)) (entries others : List Loaded) (asker : Asker) (destination : Destination) → DifferInOrder entries others
       → led path target entries asker destination ≡ led path target others asker destination

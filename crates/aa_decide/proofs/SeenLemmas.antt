@@ -5,8 +5,7 @@ use Rattle.aa_profile_data.specs.declared.profile.Mode.{Mode}
 use Rattle.aa_profile_data.specs.declared.profile.Transition.{Transition}
 use Rattle.aa_decide_slots.specs.Entries.{Loaded}
 use Rattle.aa_decide.specs.Exec.{Asker, Started, carried_out, exec_verdict, led_by, missing, started, tag_if}
-use Rattle.aa_decide.specs.code.SeenExec.{IsDestination}
-use Rattle.aa_decide.specs.SeenExec.{IsAnswer, seen_to}
+use Rattle.aa_decide.specs.SeenExec.{IsAnswer, IsDestination, seen_to}
 use Rattle.aa_decide_audit.specs.declared.exec_verdict.ExecTo.{ExecTo}
 use Rattle.aa_decide_audit.specs.declared.exec_verdict.ExecVerdict.{ExecVerdict}
 use Rattle.aa_decide_audit.specs.declared.verdict.Answer.TheVariants.{Allow}

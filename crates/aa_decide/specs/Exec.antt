@@ -7,7 +7,7 @@ use Rattle.aa_profile_access.specs.ExecWords.{row}
 use Rattle.aa_profile_access.specs.declared.exec_word.Destination.{Destination}
 use Rattle.aa_profile_access.specs.declared.exec_word.Destination.TheVariants as to
 use Rattle.aa_decide_exec_rules.specs.Choices.{Choice, Denied as DeniedByRule, Leads, Missing, choice}
-use Rattle.aa_profile_access.specs.FullNames.{full_name}
+use Rattle.aa_profile_access.specs.FullNames.{FullName, full_name}
 use Rattle.aa_profile_data.specs.Profile.{child_place}
 use Rattle.aa_profile_data.specs.declared.profile.Mode.{Mode}
 use Rattle.aa_profile_data.specs.declared.profile.Mode.TheVariants.{Complain, Enforce}
@@ -16,6 +16,7 @@ use Rattle.aa_profile_data.specs.declared.profile.Transition.{Transition}
 use Rattle.aa_decide.specs.Attachment.{attached, attached_child}
 use Rattle.aa_decide_slots.specs.Confinement.{By, Confinement, Unconfined as NotConfined, in_state}
 use Rattle.aa_decide_slots.specs.Entries.{Loaded, is_in_force}
+use Rattle.aa_decide_slots.specs.Named.{entry_named}
 use Rattle.aa_decide_slots.specs.Ready.{audits, rules_at}
 use Rattle.aa_decide_audit.specs.declared.verdict.Answer.{Answer}
 use Rattle.aa_decide_audit.specs.declared.verdict.Answer.TheVariants.{Allow, Deny, Refuse, Complain as Complained}
@@ -28,6 +29,15 @@ pub record Asker : Type 0 where
   pub entry : Loaded
   pub child : Option ℕ
 
+-- an entry's profile, or its child or hat of a name, if there is one
+abbrev pub entry_asker : Option (List ℕ) → Loaded → Option Asker
+entry_asker None entry = Some (record { entry = entry; child = None })
+entry_asker (Some name) entry = option_map (λ place. record { entry = entry; child = Some place }) (child_place name entry.profile.children)
+
+-- the profile, child or hat of a full name, in whatever state it is, if it is there
+abbrev pub named_asker : List Loaded → FullName → Option Asker
+named_asker entries name = option_and_then (entry_asker name.child) (entry_named name.profile entries)
+
 -- Under what the program runs: a profile in force, or its child or hat at a place; no profile; or it is let through in complain mode alone; or it
 -- isn't started.
 pub data Started : Type 0 where
@@ -35,6 +45,10 @@ pub data Started : Type 0 where
   Unconfined : Started
   Null : Started
   Nowhere : Started
+
+-- under who asks
+abbrev pub under : Asker → Started
+under asker = Under asker.entry asker.child
 
 -- the answer: the verdict with its line's tag, under what the program runs, and whether its environment is scrubbed
 pub record ExecAnswer : Type 0 where
@@ -75,14 +89,9 @@ is_named_in_force name entry = is_in_force entry.state && bytes_eq entry.profile
 abbrev pub named_in_force : List ℕ → List Loaded → Option Loaded
 named_in_force name entries = find (is_named_in_force name) entries
 
--- a profile, or the child or hat of it that is named
-abbrev pub in_profile : Option (List ℕ) → Loaded → Option Started
-in_profile None entry = Some (Under entry None)
-in_profile (Some name) entry = option_map (λ place. Under entry (Some place)) (child_place name entry.profile.children)
-
--- what is in force by this full name
+-- the profile, child or hat in force of a full name
 abbrev pub by_full_name : List ℕ → List Loaded → Option Started
-by_full_name name entries = option_and_then (in_profile (full_name name).child) (named_in_force (full_name name).profile entries)
+by_full_name name entries = option_map under (option_and_then (entry_asker (full_name name).child) (named_in_force (full_name name).profile entries))
 
 -- a profile in force: the one that is named, or else the one that the path is attached to
 abbrev pub to_profile : List ℕ → Option (List ℕ) → List Loaded → Option Started
@@ -105,7 +114,7 @@ to_child path target asker = elim asker.child [
 abbrev pub led : List ℕ → Option (List ℕ) → List Loaded → Asker → Destination → Option Started
 led path target entries asker to.Profile = to_profile path target entries
 led path target entries asker to.Child = to_child path target asker
-led path target entries asker to.Inherit = Some (Under asker.entry asker.child)
+led path target entries asker to.Inherit = Some (under asker)
 led path target entries asker to.Unconfined = Some Unconfined
 
 -- where a transition leads: where its word does, or else where its fallback does

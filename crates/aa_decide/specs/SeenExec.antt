@@ -31,6 +31,10 @@ seen_to slots to.Unconfined = Some Unconfined
 seen_to slots to.Null = Some Null
 seen_to slots to.Nowhere = Some Nowhere
 
+-- what the code found is where the definitions lead, if they lead somewhere, and then in a filled slot
+abbrev pub IsDestination : List (Option Loaded) → Option ExecTo → Option Started → Type 0
+IsDestination slots found started = option_map (seen_to slots) found ≡ option_map (λ started. Some started) started
+
 -- the answer of the code, if the slot is filled
 abbrev pub seen_answer : List (Option Loaded) → ExecVerdict → Option ExecAnswer
 seen_answer slots found = option_map (λ to. record { verdict = found.verdict; to = to; scrub = found.scrub }) (seen_to slots found.to)

@@ -1,10 +1,15 @@
-//! Who asks to start a program: with the loaded profile that confines the task, or by its slot.
+//! Who asks to start a program: with the loaded profile that confines the task, by a full name, or by its slot.
 
 ghost use Rattle.std.specs.Prelude.{◌≡◌, IfSome};
-ghost use Rattle.std.specs.Option.{option_map};
+ghost use Rattle.std.specs.Option.{option_copied, option_map};
+ghost use Rattle.aa_decide.specs.Exec.{entry_asker, named_asker};
 ghost use Rattle.aa_decide.specs.SeenExec.{IsIn, asker_in, seen_asker};
+ghost use Rattle.aa_decide_slots.specs.Slots.{filled};
+ghost use Rattle.aa_profile_access.specs.FullNames.{full_name};
 
-use aa_decide_slots::{Entry, entry_at};
+use aa_decide_slots::{Entry, IndexedSlots, entry_at, find_named};
+use aa_profile_access::cut_full_name;
+use aa_profile_data::child_place;
 
 /// Who asks by a loaded profile, as long as this is in force.
 #[derive(Clone, Copy)]
@@ -43,4 +48,27 @@ pub fn asker_in(slots: &[Option<Entry>], who: Who) -> Option<Asker<'_>>
             Some(Asker { entry, slot, child })
         }
     }
+}
+
+// The profile in a slot, or the child or hat of it that is named.
+pub fn named_in<'a>(slot: usize, entry: &'a Entry, child: Option<&[u8]>) -> Option<Asker<'a>>
+    ensures named { option_map seen_asker result ≡ entry_asker (option_copied child.entry) entry.now }
+    ensures entry { IfSome result (λ named. named.entry.now ≡ entry.now) }
+    ensures slot { IfSome result (λ named. named.slot ≡ slot) }
+{
+    let child = match child {
+        None => None,
+        Some(name) => Some(child_place(name, entry.profile().children.as_slice())?),
+    };
+    Some(Asker { entry, slot, child })
+}
+
+/// The profile, child or hat of a full name, in whatever state it is, and its slot. None where there is none. It takes no memory.
+pub fn find_loaded<'a>(slots: &IndexedSlots<'a>, name: &[u8]) -> Option<Asker<'a>>
+    ensures named { option_map seen_asker result ≡ named_asker (filled slots.now) (full_name name.now) }
+    ensures there { IfSome result (IsIn slots.now) }
+{
+    let (profile, child) = cut_full_name(name);
+    let (slot, entry) = find_named(slots, profile)?;
+    named_in(slot, entry, child)
 }

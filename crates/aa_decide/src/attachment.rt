@@ -108,7 +108,12 @@ fn child_ranks(alloc: Global, ready: &Ready, path: &[u8]) -> Result<Vec<u128>, A
     Ok(ranks)
 }
 
-// The place of the child that the program of a path is attached to.
+/// The place of the child of a profile that the program of a path is attached to (docs/policy.md, "Exec and attachment"): of its children the one whose
+/// best attachment on this path ranks above each other's. None where no attachment matches, and where two share the best rank. Hats have no attachments.
+///
+/// # Errors
+///
+/// Where memory runs out.
 pub fn attached_child(
     alloc: Global,
     ready: &Ready,

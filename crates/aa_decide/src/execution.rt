@@ -1,25 +1,26 @@
 //! Under what a program runs that is started.
 
-ghost use Rattle.std.specs.Prelude.{◌≡◌, IfOk, IfSome, None, Some};
-ghost use Rattle.std.specs.Option.{option_copied, option_map};
-ghost use Rattle.aa_decide.specs.Exec.{by_choice, by_full_name, carried_out, exec_answer, exec_verdict, in_profile, led, led_by, missing};
-ghost use Rattle.aa_decide.specs.Exec.{place_of_child, stopped, tag_if, to_child, to_profile, unconfined_start};
+ghost use Rattle.std.specs.Prelude.{◌≡◌, IfOk, IfSome, List, None, Option, Some};
+ghost use Rattle.std.specs.Option.{option_map};
+ghost use Rattle.aa_decide.specs.Exec.{by_choice, by_full_name, carried_out, exec_answer, exec_verdict, led, led_by, missing};
+ghost use Rattle.aa_decide.specs.Exec.{place_of_child, stopped, tag_if, to_child, to_profile, unconfined_start, under};
+ghost use Rattle.aa_decide_slots.specs.Entries.{Loaded};
 ghost use Rattle.aa_decide_slots.specs.Slots.{filled};
-ghost use Rattle.aa_decide.specs.code.SeenExec.{IsAnswerAnywhere, IsDestination, IsDestinationFrom, IsDestinationOf};
-ghost use Rattle.aa_decide.specs.SeenExec.{IsAnswer, IsIn, asker_in, seen_asker};
+ghost use Rattle.aa_decide.specs.code.SeenExec.{IsAnswerAnywhere, IsDestinationOf};
+ghost use Rattle.aa_decide.specs.SeenExec.{IsAnswer, IsDestination, IsIn, asker_in, seen_asker, seen_to};
 ghost use Rattle.aa_decide_audit.specs.declared.verdict.Answer.TheVariants.{Allow};
 ghost use Rattle.aa_decide_audit.specs.declared.verdict.Tag.TheVariants.{Audit};
 ghost use Rattle.aa_decide_slots.specs.Ready.{audits, rules_at};
 ghost use Rattle.aa_decide_exec_rules.specs.Choices.{choice};
 ghost use Rattle.aa_decide_exec_rules.specs.SeenChoices.{seen_choice};
 
-use crate::asker::{Asker, Who, asker_in};
+use crate::asker::{Asker, Who, asker_in, named_in};
 use crate::attachment::{attach, attached_child};
 use crate::slots::find_in_force;
 use aa_bytes::SharedBytes;
 use aa_decide_audit::{Answer, ExecTo, ExecVerdict, Tag, Verdict};
 use aa_decide_exec_rules::{ExecChoice, exec_choice};
-use aa_decide_slots::{Confinement, Entry, IndexedSlots, Ready, Steps};
+use aa_decide_slots::{Confinement, IndexedSlots, Ready, Steps};
 use aa_profile_access::{Destination, Perms, cut_full_name};
 use aa_profile_data::{Mode, Transition, child_place};
 use std::alloc::{AllocError, Global};
@@ -80,24 +81,23 @@ fn started(audited: bool, to: ExecTo, scrub: bool) -> ExecVerdict
     }
 }
 
-// A profile, or the child or hat of it that is named.
-fn in_profile(slot: usize, entry: &Entry, child: Option<&[u8]>) -> Option<ExecTo>
-    ensures { IsDestinationFrom slot entry.now result (in_profile (option_copied child.entry) entry.now) }
+// Under who asks.
+fn under(asker: Asker<'_>) -> ExecTo
+    ensures { (slots : List (Option Loaded)) → IsIn slots asker.entry → seen_to slots result ≡ Some (under (seen_asker asker.entry)) }
 {
-    let place = match child {
-        None => None,
-        Some(name) => Some(child_place(name, entry.profile().children.as_slice())?),
-    };
-    Some(ExecTo::Profile { slot, child: place })
+    ExecTo::Profile {
+        slot: asker.slot,
+        child: asker.child,
+    }
 }
 
-// What is in force by this full name.
+// The profile, child or hat in force of a full name.
 fn by_full_name(slots: &IndexedSlots<'_>, name: &[u8]) -> Option<ExecTo>
     ensures { IsDestination slots.now result (by_full_name name.now (filled slots.now)) }
 {
     let (profile, child) = cut_full_name(name);
     let (slot, entry) = find_in_force(slots, profile)?;
-    in_profile(slot, entry, child)
+    Some(under(named_in(slot, entry, child)?))
 }
 
 // The profile that a path is attached to.
@@ -165,8 +165,15 @@ fn to_child(
     }
 }
 
-// Where a destination leads who asks, if that is there.
-fn led(
+/// Where a destination leads who asks to start the program of a path, with the target that the transition names, if that is there (docs/policy.md,
+/// "Exec and attachment"): to the profile in force of the target's full name, or else to the one that the path is attached to; to a child or hat of
+/// the profile that asks, by its name or else by the path, of which a child has none; to who asks itself; or to no profile. A profile that it tells
+/// is in a filled slot, and in force but for who asks.
+///
+/// # Errors
+///
+/// Where memory runs out.
+pub fn led(
     alloc: Global,
     slots: &IndexedSlots<'_>,
     asker: Asker<'_>,
@@ -181,10 +188,7 @@ fn led(
     match destination {
         Destination::Profile => to_profile(alloc, slots, path, target),
         Destination::Child => to_child(alloc, asker, path, target),
-        Destination::Inherit => Ok(Some(ExecTo::Profile {
-            slot: asker.slot,
-            child: asker.child,
-        })),
+        Destination::Inherit => Ok(Some(under(asker))),
         Destination::Unconfined => Ok(Some(ExecTo::Unconfined)),
     }
 }

@@ -13,7 +13,7 @@ pub use aa_decide_slots::{
     Confinement, Entry, IndexedSlots, Ready, State, Steps, entry_at, find_named,
 };
 pub use aa_profile_access::Request;
-pub use asker::{Asker, Who};
-pub use attachment::attach;
-pub use execution::{exec, exec_by};
+pub use asker::{Asker, Who, find_loaded};
+pub use attachment::{attach, attached_child};
+pub use execution::{exec, exec_by, led};
 pub use laws::{where_programs_run, where_the_rules_lead};

@@ -141,11 +141,11 @@ rule-leads flag owned path (Net rule) transition exact audited e = absurd (cc)
 rule-leads flag owned path (Other rule) transition exact audited e = absurd (cc)
 
 -- what a list with a first item contains is that or stands behind it
-contains-split : {X : Type 0} (x : X) (xs : List X) (y : X) → Contains (x ∷ xs) y → (x ≡ y) ⊎ Contains xs y
+pub contains-split : {X : Type 0} (x : X) (xs : List X) (y : X) → Contains (x ∷ xs) y → (x ≡ y) ⊎ Contains xs y
 contains-split x xs y (zero, within, is) = inl is
 contains-split x xs y (suc i, within, is) = inr (i, omega (arith, within), is)
 
-contains-behind : {X : Type 0} (x : X) (xs : List X) (y : X) → Contains xs y → Contains (x ∷ xs) y
+pub contains-behind : {X : Type 0} (x : X) (xs : List X) (y : X) → Contains xs y → Contains (x ∷ xs) y
 contains-behind x xs y (i, within, is) = (suc i, omega (arith, within), is)
 
 same-else : (exact same overlap : Bool) → ((if exact then exact else not exact) && (not same && overlap)) ≡ false → overlap ≡ true → same ≡ true

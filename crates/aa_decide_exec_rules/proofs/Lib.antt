@@ -1,2 +1,3 @@
 pub mod AgreementLemmas
+mod OrderLemmas
 pub mod SaidLemmas

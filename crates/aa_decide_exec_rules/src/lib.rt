@@ -6,4 +6,4 @@ mod exec_rules;
 mod laws;
 
 pub use choice::{ExecChoice, exec_choice};
-pub use laws::where_agreeing_rules_lead;
+pub use laws::{order_changes_no_choice, where_agreeing_rules_lead};

@@ -18,7 +18,8 @@ use Rattle.aa_profile_data.specs.Matching.{is_matching}
 use Rattle.aa_decide_rules.specs.Verdict.{allows, allows_aloud, applies, audited, covers, denied, denies, denies_aloud, granted, letters_among, loud, mask, missing, needs, verdict, with_covered, with_rule}
 use Rattle.aa_decide_rules.specs.Found.{verdict_by}
 use Rattle.aa_profile_data.specs.Picked.{picked}
-use Rattle.aa_decide_rules.specs.VerdictLaws.{HaveSameRules, in_complain}
+use Rattle.aa_decide_rules.specs.VerdictLaws.{in_complain}
+use Rattle.aa_profile_data.specs.SameRules.{HaveSameRules}
 use Rattle.aa_decide_audit.specs.declared.verdict.Answer.TheVariants.{Allow, Complain as Complained, Deny, Refuse}
 use Rattle.aa_decide_audit.specs.declared.verdict.Tag.TheVariants.{Allowed, Denied}
 use Rattle.std.proofs.lemmas.List.{drop_more}

@@ -1,7 +1,5 @@
 -- Words that the laws of verdicts are said in.
-use Rattle.std.specs.Prelude.{List, Some}
-use Rattle.std.specs.List.{Contains}
-use Rattle.aa_profile_data.specs.declared.profile.Rule.{Rule}
+use Rattle.std.specs.Prelude.{Some}
 use Rattle.aa_decide_audit.specs.declared.verdict.Answer.{Answer}
 use Rattle.aa_decide_audit.specs.declared.verdict.Answer.TheVariants.{Complain, Refuse}
 use Rattle.aa_decide_audit.specs.declared.verdict.Tag.TheVariants.{Allowed}
@@ -15,8 +13,3 @@ complained answer verdict = verdict
 -- What enforce mode refuses is let through, and logged with the same needs; nothing else changes.
 abbrev pub in_complain : Verdict → Verdict
 in_complain verdict = complained verdict.answer verdict
-
--- two lists have the same rules, in whatever order and however often each stands
-abbrev pub HaveSameRules : List Rule → List Rule → Type 0
-HaveSameRules rules others =
-    ((rule : Rule) → Contains rules rule → Contains others rule) × ((rule : Rule) → Contains others rule → Contains rules rule)

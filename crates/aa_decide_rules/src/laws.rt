@@ -5,13 +5,14 @@ ghost use Rattle.std.specs.List.Sorted.{IsStrictlyIncreasing};
 ghost use Rattle.aa_profile_access.specs.Request.{ForFile, Request};
 ghost use Rattle.aa_profile_data.specs.Matching.{AreMatchingRules};
 ghost use Rattle.aa_profile_data.specs.Picked.{picked};
+ghost use Rattle.aa_profile_data.specs.SameRules.{HaveSameRules};
 ghost use Rattle.aa_profile_data.specs.declared.profile.Mode.{Mode};
 ghost use Rattle.aa_profile_data.specs.declared.profile.Mode.TheVariants.{Complain, Enforce};
 ghost use Rattle.aa_profile_data.specs.declared.profile.Rule.{Rule};
 ghost use Rattle.aa_decide_audit.specs.LogLines.{log_line};
 ghost use Rattle.aa_decide_rules.specs.Found.{found_verdict};
 ghost use Rattle.aa_decide_rules.specs.Verdict.{denies, verdict};
-ghost use Rattle.aa_decide_rules.specs.VerdictLaws.{HaveSameRules, in_complain};
+ghost use Rattle.aa_decide_rules.specs.VerdictLaws.{in_complain};
 ghost use Rattle.aa_decide_audit.specs.declared.verdict.Answer.TheVariants.{Allow};
 
 use aa_profile_data::which_rules_match;

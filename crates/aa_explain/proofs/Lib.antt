@@ -1,9 +1,2 @@
-mod AmongLemmas
 mod AttachmentLemmas
-mod DecidingLemmas
-mod LeadingLemmas
-mod LoggedLemmas
-mod MissingLemmas
-mod NarrowLemmas
-mod PlaceLemmas
 mod StartLemmas

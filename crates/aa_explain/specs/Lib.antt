@@ -1,10 +1,3 @@
-pub mod Asked
 pub mod Candidates
-pub mod Laws
-pub mod Leading
-pub mod Logged
-pub mod Missing
-pub mod Narrower
+pub mod Leads
 pub mod Standings
-pub mod Told
-pub mod code

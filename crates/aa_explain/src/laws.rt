@@ -1,77 +1,25 @@
-//! What holds of the rules behind an answer, of those that decide where a program runs, and of what its path is attached to, as laws over the definitions
-//! that the calls are proved to follow.
+//! What holds of the start of programs with a rule more, and of what a program's path is attached to, as laws over the definitions that the calls are
+//! proved to follow.
 
-ghost use Rattle.std.specs.Prelude.{◌++◌, ◌<◌, ◌==◌, ◌↔◌, ◌∷◌, ◌≡◌, ◌≢◌, ◌||◌, [], Bool, List, Some, false, is_some, map, not, option_and_then, slice_get, true, ℕ};
-ghost use Rattle.std.specs.List.Sorted.{IsStrictlyIncreasing};
-ghost use Rattle.aa_glob.specs.Laws.{quoted};
-ghost use Rattle.aa_glob_syntax.specs.Reading.{HasNoFirstFault};
-ghost use Rattle.aa_profile_access.specs.Request.{ForCapability, ForFile, ForSockets, Request};
-ghost use Rattle.aa_profile_data.specs.Picked.{picked};
-ghost use Rattle.aa_profile_data.specs.declared.profile.Mode.{Mode};
-ghost use Rattle.aa_profile_data.specs.declared.profile.Rule.{Rule};
-ghost use Rattle.aa_profile_tables.specs.Kinds.{is_protocol};
-ghost use Rattle.aa_decide_audit.specs.declared.verdict.Answer.TheVariants.{Allow};
-ghost use Rattle.aa_decide_rules.specs.Verdict.{allowed, applies, covers, denied, missing, verdict};
-ghost use Rattle.aa_profile_access.specs.Access.{EXEC, common, has, told_bit};
+ghost use Rattle.std.specs.Prelude.{◌++◌, ◌↔◌, ◌∷◌, ◌≡◌, ◌≢◌, [], Bool, List, Some, map, option_and_then, slice_get, true, ℕ};
+ghost use Rattle.aa_profile_access.specs.Access.{EXEC, has};
+ghost use Rattle.aa_profile_access.specs.Request.{ForFile};
 ghost use Rattle.aa_profile_data.specs.declared.profile.FileRule.{FileRule};
+ghost use Rattle.aa_profile_data.specs.declared.profile.Rule.{Rule};
 ghost use Rattle.aa_profile_data.specs.declared.profile.Rule.TheVariants.{File};
-ghost use Rattle.aa_explain.specs.Narrower.{but_letter, has_letter};
-ghost use Rattle.aa_explain.specs.Logged.{some_is_logged};
-ghost use Rattle.aa_explain.specs.Laws.{AreAllWith, but, is_told_to_allow, is_told_to_deny, places_of};
-ghost use Rattle.aa_explain.specs.Missing.{lacked, missing_rule};
-ghost use Rattle.aa_explain.specs.Told.{is_near, near, places_where, told};
-ghost use Rattle.std.specs.List.{list_any};
 ghost use Rattle.aa_decide.specs.Attachment.{attached, attached_child};
-ghost use Rattle.aa_decide_attachment.specs.StandingOut.{standing_out};
-ghost use Rattle.aa_decide_exec_rules.specs.Choices.{choice, denies, dominates, is_exact_lead};
-ghost use Rattle.aa_decide_exec_rules.specs.ExecRules.{exec_rules};
 ghost use Rattle.aa_decide.specs.Exec.{Asker, Under, exec_answer};
+ghost use Rattle.aa_decide_attachment.specs.StandingOut.{standing_out};
+ghost use Rattle.aa_decide_audit.specs.declared.verdict.Answer.TheVariants.{Allow};
 ghost use Rattle.aa_decide_slots.specs.Entries.{Loaded, is_in_force};
 ghost use Rattle.aa_decide_slots.specs.Ready.{rules_at};
-ghost use Rattle.aa_explain.specs.Standings.{standing_of};
 ghost use Rattle.aa_explain.specs.Candidates.{child_candidates, profile_candidates, rank_of};
+ghost use Rattle.aa_explain.specs.Standings.{standing_of};
 ghost use Rattle.aa_explain.specs.declared.standing.Standing.TheVariants.{Attached};
-ghost use Rattle.aa_explain.specs.Leading.{first_transition, lead_of, leading_places, says};
+ghost use Rattle.aa_explain_rules.specs.Missing.{lacked, missing_rule};
+ghost use Rattle.aa_explain_rules.specs.Narrower.{but_letter};
 
-use aa_glob::{quoted_text_matches_itself, quoted_text_reads_as_itself};
-
-/// The rules that are told are exactly those that apply, and those that are told to be near are exactly those that are, in rising order.
-pub fn what_is_told()
-    ensures told_are_those_that_apply { (flag : Bool) (request : Request) (rules : List Rule)
-        → AreAllWith (applies request) rules (places_of (told flag request rules)) }
-    ensures told_rise { (flag : Bool) (request : Request) (rules : List Rule) → IsStrictlyIncreasing (places_of (told flag request rules)) }
-    ensures near_are_those_that_are { (request : Request) (rules : List Rule) → AreAllWith (is_near request) rules (near request rules) }
-    ensures near_rise { (request : Request) (rules : List Rule) → IsStrictlyIncreasing (near request rules) }
-{}
-
-/// The rules that are told decide alone: by them the verdict is the same. Without those that are told to deny nothing is denied, and without those
-/// that are told to allow nothing is allowed.
-pub fn what_told_rules_decide()
-    ensures told_rules_decide_alone { (mode : Mode) (flag : Bool) (request : Request) (rules : List Rule)
-        → verdict mode flag (picked rules (places_of (told flag request rules))) request ≡ verdict mode flag rules request }
-    ensures nothing_is_denied_without_those_that_deny { (request : Request) (rules : List Rule)
-        → denied request (but (is_told_to_deny request) rules) ≡ 0 }
-    ensures nothing_is_allowed_without_those_that_allow { (request : Request) (rules : List Rule)
-        → allowed request (but (is_told_to_allow request) rules) ≡ 0 }
-{}
-
-/// The rule that a request lacks lets it: with that rule behind the others, it is allowed. There is one wherever a request lacks something: for each
-/// path whose pattern isn't too long, each capability and each kind of sockets that can be asked for.
-pub fn what_a_missing_rule_lets()
-    ensures it_lets_the_request { (mode : Mode) (flag : Bool) (request : Request) (rules : List Rule) (rule : Rule)
-        → missing_rule request rules ≡ Some rule
-        → (verdict mode flag (rules ++ rule ∷ []) request).answer ≡ Allow }
-    ensures of_each_path { (letters : ℕ) (owned : Bool) (path : List ℕ) (rules : List Rule)
-        → lacked (ForFile letters owned path) rules ≢ 0 → HasNoFirstFault (quoted path)
-        → (rule : Rule) × (missing_rule (ForFile letters owned path) rules ≡ Some rule) }
-    ensures of_each_capability { (number : ℕ) (rules : List Rule) → lacked (ForCapability number) rules ≢ 0 → number < 64
-        → (rule : Rule) × (missing_rule (ForCapability number) rules ≡ Some rule) }
-    ensures of_each_type { (domain kind : ℕ) (rules : List Rule) → lacked (ForSockets domain kind) rules ≢ 0 → is_protocol kind ≡ false
-        → (rule : Rule) × (missing_rule (ForSockets domain kind) rules ≡ Some rule) }
-{
-    quoted_text_reads_as_itself();
-    quoted_text_matches_itself();
-}
+use aa_explain_rules::where_a_missing_rule_leads;
 
 /// Where a request lacks `x`, the rule that it lacks lets the program of its path be started: who asks by a profile, or by a child or hat of it, whose
 /// rules have it behind the others is let, and in force it runs the program under what it runs under itself. With that rule without its exec word it
@@ -96,54 +44,7 @@ pub fn what_starts_with_a_missing_rule()
         → is_in_force who.entry.state ≡ true
         → (exec_answer entries (Some who) owned path).verdict.answer ≢ Allow }
 {
-    quoted_text_matches_itself();
-}
-
-/// The rule that a request lacks is the narrowest: as the rules are, the request isn't allowed; behind them no rule allows it that doesn't cover all that
-/// it lacks; and the missing rule on a file doesn't without any one of its letters, of which `x` is its exec word. A rule on a capability or on sockets
-/// has one need alone, without which it says nothing.
-pub fn how_narrow_a_missing_rule_is()
-    ensures not_allowed_without_it { (mode : Mode) (flag : Bool) (request : Request) (rules : List Rule) (rule : Rule)
-        → missing_rule request rules ≡ Some rule
-        → (verdict mode flag rules request).answer ≢ Allow }
-    ensures only_what_covers_all_lets { (mode : Mode) (flag : Bool) (request : Request) (rules : List Rule) (other : Rule)
-        → (verdict mode flag (rules ++ other ∷ []) request).answer ≡ Allow
-        → common (lacked request rules) (covers request other) ≡ lacked request rules }
-    ensures no_letter_can_go { (mode : Mode) (flag : Bool) (letters : ℕ) (owned : Bool) (path : List ℕ) (rules : List Rule) (rule : FileRule)
-        (code letter : ℕ)
-        → missing_rule (ForFile letters owned path) rules ≡ Some (File rule)
-        → told_bit code ≡ Some letter → has_letter letter rule ≡ true
-        → (verdict mode flag (rules ++ File (but_letter letter rule) ∷ []) (ForFile letters owned path)).answer ≢ Allow }
-{}
-
-/// An answer is logged exactly where something of the request is missing, or a rule that is told as audited covers something of it: one that denies,
-/// where something is denied, and else one that allows.
-pub fn what_is_logged()
-    ensures { (mode : Mode) (flag : Bool) (request : Request) (rules : List Rule)
-        → is_some (verdict mode flag rules request).tag ≡ (not (missing request rules == 0) || some_is_logged (told flag request rules)) }
-{}
-
-/// The places of those of some rules that pass a test are exactly the places of the rules that do, in rising order.
-pub fn where_rules_stand()
-    ensures they_are_all { (test : Rule → Bool) (rules : List Rule) → AreAllWith test rules (places_where test 0 rules) }
-    ensures they_rise { (test : Rule → Bool) (rules : List Rule) → IsStrictlyIncreasing (places_where test 0 rules) }
-{}
-
-/// Where no rule denies, the places of the rules that decide are exactly those of the rules that dominate, in rising order, whether these are
-/// audited or not; and where one denies, there are none. The transition of the first is where the rules lead together.
-pub fn which_rules_lead()
-    ensures leading_are_those_that_dominate { (flag owned : Bool) (path : List ℕ) (rules : List Rule)
-        → list_any denies (exec_rules flag owned path rules) ≡ false
-        → AreAllWith (says (dominates (list_any is_exact_lead (exec_rules flag owned path rules))) flag owned path) rules
-        (leading_places owned path rules) }
-    ensures none_leads_where_one_denies { (flag owned : Bool) (path : List ℕ) (rules : List Rule)
-        → list_any denies (exec_rules flag owned path rules) ≡ true
-        → leading_places owned path rules ≡ [] }
-    ensures leading_rise { (owned : Bool) (path : List ℕ) (rules : List Rule) → IsStrictlyIncreasing (leading_places owned path rules) }
-    ensures first_leads { (flag owned : Bool) (path : List ℕ) (rules : List Rule)
-        → first_transition rules (leading_places owned path rules) ≡ lead_of (choice flag owned path rules) }
-{
-    where_rules_stand();
+    where_a_missing_rule_leads();
 }
 
 /// The candidate that is told as attached is the one whose rank stands out. Among all profiles that is the profile to which a path is attached, and

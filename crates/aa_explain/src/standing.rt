@@ -1,14 +1,9 @@
 //! How those come out that a path may be attached to.
 
-ghost use Rattle.std.specs.Prelude.{◌≡◌, IfOk};
-ghost use Rattle.aa_decide.specs.Attachment.{attached_child};
+ghost use Rattle.std.specs.Prelude.{◌≡◌};
 ghost use Rattle.aa_explain.specs.Standings.{is_the_one, standing_of};
 
-use crate::candidates::{child_candidates, ranks_of};
-use crate::laws::which_is_attached;
 use aa_decide_attachment::{greatest, standing_out};
-use aa_decide_slots::Entry;
-use std::alloc::{AllocError, Global};
 
 /// How a candidate comes out among others on a path.
 #[derive(Clone, Copy, Debug, PartialEq, Eq)]
@@ -42,22 +37,4 @@ pub fn standing_of(ranks: &[u128], place: usize, rank: u128) -> Standing
     } else {
         Standing::Lost
     }
-}
-
-/// The place of the child of a profile that a path is attached to, if it is to one.
-///
-/// # Errors
-///
-/// Where memory runs out.
-pub fn attached_child(
-    alloc: Global,
-    entry: &Entry,
-    path: &[u8],
-) -> Result<Option<usize>, AllocError>
-    ensures { IfOk result (λ place. place ≡ attached_child path.now entry.now.profile.children) }
-{
-    which_is_attached();
-    let candidates = child_candidates(alloc, entry)?;
-    let ranks = ranks_of(alloc, path, &candidates)?;
-    Ok(standing_out(&ranks))
 }

@@ -19,7 +19,7 @@ use Rattle.aa_profile_rules.specs.Rules.{Kept, OnCapabilities, OnFile, OnNetwork
 use Rattle.aa_profile.specs.Conflicts.{conflict_in_members, conflict_in_profiles, conflict_in_rule, conflict_in_rules, pattern_of}
 use Rattle.aa_profile_patterns.specs.Limits.{most_rules}
 use Rattle.aa_profile_patterns.specs.Patterns.{are_counted, have_expansions, is_counted, over_limit, too_many}
-use Rattle.aa_profile_places.specs.Places.{rule_count}
+use Rattle.aa_profile_patterns.specs.Places.{rule_count}
 use Rattle.aa_profile.specs.Profiles.{cap_rule, children_of, net_rule, other_rule, profile_of, rules_of, rules_of_members, rules_of_rule}
 use Rattle.aa_profile_errors.specs.ProfileError.{placed}
 use Rattle.aa_profile_errors.specs.declared.profile_error.ProfileRefusal.TheVariants.{TooManyRules}

@@ -16,6 +16,7 @@ use Rattle.aa_profile_rules.specs.Rules.{rule}
 use Rattle.aa_profile_grammar.specs.Blocks.{OfChild, OfRule, Child as WrittenChild, Member, Profile as WrittenProfile, child, child_behind, child_block, closed, is_child_of_name, is_hat, is_of_name, member, next_member, next_profile, profile, profile_behind, profile_block, refusal_of_name}
 use Rattle.aa_profile_grammar.specs.Files.{File, file}
 use Rattle.aa_profile_flags.specs.Flags.{flags}
+use Rattle.aa_profile_flags.specs.IdleFlags.{flag_tokens}
 use Rattle.aa_profile_grammar.specs.Heads.{Head, Named, attachment, begins_child, child_name, head, top_name}
 use Rattle.aa_profile_grammar.specs.Preamble.{behind_version}
 use Rattle.aa_profile_grammar.specs.Sequences.{skipped}
@@ -77,8 +78,8 @@ closed-ok brace (Ok told) read h = h
 -- the name of a head is the one that stands before it
 head-named : (named : Named) (tokens rest : List Placed) (found : Head) → head named tokens ≡ Ok (found, rest) → found.name ≡ named.name
 head-named named tokens rest found h =
-    let flagged = followed-ok (flags (attachment named tokens).1) (λ read behind. Ok (record { name = named.name; attachment = (attachment named tokens).0; flags = read.0; brace = read.1 }, behind)) (found, rest) h in
-    let whole = first-told (record { name = named.name; attachment = (attachment named tokens).0; flags = flagged.0.0; brace = flagged.0.1 }, flagged.1) (found, rest) flagged.3 in
+    let flagged = followed-ok (flags (attachment named tokens).1) (λ read behind. Ok (record { name = named.name; attachment = (attachment named tokens).0; flags = read.0; flag_tokens = flag_tokens (attachment named tokens).1; brace = read.1 }, behind)) (found, rest) h in
+    let whole = first-told (record { name = named.name; attachment = (attachment named tokens).0; flags = flagged.0.0; flag_tokens = flag_tokens (attachment named tokens).1; brace = flagged.0.1 }, flagged.1) (found, rest) flagged.3 in
     ap (λ head. head.name) (sym whole)
 
 -- a child or a hat has the name that stands before its head, and holds what its block does

@@ -15,8 +15,8 @@ use Rattle.aa_profile_grammar.specs.Blocks.{OfChild, OfRule, Member, Profile as 
 use Rattle.aa_profile_grammar.specs.Files.{File, file}
 use Rattle.aa_profile_parsing.specs.declared.grammar_error.GrammarError.{GrammarError}
 use Rattle.aa_profile_patterns.specs.PatternTokens.{of_profiles}
-use Rattle.aa_profile_places.specs.Places.{place_of_rule, places_in_members, places_of_members, places_of_profile, places_of_rule, places_of_rules, rule_count}
-use Rattle.aa_profile_places.specs.declared.places.ProfilePlaces.{ProfilePlaces}
+use Rattle.aa_profile_patterns.specs.Places.{place_of_rule, places_in_members, places_of_members, places_of_profile, places_of_rule, places_of_rules, rule_count}
+use Rattle.aa_profile_patterns.specs.declared.places.ProfilePlaces.{ProfilePlaces}
 use Rattle.aa_profile_rules.specs.Rules.{Rule as WrittenRule}
 use Rattle.aa_profile.specs.Assignments.{variables_of}
 use Rattle.aa_profile.specs.FilePlaces.{file_places, places_in, places_of}

@@ -11,9 +11,9 @@ use Rattle.aa_profile_data.specs.declared.profile.Rule.{Rule}
 use Rattle.aa_profile_grammar.specs.Blocks.{OfChild, OfRule, Child as WrittenChild, Member, Profile as WrittenProfile}
 use Rattle.aa_profile_grammar.specs.Files.{File, file}
 use Rattle.aa_profile_patterns.specs.PatternTokens.{of_profiles}
-use Rattle.aa_profile_places.specs.Places.{place_of_attachment, place_of_rule}
-use Rattle.aa_profile_places.specs.declared.places.ProfilePlaces.{ProfilePlaces}
-use Rattle.aa_profile_places.specs.declared.places.SectionPlaces.{SectionPlaces}
+use Rattle.aa_profile_patterns.specs.Places.{place_of_attachment, place_of_rule}
+use Rattle.aa_profile_patterns.specs.declared.places.ProfilePlaces.{ProfilePlaces}
+use Rattle.aa_profile_patterns.specs.declared.places.SectionPlaces.{SectionPlaces}
 use Rattle.aa_profile_rules.specs.Rules.{Rule as WrittenRule}
 use Rattle.aa_profile.specs.Assignments.{variables_of}
 use Rattle.aa_profile.specs.Profiles.{rules_of_rule}

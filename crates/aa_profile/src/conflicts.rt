@@ -19,7 +19,7 @@ use aa_profile_data::{Child, Profile, Rule};
 use aa_profile_errors::{ProfileError, ProfileRefusal, placed};
 use aa_profile_grammar::{Member, Profile as WrittenProfile, Rule as WrittenRule};
 use aa_profile_parsing::place_of;
-use aa_profile_places::rule_count;
+use aa_profile_patterns::rule_count;
 use aa_text_files::Place;
 use aa_text_variables::ExpansionTable;
 use std::alloc::Global;

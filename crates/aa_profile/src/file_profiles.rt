@@ -1,7 +1,7 @@
 //! The profiles of a file, and where they have what they have.
 
 use aa_profile_data::Profile;
-use aa_profile_places::ProfilePlaces;
+use aa_profile_patterns::ProfilePlaces;
 
 /// The profiles that a file spells, and where they have what they have. A profile doesn't know where it is written, so that two of equal rules are equal
 /// wherever they stand: the places lie beside.
@@ -9,6 +9,7 @@ use aa_profile_places::ProfilePlaces;
 pub struct FileProfiles {
     /// The profiles, in the order of the file.
     pub profiles: Vec<Profile>,
-    /// For each of them, in the same order, the places of its attachment and its rules, and of those of its children and hats.
+    /// For each of them, in the same order, the places of its attachment and its rules, and of those of its children and hats, each with its flags that
+    /// decide nothing.
     pub places: Vec<ProfilePlaces>,
 }

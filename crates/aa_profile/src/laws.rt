@@ -11,7 +11,7 @@ ghost use Rattle.aa_profile.specs.Laws.{ConflictsAreRefused};
 ghost use Rattle.aa_profile.specs.PlaceLaws.{AreFileMadeAt};
 ghost use Rattle.aa_profile.specs.FilePlaces.{file_places};
 ghost use Rattle.aa_profile_data.specs.declared.profile.Profile.{Profile};
-ghost use Rattle.aa_profile_places.specs.declared.places.ProfilePlaces.{ProfilePlaces};
+ghost use Rattle.aa_profile_patterns.specs.declared.places.ProfilePlaces.{ProfilePlaces};
 ghost use Rattle.aa_profile.specs.ProfileNames.{has_distinct_children, is_named_well};
 
 use aa_profile_data::how_conflicts_are_tested;

@@ -16,8 +16,7 @@ pub use aa_profile_data::{
 };
 pub use aa_profile_errors::{ProfileError, ProfileRefusal};
 pub use aa_profile_parsing::GrammarRefusal;
-pub use aa_profile_patterns::MOST_RULES;
-pub use aa_profile_places::{ProfilePlaces, SectionPlaces};
+pub use aa_profile_patterns::{MOST_RULES, ProfilePlaces, SectionPlaces};
 pub use file_profiles::FileProfiles;
 pub use laws::{
     how_profiles_are_named, when_conflicts_are_refused, where_rules_are_made,

@@ -12,7 +12,7 @@ ghost use Rattle.aa_profile.specs.FileReading.{file_profiles, profiles_in, profi
 ghost use Rattle.aa_profile.specs.code.FileReadingProgress.{IsRefusalOf, has_no_value};
 ghost use Rattle.aa_profile_patterns.specs.PatternTokens.{of_profiles};
 ghost use Rattle.aa_profile_patterns.specs.Patterns.{have_expansions};
-ghost use Rattle.aa_profile_places.specs.Places.{places_of_profile};
+ghost use Rattle.aa_profile_patterns.specs.Places.{places_of_profile};
 ghost use Rattle.aa_profile_errors.specs.ProfileError.{plain};
 ghost use Rattle.aa_profile.specs.ProfileNames.{has_distinct_children, is_named_well};
 ghost use Rattle.aa_profile_errors.specs.declared.profile_error.ProfileRefusal.TheVariants.{Memory};
@@ -23,8 +23,7 @@ use crate::file_profiles::FileProfiles;
 use crate::profiles::read_profiles;
 use aa_profile_errors::ProfileError;
 use aa_profile_grammar::File;
-use aa_profile_patterns::{check_limit, pattern_tokens};
-use aa_profile_places::read_places;
+use aa_profile_patterns::{check_limit, pattern_tokens, read_places};
 use aa_profile_rules::which_numbers_rules_have;
 use aa_text_files::Files;
 use aa_text_splicing::{Spliced, spliced};
@@ -66,7 +65,7 @@ fn read_written(alloc: Global, file: &File<'_>) -> Result<FileProfiles, ProfileE
 
 /// The profiles that a file of the handed-in ones spells, in its order, and where they have what they have. A file rule is one rule for each expansion of
 /// its pattern, and these share its target and stand at one place. Variables are put into attachments and patterns alone: names, targets and rules that
-/// are kept stay as they are written. A place is a byte offset in the file, or in one that that includes.
+/// are kept stay as they are written. A place is a byte offset in the file, or in one that that includes. Flags that decide nothing come with the places.
 ///
 /// # Errors
 ///

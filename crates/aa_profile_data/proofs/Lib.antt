@@ -3,3 +3,4 @@ mod MatchingLemmas
 mod PickedLemmas
 pub mod PlaceLemmas
 pub mod TransitionLemmas
+pub mod SameLemmas

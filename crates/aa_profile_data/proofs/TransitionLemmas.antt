@@ -46,13 +46,13 @@ word-equal one other same =
     let both : Some one ≡ Some other = sym here ∙ found ∙ there in
     cc
 
-target-equal : (one other : Option (List ℕ)) → same_target one other ≡ true → one ≡ other
+pub target-equal : (one other : Option (List ℕ)) → same_target one other ≡ true → one ≡ other
 target-equal None None same = refl
 target-equal None (Some other) same = absurd (cc)
 target-equal (Some one) None same = absurd (cc)
 target-equal (Some one) (Some other) same = ap Some ((bytes_eq-Decides one other).0 same)
 
-target-same : (target : Option (List ℕ)) → same_target target target ≡ true
+pub target-same : (target : Option (List ℕ)) → same_target target target ≡ true
 target-same None = refl
 target-same (Some bytes) = (bytes_eq-Decides bytes bytes).1 refl
 

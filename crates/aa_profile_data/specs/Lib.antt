@@ -6,3 +6,4 @@ pub mod Matching
 pub mod Numbers
 pub mod Picked
 pub mod Profile
+pub mod SameRules

@@ -9,6 +9,7 @@ ghost use Rattle.aa_profile_data.specs.Conflicts.{Conflict, agree, conflict};
 ghost use Rattle.aa_profile_data.specs.FileRules.{file_patterns, places_from};
 ghost use Rattle.aa_profile_data.specs.Matching.{AreMatchingRules, is_matching};
 ghost use Rattle.aa_profile_data.specs.Picked.{picked};
+ghost use Rattle.aa_profile_data.specs.SameRules.{same_rule};
 ghost use Rattle.aa_profile_data.specs.declared.profile.Rule.{Rule};
 
 use aa_glob_pattern::how_overlaps_are_tested;
@@ -37,3 +38,8 @@ pub fn how_conflicts_are_tested()
 {
     how_overlaps_are_tested();
 }
+
+/// Rules are the same exactly where they are equal.
+pub fn when_rules_are_same()
+    ensures { (one other : Rule) → (same_rule one other ≡ true ↔ one ≡ other) }
+{}

@@ -4,8 +4,9 @@
 mod cover;
 mod laws;
 mod profile;
+mod same;
 
-pub use laws::{how_conflicts_are_tested, which_rules_match};
+pub use laws::{how_conflicts_are_tested, when_rules_are_same, which_rules_match};
 pub use profile::{
     CapRule, Child, FileRule, Mode, NetRule, OtherRule, Profile, Rule, Transition, child_place,
 };

@@ -149,7 +149,7 @@ impl Drop for Profile {
 }
 
 // Whether two transitions name the same target, or both none.
-fn same_target(one: &Option<SharedBytes>, other: &Option<SharedBytes>) -> bool
+pub fn same_target(one: &Option<SharedBytes>, other: &Option<SharedBytes>) -> bool
     ensures { result ≡ same_target one.now other.now }
 {
     match (one, other) {

@@ -162,7 +162,7 @@ same-test false true there back = back refl
 same-test false false there back = refl
 
 -- what holds of all words, holds of one of them
-holds-of-one : (p : List ℕ → Bool) (word : List ℕ) (others : List (List ℕ)) → has_word word others ≡ true → list_all p others ≡ true → p word ≡ true
+pub holds-of-one : (p : List ℕ → Bool) (word : List ℕ) (others : List (List ℕ)) → has_word word others ≡ true → list_all p others ≡ true → p word ≡ true
 holds-of-one p word [] is all = absurd (cc)
 holds-of-one p word (other ∷ others) is all = by (bytes_eq other word) refl (holds-of-one p word others)
   where

@@ -16,14 +16,15 @@ use Rattle.aa_profile_flags.specs.declared.flags.Flags.{Flags}
 use Rattle.aa_profile_flags.specs.declared.flags.FlagsSoFar.{FlagsSoFar}
 use Rattle.aa_profile_flags.specs.declared.flags.FlagsSoFar.TheVariants.{Absent, Keyword, Sign, Listing, Closed}
 
--- flags that decide nothing
-abbrev pub idle_flags : List (List ℕ)
-idle_flags =
+-- the names of flags that decide nothing
+abbrev pub idle_names : List (List ℕ)
+idle_names =
     codes "attach_disconnected" ∷ codes "no_attach_disconnected" ∷ codes "chroot_relative" ∷ codes "namespace_relative" ∷ codes "chroot_attach" ∷
     codes "chroot_no_attach" ∷ codes "mediate_deleted" ∷ codes "delegate_deleted" ∷ codes "debug" ∷ codes "interruptible" ∷ []
 
+-- a flag that decides nothing
 abbrev pub is_idle : List ℕ → Bool
-is_idle word = list_any (bytes_eq word) idle_flags || begins_with (codes "attach_disconnected.path=") word
+is_idle word = list_any (bytes_eq word) idle_names || begins_with (codes "attach_disconnected.path=") word
 
 -- no flag
 abbrev pub unflagged : Flags

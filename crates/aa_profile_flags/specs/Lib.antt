@@ -1,4 +1,6 @@
 pub mod FlagRefusals
 pub mod FlagText
 pub mod Flags
+pub mod IdleFlags
+pub mod KeptFlags
 pub mod code

@@ -53,7 +53,7 @@ fn unflagged() -> Flags
 }
 
 // Whether a word is a flag that decides nothing.
-fn is_idle(word: &[u8]) -> bool
+pub fn is_idle(word: &[u8]) -> bool
     ensures { result ≡ is_idle word.now }
 {
     word == b"attach_disconnected".as_slice()
@@ -131,7 +131,7 @@ fn word_size(text: &[u8]) -> usize
 }
 
 // The first word of a list, and what stands behind its separator, if there is one.
-fn first_word(text: &[u8]) -> (&[u8], Option<&[u8]>)
+pub fn first_word(text: &[u8]) -> (&[u8], Option<&[u8]>)
     ensures words { slice_split separates text.now ≡ result.0.now ∷ words_of_rest (option_map (λ rest. rest.now) result.1) }
     ensures shorter { IfSome result.1 (λ rest. length rest.now < length text.now) }
 {

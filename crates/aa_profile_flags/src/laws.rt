@@ -1,6 +1,6 @@
 //! What holds of flags, as laws over the definitions that `read_flags` is proved to follow.
 
-ghost use Rattle.std.specs.Prelude.{◌≡◌, ◌++◌, ℕ, false, true, List, ◌∷◌};
+ghost use Rattle.std.specs.Prelude.{◌≡◌, ◌++◌, ℕ, false, true, List, ◌∷◌, Some};
 ghost use Rattle.std.specs.List.{list_all};
 ghost use Rattle.aa_bytes.specs.Bytes.{is_blank, opening_parenthesis};
 ghost use Rattle.aa_bytes.specs.Texts.{is_empty};
@@ -8,7 +8,10 @@ ghost use Rattle.aa_text_splicing.specs.Splicing.{Placed};
 ghost use Rattle.aa_text_tokens.specs.declared.cut.TokenKind.TheVariants.{OpenBrace};
 ghost use Rattle.aa_profile_flags.specs.FlagRefusals.{FaultsAreTheFirst};
 ghost use Rattle.aa_profile_flags.specs.Flags.{flags, separates};
-ghost use Rattle.aa_profile_flags.specs.FlagText.{IsReadAs, flags_of, has_words, is_flag_token, said, spaced, with_keyword, words_of};
+ghost use Rattle.aa_profile_flags.specs.FlagText.{IsReadAs, flags_of, has_word, has_words, is_flag_token, said, spaced, with_keyword, words_of};
+ghost use Rattle.aa_profile_flags.specs.IdleFlags.{idle_words, list_text};
+ghost use Rattle.aa_profile_flags.specs.KeptFlags.{stands};
+ghost use Rattle.aa_profile_flags.specs.declared.flags.Flags.{Flags};
 
 /// FLAGS are read as the text of their Words and Commas says: nothing, or a list in parentheses, before which `flags =` may stand, with or
 /// without blanks, and changes nothing. Any blanks and commas stand between two words of a list. Lists with the same words say the same, in
@@ -36,4 +39,12 @@ pub fn what_flags_say()
 /// read, and with it the same is told whatever stands behind it. Tokens run out only where they can go on so.
 pub fn where_flags_are_refused()
     ensures { FaultsAreTheFirst }
+{}
+
+/// No flag is lost: where FLAGS say something, those words stand in their list that they say, of `enforce`, `complain` and `audit`, and those that are
+/// kept. So FLAGS that say the same, and of which the same words are kept, have the same words.
+pub fn which_flags_are_kept()
+    ensures { (text : List ℕ) (flags : Flags) (word : List ℕ)
+        → said text ≡ Some flags
+        → has_word word (words_of (list_text text)) ≡ stands flags (idle_words (list_text text)) word }
 {}

@@ -2,7 +2,9 @@
 #![tactic(auto)]
 
 mod flags;
+mod idle;
 mod laws;
 
 pub use flags::{Flags, read_flags};
-pub use laws::{what_flags_say, where_flags_are_refused};
+pub use idle::{flag_tokens, idle_flags};
+pub use laws::{what_flags_say, where_flags_are_refused, which_flags_are_kept};

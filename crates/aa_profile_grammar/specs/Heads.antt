@@ -8,6 +8,7 @@ use Rattle.aa_profile_parsing.specs.Parts.{Part, expected, followed, refused}
 use Rattle.aa_profile_parsing.specs.Tokens.{is_pattern, is_text, is_word, is_word_of, text_of}
 use Rattle.aa_profile_parsing.specs.declared.fault.GrammarRefusal.TheVariants.{BadToken, LateAssignment}
 use Rattle.aa_profile_flags.specs.Flags.{flags}
+use Rattle.aa_profile_flags.specs.IdleFlags.{flag_tokens}
 use Rattle.aa_profile_flags.specs.declared.flags.Flags.{Flags}
 use Rattle.aa_profile_grammar.specs.declared.heads.Form.{Form}
 use Rattle.aa_profile_grammar.specs.declared.heads.Form.TheVariants.{Profile, Path, Hat}
@@ -18,11 +19,12 @@ pub record Named : Type 0 where
   pub name : List ℕ
   pub token : Placed
 
--- a head: the name, the token of the attachment, the flags, and the brace
+-- a head: the name, the token of the attachment, the flags that decide something, the tokens of FLAGS, and the brace
 pub record Head : Type 0 where
   pub name : List ℕ
   pub attachment : Option Placed
   pub flags : Flags
+  pub flag_tokens : List Placed
   pub brace : Placed
 
 -- a name behind the word `profile` or `hat`
@@ -70,4 +72,5 @@ attachment named tokens = elim named.form [
 abbrev pub head : Named → List Placed → Part Head
 head named tokens =
     let attached = attachment named tokens in
-    followed (flags attached.1) (λ read behind. Ok (record { name = named.name; attachment = attached.0; flags = read.0; brace = read.1 }, behind))
+    followed (flags attached.1) (λ read behind.
+    Ok (record { name = named.name; attachment = attached.0; flags = read.0; flag_tokens = flag_tokens attached.1; brace = read.1 }, behind))

@@ -20,7 +20,13 @@ abbrev pub seen_assignment : Assignment → SeenAssignment
 seen_assignment assignment = record { sign = seen_spliced assignment.sign; append = assignment.append; values = seen_tokens assignment.values.now }
 
 abbrev pub seen_head : Head → SeenHead
-seen_head head = record { name = head.name.now; attachment = option_map seen_spliced head.attachment; flags = head.flags; brace = seen_spliced head.brace }
+seen_head head = record {
+  name = head.name.now;
+  attachment = option_map seen_spliced head.attachment;
+  flags = head.flags;
+  flag_tokens = seen_tokens head.flag_tokens.now;
+  brace = seen_spliced head.brace;
+}
 
 abbrev pub seen_child : Child → SeenChild
 seen_child child = record { hat = child.hat; head = seen_head child.head; rules = map seen_rule child.rules.items }

@@ -10,7 +10,7 @@ ghost use Rattle.aa_profile_grammar.specs.code.Seen.{seen_named};
 ghost use Rattle.aa_profile_grammar.specs.SeenFiles.{seen_head};
 
 use aa_bytes::{begins_with_byte, behind};
-use aa_profile_flags::{Flags, read_flags};
+use aa_profile_flags::{Flags, flag_tokens, read_flags};
 use aa_profile_parsing::{Fault, GrammarRefusal, is_pattern, is_word_of, read_text, refusal_at};
 use aa_text_splicing::Spliced;
 use aa_text_tokens::TokenKind;
@@ -44,8 +44,10 @@ pub struct Head<'a> {
     pub name: &'a [u8],
     /// The token of the pattern of the programs that it is attached to, if there is one.
     pub attachment: Option<Spliced<'a>>,
-    /// The flags.
+    /// The flags that decide something.
     pub flags: Flags,
+    /// The tokens of FLAGS, up to the brace.
+    pub flag_tokens: &'a [Spliced<'a>],
     /// The brace that opens its block.
     pub brace: Spliced<'a>,
 }
@@ -176,6 +178,7 @@ pub fn read_head<'a>(
             name: named.name,
             attachment,
             flags,
+            flag_tokens: flag_tokens(behind),
             brace,
         },
         rest,

@@ -9,7 +9,7 @@ use Rattle.aa_set_commands.specs.declared.refusal.RefusalKind.TheVariants.{Absen
 use Rattle.aa_decide_audit.specs.Answer.{answer_word}
 use Rattle.aa_decide_slots.specs.Confinement.{By, Confinement, Unconfined}
 use Rattle.aa_decide_slots.specs.Entries.{Loaded}
-use Rattle.aa_decide.specs.Exec.{Asker, ExecAnswer, Nowhere, Null, Started, Unconfined as Free, Under, exec_answer}
+use Rattle.aa_decide.specs.Exec.{Asker, ExecAnswer, Nowhere, Null, Started, Unconfined as Free, Under, exec_answer, named_asker}
 use Rattle.aa_decide_audit.specs.LogLines.{exec_line, log_line}
 use Rattle.aa_decide_slots.specs.Ready.{decided}
 use Rattle.aa_decide_audit.specs.declared.verdict.Answer.{Answer}
@@ -20,7 +20,7 @@ use Rattle.aa_profile_access.specs.FullNames.{full_name}
 use Rattle.aa_set_answers.specs.ProfileNames.{full_name_at}
 use Rattle.aa_set_answers.specs.declared.answers.Answered.{Answered}
 use Rattle.aa_set_answers.specs.Show.{show_lines}
-use Rattle.aa_set_answers.specs.Askers.{asker, confinement, named_asker}
+use Rattle.aa_set_answers.specs.Askers.{asker, confinement}
 
 -- a line: a text, and a line feed
 abbrev pub line_with : List ℕ → List ℕ

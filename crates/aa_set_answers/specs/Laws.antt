@@ -1,7 +1,7 @@
 -- What ties the full names that `list` tells to those that are asked and shown (docs/commands.md, "Full names").
 use Rattle.std.specs.Prelude.{◌≡◌, ℕ, true, List, Option, None, Some, slice_get}
 use Rattle.std.specs.List.{Contains}
-use Rattle.aa_decide.specs.Exec.{Asker}
+use Rattle.aa_decide.specs.Exec.{Asker, named_asker}
 use Rattle.aa_decide_slots.specs.Named.{have_distinct_names}
 use Rattle.aa_decide_slots.specs.Entries.{Loaded}
 use Rattle.aa_profile_data.specs.Profile.{are_distinct_children}
@@ -10,7 +10,7 @@ use Rattle.aa_profile_data.specs.declared.profile.Profile.{Profile}
 use Rattle.aa_profile_access.specs.FullNames.{full_name}
 use Rattle.aa_profile_access.specs.Names.{is_top_name}
 use Rattle.aa_set_answers.specs.ProfileNames.{full_name_at}
-use Rattle.aa_set_answers.specs.Askers.{asker, named_asker}
+use Rattle.aa_set_answers.specs.Askers.{asker}
 
 -- a profile has a child or a hat at a place; at none it stands itself
 abbrev pub StandsAt : Profile → Option ℕ → Type 0

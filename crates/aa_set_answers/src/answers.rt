@@ -12,13 +12,13 @@ ghost use Rattle.aa_set_answers.specs.Answers.{answered, asks_absent, confined_t
 ghost use Rattle.aa_set_answers.specs.Answers.{scrub_text, shown, shows_absent, unconfined_text, under_text};
 ghost use Rattle.aa_set_answers.specs.code.SeenTexts.{seen_text};
 
-use crate::asker::{confinement, find_asker, find_loaded};
+use crate::asker::{confinement, find_asker};
 use crate::names::full_name;
 use crate::show::show_lines;
 use aa_bytes::{Sequence, push_text};
 use aa_decide::{
     Answer, Confinement, ExecTo, ExecVerdict, IndexedSlots, Request, Steps, Verdict, entry_at,
-    exec_by, exec_line, log_line,
+    exec_by, exec_line, find_loaded, log_line,
 };
 use aa_profile_data::Profile;
 use aa_set_commands::{Refusal, RefusalKind, plain};

@@ -2,13 +2,13 @@
 use Rattle.aaset_program.specs.declared.stop.Stop.{Stop}
 use Rattle.aaset_program.specs.declared.stop.Stop.TheVariants.{Shown, Failed}
 use Rattle.aaset_program.specs.declared.fault.Fault.TheVariants.{BadArguments, Untaken, NoMemory}
-use Rattle.aaset_start.specs.declared.arguments.ArgFault.{ArgFault}
-use Rattle.aaset_start.specs.declared.arguments.ArgFault.TheVariants as arguments
+use Rattle.aa_options.specs.declared.fault.ArgumentFault.{ArgumentFault}
+use Rattle.aa_options.specs.declared.fault.ArgumentFault.TheVariants as arguments
 use Rattle.aaset_start.specs.declared.gathering.GatherFault.{GatherFault}
 use Rattle.aaset_start.specs.declared.gathering.GatherFault.TheVariants as files
 
 -- arguments that ask for no run: a text that was asked for is shown
-abbrev pub stop_at_arguments : ArgFault → Stop
+abbrev pub stop_at_arguments : ArgumentFault → Stop
 stop_at_arguments (arguments.Help text) = Shown text
 stop_at_arguments (arguments.Version text) = Shown text
 stop_at_arguments arguments.Bad = Failed BadArguments

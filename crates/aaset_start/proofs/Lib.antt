@@ -1,10 +1,5 @@
-pub mod ArgumentsLemmas
-pub mod GatheringLemmas
+mod GatheringLemmas
 mod LawLemmas
-pub mod NameLemmas
-pub mod OptionLemmas
-pub mod OutcomeLemmas
-pub mod ReadingLemmas
-pub mod RowLemmas
-pub mod WalkLemmas
-mod WordLemmas
+mod NameLemmas
+mod ReadingLemmas
+mod RunLemmas

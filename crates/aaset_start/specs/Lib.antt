@@ -5,4 +5,3 @@ pub mod Known
 pub mod Names
 pub mod Plan
 pub mod Reading
-pub mod Texts

@@ -1,4 +1,4 @@
-//! What the arguments ask for, and why they may ask for no run.
+//! What the arguments ask for.
 
 /// What the arguments ask for.
 #[derive(Drop)]
@@ -9,17 +9,4 @@ pub struct Plan {
     pub base: String,
     /// The files and folders to take, in this order. There is at least one.
     pub names: Vec<String>,
-}
-
-/// Why the arguments give no plan.
-#[derive(Drop)]
-pub enum ArgFault {
-    /// Help was asked for: its text, which ends its last line.
-    Help(String),
-    /// The version was asked for: the line that tells it, with its end.
-    Version(String),
-    /// The arguments ask for something that there isn't, or name no file.
-    Bad,
-    /// Memory ran out.
-    Memory,
 }

@@ -1,13 +1,11 @@
 //! The command line, as `clap` is told of it.
 ghost use Rattle.std.specs.Prelude.{◌≡◌, false, IfOk};
-ghost use Rattle.aaset_start.specs.CommandLine.{bare_line, base_rule, command_line, complain_rule, name_rule};
-ghost use Rattle.clap.specs.Words.{app_of, rule_of, with_rule};
+ghost use Rattle.aaset_start.specs.CommandLine.{base_rule, command_line, complain_rule, name_rule, versioned_line};
+ghost use Rattle.clap.specs.Words.{app_of, rule_of};
 
-use clap::{Arg, ArgAction, Command};
+use aa_options::{VERSION, with_argument};
+use clap::{Arg, Command};
 use std::alloc::{AllocError, Global};
-
-/// The program's version.
-pub const VERSION: &str = "0.1.0";
 
 // What help says behind the arguments and options.
 const MORE_HELP: &str = "\
@@ -49,10 +47,12 @@ fn complain_argument<'a>(alloc: Global) -> Arg<'a>
     ensures rule { rule_of result ≡ complain_rule }
     ensures local { result.global ≡ false }
 {
-    Arg::new(alloc, "COMPLAIN")
-        .short('C')
-        .action(ArgAction::SetTrue)
-        .help("Load every profile in complain mode, whatever its flags say")
+    aa_options::flag(
+        alloc,
+        "COMPLAIN",
+        'C',
+        "Load every profile in complain mode, whatever its flags say",
+    )
 }
 
 // The option for the folder below which names lie.
@@ -60,42 +60,35 @@ fn base_argument<'a>(alloc: Global) -> Arg<'a>
     ensures rule { rule_of result ≡ base_rule }
     ensures local { result.global ≡ false }
 {
-    Arg::new(alloc, "DIR")
-        .short('b')
-        .action(ArgAction::Set)
-        .help("The folder below which relative NAMEs lie (apparmor_parser's -b: includes alone)")
+    aa_options::value(
+        alloc,
+        "DIR",
+        'b',
+        "The folder below which relative NAMEs lie (apparmor_parser's -b: includes alone)",
+    )
 }
 
-// The argument for the names.
+// The argument for the names, of which there has to be one.
 fn name_argument<'a>(alloc: Global) -> Arg<'a>
     ensures rule { rule_of result ≡ name_rule }
     ensures local { result.global ≡ false }
 {
-    Arg::new(alloc, "NAME")
-        .required(true)
-        .num_args(1..)
-        .action(ArgAction::Append)
-        .help("A file to be read, or, where it ends in `/`, a folder that is only declared")
+    aa_options::other_words(
+        alloc,
+        "NAME",
+        true,
+        "A file to be read, or, where it ends in `/`, a folder that is only declared",
+    )
 }
 
 // The command line before its arguments.
 fn bare_command<'a>(alloc: Global) -> Command<'a>
-    ensures { app_of result ≡ bare_line }
+    ensures { app_of result ≡ versioned_line }
 {
-    Command::new(alloc, "aaset")
-        .no_binary_name(true)
-        .args_override_self(true)
+    aa_options::bare_command(alloc, "aaset")
         .version(VERSION)
         .about("Answers requests to a set of AppArmor profiles, with commands from standard input")
         .after_help(MORE_HELP)
-}
-
-// The command line with one more argument.
-fn with_argument<'a>(command: Command<'a>, argument: Arg<'a>) -> Result<Command<'a>, AllocError>
-    requires { argument.global ≡ false }
-    ensures { IfOk result (λ more. app_of more ≡ with_rule (app_of command.entry) (rule_of argument.entry)) }
-{
-    command.arg(argument)
 }
 
 /// The command line as `clap` is to read it.

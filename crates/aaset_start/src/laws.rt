@@ -2,8 +2,8 @@
 
 ghost use Rattle.std.specs.Prelude.{◌≡◌, ◌<◌, ℕ, false, true, List, [], ◌∷◌, codes, length};
 ghost use Rattle.std.specs.List.{list_all};
-ghost use Rattle.aaset_start.specs.Arguments.{with_names};
-ghost use Rattle.aaset_start.specs.Arguments.{ForRun, Open, Run, asked, asked_at_end, asked_behind, below, forced, is_name, is_option};
+ghost use Rattle.aa_options.specs.Options.{Open, is_name, is_option};
+ghost use Rattle.aaset_start.specs.Arguments.{ForRun, Run, asked, asked_at_end, asked_behind, below, forced, with_names};
 ghost use Rattle.aaset_start.specs.Plan.{run_with};
 
 /// Each run has at least one NAME. Words that are no options are its NAMEs, all of them and in their order. Behind `-C` each word asks for what it

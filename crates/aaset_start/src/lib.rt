@@ -10,8 +10,8 @@ mod laws;
 mod planning;
 mod reading;
 
-pub use arguments::{ArgFault, Plan};
-pub use command_line::VERSION;
+pub use aa_options::{ArgumentFault as ArgFault, VERSION};
+pub use arguments::Plan;
 pub use file_system::{FileSystem, RuntimeFiles};
 pub use gathering::{GatherFault, gather};
 pub use laws::what_runs_have;

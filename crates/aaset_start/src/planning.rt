@@ -1,37 +1,16 @@
 //! Reading of the arguments, by `clap`.
-ghost use Rattle.std.specs.Prelude.{◌≡◌, ◌≤◌, IfOk, drop, length, map, string_bytes, vec_len};
+ghost use Rattle.std.specs.Prelude.{◌≡◌, IfOk, drop, map, string_bytes};
+ghost use Rattle.aa_options.specs.Texts.{words_of};
 ghost use Rattle.aaset_start.specs.Arguments.{asked};
-ghost use Rattle.aaset_start.specs.Plan.{IsPlanFor, IsFaultFor, run_of, run_with};
-ghost use Rattle.aaset_start.specs.Texts.{words_of};
-ghost use Rattle.clap.specs.Lexer.{usize_max};
-ghost use Rattle.clap.specs.Words.{kind_of};
+ghost use Rattle.aaset_start.specs.Plan.{IsPlanFor, run_of, run_with};
 
-use crate::arguments::{ArgFault, Plan};
+use crate::arguments::Plan;
 use crate::command_line::command;
-use clap::Error;
-use clap::error::ErrorKind;
+use aa_options::{ArgumentFault, copied, parse};
 use std::alloc::{AllocError, Global};
 
 // The folder below which NAMEs lie, where none is given.
 const DEFAULT_BASE: &str = "/etc/apparmor.d";
-
-// What a parse that gave no matches means for the program.
-fn fault(alloc: Global, error: &Error) -> ArgFault
-    ensures { IsFaultFor (kind_of error.now) result }
-{
-    match error.kind() {
-        ErrorKind::DisplayHelp => match error.to_string(alloc) {
-            Ok(text) => ArgFault::Help(text),
-            Err(_) => ArgFault::Memory,
-        },
-        ErrorKind::DisplayVersion => match error.to_string(alloc) {
-            Ok(text) => ArgFault::Version(text),
-            Err(_) => ArgFault::Memory,
-        },
-        ErrorKind::OutOfMemory => ArgFault::Memory,
-        _ => ArgFault::Bad,
-    }
-}
 
 // A plan of this mode, over this folder, with these names.
 fn planned(
@@ -42,52 +21,31 @@ fn planned(
 ) -> Result<Plan, AllocError>
     ensures { IfOk result (λ plan. run_of plan ≡ run_with force_complain base.now (words_of given.now)) }
 {
-    let mut names = Vec::with_capacity(alloc, given.len())?;
-    for name in given {
-        names.push(String::from_str(alloc, name)?)?;
-    }
     Ok(Plan {
         force_complain,
         base: String::from_str(alloc, base)?,
-        names,
+        names: copied(alloc, given)?,
     })
 }
 
-// The arguments among the words that the program was started with: all but the first, which is its own name.
-fn arguments_behind_the_name<'a>(
-    alloc: Global,
-    all: &'a [String],
-) -> Result<Vec<&'a str>, AllocError>
-    ensures words { IfOk result (λ words. words_of words.items ≡ drop 1 (map string_bytes all.now)) }
-    ensures counted { IfOk result (λ words. vec_len words ≤ usize_max) }
-{
-    let behind = all.get(1..).unwrap_or(&[]);
-    let mut words = Vec::with_capacity(alloc, behind.len())?;
-    for word in behind {
-        words.push(word.as_str())?;
-    }
-    Ok(words)
-}
-
-// The run that arguments ask for, of which there are no more than can be counted.
-fn plan_of(alloc: Global, words: &[&str]) -> Result<Plan, ArgFault>
-    requires { length words.now ≤ usize_max }
-    ensures { IsPlanFor (asked (words_of words.now)) result }
+// The run that the words behind the program's own name ask for.
+fn plan_behind(alloc: Global, words: &[String]) -> Result<Plan, ArgumentFault>
+    ensures { IsPlanFor (asked (map string_bytes words.now)) result }
 {
     let command = match command(alloc) {
         Ok(command) => command,
-        Err(_) => return Err(ArgFault::Memory),
+        Err(_) => return Err(ArgumentFault::Memory),
     };
-    let matches = match command.try_get_matches_from(words) {
+    let matches = match parse(alloc, command, words) {
         Ok(matches) => matches,
-        Err(error) => return Err(fault(alloc, &error)),
+        Err(fault) => return Err(fault),
     };
     let force_complain = matches.get_flag("COMPLAIN");
     let base = matches.get_str("DIR").unwrap_or(DEFAULT_BASE);
     let names = matches.get_strs("NAME").unwrap_or(&[]);
     match planned(alloc, force_complain, base, names) {
         Ok(plan) => Ok(plan),
-        Err(_) => Err(ArgFault::Memory),
+        Err(_) => Err(ArgumentFault::Memory),
     }
 }
 
@@ -105,11 +63,11 @@ fn plan_of(alloc: Global, words: &[&str]) -> Result<Plan, ArgFault>
 /// - `Version` where it is `--version` or `-V`, with or without other letters behind `-V`.
 /// - `Bad` where it is any other, or where `-b` comes before it without a folder, or where there is none and no NAME.
 /// - `Memory` where memory ran out.
-pub fn plan(alloc: Global, all: &[String]) -> Result<Plan, ArgFault>
+pub fn plan(alloc: Global, all: &[String]) -> Result<Plan, ArgumentFault>
     ensures { IsPlanFor (asked (drop 1 (map string_bytes all.now))) result }
 {
-    match arguments_behind_the_name(alloc, all) {
-        Ok(words) => plan_of(alloc, words.as_slice()),
-        Err(_) => Err(ArgFault::Memory),
+    match all {
+        [_, behind @ ..] => plan_behind(alloc, behind),
+        [] => plan_behind(alloc, all),
     }
 }

@@ -1,18 +1,13 @@
 -- What words ask for that are read as those behind `check`.
 use Rattle.std.proofs.Common.{◌≡◌, Err, refl, sym, subst}
+use Rattle.aa_options.specs.Given.{IsGivenFor}
+use Rattle.aa_options.proofs.FaultLemmas.{memory_given}
 use Rattle.aatry_arguments.specs.Arguments.{CommandAsked, ForCheck}
-use Rattle.aatry_arguments.specs.Asked.{Asked, ForThis, ForHelp, ForVersion, Nothing, asked_as, asked_then}
+use Rattle.aa_options.specs.Options.{Asked, ForThis, ForHelp, ForVersion, Nothing, asked_as, asked_then}
 use Rattle.aatry_arguments.specs.CheckWords.{CheckAsked}
-use Rattle.aatry_arguments.specs.Given.{IsGivenFor, IsHelp, IsPassedOn}
-use Rattle.aatry_arguments.specs.declared.arguments.ArgumentFault.{ArgumentFault}
-use Rattle.aatry_arguments.specs.declared.arguments.ArgumentFault.TheVariants.{Help, Version, Bad, Memory}
-
--- memory may run out whatever is asked for
-pub memory_given : {A B : Type 0} (meant : B → A) (asked : Asked A) → IsGivenFor meant asked (Err Memory)
-memory_given meant (ForThis thing) = tt
-memory_given meant ForHelp = tt
-memory_given meant ForVersion = tt
-memory_given meant Nothing = tt
+use Rattle.aatry_arguments.specs.Given.{IsHelp, IsPassedOn}
+use Rattle.aa_options.specs.declared.fault.ArgumentFault.{ArgumentFault}
+use Rattle.aa_options.specs.declared.fault.ArgumentFault.TheVariants.{Help, Version, Bad, Memory}
 
 -- help may be given where it is asked for
 pub help_given : {A B : Type 0} (meant : B → A) (fault : ArgumentFault) → IsHelp fault → IsGivenFor meant ForHelp (Err fault)

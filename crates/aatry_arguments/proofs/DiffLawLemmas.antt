@@ -1,35 +1,21 @@
 -- What holds of comparisons.
-use Rattle.std.proofs.Common.{◌≡◌, ◌∙◌, ◌++◌, ℕ, Bool, true, false, List, [], ◌∷◌, None, Some, append-nil, append_assoc, refl, sym, ap, codes}
+use Rattle.std.proofs.Common.{◌≡◌, ◌∙◌, ◌++◌, ℕ, true, false, List, [], ◌∷◌, None, Some, refl, ap, codes}
 use Rattle.std.specs.List.{list_all}
-use Rattle.std.specs.Str.{bytes_eq, chars}
-use Rattle.std.proofs.lemmas.Slice.Eq.{bytes_eq-Decides}
-use Rattle.aaset_start.specs.Arguments.{is_name, is_option}
+use Rattle.std.specs.Str.{chars}
+use Rattle.aa_options.specs.Options.{Open, is_name, is_option}
+use Rattle.aa_options.proofs.PlainLemmas.{plain_word, plain_words as words_plain}
+use Rattle.aatry_arguments.proofs.DiffLemmas.{folders_in_turn, no_folders}
 use Rattle.aatry_arguments.specs.Arguments.{ForDiff, asked}
-use Rattle.aatry_arguments.specs.Asked.{Asked, ForThis, Nothing, asked_as, asked_then}
-use Rattle.aatry_arguments.specs.DiffWords.{DiffGiven, LogAt, OfLog, OfQuestions, Open, QuestionsAt, asked_of, bare_given, comparison_with, given_behind, with_folders, with_path}
-use Rattle.aatry_arguments.proofs.LawLemmas.{dashes_option}
+use Rattle.aa_options.specs.Options.{Asked, ForThis, Nothing, asked_as, asked_then}
+use Rattle.aatry_arguments.specs.DiffWords.{DiffGiven, LogAt, OfLog, OfQuestions, QuestionsAt, asked_of, bare_given, comparison_with, diff_options, given_behind, with_folders, with_path}
 
 -- a word that is no option is one more folder
 folder_word : (words : List (List ℕ)) (word : List ℕ) (given : DiffGiven) → is_option word ≡ false
     → given_behind (Open given) (word ∷ words) ≡ given_behind (Open (with_folders (word ∷ []) given)) words
-folder_word words word given o = by (bytes_eq word (codes "--")) refl
-  where
-    by : (d : Bool) → bytes_eq word (codes "--") ≡ d → given_behind (Open given) (word ∷ words) ≡ given_behind (Open (with_folders (word ∷ []) given)) words
-    by true d =
-        let same = (bytes_eq-Decides word (codes "--")).0 d in
-        let bad : false ≡ true = sym o ∙ ap is_option same ∙ dashes_option in
-        cc
-    by false d = rw (d, o) refl
+folder_word words word given o = plain_word diff_options word words given o
 
 pub plain_words : (words : List (List ℕ)) (given : DiffGiven) → list_all is_name words ≡ true → given_behind (Open given) words ≡ ForThis (with_folders words given)
-plain_words [] given h = ap (λ ns. ForThis (record given { folders = ns })) (sym (append-nil given.folders))
-plain_words (word ∷ words) given h = by (is_option word) refl (plain_words words (with_folders (word ∷ []) given))
-  where
-    by : (o : Bool) → is_option word ≡ o
-        → (list_all is_name words ≡ true → given_behind (Open (with_folders (word ∷ []) given)) words ≡ ForThis (with_folders words (with_folders (word ∷ []) given)))
-        → given_behind (Open given) (word ∷ words) ≡ ForThis (with_folders (word ∷ words) given)
-    by true o more = absurd (let bad : false ≡ true = rw o at h in cc)
-    by false o more = folder_word words word given o ∙ more (rw o at h) ∙ ap (λ ns. ForThis (record given { folders = ns })) (append_assoc given.folders (word ∷ []) words)
+plain_words words given h = words_plain diff_options no_folders folders_in_turn words given h
 
 pub log_word : (words : List (List ℕ)) (path : List ℕ) (given : DiffGiven) → is_option path ≡ false
     → given_behind (Open given) (codes "--log" ∷ path ∷ words) ≡ given_behind (Open (with_path OfLog path given)) words

@@ -2,15 +2,4 @@ mod AskedLemmas
 mod CheckLemmas
 mod DiffLawLemmas
 mod DiffLemmas
-mod DiffOptionLemmas
-mod DiffOutcomeLemmas
-mod DiffRowLemmas
-mod DiffWalkLemmas
-mod DiffWordLemmas
-mod KindLemmas
 mod LawLemmas
-mod LineLemmas
-mod OptionLemmas
-mod OutcomeLemmas
-mod WalkLemmas
-mod WordLemmas

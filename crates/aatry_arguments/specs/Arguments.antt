@@ -1,7 +1,7 @@
 -- What the words of the arguments ask for.
 use Rattle.std.specs.Prelude.{ℕ, Bool, ◌||◌, if◌then◌else◌, List, [], ◌∷◌, codes}
 use Rattle.std.specs.Str.{bytes_eq}
-use Rattle.aatry_arguments.specs.Asked.{Asked, ForHelp, ForVersion, Nothing, asked_as}
+use Rattle.aa_options.specs.Options.{Asked, ForHelp, ForVersion, Nothing, asked_as}
 use Rattle.aatry_arguments.specs.AskingWords.{AskingAsked, asked_who, asked_why}
 use Rattle.aatry_arguments.specs.CheckWords.{CheckAsked, asked_check}
 use Rattle.aatry_arguments.specs.DiffWords.{ComparisonAsked, asked_diff}

@@ -1,22 +1,17 @@
 -- The command line behind `check`, as `clap` is told of it.
-use Rattle.std.specs.Prelude.{Some, codes}
-use Rattle.aaset_start.specs.CommandLine.{base_rule, with_last_option, without_own_name}
-use Rattle.clap.specs.Lexer.{usize_max}
-use Rattle.clap.specs.Words.{App, Rule, new_app, new_rule, with_rule}
-use Rattle.clap.specs.Simple.{on_top}
-use Rattle.clap.specs.declared.builder.ArgAction.TheVariants.{Append}
+use Rattle.std.specs.Prelude.{false, codes}
+use Rattle.aa_options.specs.Lines.{bare_line, value_rule, words_rule}
+use Rattle.aa_options.specs.Options.{base_letter}
+use Rattle.clap.specs.Words.{App, Rule, with_rule}
+
+-- the folder of policy
+abbrev pub base_rule : Rule
+base_rule = value_rule (codes "DIR") base_letter
 
 -- the names, of which there may be none
 abbrev pub name_rule : Rule
-name_rule = record (new_rule (codes "NAME")) {
-  action = Some Append;
-  range = Some (record { start_inclusive = 1; end_inclusive = usize_max });
-}
-
--- the command line without its arguments
-abbrev pub bare_line : App
-bare_line = on_top with_last_option (on_top without_own_name (new_app (codes "aatry check")))
+name_rule = words_rule (codes "NAME") false
 
 -- the command line, with its arguments
 abbrev pub check_line : App
-check_line = with_rule (with_rule bare_line base_rule) name_rule
+check_line = with_rule (with_rule (bare_line (codes "aatry check")) base_rule) name_rule

@@ -1,30 +1,20 @@
 -- The command line behind `diff`, as `clap` is told of it.
-use Rattle.std.specs.Prelude.{Some, codes}
-use Rattle.aaset_start.specs.CommandLine.{with_last_option, without_own_name}
-use Rattle.clap.specs.Lexer.{usize_max}
-use Rattle.clap.specs.Words.{App, Rule, new_app, new_rule, with_rule}
-use Rattle.clap.specs.Simple.{on_top}
-use Rattle.clap.specs.declared.builder.ArgAction.TheVariants.{Append, Set}
+use Rattle.std.specs.Prelude.{false, codes}
+use Rattle.aa_options.specs.Lines.{bare_line, named_value_rule, words_rule}
+use Rattle.clap.specs.Words.{App, Rule, with_rule}
 
 -- the log
 abbrev pub log_rule : Rule
-log_rule = record (new_rule (codes "LOG")) { long = Some (codes "log"); action = Some Set }
+log_rule = named_value_rule (codes "LOG") (codes "log")
 
 -- the file of questions
 abbrev pub questions_rule : Rule
-questions_rule = record (new_rule (codes "QUESTIONS")) { long = Some (codes "questions"); action = Some Set }
+questions_rule = named_value_rule (codes "QUESTIONS") (codes "questions")
 
 -- the folders
 abbrev pub folder_rule : Rule
-folder_rule = record (new_rule (codes "FOLDER")) {
-  action = Some Append;
-  range = Some (record { start_inclusive = 1; end_inclusive = usize_max });
-}
-
--- the command line without its arguments
-abbrev pub bare_line : App
-bare_line = on_top with_last_option (on_top without_own_name (new_app (codes "aatry diff")))
+folder_rule = words_rule (codes "FOLDER") false
 
 -- the command line, with its arguments
 abbrev pub diff_line : App
-diff_line = with_rule (with_rule (with_rule bare_line log_rule) questions_rule) folder_rule
+diff_line = with_rule (with_rule (with_rule (bare_line (codes "aatry diff")) log_rule) questions_rule) folder_rule

@@ -1,5 +1,4 @@
 pub mod Arguments
-pub mod Asked
 pub mod AskingWords
 pub mod CheckLine
 pub mod CheckWords

@@ -1,7 +1,7 @@
 -- What the words behind `test` ask for.
 use Rattle.std.specs.Prelude.{ℕ, if◌then◌else◌, List}
 use Rattle.aa_bytes.specs.Texts.{is_empty}
-use Rattle.aatry_arguments.specs.Asked.{Asked, ForThis, Nothing, asked_then}
+use Rattle.aa_options.specs.Options.{Asked, ForThis, Nothing, asked_then}
 use Rattle.aatry_arguments.specs.CheckWords.{CheckAsked, asked_check}
 
 -- a test that is asked for: the folder of policy, and the paths of the transcripts, one at least

@@ -1,4 +1,4 @@
-//! What the arguments ask for, and why they may ask for no command.
+//! What the arguments ask for.
 
 use aatry_report::Form;
 
@@ -80,17 +80,4 @@ pub enum RequestSource {
 pub struct Session {
     /// The folder of policy.
     pub base: String,
-}
-
-/// Why the arguments give no command.
-#[derive(Drop)]
-pub enum ArgumentFault {
-    /// Help was asked for, on the program or on a command: its text, which ends its last line.
-    Help(String),
-    /// The version was asked for: the line that tells it, with its end.
-    Version(String),
-    /// The arguments ask for something that there isn't.
-    Bad,
-    /// Memory ran out.
-    Memory,
 }

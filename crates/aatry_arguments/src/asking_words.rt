@@ -1,11 +1,13 @@
 //! Reading of the words behind `who` and `why`: as those behind `check` are read.
 ghost use Rattle.std.specs.Prelude.{map, string_bytes};
 ghost use Rattle.aatry_arguments.specs.AskingWords.{asked_who, asked_why, who_of, why_of};
-ghost use Rattle.aatry_arguments.specs.Given.{IsGivenFor, meant_asking, meant_check};
+ghost use Rattle.aa_options.specs.Given.{IsGivenFor};
+ghost use Rattle.aatry_arguments.specs.Given.{meant_asking, meant_check};
 
-use crate::arguments::{ArgumentFault, Asking, Check};
+use crate::arguments::{Asking, Check};
 use crate::check_words::check_of;
 use crate::faults::passed_on;
+use aa_options::ArgumentFault;
 use std::alloc::Global;
 
 // What help says of `who`.

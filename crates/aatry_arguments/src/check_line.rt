@@ -1,10 +1,11 @@
 //! The command line behind `check`, as `clap` is told of it.
-ghost use Rattle.std.specs.Prelude.{◌≡◌, false, IfOk};
-ghost use Rattle.aaset_start.specs.CommandLine.{base_rule};
-ghost use Rattle.clap.specs.Words.{app_of, rule_of, with_rule};
-ghost use Rattle.aatry_arguments.specs.CheckLine.{bare_line, check_line, name_rule};
+ghost use Rattle.std.specs.Prelude.{◌≡◌, false, IfOk, codes};
+ghost use Rattle.aa_options.specs.Lines.{bare_line};
+ghost use Rattle.clap.specs.Words.{app_of, rule_of};
+ghost use Rattle.aatry_arguments.specs.CheckLine.{base_rule, check_line, name_rule};
 
-use clap::{Arg, ArgAction, Command};
+use aa_options::with_argument;
+use clap::{Arg, Command};
 use std::alloc::{AllocError, Global};
 
 // What help says behind the arguments and options.
@@ -31,10 +32,12 @@ fn base_argument<'a>(alloc: Global) -> Arg<'a>
     ensures rule { rule_of result ≡ base_rule }
     ensures local { result.global ≡ false }
 {
-    Arg::new(alloc, "DIR")
-        .short('b')
-        .action(ArgAction::Set)
-        .help("The folder of policy, /etc/apparmor.d unless it is given")
+    aa_options::value(
+        alloc,
+        "DIR",
+        'b',
+        "The folder of policy, /etc/apparmor.d unless it is given",
+    )
 }
 
 // The argument for the names.
@@ -42,35 +45,23 @@ fn name_argument<'a>(alloc: Global) -> Arg<'a>
     ensures rule { rule_of result ≡ name_rule }
     ensures local { result.global ≡ false }
 {
-    Arg::new(alloc, "NAME")
-        .num_args(1..)
-        .action(ArgAction::Append)
-        .help("A file of the folder to check, in place of all files at its top")
+    aa_options::other_words(
+        alloc,
+        "NAME",
+        false,
+        "A file of the folder to check, in place of all files at its top",
+    )
 }
 
 // The command line before its arguments.
 fn bare_command<'a>(alloc: Global) -> Command<'a>
-    ensures { app_of result ≡ bare_line }
+    ensures { app_of result ≡ bare_line (codes "aatry check") }
 {
-    Command::new(alloc, "aatry check")
-        .no_binary_name(true)
-        .args_override_self(true)
+    aa_options::bare_command(alloc, "aatry check")
         .about(
             "Tells of each file of a folder of AppArmor policy whether it is taken, or what is wrong with it",
         )
         .after_help(MORE_HELP)
-}
-
-/// The command line with one more argument.
-///
-/// # Errors
-///
-/// Where memory ran out.
-pub fn with_argument<'a>(command: Command<'a>, argument: Arg<'a>) -> Result<Command<'a>, AllocError>
-    requires { argument.global ≡ false }
-    ensures { IfOk result (λ more. app_of more ≡ with_rule (app_of command.entry) (rule_of argument.entry)) }
-{
-    command.arg(argument)
 }
 
 /// The command line behind `check` as `clap` is to read it.

@@ -1,44 +1,25 @@
 //! Reading of the words behind `check`, by `clap`.
 ghost use Rattle.std.specs.Prelude.{◌≡◌, IfOk, map, string_bytes};
-ghost use Rattle.aaset_start.specs.Texts.{words_of};
-ghost use Rattle.clap.specs.Words.{kind_of};
+ghost use Rattle.aa_options.specs.Given.{IsGivenFor};
+ghost use Rattle.aa_options.specs.Texts.{words_of};
 ghost use Rattle.aatry_arguments.specs.CheckWords.{asked_check, check_with};
-ghost use Rattle.aatry_arguments.specs.Given.{IsFaultFor, IsGivenFor, meant_check};
+ghost use Rattle.aatry_arguments.specs.Given.{meant_check};
 
-use crate::arguments::{ArgumentFault, Check};
+use crate::arguments::Check;
 use crate::check_line::check_command;
-use clap::Error;
-use clap::error::ErrorKind;
+use aa_options::{ArgumentFault, copied, parse};
 use std::alloc::{AllocError, Global};
 
 // The folder of policy, where none is given.
 const DEFAULT_BASE: &str = "/etc/apparmor.d";
 
-// What a parse that gave no matches means for the program.
-fn fault(alloc: Global, error: &Error) -> ArgumentFault
-    ensures { IsFaultFor (kind_of error.now) result }
-{
-    match error.kind() {
-        ErrorKind::DisplayHelp => match error.to_string(alloc) {
-            Ok(text) => ArgumentFault::Help(text),
-            Err(_) => ArgumentFault::Memory,
-        },
-        ErrorKind::OutOfMemory => ArgumentFault::Memory,
-        _ => ArgumentFault::Bad,
-    }
-}
-
 // A check of these files of this folder.
 fn check_with_names(alloc: Global, base: &str, given: &[&str]) -> Result<Check, AllocError>
     ensures { IfOk result (λ check. meant_check check ≡ check_with base.now (words_of given.now)) }
 {
-    let mut names = Vec::with_capacity(alloc, given.len())?;
-    for name in given {
-        names.push(String::from_str(alloc, name)?)?;
-    }
     Ok(Check {
         base: String::from_str(alloc, base)?,
-        names,
+        names: copied(alloc, given)?,
     })
 }
 
@@ -56,9 +37,9 @@ pub fn check_of(alloc: Global, words: &[String]) -> Result<Check, ArgumentFault>
         Ok(command) => command,
         Err(_) => return Err(ArgumentFault::Memory),
     };
-    let matches = match command.try_get_matches_from(words) {
+    let matches = match parse(alloc, command, words) {
         Ok(matches) => matches,
-        Err(error) => return Err(fault(alloc, &error)),
+        Err(fault) => return Err(fault),
     };
     let base = matches.get_str("DIR").unwrap_or(DEFAULT_BASE);
     let names = matches.get_strs("NAME").unwrap_or(&[]);

@@ -1,15 +1,14 @@
 //! Reading of the words behind `diff`, by `clap`.
 ghost use Rattle.std.specs.Prelude.{◌≡◌, IfOk, map, option_map, string_bytes};
-ghost use Rattle.aaset_start.specs.Texts.{words_of};
-ghost use Rattle.clap.specs.Words.{kind_of};
+ghost use Rattle.aa_options.specs.Given.{IsGivenFor};
+ghost use Rattle.aa_options.specs.Texts.{words_of};
 ghost use Rattle.aatry_arguments.specs.DiffWords.{asked_diff, asked_of, comparison_of, comparison_with, given_with, source_of};
-ghost use Rattle.aatry_arguments.specs.Given.{IsFaultFor, IsGivenFor, meant_comparison, meant_source};
+ghost use Rattle.aatry_arguments.specs.Given.{meant_comparison, meant_source};
 
-use crate::arguments::{ArgumentFault, Comparison, RequestSource};
+use crate::arguments::{Comparison, RequestSource};
 use crate::diff_line::diff_command;
-use crate::faults::help_with;
-use clap::Error;
-use clap::error::ErrorKind;
+use crate::faults::passed_on;
+use aa_options::{ArgumentFault, parse};
 use std::alloc::{AllocError, Global};
 
 // What help says of `diff`.
@@ -49,17 +48,6 @@ Exit status:
   2  The arguments are bad, or FILE, OLD or NEW, or what lies below these, can't be read
   3  Writing failed, or memory ran out
 ";
-
-// What a parse that gave no matches means for the program.
-fn fault(alloc: Global, error: &Error) -> ArgumentFault
-    ensures { IsFaultFor (kind_of error.now) result }
-{
-    match error.kind() {
-        ErrorKind::DisplayHelp => help_with(alloc, HELP),
-        ErrorKind::OutOfMemory => ArgumentFault::Memory,
-        _ => ArgumentFault::Bad,
-    }
-}
 
 // Where requests are told of, if anywhere; none where both a log and a file of questions are given.
 fn source_by(
@@ -147,9 +135,9 @@ pub fn diff_of(alloc: Global, words: &[String]) -> Result<Comparison, ArgumentFa
         Ok(command) => command,
         Err(_) => return Err(ArgumentFault::Memory),
     };
-    let matches = match command.try_get_matches_from(words) {
+    let matches = match parse(alloc, command, words) {
         Ok(matches) => matches,
-        Err(error) => return Err(fault(alloc, &error)),
+        Err(fault) => return Err(passed_on(alloc, fault, HELP)),
     };
     let log = matches.get_str("LOG");
     let questions = matches.get_str("QUESTIONS");

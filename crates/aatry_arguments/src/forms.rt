@@ -2,13 +2,15 @@
 
 ghost use Rattle.std.specs.Prelude.{◌≡◌, ◌++◌, IfOk, OnOk, drop, map, string_bytes};
 ghost use Rattle.aatry_arguments.specs.Arguments.{asked};
-ghost use Rattle.aatry_arguments.specs.Asked.{asked_as, asked_then};
+ghost use Rattle.aa_options.specs.Options.{asked_as, asked_then};
 ghost use Rattle.aatry_arguments.specs.Forms.{asked_call, call_with, ends_options, in_records, is_json_word, wants_records, without_json};
-ghost use Rattle.aatry_arguments.specs.Given.{IsGivenFor, meant_call, meant_command};
+ghost use Rattle.aa_options.specs.Given.{IsGivenFor};
+ghost use Rattle.aatry_arguments.specs.Given.{meant_call, meant_command};
 ghost use Rattle.aatry_report.specs.declared.form.Form.TheVariants as form;
 
-use crate::arguments::{ArgumentFault, Call, Command};
+use crate::arguments::{Call, Command};
 use crate::reading::command_behind;
+use aa_options::ArgumentFault;
 use aatry_report::Form;
 use std::alloc::{AllocError, Global};
 

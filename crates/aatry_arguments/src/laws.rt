@@ -2,12 +2,12 @@
 
 ghost use Rattle.std.specs.Prelude.{◌≡◌, ◌≢◌, ◌++◌, ℕ, None, Some, false, true, List, [], ◌∷◌, length, codes};
 ghost use Rattle.std.specs.List.{list_all};
-ghost use Rattle.aaset_start.specs.Arguments.{is_name, is_option};
+ghost use Rattle.aa_options.specs.Options.{Open, is_name, is_option};
 ghost use Rattle.aatry_arguments.specs.Arguments.{ForCheck, ForDiff, ForSession, ForTest, ForWho, ForWhy, asked, asked_by_first};
-ghost use Rattle.aatry_arguments.specs.Asked.{ForThis, Nothing};
+ghost use Rattle.aa_options.specs.Options.{ForThis, Nothing};
 ghost use Rattle.aatry_arguments.specs.AskingWords.{asking_with};
-ghost use Rattle.aatry_arguments.specs.CheckWords.{CheckAsked, Open, asked_behind, below, check_with, with_names};
-ghost use Rattle.aatry_arguments.specs.DiffWords as diff;
+ghost use Rattle.aatry_arguments.specs.CheckWords.{CheckAsked, asked_behind, below, check_with, with_names};
+ghost use Rattle.aa_options.specs.Options as diff;
 ghost use Rattle.aatry_arguments.specs.DiffWords.{DiffGiven, LogAt, OfLog, OfQuestions, QuestionsAt};
 ghost use Rattle.aatry_arguments.specs.DiffWords.{comparison_with, given_behind, with_folders, with_path};
 ghost use Rattle.aatry_arguments.specs.SessionWords.{session_with};

@@ -14,9 +14,8 @@ mod reading;
 mod session_words;
 mod test_words;
 
-pub use arguments::{
-    ArgumentFault, Asking, Call, Check, Command, Comparison, RequestSource, Session, Test,
-};
+pub use aa_options::ArgumentFault;
+pub use arguments::{Asking, Call, Check, Command, Comparison, RequestSource, Session, Test};
 pub use forms::call_of;
 pub use laws::{
     what_askings_have, what_checks_have, what_comparisons_have, what_sessions_have, what_tests_have,

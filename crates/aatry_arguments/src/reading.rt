@@ -1,16 +1,17 @@
 //! Reading of the arguments: which command is meant, and its words.
 ghost use Rattle.std.specs.Prelude.{map, string_bytes};
 ghost use Rattle.aatry_arguments.specs.Arguments.{asked, asked_by_first};
-ghost use Rattle.aatry_arguments.specs.Given.{IsVersion, IsGivenFor, meant_command};
+ghost use Rattle.aa_options.specs.Given.{IsGivenFor};
+ghost use Rattle.aatry_arguments.specs.Given.{IsVersion, meant_command};
 
-use crate::arguments::{ArgumentFault, Command};
+use crate::arguments::Command;
 use crate::asking_words::{who_of, why_of};
 use crate::check_words::check_of;
 use crate::diff_words::diff_of;
 use crate::faults::help_with;
 use crate::session_words::session_of;
 use crate::test_words::test_of;
-use aaset_start::VERSION;
+use aa_options::{ArgumentFault, VERSION};
 use std::alloc::Global;
 
 // What help says of the program.

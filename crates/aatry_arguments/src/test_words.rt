@@ -1,11 +1,13 @@
 //! Reading of the words behind `test`: as those behind `check` are read.
 ghost use Rattle.std.specs.Prelude.{map, string_bytes};
-ghost use Rattle.aatry_arguments.specs.Given.{IsGivenFor, meant_check, meant_test};
+ghost use Rattle.aa_options.specs.Given.{IsGivenFor};
+ghost use Rattle.aatry_arguments.specs.Given.{meant_check, meant_test};
 ghost use Rattle.aatry_arguments.specs.TestWords.{asked_test, test_of};
 
-use crate::arguments::{ArgumentFault, Check, Test};
+use crate::arguments::{Check, Test};
 use crate::check_words::check_of;
 use crate::faults::passed_on;
+use aa_options::ArgumentFault;
 use std::alloc::Global;
 
 // What help says of `test`.

@@ -6,9 +6,9 @@ use Rattle.serde_json.specs.Data.{object}
 use Rattle.serde_json.specs.Written.{compact_text}
 use Rattle.aa_bytes.specs.Bytes.{line_feed}
 use Rattle.aa_bytes.specs.Texts.{is_empty}
+use Rattle.aa_explain_diff.specs.Features.{Feature}
 use Rattle.aatry_changes.specs.Changes.{below_text, change_lines, changed_by, changed_count, differ, headed, headed_record, is_gone_or_changed}
-use Rattle.aatry_changes.specs.Changes.{is_gone_or_changed_by, is_new, lines_alone, new_text, new_text_by, old_text, old_text_by}
-use Rattle.aatry_changes.specs.declared.lines.Line.{Line}
+use Rattle.aatry_changes.specs.Changes.{alone, is_gone_or_changed_by, is_new, new_text, new_text_by, old_text, old_text_by}
 use Rattle.aatry_policy.specs.FolderParts.{FolderParts}
 use Rattle.aatry_policy.specs.Parts.{Part, part_of}
 use Rattle.aatry_report.specs.Shown.{shown}
@@ -30,7 +30,7 @@ headed-told : (form : Form) (word name : List ℕ) → is_empty (headed form wor
 headed-told Lines word name = filled (word ++ codes ": " ++ shown name) (line_feed ∷ []) refl
 headed-told Records word name = filled (compact_text (object (headed_record word name))) (line_feed ∷ []) refl
 
-changed-told : (form : Form) (old new : FolderParts) (part other : Part) (less more : List Line)
+changed-told : (form : Form) (old new : FolderParts) (part other : Part) (less more : List Feature)
     → is_empty (changed_by form old new part other less more) ≡ not (differ less more)
 changed-told form old new part other less more = by (differ less more)
   where
@@ -48,7 +48,7 @@ old-told form old new part = by (part_of new.parts part.name)
   where
     by : (found : Option Part) → is_empty (old_text_by form old new part found) ≡ not (is_gone_or_changed_by part found)
     by None = headed-told form (codes "gone") part.name
-    by (Some other) = changed-told form old new part other (lines_alone part other) (lines_alone other part)
+    by (Some other) = changed-told form old new part other (alone part other) (alone other part)
 
 -- one of the new folder is told where it is new
 pub new-told : (form : Form) (old : FolderParts) (part : Part) → is_empty (new_text form old part) ≡ not (is_new old part)

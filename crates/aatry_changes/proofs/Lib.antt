@@ -1,3 +1,2 @@
 mod CountLemmas
-mod LackingLemmas
 mod LawLemmas

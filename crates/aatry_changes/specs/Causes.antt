@@ -1,25 +1,24 @@
 -- The rules behind a question that two folders answer otherwise (docs/aatry.md).
 use Rattle.std.specs.Prelude.{ℕ, List, [], ◌++◌, codes, Option, None, Some}
+use Rattle.aa_explain_diff.specs.Features.{Feature, lacking}
 use Rattle.aa_profile_access.specs.Request.{Request}
 use Rattle.aatry_changes.specs.Differing.{told_lines}
-use Rattle.aatry_changes.specs.Lacking.{lacking}
-use Rattle.aatry_changes.specs.Lines.{covering_lines}
-use Rattle.aatry_changes.specs.declared.lines.Line.{Line}
+use Rattle.aatry_changes.specs.PartFeatures.{covering_from}
 use Rattle.aatry_changes.specs.declared.side.Side.{Side}
 use Rattle.aatry_changes.specs.declared.side.Side.TheVariants.{New, Old}
 use Rattle.aatry_policy.specs.FolderParts.{FolderParts}
 use Rattle.aatry_policy.specs.Parts.{Part, part_of}
 use Rattle.aatry_report.specs.declared.form.Form.{Form}
 
--- the lines of the rules of a part that cover something of what is asked for, if there is such a part
-abbrev pub covering_of : Request → Option Part → List Line
+-- the rules of a part that cover something of what is asked for, if there is such a part
+abbrev pub covering_of : Request → Option Part → List Feature
 covering_of request None = []
-covering_of request (Some part) = covering_lines request part.rules part.places
+covering_of request (Some part) = covering_from request 0 part.rules
 
--- those of a part's lines that others lack
-abbrev pub causes_of : Form → FolderParts → Option Part → Side → List Line → List Line → List ℕ
-causes_of form folder None side others lines = []
-causes_of form folder (Some part) side others lines = told_lines form folder part (codes "  ") side (lacking others lines)
+-- those of a part's rules that others lack
+abbrev pub causes_of : Form → FolderParts → Option Part → Side → List Feature → List Feature → List ℕ
+causes_of form folder None side others rules = []
+causes_of form folder (Some part) side others rules = told_lines form folder part (codes "  ") side (lacking others rules)
 
 -- the rules that the old part has and the new one lacks, and those that the new one has and the old one lacks
 abbrev pub causes_between : Form → FolderParts → FolderParts → Option Part → Option Part → Request → List ℕ

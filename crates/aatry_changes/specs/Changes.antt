@@ -4,10 +4,9 @@ use Rattle.std.specs.Prelude.{Option, None, Some, is_none}
 use Rattle.serde_json.specs.Data.{Members}
 use Rattle.aa_bytes.specs.Bytes.{line_feed}
 use Rattle.aa_bytes.specs.Texts.{is_empty}
+use Rattle.aa_explain_diff.specs.Features.{Feature, features_of, lacking}
 use Rattle.aatry_changes.specs.Differing.{told_lines}
-use Rattle.aatry_changes.specs.Lacking.{lacking}
-use Rattle.aatry_changes.specs.Lines.{lines_of}
-use Rattle.aatry_changes.specs.declared.lines.Line.{Line}
+use Rattle.aatry_changes.specs.PartFeatures.{section_of}
 use Rattle.aatry_changes.specs.declared.side.Side.TheVariants.{New, Old}
 use Rattle.aatry_policy.specs.FolderParts.{FolderParts}
 use Rattle.aatry_policy.specs.Parts.{Part, part_of}
@@ -29,29 +28,29 @@ abbrev pub headed : Form → List ℕ → List ℕ → List ℕ
 headed Lines word name = headed_line word name
 headed Records word name = record_line (headed_record word name)
 
--- the lines of a part that another lacks
-abbrev pub lines_alone : Part → Part → List Line
-lines_alone part other = lacking (lines_of other) (lines_of part)
+-- what a part has and another lacks
+abbrev pub alone : Part → Part → List Feature
+alone part other = lacking (features_of (section_of other)) (features_of (section_of part))
 
--- one of two sides has a line alone
-abbrev pub differ : List Line → List Line → Bool
+-- one of two sides has something alone
+abbrev pub differ : List Feature → List Feature → Bool
 differ less more = not (is_empty less && is_empty more)
 
--- two parts of a full name aren't told by the same lines
+-- of two parts of a full name one has something that the other lacks
 abbrev pub is_changed : Part → Part → Bool
-is_changed part other = differ (lines_alone part other) (lines_alone other part)
+is_changed part other = differ (alone part other) (alone other part)
 
--- the lines that the old part has alone, and those that the new one has alone
-abbrev pub below_text : Form → FolderParts → FolderParts → Part → Part → List Line → List Line → List ℕ
+-- what the old part has alone, and what the new one has alone
+abbrev pub below_text : Form → FolderParts → FolderParts → Part → Part → List Feature → List Feature → List ℕ
 below_text form old new part other less more = told_lines form old part [] Old less ++ told_lines form new other [] New more
 
--- what is told of a part of both folders, by these lines
-abbrev pub changed_by : Form → FolderParts → FolderParts → Part → Part → List Line → List Line → List ℕ
+-- what is told of a part of both folders, by that
+abbrev pub changed_by : Form → FolderParts → FolderParts → Part → Part → List Feature → List Feature → List ℕ
 changed_by form old new part other less more =
     if differ less more then headed form (codes "changed") part.name ++ below_text form old new part other less more else []
 
 abbrev pub changed_text : Form → FolderParts → FolderParts → Part → Part → List ℕ
-changed_text form old new part other = changed_by form old new part other (lines_alone part other) (lines_alone other part)
+changed_text form old new part other = changed_by form old new part other (alone part other) (alone other part)
 
 -- what is told of a part of the old folder, by the one of its full name in the new one: that it is gone, or what is changed
 abbrev pub old_text_by : Form → FolderParts → FolderParts → Part → Option Part → List ℕ

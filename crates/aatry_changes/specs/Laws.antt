@@ -1,17 +1,33 @@
--- What the law on changes speaks of: folders with parts alike.
-use Rattle.std.specs.Prelude.{◌≡◌, ℕ, List, [], ◌∷◌, map, Some}
-use Rattle.aatry_changes.specs.Lines.{lines_of}
+-- What the laws on changes speak of: parts that are alike, and that answer alike.
+use Rattle.std.specs.Prelude.{◌≡◌, ◌<◌, ◌^◌, ℕ, Bool, true, List, [], ◌∷◌, Some}
+use Rattle.std.specs.List.{All}
+use Rattle.aa_decide_exec_rules.specs.Choices.{choice}
+use Rattle.aa_decide_rules.specs.Verdict.{verdict}
+use Rattle.aa_explain_diff.specs.Features.{are_alike}
+use Rattle.aa_profile_access.specs.Request.{Request}
+use Rattle.aa_profile_data.specs.ConflictLaws.{HasReadPattern}
+use Rattle.aa_profile_data.specs.Conflicts.{agree}
+use Rattle.aatry_changes.specs.PartFeatures.{section_of}
 use Rattle.aatry_policy.specs.Parts.{Part, part_of}
 
--- what the lines of a part tell
-abbrev pub texts_of : Part → List (List ℕ)
-texts_of part = map (λ line. line.text) (lines_of part)
-
--- some parts have one of the full name of another, and it is told by the same lines
+-- some parts have one of the full name of another, and neither of the two has something that the other lacks
 abbrev pub HasAlike : List Part → Part → Type 0
-HasAlike others part = (other : Part) × (part_of others part.name ≡ Some other) × (texts_of other ≡ texts_of part)
+HasAlike others part = (other : Part) × (part_of others part.name ≡ Some other) × (are_alike (section_of part) (section_of other) ≡ true)
 
 -- they have such a one for each of these
 abbrev pub HaveAlike : List Part → List Part → Type 0
 HaveAlike others [] = Unit
 HaveAlike others (part ∷ parts) = HasAlike others part × HaveAlike others parts
+
+-- Two parts decide alike, whatever is asked: each verdict is the same, with its tag and its mask; and so is what their rules say together of the start of
+-- a program, where those of one agree (as the rules of a file that was read do), their patterns read, and its path is a list of bytes.
+pub record AnswerAlike (part other : Part) : Type 0 where
+  pub verdicts : (request : Request) → verdict part.mode part.audit part.rules request ≡ verdict other.mode other.audit other.rules request
+  pub choices :
+      (owned : Bool) (path : List ℕ)
+      → agree part.rules ≡ true → All HasReadPattern part.rules → All (λ b. b < 2 ^ 8) path
+      → choice part.audit owned path part.rules ≡ choice other.audit owned path other.rules
+
+-- some parts have one of the full name of another that answers alike
+abbrev pub HasAnsweringAlike : List Part → Part → Type 0
+HasAnsweringAlike others part = (other : Part) × (part_of others part.name ≡ Some other) × AnswerAlike part other

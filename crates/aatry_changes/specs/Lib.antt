@@ -1,9 +1,6 @@
 pub mod Causes
 pub mod Changes
 pub mod Differing
-pub mod Lacking
 pub mod Laws
-pub mod Lines
-pub mod SeenLines
+pub mod PartFeatures
 pub mod Sides
-pub mod code

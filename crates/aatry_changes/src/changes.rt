@@ -1,10 +1,9 @@
 //! Profiles, children and hats that are new, gone or changed.
 
 ghost use Rattle.std.specs.Prelude.{◌≡◌, ◌++◌, IfOk, OnOk, length, map, filter, flat_map};
+ghost use Rattle.aa_explain_diff.specs.Features.{lacking, seen_feature};
 ghost use Rattle.aatry_changes.specs.Changes.{below_text, change_lines, changed_by, changed_count, changed_text, differ, headed, headed_line};
 ghost use Rattle.aatry_changes.specs.Changes.{headed_record, is_changed, is_gone_or_changed, is_new, new_text, old_text};
-ghost use Rattle.aatry_changes.specs.Lacking.{lacking};
-ghost use Rattle.aatry_changes.specs.SeenLines.{seen_lines};
 ghost use Rattle.aatry_changes.specs.Sides.{FindIn};
 ghost use Rattle.aatry_policy.specs.FolderParts.{seen_folder};
 ghost use Rattle.aatry_policy.specs.SeenProfiles.{seen_part};
@@ -12,14 +11,14 @@ ghost use Rattle.aatry_report.specs.SeenRecord.{seen_record};
 ghost use Rattle.aatry_report.specs.Taken.{counted};
 
 use crate::differing::push_lines;
-use crate::lacking::lacking;
-use crate::lines::{Line, lines_of};
+use crate::part_features::section_of;
 use crate::side::{Finders, PartPair, Side, SidePart, finders_in};
+use aa_explain_diff::{Feature, features_of, lacking};
 use aatry_policy::{FolderParts, Part, part_of};
-use aatry_report::{Form, Record, push_shown};
+use aatry_report::{Form, Record, Teller, push_shown};
 use std::alloc::{AllocError, Global};
 
-// Puts the line of a part behind a text: a word, and its full name.
+// Appends the line of a part to a text: a word, and its full name.
 fn push_headed_line(word: &str, name: &[u8], out: &mut Vec<u8>) -> Result<(), AllocError>
     ensures { OnOk result (out.new.items ≡ out.old.items ++ headed_line word.now name.now) }
 {
@@ -39,35 +38,29 @@ fn headed_record(alloc: Global, word: &str, name: &[u8]) -> Result<Record, Alloc
     Ok(made)
 }
 
-// Puts what is told of a part before its lines behind a text.
-fn push_headed(
-    alloc: Global,
-    form: Form,
-    word: &str,
-    name: &[u8],
-    out: &mut Vec<u8>,
-) -> Result<(), AllocError>
-    ensures { OnOk result (out.new.items ≡ out.old.items ++ headed form word.now name.now) }
+// Appends what is told of a part before its lines to a text.
+fn push_headed(teller: Teller, word: &str, name: &[u8], out: &mut Vec<u8>) -> Result<(), AllocError>
+    ensures { OnOk result (out.new.items ≡ out.old.items ++ headed teller.form word.now name.now) }
 {
-    match form {
+    match teller.form {
         Form::Lines => push_headed_line(word, name, out),
-        Form::Records => headed_record(alloc, word, name)?.push(alloc, out),
+        Form::Records => headed_record(teller.alloc, word, name)?.push(teller.alloc, out),
     }
 }
 
-// Puts the lines behind a text that the old part has alone, and then those that the new one has alone.
+// Appends the lines to a text that the old part has alone, and then those that the new one has alone.
 fn push_below(
     finders: &mut Finders<'_>,
-    form: Form,
+    teller: Teller,
     pair: &PartPair<'_>,
-    less: &[&Line],
-    more: &[&Line],
+    less: &[Feature<'_>],
+    more: &[Feature<'_>],
     out: &mut Vec<u8>,
 ) -> Result<(), AllocError>
     requires { FindIn (seen_folder pair.now.old.now) (seen_folder pair.now.new.now) finders.old }
     ensures told { OnOk result (out.new.items ≡ out.old.items
-        ++ below_text form (seen_folder pair.now.old.now) (seen_folder pair.now.new.now) (seen_part pair.now.part.now) (seen_part pair.now.other.now)
-        (seen_lines less.now) (seen_lines more.now)) }
+        ++ below_text teller.form (seen_folder pair.now.old.now) (seen_folder pair.now.new.now) (seen_part pair.now.part.now) (seen_part pair.now.other.now)
+        (map seen_feature less.now) (map seen_feature more.now)) }
     ensures same { finders.new ≡ finders.old }
 {
     let old = SidePart {
@@ -80,100 +73,91 @@ fn push_below(
         part: pair.other,
         side: Side::New,
     };
-    push_lines(&mut finders.of_old, form, &old, "", less, out)?;
-    push_lines(&mut finders.of_new, form, &new, "", more, out)
+    push_lines(&mut finders.of_old, teller, &old, "", less, out)?;
+    push_lines(&mut finders.of_new, teller, &new, "", more, out)
 }
 
-// Puts what is told of a part of both folders behind a text, by the lines that either has alone, and says whether it is changed.
+// Appends what is told of a part of both folders to a text, by the lines that either has alone, and says whether it is changed.
 fn push_differing(
     finders: &mut Finders<'_>,
-    form: Form,
+    teller: Teller,
     pair: &PartPair<'_>,
-    less: &[&Line],
-    more: &[&Line],
+    less: &[Feature<'_>],
+    more: &[Feature<'_>],
     out: &mut Vec<u8>,
 ) -> Result<bool, AllocError>
     requires { FindIn (seen_folder pair.now.old.now) (seen_folder pair.now.new.now) finders.old }
     ensures told { OnOk result (out.new.items ≡ out.old.items
-        ++ changed_by form (seen_folder pair.now.old.now) (seen_folder pair.now.new.now) (seen_part pair.now.part.now) (seen_part pair.now.other.now)
-        (seen_lines less.now) (seen_lines more.now)) }
-    ensures whether { IfOk result (λ told. told ≡ differ (seen_lines less.now) (seen_lines more.now)) }
+        ++ changed_by teller.form (seen_folder pair.now.old.now) (seen_folder pair.now.new.now) (seen_part pair.now.part.now) (seen_part pair.now.other.now)
+        (map seen_feature less.now) (map seen_feature more.now)) }
+    ensures whether { IfOk result (λ told. told ≡ differ (map seen_feature less.now) (map seen_feature more.now)) }
     ensures same { finders.new ≡ finders.old }
 {
     if less.is_empty() && more.is_empty() {
         return Ok(false);
     }
-    push_headed(
-        finders.of_old.alloc(),
-        form,
-        "changed",
-        pair.part.name.as_slice(),
-        out,
-    )?;
-    push_below(finders, form, pair, less, more, out)?;
+    push_headed(teller, "changed", pair.part.name.as_slice(), out)?;
+    push_below(finders, teller, pair, less, more, out)?;
     Ok(true)
 }
 
 // The same by the lines of both.
 fn push_between(
     finders: &mut Finders<'_>,
-    form: Form,
+    teller: Teller,
     pair: &PartPair<'_>,
-    before: &[Line],
-    after: &[Line],
+    before: &[Feature<'_>],
+    after: &[Feature<'_>],
     out: &mut Vec<u8>,
 ) -> Result<bool, AllocError>
     requires { FindIn (seen_folder pair.now.old.now) (seen_folder pair.now.new.now) finders.old }
     ensures told { OnOk result (out.new.items ≡ out.old.items
-        ++ changed_by form (seen_folder pair.now.old.now) (seen_folder pair.now.new.now) (seen_part pair.now.part.now) (seen_part pair.now.other.now)
-        (lacking after.now before.now) (lacking before.now after.now)) }
-    ensures whether { IfOk result (λ told. told ≡ differ (lacking after.now before.now) (lacking before.now after.now)) }
+        ++ changed_by teller.form (seen_folder pair.now.old.now) (seen_folder pair.now.new.now) (seen_part pair.now.part.now) (seen_part pair.now.other.now)
+        (lacking (map seen_feature after.now) (map seen_feature before.now)) (lacking (map seen_feature before.now) (map seen_feature after.now))) }
+    ensures whether { IfOk result (λ told. told ≡ differ (lacking (map seen_feature after.now) (map seen_feature before.now)) (lacking (map seen_feature before.now) (map seen_feature after.now))) }
     ensures same { finders.new ≡ finders.old }
 {
-    let alloc = finders.of_old.alloc();
-    let less = lacking(alloc, after, before)?;
-    let more = lacking(alloc, before, after)?;
-    push_differing(finders, form, pair, &less, &more, out)
+    let less = lacking(teller.alloc, after, before)?;
+    let more = lacking(teller.alloc, before, after)?;
+    push_differing(finders, teller, pair, &less, &more, out)
 }
 
-// Puts what is told of a part of both folders behind a text, and says whether it is changed.
+// Appends what is told of a part of both folders to a text, and says whether it is changed.
 fn push_changed(
     finders: &mut Finders<'_>,
-    form: Form,
+    teller: Teller,
     pair: &PartPair<'_>,
     out: &mut Vec<u8>,
 ) -> Result<bool, AllocError>
     requires { FindIn (seen_folder pair.now.old.now) (seen_folder pair.now.new.now) finders.old }
     ensures told { OnOk result (out.new.items ≡ out.old.items
-        ++ changed_text form (seen_folder pair.now.old.now) (seen_folder pair.now.new.now) (seen_part pair.now.part.now)
+        ++ changed_text teller.form (seen_folder pair.now.old.now) (seen_folder pair.now.new.now) (seen_part pair.now.part.now)
         (seen_part pair.now.other.now)) }
     ensures whether { IfOk result (λ told. told ≡ is_changed (seen_part pair.now.part.now) (seen_part pair.now.other.now)) }
     ensures same { finders.new ≡ finders.old }
 {
-    let alloc = finders.of_old.alloc();
-    let before = lines_of(alloc, pair.part)?;
-    let after = lines_of(alloc, pair.other)?;
-    push_between(finders, form, pair, &before, &after, out)
+    let before = features_of(teller.alloc, &section_of(pair.part))?;
+    let after = features_of(teller.alloc, &section_of(pair.other))?;
+    push_between(finders, teller, pair, &before, &after, out)
 }
 
-// Puts what is told of a part of the old folder behind a text, and says whether it is gone or changed.
+// Appends what is told of a part of the old folder to a text, and says whether it is gone or changed.
 fn push_old(
     finders: &mut Finders<'_>,
-    form: Form,
+    teller: Teller,
     old: &FolderParts<'_>,
     new: &FolderParts<'_>,
     part: &Part<'_>,
     out: &mut Vec<u8>,
 ) -> Result<bool, AllocError>
     requires { FindIn (seen_folder old.now) (seen_folder new.now) finders.old }
-    ensures told { OnOk result (out.new.items ≡ out.old.items ++ old_text form (seen_folder old.now) (seen_folder new.now) (seen_part part.now)) }
+    ensures told { OnOk result (out.new.items ≡ out.old.items ++ old_text teller.form (seen_folder old.now) (seen_folder new.now) (seen_part part.now)) }
     ensures whether { IfOk result (λ told. told ≡ is_gone_or_changed (seen_folder new.now) (seen_part part.now)) }
     ensures same { finders.new ≡ finders.old }
 {
     match part_of(new.parts, part.name.as_slice()) {
         None => {
-            let alloc = finders.of_old.alloc();
-            push_headed(alloc, form, "gone", part.name.as_slice(), out)?;
+            push_headed(teller, "gone", part.name.as_slice(), out)?;
             Ok(true)
         }
         Some(other) => {
@@ -183,35 +167,34 @@ fn push_old(
                 part,
                 other,
             };
-            push_changed(finders, form, &pair, out)
+            push_changed(finders, teller, &pair, out)
         }
     }
 }
 
-// Puts what is told of a part of the new folder behind a text, and says whether it is new.
+// Appends what is told of a part of the new folder to a text, and says whether it is new.
 fn push_new(
-    alloc: Global,
-    form: Form,
+    teller: Teller,
     old: &FolderParts<'_>,
     part: &Part<'_>,
     out: &mut Vec<u8>,
 ) -> Result<bool, AllocError>
-    ensures told { OnOk result (out.new.items ≡ out.old.items ++ new_text form (seen_folder old.now) (seen_part part.now)) }
+    ensures told { OnOk result (out.new.items ≡ out.old.items ++ new_text teller.form (seen_folder old.now) (seen_part part.now)) }
     ensures whether { IfOk result (λ told. told ≡ is_new (seen_folder old.now) (seen_part part.now)) }
 {
     match part_of(old.parts, part.name.as_slice()) {
         None => {
-            push_headed(alloc, form, "new", part.name.as_slice(), out)?;
+            push_headed(teller, "new", part.name.as_slice(), out)?;
             Ok(true)
         }
         Some(_) => Ok(false),
     }
 }
 
-// Puts what is told of parts of the old folder behind a text, and says how many are gone or changed.
+// Appends what is told of parts of the old folder to a text, and says how many are gone or changed.
 fn push_old_parts(
     finders: &mut Finders<'_>,
-    form: Form,
+    teller: Teller,
     old: &FolderParts<'_>,
     new: &FolderParts<'_>,
     parts: &[Part<'_>],
@@ -219,14 +202,14 @@ fn push_old_parts(
 ) -> Result<usize, AllocError>
     requires { FindIn (seen_folder old.now) (seen_folder new.now) finders.old }
     ensures told { OnOk result (out.new.items
-        ≡ out.old.items ++ flat_map (old_text form (seen_folder old.now) (seen_folder new.now)) (map seen_part parts.now)) }
+        ≡ out.old.items ++ flat_map (old_text teller.form (seen_folder old.now) (seen_folder new.now)) (map seen_part parts.now)) }
     ensures count { IfOk result (λ count. count ≡ length (filter (is_gone_or_changed (seen_folder new.now)) (map seen_part parts.now))) }
     ensures same { finders.new ≡ finders.old }
 {
     let mut count = 0;
     let mut rest = parts;
     while let [part, behind @ ..] = rest {
-        if push_old(finders, form, old, new, part, out)? {
+        if push_old(finders, teller, old, new, part, out)? {
             count += 1;
         }
         rest = behind;
@@ -234,21 +217,20 @@ fn push_old_parts(
     Ok(count)
 }
 
-// Puts what is told of parts of the new folder behind a text, and says how many are new.
+// Appends what is told of parts of the new folder to a text, and says how many are new.
 fn push_new_parts(
-    alloc: Global,
-    form: Form,
+    teller: Teller,
     old: &FolderParts<'_>,
     parts: &[Part<'_>],
     out: &mut Vec<u8>,
 ) -> Result<usize, AllocError>
-    ensures told { OnOk result (out.new.items ≡ out.old.items ++ flat_map (new_text form (seen_folder old.now)) (map seen_part parts.now)) }
+    ensures told { OnOk result (out.new.items ≡ out.old.items ++ flat_map (new_text teller.form (seen_folder old.now)) (map seen_part parts.now)) }
     ensures count { IfOk result (λ count. count ≡ length (filter (is_new (seen_folder old.now)) (map seen_part parts.now))) }
 {
     let mut count = 0;
     let mut rest = parts;
     while let [part, behind @ ..] = rest {
-        if push_new(alloc, form, old, part, out)? {
+        if push_new(teller, old, part, out)? {
             count += 1;
         }
         rest = behind;
@@ -269,17 +251,16 @@ fn push_new_parts(
 ///
 /// Where memory runs out. A beginning may have been put then.
 pub fn push_changes(
-    alloc: Global,
-    form: Form,
+    teller: Teller,
     old: &FolderParts<'_>,
     new: &FolderParts<'_>,
     out: &mut Vec<u8>,
 ) -> Result<usize, AllocError>
-    ensures told { OnOk result (out.new.items ≡ out.old.items ++ change_lines form (seen_folder old.now) (seen_folder new.now)) }
+    ensures told { OnOk result (out.new.items ≡ out.old.items ++ change_lines teller.form (seen_folder old.now) (seen_folder new.now)) }
     ensures count { IfOk result (λ count. count ≡ counted (changed_count (seen_folder old.now) (seen_folder new.now))) }
 {
-    let mut finders = finders_in(alloc, old, new);
-    let before = push_old_parts(&mut finders, form, old, new, old.parts, out)?;
-    let after = push_new_parts(alloc, form, old, new.parts, out)?;
+    let mut finders = finders_in(teller.alloc, old, new);
+    let before = push_old_parts(&mut finders, teller, old, new, old.parts, out)?;
+    let after = push_new_parts(teller, old, new.parts, out)?;
     Ok(before.saturating_add(after))
 }

@@ -4,11 +4,10 @@
 mod causes;
 mod changes;
 mod differing;
-mod lacking;
 mod laws;
-mod lines;
+mod part_features;
 mod side;
 
 pub use causes::push_causes;
 pub use changes::push_changes;
-pub use laws::{what_is_counted_is_told, when_nothing_is_told};
+pub use laws::{what_is_counted_is_told, what_is_not_told_answers_alike, when_nothing_is_told};

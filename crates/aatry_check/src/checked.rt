@@ -8,7 +8,7 @@ ghost use Rattle.aatry_report.specs.FilePlaces.{path_below};
 use crate::refusal::push_refusal;
 use aa_profile::{Profile, ProfileRefusal, read_file};
 use aa_text_files::Files;
-use aatry_report::{Form, path_below, push_taken};
+use aatry_report::{Teller, path_below, push_taken};
 use std::alloc::{AllocError, Global};
 
 /// How files came out that were checked.
@@ -22,23 +22,21 @@ pub struct Checked {
 
 // Puts what is told of a file that was taken behind a text.
 fn push_profiles(
-    alloc: Global,
-    form: Form,
+    teller: Teller,
     base: &[u8],
     name: &[u8],
     profiles: &[Profile],
     out: &mut Vec<u8>,
 ) -> Result<(), AllocError>
-    ensures { OnOk result (out.new.items ≡ out.old.items ++ taken_line form (path_below base.now name.now) profiles.now) }
+    ensures { OnOk result (out.new.items ≡ out.old.items ++ taken_line teller.form (path_below base.now name.now) profiles.now) }
 {
-    let path = path_below(alloc, base, name)?;
-    push_taken(alloc, form, &path, profiles, out)
+    let path = path_below(teller.alloc, base, name)?;
+    push_taken(teller, &path, profiles, out)
 }
 
 // Checks a file, puts what is told of it behind a text, and says how many are refused: one or none.
 fn check_file(
-    alloc: Global,
-    form: Form,
+    teller: Teller,
     files: &Files,
     base: &[u8],
     name: &[u8],
@@ -46,18 +44,18 @@ fn check_file(
 ) -> Result<usize, AllocError>
     ensures refused { IfOk result (λ refused. refused ≡ refused_in files.now name.now) }
     ensures few { IfOk result (λ refused. refused ≤ 1) }
-    ensures told { OnOk result ((lines : List ℕ) × (out.new.items ≡ out.old.items ++ lines) × Tells form files.now base.now name.now lines) }
+    ensures told { OnOk result ((lines : List ℕ) × (out.new.items ≡ out.old.items ++ lines) × Tells teller.form files.now base.now name.now lines) }
 {
-    match read_file(alloc, files, name) {
+    match read_file(teller.alloc, files, name) {
         Ok(read) => {
-            push_profiles(alloc, form, base, name, &read.profiles, out)?;
+            push_profiles(teller, base, name, &read.profiles, out)?;
             Ok(0)
         }
         Err(error) => {
             if error.refusal == ProfileRefusal::Memory {
                 return Err(AllocError);
             }
-            push_refusal(alloc, form, files, base, name, error, out)?;
+            push_refusal(teller, files, base, name, error, out)?;
             Ok(1)
         }
     }
@@ -75,8 +73,7 @@ fn check_file(
 ///
 /// Where memory runs out. What is told of some files may have been put then.
 pub fn check(
-    alloc: Global,
-    form: Form,
+    teller: Teller,
     files: &Files,
     base: &str,
     names: &[String],
@@ -84,11 +81,11 @@ pub fn check(
 ) -> Result<Checked, AllocError>
     ensures all { IfOk result (λ checked. checked.taken + checked.refused ≡ length names.now) }
     ensures refused { IfOk result (λ checked. checked.refused ≡ refused_count files.now (map string_bytes names.now)) }
-    ensures told { OnOk result ((lines : List ℕ) × (out.new.items ≡ out.old.items ++ lines) × TellsEach form files.now base.now (map string_bytes names.now) lines) }
+    ensures told { OnOk result ((lines : List ℕ) × (out.new.items ≡ out.old.items ++ lines) × TellsEach teller.form files.now base.now (map string_bytes names.now) lines) }
 {
     let mut refused = 0;
     for name in names {
-        refused += check_file(alloc, form, files, base.as_bytes(), name.as_bytes(), out)?;
+        refused += check_file(teller, files, base.as_bytes(), name.as_bytes(), out)?;
     }
     Ok(Checked {
         taken: names.len() - refused,

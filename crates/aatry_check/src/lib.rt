@@ -1,9 +1,11 @@
 //! Checks files of policy, each by itself, and tells what is found.
 #![tactic(auto)]
 
+mod below;
 mod checked;
 mod records;
 mod refusal;
 
+pub use below::check_folder;
 pub use checked::{Checked, check};
 pub use refusal::push_placed;

@@ -11,7 +11,7 @@ ghost use Rattle.aatry_report.specs.declared.form.Form.TheVariants as form;
 use crate::records::refusal_record;
 use aa_profile::ProfileError;
 use aa_text_files::{Files, Place};
-use aatry_report::{Form, path_below, push_fault, push_fault_at, push_shown, words_of};
+use aatry_report::{Form, Teller, path_below, push_fault, push_fault_at, push_shown, words_of};
 use std::alloc::{AllocError, Global};
 
 // Puts which file includes the one that a fault stands in behind a text, where it isn't that file itself.
@@ -105,8 +105,7 @@ fn push_lines(
 
 /// Puts what is told of a file that is refused behind a text.
 pub fn push_refusal(
-    alloc: Global,
-    form: Form,
+    teller: Teller,
     files: &Files,
     base: &[u8],
     name: &[u8],
@@ -114,13 +113,16 @@ pub fn push_refusal(
     out: &mut Vec<u8>,
 ) -> Result<(), AllocError>
     ensures { OnOk result ((words : List ℕ) × (out.new.items ≡ out.old.items
-        ++ refusal_lines form words files.now base.now name.now (number_of error.refusal) error.place)) }
+        ++ refusal_lines teller.form words files.now base.now name.now (number_of error.refusal) error.place)) }
 {
-    let words = words_of(alloc, error.refusal)?;
-    match form {
-        Form::Lines => push_lines(alloc, files, base, name, words.as_str(), error, out),
+    let words = words_of(teller.alloc, error.refusal)?;
+    match teller.form {
+        Form::Lines => push_lines(teller.alloc, files, base, name, words.as_str(), error, out),
         Form::Records => {
-            refusal_record(alloc, files, base, name, words.as_str(), error)?.push(alloc, out)
+            refusal_record(teller.alloc, files, base, name, words.as_str(), error)?.push(
+                teller.alloc,
+                out,
+            )
         }
     }
 }

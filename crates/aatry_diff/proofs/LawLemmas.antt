@@ -1,5 +1,5 @@
 -- Something is told of questions exactly where one is answered otherwise.
-use Rattle.std.proofs.Common.{◌≡◌, ℕ, ◌==◌, false, ◌&&◌, List, [], ◌∷◌, ◌++◌, codes, length, map, refl, sym, ap, ◌∙◌}
+use Rattle.std.proofs.Common.{◌≡◌, ℕ, ◌==◌, Bool, true, false, ◌&&◌, List, [], ◌∷◌, ◌++◌, codes, length, map, refl, sym, ap, ◌∙◌}
 use Rattle.std.proofs.Math.Dec.{eqb-suc-zero}
 use Rattle.std.proofs.lemmas.List.{length-map}
 use Rattle.serde_json.specs.Data.{object}
@@ -51,3 +51,13 @@ pub some-told : (form : Form) (folders : BothFolders) (old new : List Loaded) (t
 some-told form folders old new tallies =
     let asked = differing old new tallies in
     all-told form folders (map (difference_of old new) asked) ∙ ap (λ n. n == 0) (length-map asked (difference_of old new))
+
+-- one holds where both do
+pub both-first : (a b : Bool) → (a && b) ≡ true → a ≡ true
+both-first true b both = refl
+both-first false b both = both
+
+-- a text that is empty is none
+pub empty-none : (text : List ℕ) → is_empty text ≡ true → text ≡ []
+empty-none [] empty = refl
+empty-none (b ∷ text) empty = absurd (cc)

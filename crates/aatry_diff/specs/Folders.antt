@@ -1,8 +1,8 @@
 -- Two folders of policy that are compared, by their profiles, children and hats.
 use Rattle.aatry_diff.specs.declared.folders.BothFolders.{BothFolders as CodeFolders}
-use Rattle.aatry_diff.specs.declared.folders.LoadedFolder.{LoadedFolder}
 use Rattle.aatry_policy.specs.FolderParts.{FolderParts, seen_folder}
 use Rattle.aatry_policy.specs.Parts.{set_parts}
+use Rattle.aatry_policy.specs.declared.folder.LoadedFolder.{LoadedFolder}
 
 pub record BothFolders : Type 0 where
   pub old : FolderParts
@@ -15,7 +15,7 @@ seen_folders folders = record { old = seen_folder folders.old; new = seen_folder
 -- a folder by the parts of what is loaded of it
 abbrev pub seen_loaded : LoadedFolder → FolderParts
 seen_loaded loaded = record {
-  files = loaded.folder.now.files.now;
+  files = loaded.folder.now.files;
   base = loaded.folder.now.base.now;
   parts = set_parts loaded.policy.manager.machine.now loaded.policy.origins.items;
 }

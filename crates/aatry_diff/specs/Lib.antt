@@ -1,4 +1,5 @@
 pub mod Answers
+pub mod Below
 pub mod Comparing
 pub mod Differences
 pub mod Differing

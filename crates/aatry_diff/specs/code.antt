@@ -1,2 +1,3 @@
--- What is about the code: what it finds of each question in turn, and what it tells of folders by that.
+-- What is about the code: requests by the file that tells of them, and what is found of each question in turn, and told of folders by that.
+pub mod Requests
 pub mod Steps

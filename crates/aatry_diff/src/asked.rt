@@ -11,7 +11,7 @@ use crate::finding::{Difference, find_differences};
 use crate::folders::BothFolders;
 use crate::summary::push_summary;
 use aa_set::Manager;
-use aatry_report::Form;
+use aatry_report::Teller;
 use aatry_requests::{Requests, Source, gather};
 use std::alloc::{AllocError, Global};
 
@@ -65,17 +65,16 @@ pub fn differences_of<'t, 'a>(
 
 // Appends what sums up to a text, by how many questions are answered otherwise, if there are requests.
 fn push_summary_of(
-    alloc: Global,
-    form: Form,
+    teller: Teller,
     requests: &Option<Requests<'_>>,
     differing: usize,
     out: &mut Vec<u8>,
 ) -> Result<(), AllocError>
-    ensures { OnOk result (out.new.items ≡ out.old.items ++ summary_text form (option_map seen_requests requests.now) differing) }
+    ensures { OnOk result (out.new.items ≡ out.old.items ++ summary_text teller.form (option_map seen_requests requests.now) differing) }
 {
     match requests {
         None => Ok(()),
-        Some(requests) => push_summary(alloc, form, requests, differing, out),
+        Some(requests) => push_summary(teller, requests, differing, out),
     }
 }
 
@@ -86,16 +85,15 @@ fn push_summary_of(
 ///
 /// Where memory runs out. A beginning may have been appended then.
 pub fn push_asked(
-    alloc: Global,
-    form: Form,
+    teller: Teller,
     folders: &BothFolders<'_>,
     asked: &Asked<'_>,
     out: &mut Vec<u8>,
 ) -> Result<(), AllocError>
     ensures { OnOk result (out.new.items ≡ out.old.items
-        ++ told_requests form (seen_folders folders.now) (option_map seen_requests asked.now.requests.now)
+        ++ told_requests teller.form (seen_folders folders.now) (option_map seen_requests asked.now.requests.now)
         (seen_differences asked.now.differences.now)) }
 {
-    push_differences(alloc, form, folders, asked.differences, out)?;
-    push_summary_of(alloc, form, asked.requests, asked.differences.len(), out)
+    push_differences(teller, folders, asked.differences, out)?;
+    push_summary_of(teller, asked.requests, asked.differences.len(), out)
 }

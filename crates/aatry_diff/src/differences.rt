@@ -14,7 +14,7 @@ use crate::folders::BothFolders;
 use crate::numbers::push_number;
 use aa_set::Question;
 use aatry_changes::push_causes;
-use aatry_report::{Form, Record};
+use aatry_report::{Form, Record, Teller};
 use aatry_requests::{push_question, rule_request, who_asks};
 use std::alloc::{AllocError, Global};
 
@@ -85,32 +85,29 @@ fn question_record(alloc: Global, difference: &Difference<'_, '_>) -> Result<Rec
 
 // Appends what is told of a question by itself to a text.
 fn push_told(
-    alloc: Global,
-    form: Form,
+    teller: Teller,
     difference: &Difference<'_, '_>,
     out: &mut Vec<u8>,
 ) -> Result<(), AllocError>
-    ensures { OnOk result (out.new.items ≡ out.old.items ++ told_question form (seen_difference difference.now)) }
+    ensures { OnOk result (out.new.items ≡ out.old.items ++ told_question teller.form (seen_difference difference.now)) }
 {
-    match form {
+    match teller.form {
         Form::Lines => push_line(out, difference),
-        Form::Records => question_record(alloc, difference)?.push(alloc, out),
+        Form::Records => question_record(teller.alloc, difference)?.push(teller.alloc, out),
     }
 }
 
 // Appends the rules that lead to one of the answers to a question alone to a text.
 fn push_causes_of(
-    alloc: Global,
-    form: Form,
+    teller: Teller,
     folders: &BothFolders<'_>,
     question: &Question<'_>,
     out: &mut Vec<u8>,
 ) -> Result<(), AllocError>
-    ensures { OnOk result (out.new.items ≡ out.old.items ++ causes form (seen_folders folders.now) (seen_question question.entry.now)) }
+    ensures { OnOk result (out.new.items ≡ out.old.items ++ causes teller.form (seen_folders folders.now) (seen_question question.entry.now)) }
 {
     push_causes(
-        alloc,
-        form,
+        teller,
         &folders.old,
         &folders.new,
         who_asks(question),
@@ -121,22 +118,15 @@ fn push_causes_of(
 
 // Appends what is told of a question that is answered otherwise to a text.
 fn push_difference(
-    alloc: Global,
-    form: Form,
+    teller: Teller,
     folders: &BothFolders<'_>,
     difference: &Difference<'_, '_>,
     out: &mut Vec<u8>,
 ) -> Result<(), AllocError>
-    ensures { OnOk result (out.new.items ≡ out.old.items ++ difference_text form (seen_folders folders.now) (seen_difference difference.now)) }
+    ensures { OnOk result (out.new.items ≡ out.old.items ++ difference_text teller.form (seen_folders folders.now) (seen_difference difference.now)) }
 {
-    push_told(alloc, form, difference, out)?;
-    push_causes_of(
-        alloc,
-        form,
-        folders,
-        &difference.tally.question.question(),
-        out,
-    )
+    push_told(teller, difference, out)?;
+    push_causes_of(teller, folders, &difference.tally.question.question(), out)
 }
 
 /// Appends what is told of each of some questions to a text that two policy sets answer otherwise: the question, the answer before and after, and how
@@ -148,17 +138,16 @@ fn push_difference(
 ///
 /// Where memory runs out. What is told of some questions may have been appended then.
 pub fn push_differences(
-    alloc: Global,
-    form: Form,
+    teller: Teller,
     folders: &BothFolders<'_>,
     differences: &[Difference<'_, '_>],
     out: &mut Vec<u8>,
 ) -> Result<(), AllocError>
-    ensures { OnOk result (out.new.items ≡ out.old.items ++ told_differences form (seen_folders folders.now) (seen_differences differences.now)) }
+    ensures { OnOk result (out.new.items ≡ out.old.items ++ told_differences teller.form (seen_folders folders.now) (seen_differences differences.now)) }
 {
     let mut rest = differences;
     while let [difference, behind @ ..] = rest {
-        push_difference(alloc, form, folders, difference, out)?;
+        push_difference(teller, folders, difference, out)?;
         rest = behind;
     }
     Ok(())

@@ -1,21 +1,24 @@
 //! What holds of what is told of two folders, as laws over the definitions that the calls are proved to follow.
 
-ghost use Rattle.std.specs.Prelude.{◌≡◌, ◌==◌, ◌&&◌, List, Option, length};
+ghost use Rattle.std.specs.Prelude.{◌≡◌, ◌==◌, ◌&&◌, List, Option, length, true};
+ghost use Rattle.std.specs.List.{Contains};
 ghost use Rattle.aa_bytes.specs.Texts.{is_empty};
 ghost use Rattle.aa_decide_slots.specs.Entries.{Loaded};
 ghost use Rattle.aatry_changes.specs.Changes.{change_lines};
+ghost use Rattle.aatry_changes.specs.Laws.{HasAnsweringAlike};
 ghost use Rattle.aatry_diff.specs.Comparing.{are_alike, both};
 ghost use Rattle.aatry_diff.specs.Differences.{difference_lines};
 ghost use Rattle.aatry_diff.specs.Differing.{differing};
 ghost use Rattle.aatry_diff.specs.Folders.{BothFolders};
 ghost use Rattle.aatry_diff.specs.Sources.{differences_text};
 ghost use Rattle.aatry_policy.specs.Folders.{Folder, policy_in};
-ghost use Rattle.aatry_policy.specs.FolderParts.{by_parts};
+ghost use Rattle.aatry_policy.specs.FolderParts.{by_parts, parts_in};
+ghost use Rattle.aatry_policy.specs.Parts.{Part};
 ghost use Rattle.aatry_report.specs.declared.form.Form.{Form};
 ghost use Rattle.aatry_requests.specs.Gathering.{Gathered};
 ghost use Rattle.aatry_requests.specs.Tallies.{Tally};
 
-use aatry_changes::what_is_counted_is_told;
+use aatry_changes::{what_is_counted_is_told, what_is_not_told_answers_alike};
 
 /// Something is told of questions, in either form, exactly where two policy sets answer one of them otherwise.
 pub fn what_differs_is_told()
@@ -33,4 +36,16 @@ pub fn what_is_alike_is_not_told()
 {
     what_is_counted_is_told();
     what_differs_is_told();
+}
+
+/// So where two folders are alike, each profile, child and hat of the old one has one of its full name in the new one that decides as it does, whatever is
+/// asked: no verdict is another one, and no line that logs one; and their rules say the same together of the start of a program.
+pub fn what_alike_folders_answer()
+    ensures { (old new : Folder) (requests : Option Gathered) (part : Part)
+        → are_alike old new requests ≡ true
+        → Contains (parts_in old) part
+        → HasAnsweringAlike (parts_in new) part }
+{
+    what_is_alike_is_not_told();
+    what_is_not_told_answers_alike();
 }

@@ -1,8 +1,9 @@
-//! Two folders of policy, compared by their profiles and by what they answer to the same questions.
+//! The command `diff`: two folders of policy, compared by their profiles and by what they answer to the same questions.
 #![tactic(auto)]
 
 mod answers;
 mod asked;
+mod below;
 mod comparing;
 mod differences;
 mod finding;
@@ -11,5 +12,5 @@ mod laws;
 mod numbers;
 mod summary;
 
-pub use comparing::{Compared, diff};
-pub use laws::{what_differs_is_told, what_is_alike_is_not_told};
+pub use below::diff_folders;
+pub use laws::{what_alike_folders_answer, what_differs_is_told, what_is_alike_is_not_told};

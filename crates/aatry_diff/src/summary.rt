@@ -8,7 +8,7 @@ ghost use Rattle.aatry_report.specs.declared.form.Form.TheVariants.{Lines};
 ghost use Rattle.aatry_requests.specs.Gathering.{seen_requests};
 
 use crate::numbers::push_numbers;
-use aatry_report::{Form, Record};
+use aatry_report::{Form, Record, Teller};
 use aatry_requests::Requests;
 use std::alloc::{AllocError, Global};
 
@@ -119,16 +119,15 @@ fn summary_record(
 ///
 /// Where memory runs out. A part of the line may have been put then.
 pub fn push_summary(
-    alloc: Global,
-    form: Form,
+    teller: Teller,
     requests: &Requests<'_>,
     differing: usize,
     out: &mut Vec<u8>,
 ) -> Result<(), AllocError>
-    ensures { OnOk result (out.new.items ≡ out.old.items ++ summary_line form (seen_requests requests.now) differing) }
+    ensures { OnOk result (out.new.items ≡ out.old.items ++ summary_line teller.form (seen_requests requests.now) differing) }
 {
-    match form {
+    match teller.form {
         Form::Lines => push_line(out, requests, differing),
-        Form::Records => summary_record(alloc, requests, differing)?.push(alloc, out),
+        Form::Records => summary_record(teller.alloc, requests, differing)?.push(teller.alloc, out),
     }
 }

@@ -1,3 +1,5 @@
+mod OneFileLemmas
+mod UnreadLemmas
 pub mod FoundLemmas
 pub mod ListingLemmas
 pub mod MemberLemmas

@@ -1,7 +1,12 @@
+pub mod Faults
 pub mod Includes
 pub mod Links
 pub mod Members
 pub mod NamesBelow
+pub mod OneFile
 pub mod PassedOver
+pub mod PolicyFolders
+pub mod Reports
 pub mod Told
+pub mod Unread
 pub mod code

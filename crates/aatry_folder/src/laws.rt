@@ -35,7 +35,7 @@ pub fn what_is_missing_is_asked_for()
 
 /// So nothing is missing that stands in the folder of policy: where the names of the files come of a walk, nothing stands there for the include that the
 /// fault is told at, by what the file system answered in the walk; and where it tells the same as often as it is asked, by what it tells. This is so of all
-/// that `aatry_commands::check_folder` and the other commands read.
+/// that `policy_below` reads, for each command.
 pub fn nothing_that_stands_is_missing<F: Folders>(folders: &F)
     ensures answered { (base : List ℕ) (answers : List Answer) (files : List File) (name : List ℕ) (place : Place)
         → IsWalk (F.told folders.now) base answers (names_of files)

@@ -1,15 +1,24 @@
-//! The files and folders below a folder of policy, as apparmor_parser takes them.
+//! The files and folders below a folder of policy, as apparmor_parser takes them, and a file at its own path, found and read; and what a
+//! command over them comes to: a report, or a fault.
 #![tactic(auto)]
 
 mod below;
+mod fault;
 mod folders;
 mod laws;
 mod member;
+mod one_file;
 mod passed_over;
+mod policy_folder;
+mod report;
 
 pub use below::{FolderFault, MOST_NAMES, names_below};
+pub use fault::Fault;
 pub use folders::{Folders, RuntimeFolders};
 pub use laws::{
     nothing_that_stands_is_missing, what_is_missing_is_asked_for, what_stands_is_among_the_names,
 };
+pub use one_file::file_at;
 pub use passed_over::{is_kept_aside, is_passed_over};
+pub use policy_folder::{PolicyFolder, policy_below};
+pub use report::{Report, failed_by};

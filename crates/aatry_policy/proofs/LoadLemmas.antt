@@ -12,7 +12,7 @@ use Rattle.aa_profile.specs.FileReading.{file_profiles}
 use Rattle.aa_profile.specs.ProfileNames.{has_distinct_children, is_named_well}
 use Rattle.aa_profile_data.specs.declared.profile.Profile.{Profile}
 use Rattle.aa_profile_errors.specs.declared.profile_error.ProfileError.{ProfileError}
-use Rattle.aa_profile_places.specs.declared.places.ProfilePlaces.{ProfilePlaces}
+use Rattle.aa_profile_patterns.specs.declared.places.ProfilePlaces.{ProfilePlaces}
 use Rattle.aa_set.specs.Manager.{Managed, after_change, after_commit, made, new_manager}
 use Rattle.aa_set_answers.specs.Askers.{asker}
 use Rattle.aa_set_answers.specs.Laws.{HasFileNames, IsListed, ListedNamesLeadBack}

@@ -18,8 +18,8 @@ use Rattle.aa_profile_data.specs.declared.profile.Profile.{Profile}
 use Rattle.aa_profile_grammar.specs.Blocks.{Child as WrittenChild, Profile as WrittenProfile}
 use Rattle.aa_profile_grammar.specs.Files.{File as WrittenFile, file}
 use Rattle.aa_profile_patterns.specs.PatternTokens.{of_profiles}
-use Rattle.aa_profile_places.specs.declared.places.ProfilePlaces.{ProfilePlaces}
-use Rattle.aa_profile_places.specs.declared.places.SectionPlaces.{SectionPlaces}
+use Rattle.aa_profile_patterns.specs.declared.places.ProfilePlaces.{ProfilePlaces}
+use Rattle.aa_profile_patterns.specs.declared.places.SectionPlaces.{SectionPlaces}
 use Rattle.aa_set.specs.Manager.{new_manager}
 use Rattle.aa_set_answers.specs.Laws.{StandsAt}
 use Rattle.aa_text_files.specs.Files.{File}

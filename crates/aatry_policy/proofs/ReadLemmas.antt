@@ -15,8 +15,8 @@ use Rattle.aa_profile_errors.specs.declared.profile_error.ProfileError.{ProfileE
 use Rattle.aa_profile_grammar.specs.Files.{File as WrittenFile, file}
 use Rattle.aa_profile_access.specs.Names.{is_top_name}
 use Rattle.aa_profile_parsing.specs.declared.grammar_error.GrammarError.{GrammarError}
-use Rattle.aa_profile_places.specs.Places.{places_of_profile}
-use Rattle.aa_profile_places.specs.declared.places.ProfilePlaces.{ProfilePlaces}
+use Rattle.aa_profile_patterns.specs.Places.{places_of_profile}
+use Rattle.aa_profile_patterns.specs.declared.places.ProfilePlaces.{ProfilePlaces}
 use Rattle.aa_set_answers.specs.Laws.{HasFileNames}
 use Rattle.aa_set_commands.specs.declared.refusal.Refusal.{Refusal}
 use Rattle.aa_text_files.specs.Files.{File}

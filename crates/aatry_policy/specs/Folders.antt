@@ -1,14 +1,16 @@
 -- Folders of policy, and the policy sets that they make.
-use Rattle.std.specs.Prelude.{ℕ, List, false, map, string_bytes, Option}
+use Rattle.std.specs.Prelude.{ℕ, List, false, Option}
 use Rattle.aa_decide_slots.specs.Entries.{Loaded}
 use Rattle.aa_set.specs.Manager.{Managed, new_manager}
 use Rattle.aa_set_commands.specs.declared.refusal.Refusal.{Refusal}
 use Rattle.aa_text_files.specs.Files.{File}
+use Rattle.aaset_start.specs.Gathering.{names_of, texts_of}
+use Rattle.aatry_folder.specs.declared.policy_folder.PolicyFolder.{PolicyFolder}
+use Rattle.aatry_folder.specs.PolicyFolders.{top_names}
 use Rattle.aatry_policy.specs.LeftOut.{left_out_lines}
 use Rattle.aatry_policy.specs.Origins.{origins_of}
 use Rattle.aatry_policy.specs.Policies.{loaded, outcomes}
 use Rattle.aatry_policy.specs.Profiles.{read_profiles}
-use Rattle.aatry_policy.specs.declared.folder.Folder.{Folder as CodeFolder}
 use Rattle.aatry_policy.specs.declared.origins.Origin.{Origin}
 use Rattle.aatry_report.specs.declared.form.Form.{Form}
 
@@ -18,9 +20,13 @@ pub record Folder : Type 0 where
   pub base : List ℕ
   pub names : List (List ℕ)
 
--- a folder of the code
-abbrev pub seen_folder : CodeFolder → Folder
-seen_folder folder = record { files = folder.files.now; base = folder.base.now; names = map string_bytes folder.names.now }
+-- a folder that was read
+abbrev pub seen_folder : PolicyFolder → Folder
+seen_folder folder = record { files = folder.files; base = folder.base.now; names = texts_of folder.top }
+
+-- a folder by its path and all that lies below it, of which the files at the top are loaded
+abbrev pub folder_at : List ℕ → List File → Folder
+folder_at base files = record { files = files; base = base; names = top_names (names_of files) }
 
 -- what its files make, each added in its turn
 abbrev pub loaded_in : Folder → Managed

@@ -2,8 +2,8 @@
 use Rattle.std.specs.Prelude.{ℕ, List, [], ◌∷◌, Option, None, Some, find, flat_map, slice_get}
 use Rattle.std.specs.Str.{bytes_eq}
 use Rattle.aa_profile_data.specs.declared.profile.Profile.{Profile}
-use Rattle.aa_profile_places.specs.declared.places.ProfilePlaces.{ProfilePlaces}
-use Rattle.aa_profile_places.specs.declared.places.SectionPlaces.{SectionPlaces}
+use Rattle.aa_profile_patterns.specs.declared.places.ProfilePlaces.{ProfilePlaces}
+use Rattle.aa_profile_patterns.specs.declared.places.SectionPlaces.{SectionPlaces}
 use Rattle.aa_set_commands.specs.declared.refusal.Refusal.{Refusal}
 use Rattle.aa_text_files.specs.declared.text_error.Place.{Place}
 use Rattle.aatry_policy.specs.Profiles.{FileProfiles}
@@ -59,3 +59,21 @@ places_by (Some places) child = places_in places child
 
 abbrev pub rule_places : Option Origin → Option ℕ → List (Option Place)
 rule_places origin child = places_by (places_of origin) child
+
+-- the flags of a child or a hat that decide nothing; one that isn't there has none
+abbrev pub section_flags : Option SectionPlaces → List (List ℕ)
+section_flags None = []
+section_flags (Some own) = own.flags
+
+-- those of a profile, or of its child or hat at a place
+abbrev pub flags_in : ProfilePlaces → Option ℕ → List (List ℕ)
+flags_in places None = places.own.flags
+flags_in places (Some place) = section_flags (slice_get places.children place)
+
+-- the same by its origin; none where they aren't known
+abbrev pub flags_by : Option ProfilePlaces → Option ℕ → List (List ℕ)
+flags_by None child = []
+flags_by (Some places) child = flags_in places child
+
+abbrev pub idle_flags : Option Origin → Option ℕ → List (List ℕ)
+idle_flags origin child = flags_by (places_of origin) child

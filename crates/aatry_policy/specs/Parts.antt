@@ -8,16 +8,17 @@ use Rattle.aa_profile_data.specs.declared.profile.Profile.{Profile}
 use Rattle.aa_profile_data.specs.declared.profile.Rule.{Rule}
 use Rattle.aa_set_answers.specs.ProfileNames.{full_name_at}
 use Rattle.aa_text_files.specs.declared.text_error.Place.{Place}
-use Rattle.aatry_policy.specs.Origins.{file_of, rule_places}
+use Rattle.aatry_policy.specs.Origins.{file_of, idle_flags, rule_places}
 use Rattle.aatry_policy.specs.declared.origins.Origin.{Origin}
 
--- a profile, or a child or hat of one, with the places of its rules
+-- a profile, or a child or hat of one, with its flags that decide nothing and the places of its rules
 pub record Part : Type 0 where
   pub name : List ℕ
   pub file : List ℕ
   pub hat : Bool
   pub mode : Mode
   pub audit : Bool
+  pub flags : List (List ℕ)
   pub attachments : List (List ℕ)
   pub rules : List Rule
   pub places : List (Option Place)
@@ -30,6 +31,7 @@ profile_part origin profile = record {
   hat = false;
   mode = profile.mode;
   audit = profile.audit;
+  flags = idle_flags origin None;
   attachments = profile.attachments;
   rules = profile.rules;
   places = rule_places origin None;
@@ -43,6 +45,7 @@ child_part origin profile place child = record {
   hat = child.hat;
   mode = child.mode;
   audit = child.audit;
+  flags = idle_flags origin (Some place);
   attachments = child.attachments;
   rules = child.rules;
   places = rule_places origin (Some place);

@@ -12,7 +12,7 @@ use Rattle.aa_profile_data.specs.declared.profile.Rule.{Rule}
 use Rattle.aa_profile_grammar.specs.Blocks.{Profile as WrittenProfile}
 use Rattle.aa_profile_grammar.specs.Files.{File as WrittenFile, file}
 use Rattle.aa_profile_patterns.specs.PatternTokens.{of_profiles}
-use Rattle.aa_profile_places.specs.declared.places.ProfilePlaces.{ProfilePlaces}
+use Rattle.aa_profile_patterns.specs.declared.places.ProfilePlaces.{ProfilePlaces}
 use Rattle.aa_profile_rules.specs.Rules.{Rule as WrittenRule}
 use Rattle.aa_text_files.specs.Files.{File}
 use Rattle.aa_text_files.specs.declared.text_error.Place.{Place}

@@ -9,6 +9,7 @@ seen_part part = record {
   hat = part.hat;
   mode = part.mode;
   audit = part.audit;
+  flags = part.flags.now;
   attachments = part.attachments.now;
   rules = part.rules.now;
   places = part.places.now;

@@ -1,4 +1,4 @@
-//! Folders of policy.
+//! Folders of policy, loaded.
 
 ghost use Rattle.std.specs.Prelude.{◌≡◌, ◌++◌, IfOk, OnOk};
 ghost use Rattle.aatry_policy.specs.Folders.{left_out_in, loaded_in, origins_in, outcomes_in, seen_folder};
@@ -7,59 +7,56 @@ use crate::folder_parts::FolderParts;
 use crate::left_out::push_left_out;
 use crate::parts::Part;
 use crate::policy::{Policy, load};
-use aa_text_files::Files;
-use aatry_report::Form;
+use aatry_folder::PolicyFolder;
+use aatry_report::Teller;
 use std::alloc::{AllocError, Global};
 
-/// A folder of policy.
-#[derive(Clone, Copy)]
-pub struct Folder<'a> {
-    /// All files and folders below it, by their names in it.
-    pub files: &'a Files,
-    /// Its path, without a `/` at its end.
-    pub base: &'a [u8],
-    /// The names of the files whose profiles are loaded.
-    pub names: &'a [String],
+/// A folder of policy whose files at the top are loaded.
+#[derive(Drop)]
+pub struct LoadedFolder<'a> {
+    /// The folder.
+    pub folder: &'a PolicyFolder<'a>,
+    /// The policy set of these files, how each of them came out, and where each profile was read.
+    pub policy: Policy,
 }
 
 /// A folder by its profiles, children and hats.
-pub fn by_parts<'a>(folder: &Folder<'a>, parts: &'a [Part<'a>]) -> FolderParts<'a>
+pub fn by_parts<'a>(folder: &'a PolicyFolder<'_>, parts: &'a [Part<'a>]) -> FolderParts<'a>
     ensures files { result.files.now ≡ (seen_folder folder.now).files }
     ensures base { result.base.now ≡ (seen_folder folder.now).base }
     ensures parts { result.parts.now ≡ parts.now }
 {
     FolderParts {
-        files: folder.files,
-        base: folder.base,
+        files: &folder.files,
+        base: folder.base.as_bytes(),
         parts,
     }
 }
 
-/// The policy set of a folder: that of the files of its names, as `load` makes it. What is told of those that are left out is put behind a text: a line of
-/// each with its path, the number and the name of its refusal, or a record `left_out` with `file`, `number` and `refusal`.
+/// Loads the files at the top of a folder, as `load` does, and appends what is told of those that are left out to a text: a line of each with its path,
+/// the number and the name of its refusal, or a record `left_out` with `file`, `number` and `refusal`.
 ///
 /// # Errors
 ///
-/// Where memory runs out. What is told of some files may have been put then.
-pub fn load_folder(
-    alloc: Global,
-    form: Form,
-    folder: &Folder<'_>,
+/// Where memory runs out. What is told of some files may have been appended then.
+pub fn load_folder<'a>(
+    teller: Teller,
+    folder: &'a PolicyFolder<'a>,
     out: &mut Vec<u8>,
-) -> Result<Policy, AllocError>
-    ensures set { IfOk result (λ policy. policy.manager ≡ loaded_in (seen_folder folder.now)) }
-    ensures outcomes { IfOk result (λ policy. policy.outcomes.items ≡ outcomes_in (seen_folder folder.now)) }
-    ensures origins { IfOk result (λ policy. policy.origins.items ≡ origins_in (seen_folder folder.now)) }
-    ensures told { OnOk result (out.new.items ≡ out.old.items ++ left_out_in form (seen_folder folder.now)) }
+) -> Result<LoadedFolder<'a>, AllocError>
+    ensures folder { IfOk result (λ loaded. loaded.folder.now ≡ folder.now) }
+    ensures set { IfOk result (λ loaded. loaded.policy.manager ≡ loaded_in (seen_folder folder.now)) }
+    ensures outcomes { IfOk result (λ loaded. loaded.policy.outcomes.items ≡ outcomes_in (seen_folder folder.now)) }
+    ensures origins { IfOk result (λ loaded. loaded.policy.origins.items ≡ origins_in (seen_folder folder.now)) }
+    ensures told { OnOk result (out.new.items ≡ out.old.items ++ left_out_in teller.form (seen_folder folder.now)) }
 {
-    let policy = load(alloc, folder.files, folder.names)?;
+    let policy = load(teller.alloc, &folder.files, &folder.top)?;
     push_left_out(
-        alloc,
-        form,
-        folder.base,
-        folder.names,
+        teller,
+        folder.base.as_bytes(),
+        &folder.top,
         &policy.outcomes,
         out,
     )?;
-    Ok(policy)
+    Ok(LoadedFolder { folder, policy })
 }

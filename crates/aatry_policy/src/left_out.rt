@@ -6,7 +6,7 @@ ghost use Rattle.aatry_report.specs.SeenRecord.{seen_record};
 ghost use Rattle.aatry_report.specs.declared.form.Form.TheVariants as form;
 
 use aa_set_commands::Refusal;
-use aatry_report::{Form, Record, path_below, push_shown};
+use aatry_report::{Form, Record, Teller, path_below, push_shown};
 use itoa::Buffer;
 use std::alloc::{AllocError, Global};
 
@@ -49,36 +49,34 @@ fn left_out_record(alloc: Global, path: &[u8], refusal: Refusal) -> Result<Recor
 
 // Puts what is told of a file that is left out behind a text.
 fn push_text(
-    alloc: Global,
-    form: Form,
+    teller: Teller,
     path: &[u8],
     refusal: Refusal,
     out: &mut Vec<u8>,
 ) -> Result<(), AllocError>
-    ensures { OnOk result (out.new.items ≡ out.old.items ++ left_out_text form path.now refusal) }
+    ensures { OnOk result (out.new.items ≡ out.old.items ++ left_out_text teller.form path.now refusal) }
 {
-    match form {
+    match teller.form {
         Form::Lines => push_line(out, path, refusal),
-        Form::Records => left_out_record(alloc, path, refusal)?.push(alloc, out),
+        Form::Records => left_out_record(teller.alloc, path, refusal)?.push(teller.alloc, out),
     }
 }
 
 // Puts it there, if the file is left out.
 fn push_file(
-    alloc: Global,
-    form: Form,
+    teller: Teller,
     base: &[u8],
     name: &[u8],
     outcome: Option<Refusal>,
     out: &mut Vec<u8>,
 ) -> Result<(), AllocError>
-    ensures { OnOk result (out.new.items ≡ out.old.items ++ left_out_line form base.now name.now outcome) }
+    ensures { OnOk result (out.new.items ≡ out.old.items ++ left_out_line teller.form base.now name.now outcome) }
 {
     match outcome {
         None => Ok(()),
         Some(refusal) => {
-            let path = path_below(alloc, base, name)?;
-            push_text(alloc, form, &path, refusal, out)
+            let path = path_below(teller.alloc, base, name)?;
+            push_text(teller, &path, refusal, out)
         }
     }
 }
@@ -89,14 +87,13 @@ fn push_file(
 ///
 /// Where memory runs out. A beginning may have been put then.
 pub fn push_left_out(
-    alloc: Global,
-    form: Form,
+    teller: Teller,
     base: &[u8],
     names: &[String],
     outcomes: &[Option<Refusal>],
     out: &mut Vec<u8>,
 ) -> Result<(), AllocError>
-    ensures { OnOk result (out.new.items ≡ out.old.items ++ left_out_lines form base.now (map string_bytes names.now) outcomes.now) }
+    ensures { OnOk result (out.new.items ≡ out.old.items ++ left_out_lines teller.form base.now (map string_bytes names.now) outcomes.now) }
 {
     let mut left = outcomes;
     let mut rest = names;
@@ -104,7 +101,7 @@ pub fn push_left_out(
         let [outcome, more @ ..] = left else {
             break;
         };
-        push_file(alloc, form, base, name.as_bytes(), *outcome, out)?;
+        push_file(teller, base, name.as_bytes(), *outcome, out)?;
         rest = behind;
         left = more;
     }

@@ -10,7 +10,7 @@ mod origins;
 mod parts;
 mod policy;
 
-pub use folder::{Folder, by_parts, load_folder};
+pub use folder::{LoadedFolder, by_parts, load_folder};
 pub use folder_parts::FolderParts;
 pub use laws::{
     where_loaded_profiles_are_read, where_loaded_rules_are_written, which_rules_parts_have,

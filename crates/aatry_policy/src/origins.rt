@@ -1,7 +1,7 @@
 //! Where loaded profiles were read.
 
 ghost use Rattle.std.specs.Prelude.{◌≡◌, ◌++◌, ◌∷◌, [], IfOk, OnOk, drop, option_map};
-ghost use Rattle.aatry_policy.specs.Origins.{file_of, file_origins, origin_in, own_origin, places_in, places_of, rule_places};
+ghost use Rattle.aatry_policy.specs.Origins.{file_of, file_origins, flags_in, idle_flags, origin_in, own_origin, places_in, places_of, rule_places};
 
 use aa_bytes::Sequence;
 use aa_profile::ProfilePlaces;
@@ -124,6 +124,29 @@ fn places_in(places: &ProfilePlaces, child: Option<usize>) -> &[Option<Place>]
             None => &[],
             Some(own) => own.rules.as_slice(),
         },
+    }
+}
+
+// The flags of a profile that decide nothing, or those of its child or hat at a place.
+fn flags_in(places: &ProfilePlaces, child: Option<usize>) -> &[Sequence<u8>]
+    ensures { result.now ≡ flags_in places.now child }
+{
+    match child {
+        None => places.own.flags.as_slice(),
+        Some(place) => match places.children.as_slice().get(place) {
+            None => &[],
+            Some(own) => own.flags.as_slice(),
+        },
+    }
+}
+
+// The same by its origin; none where these aren't known.
+pub fn idle_flags<'a>(origin: Option<&'a Origin>, child: Option<usize>) -> &'a [Sequence<u8>]
+    ensures { result.now ≡ idle_flags (option_map (λ origin. origin.now) origin.entry) child }
+{
+    match places_of(origin) {
+        None => &[],
+        Some(places) => flags_in(places, child),
     }
 }
 

@@ -6,7 +6,7 @@ ghost use Rattle.aatry_policy.specs.Parts.{child_part, child_parts, first_of, pa
 ghost use Rattle.aatry_policy.specs.code.Slots.{left_behind, slot_parts};
 ghost use Rattle.aatry_policy.specs.SeenProfiles.{seen_part};
 
-use crate::origins::{Origin, file_of, rule_places};
+use crate::origins::{Origin, file_of, idle_flags, rule_places};
 use aa_bytes::Sequence;
 use aa_decide::Entry;
 use aa_glob_pattern::Pattern;
@@ -29,6 +29,8 @@ pub struct Part<'a> {
     pub mode: Mode,
     /// Whether what each of its rules decides is logged.
     pub audit: bool,
+    /// Its flags that decide nothing, as they are written; none where they aren't known.
+    pub flags: &'a [Sequence<u8>],
     /// The patterns of the programs that it is attached to.
     pub attachments: &'a [Pattern],
     /// The rules, in the order of the file.
@@ -52,6 +54,7 @@ fn profile_part<'a>(
         hat: false,
         mode: profile.mode,
         audit: profile.audit,
+        flags: idle_flags(origin, None),
         attachments: profile.attachments.as_slice(),
         rules: profile.rules.as_slice(),
         places: rule_places(origin, None),
@@ -75,6 +78,7 @@ fn child_part<'a>(
         hat: child.hat,
         mode: child.mode,
         audit: child.audit,
+        flags: idle_flags(origin, Some(place)),
         attachments: child.attachments.as_slice(),
         rules: child.rules.as_slice(),
         places: rule_places(origin, Some(place)),

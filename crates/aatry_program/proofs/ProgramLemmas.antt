@@ -1,15 +1,16 @@
 -- What is done is what the words ask for.
 use Rattle.std.proofs.Common.{◌≡◌, ◌⊎◌, ℕ, List, Result, Ok, Err, IfErr, IfOk, MatchResult, OnOk, inl, inr, string_bytes, subst}
 use Rattle.aatry_arguments.specs.Arguments.{CommandAsked, ForCheck, ForDiff, ForSession, ForTest, ForWho, ForWhy}
-use Rattle.aatry_arguments.specs.Asked.{Asked, ForThis, ForHelp, ForVersion, Nothing}
+use Rattle.aa_options.specs.Options.{Asked, ForHelp, ForThis, ForVersion, Nothing}
 use Rattle.aatry_arguments.specs.Forms.{CallAsked}
-use Rattle.aatry_arguments.specs.Given.{IsGivenFor, meant_call, meant_command}
-use Rattle.aatry_arguments.specs.declared.arguments.ArgumentFault.{ArgumentFault}
-use Rattle.aatry_arguments.specs.declared.arguments.ArgumentFault.TheVariants.{Help, Version, Bad, Memory}
+use Rattle.aa_options.specs.Given.{IsGivenFor}
+use Rattle.aatry_arguments.specs.Given.{meant_call, meant_command}
+use Rattle.aa_options.specs.declared.fault.ArgumentFault.{ArgumentFault}
+use Rattle.aa_options.specs.declared.fault.ArgumentFault.TheVariants.{Help, Version, Bad, Memory}
 use Rattle.aatry_arguments.specs.declared.arguments.Call.{Call}
-use Rattle.aatry_commands.specs.declared.checking.Report.{Report}
-use Rattle.aatry_commands.specs.declared.fault.Fault.{Fault}
-use Rattle.aatry_commands.specs.declared.fault.Fault.TheVariants as fault
+use Rattle.aatry_folder.specs.declared.report.Report.{Report}
+use Rattle.aatry_folder.specs.declared.fault.Fault.{Fault}
+use Rattle.aatry_folder.specs.declared.fault.Fault.TheVariants as fault
 use Rattle.aatry_program.specs.Program.{Input, IsCommandDone, IsDone, IsDoneBy, IsFaultShown, IsOutcomeShown, IsReported, Output}
 use Rattle.aatry_program.specs.Status.{status_of}
 use Rattle.aatry_report.specs.declared.form.Form.{Form}

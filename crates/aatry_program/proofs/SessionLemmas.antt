@@ -8,9 +8,9 @@ use Rattle.aatry_session.specs.Turns.{Kept}
 use Rattle.aaset_start.specs.Known.{Known}
 use Rattle.aatry_arguments.specs.Arguments.{ForSession}
 use Rattle.aatry_arguments.specs.SessionWords.{session_with}
-use Rattle.aatry_commands.specs.Ends.{MayEndWith}
-use Rattle.aatry_commands.specs.declared.fault.Fault.{Fault}
-use Rattle.aatry_commands.specs.declared.fault.Fault.TheVariants as fault
+use Rattle.aatry_program.specs.Ends.{MayEndWith}
+use Rattle.aatry_folder.specs.declared.fault.Fault.{Fault}
+use Rattle.aatry_folder.specs.declared.fault.Fault.TheVariants as fault
 use Rattle.aatry_folder.specs.Told.{ToldFolders}
 use Rattle.aatry_program.specs.Broken.{IsBrokenRun, IsBrokenStep}
 

@@ -2,9 +2,9 @@
 use Rattle.std.specs.Prelude.{◌≡◌, ◌⊎◌, ℕ, Bool, true, List, Option, length}
 use Rattle.std.specs.Io.KnownBytes.{Appends}
 use Rattle.aa_set_lines.specs.Streams.{AppendsFront}
-use Rattle.aatry_commands.specs.Ends.{IsOfFolder}
-use Rattle.aatry_commands.specs.declared.fault.Fault.{Fault}
-use Rattle.aatry_commands.specs.declared.fault.Fault.TheVariants.{NoMemory, Read, Write}
+use Rattle.aatry_folder.specs.Unread.{IsOfFolder}
+use Rattle.aatry_folder.specs.declared.fault.Fault.{Fault}
+use Rattle.aatry_folder.specs.declared.fault.Fault.TheVariants.{NoMemory, Read, Write}
 use Rattle.aatry_program.specs.Inputs.{GivesLine}
 use Rattle.aatry_program.specs.Session.{Answers, IsLoaded, IsTurn, Standing, State, at_first_line}
 use Rattle.aatry_folder.specs.Told.{ToldFolders}

@@ -1,4 +1,6 @@
 pub mod Broken
+pub mod Ends
+pub mod Faults
 pub mod Inputs
 pub mod Program
 pub mod Session

@@ -3,18 +3,19 @@ use Rattle.std.specs.Prelude.{◌≡◌, ◌⊎◌, ℕ, Bool, true, List, Optio
 use Rattle.std.specs.Io.KnownBytes.{Appends}
 use Rattle.aa_set_lines.specs.Streams.{AppendsFront}
 use Rattle.aatry_arguments.specs.Arguments.{CommandAsked, ForCheck, ForDiff, ForSession, ForTest, ForWho, ForWhy}
-use Rattle.aatry_arguments.specs.Asked.{Asked, ForThis, ForHelp, ForVersion, Nothing}
+use Rattle.aa_options.specs.Options.{Asked, ForHelp, ForThis, ForVersion, Nothing}
 use Rattle.aatry_arguments.specs.Forms.{CallAsked, asked_call}
-use Rattle.aatry_arguments.specs.declared.arguments.ArgumentFault.{ArgumentFault}
-use Rattle.aatry_arguments.specs.declared.arguments.ArgumentFault.TheVariants.{Help, Version, Bad, Memory}
-use Rattle.aatry_commands.specs.Asking.{IsWhoToldBelow, IsWhyToldBelow}
-use Rattle.aatry_commands.specs.Checking.{IsChecked}
-use Rattle.aatry_commands.specs.Comparing.{IsComparedBelow}
-use Rattle.aatry_commands.specs.Ends.{MayEndWith}
-use Rattle.aatry_commands.specs.Testing.{IsTestedBelow}
-use Rattle.aatry_commands.specs.declared.checking.Report.{Report}
-use Rattle.aatry_commands.specs.declared.fault.Fault.{Fault}
-use Rattle.aatry_commands.specs.declared.fault.Fault.TheVariants.{BadArguments, NoMemory}
+use Rattle.aa_options.specs.declared.fault.ArgumentFault.{ArgumentFault}
+use Rattle.aa_options.specs.declared.fault.ArgumentFault.TheVariants.{Help, Version, Bad, Memory}
+use Rattle.aatry_who.specs.Who.{IsWhoToldBelow}
+use Rattle.aatry_why.specs.Why.{IsWhyToldBelow}
+use Rattle.aatry_check.specs.Below.{IsChecked}
+use Rattle.aatry_diff.specs.Below.{IsComparedBelow}
+use Rattle.aatry_program.specs.Ends.{MayEndWith}
+use Rattle.aatry_test.specs.Below.{IsTestedBelow}
+use Rattle.aatry_folder.specs.declared.report.Report.{Report}
+use Rattle.aatry_folder.specs.declared.fault.Fault.{Fault}
+use Rattle.aatry_folder.specs.declared.fault.Fault.TheVariants.{BadArguments, NoMemory}
 use Rattle.aatry_program.specs.Broken.{IsBrokenSession}
 use Rattle.aatry_program.specs.Session.{IsSession}
 use Rattle.aatry_program.specs.Status.{failure_status, status_of}

@@ -8,12 +8,12 @@ use Rattle.aa_set_answers.specs.Answers.{who_asks}
 use Rattle.aa_set_commands.specs.Question.{Question}
 use Rattle.aa_text_files.specs.Files.{File}
 use Rattle.aaset_start.specs.Gathering.{names_of}
-use Rattle.aatry_asking.specs.Asking.{answered_text}
-use Rattle.aatry_asking.specs.Sources.{Sources}
-use Rattle.aatry_commands.specs.Checking.{AreBelow, top_names}
-use Rattle.aatry_commands.specs.Ends.{IsOfFolder}
-use Rattle.aatry_commands.specs.Fault.{told_line}
-use Rattle.aatry_commands.specs.declared.fault.Fault.{Fault}
+use Rattle.aatry_why.specs.Why.{answered_text}
+use Rattle.aatry_why.specs.Sources.{Sources}
+use Rattle.aatry_folder.specs.PolicyFolders.{AreBelow, top_names}
+use Rattle.aatry_folder.specs.Unread.{IsOfFolder}
+use Rattle.aatry_program.specs.Faults.{told_line}
+use Rattle.aatry_folder.specs.declared.fault.Fault.{Fault}
 use Rattle.aatry_program.specs.Inputs.{GivesLine}
 use Rattle.aatry_report.specs.Shown.{shown}
 use Rattle.aatry_report.specs.declared.form.Form.TheVariants.{Lines}

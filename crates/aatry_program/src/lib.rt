@@ -3,6 +3,7 @@
 //! A session over a folder of policy is here too: lines of an input, answered as they come.
 #![tactic(auto)]
 
+mod faults;
 mod input;
 mod program;
 mod reporting;
@@ -10,7 +11,7 @@ mod session;
 mod status;
 mod streams;
 
-pub use aatry_commands::Fault;
+pub use aatry_folder::Fault;
 pub use program::start;
 pub use session::session_over;
 pub use status::fault_of_words;

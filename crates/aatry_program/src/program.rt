@@ -13,10 +13,13 @@ use crate::streams::Streams;
 use aa_set_lines::{Sink, Source, write_all};
 use aaset_start::FileSystem;
 use aatry_arguments::{ArgumentFault, Call, Command, call_of};
-use aatry_commands::{
-    Fault, Report, check_folder, diff_folders, test_folder, who_folder, why_folder,
-};
-use aatry_folder::Folders;
+use aatry_check::check_folder;
+use aatry_diff::diff_folders;
+use aatry_folder::{Fault, Folders, Report};
+use aatry_report::Teller;
+use aatry_test::test_folder;
+use aatry_who::who_folder;
+use aatry_why::why_folder;
 use std::alloc::Global;
 
 // Shows a text, and gives the exit status: the one that goes with the text, or that of the fault of standard output.
@@ -101,9 +104,10 @@ fn perform<F: Folders, D: FileSystem, S: Source, W: Sink, E: Sink>(
         (output_of (W.written streams.old.output) (W.written streams.new.output) (W.failed streams.new.output)) result }
 {
     let Call { form, command } = call;
+    let teller = Teller { alloc, form };
     match command {
         Command::Check(asked) => {
-            let outcome = check_folder(alloc, form, folders, disk, asked);
+            let outcome = check_folder(teller, folders, disk, asked);
             show_outcome(alloc, outcome, streams)
         }
         Command::Test(asked) => {
@@ -111,15 +115,15 @@ fn perform<F: Folders, D: FileSystem, S: Source, W: Sink, E: Sink>(
             show_outcome(alloc, outcome, streams)
         }
         Command::Who(asked) => {
-            let outcome = who_folder(alloc, form, folders, disk, asked);
+            let outcome = who_folder(teller, folders, disk, asked);
             show_outcome(alloc, outcome, streams)
         }
         Command::Why(asked) => {
-            let outcome = why_folder(alloc, form, folders, disk, asked);
+            let outcome = why_folder(teller, folders, disk, asked);
             show_outcome(alloc, outcome, streams)
         }
         Command::Diff(asked) => {
-            let outcome = diff_folders(alloc, form, folders, disk, asked);
+            let outcome = diff_folders(teller, folders, disk, asked);
             show_outcome(alloc, outcome, streams)
         }
         Command::Session(asked) => have_session(

@@ -3,9 +3,10 @@
 ghost use Rattle.std.specs.Prelude.{◌≡◌};
 ghost use Rattle.aatry_program.specs.Status.{status_of};
 
+use crate::faults::{name_of, words_of};
 use crate::status::status_of;
 use aa_set_lines::{Failed, Sink, write_all};
-use aatry_commands::{Fault, name_of, words_of};
+use aatry_folder::Fault;
 use aatry_report::push_shown;
 use std::alloc::Global;
 

@@ -4,12 +4,13 @@ ghost use Rattle.std.specs.Prelude.{◌≡◌, ◌≤◌, ◌+◌, ◌*◌, ◌^
 ghost use Rattle.std.specs.Io.KnownBytes.{Appends};
 ghost use Rattle.aa_set_commands.specs.Question.{IsWellFormed, seen_question};
 ghost use Rattle.aa_set_lines.specs.Streams.{AppendsFront};
-ghost use Rattle.aatry_asking.specs.Asking.{answered_text};
-ghost use Rattle.aatry_asking.specs.Sources.{seen_sources};
+ghost use Rattle.aatry_why.specs.Why.{answered_text};
+ghost use Rattle.aatry_why.specs.Sources.{seen_sources};
 ghost use Rattle.aatry_arguments.specs.Arguments.{ForSession};
 ghost use Rattle.aatry_arguments.specs.SessionWords.{session_with};
-ghost use Rattle.aatry_commands.specs.Ends.{IsOfFolder, MayEndWith};
-ghost use Rattle.aatry_commands.specs.declared.fault.Fault.TheVariants as fault;
+ghost use Rattle.aatry_folder.specs.Unread.{IsOfFolder};
+ghost use Rattle.aatry_program.specs.Ends.{MayEndWith};
+ghost use Rattle.aatry_folder.specs.declared.fault.Fault.TheVariants as fault;
 ghost use Rattle.aatry_program.specs.Broken.{IsBrokenRun, IsBrokenSession, IsBrokenStep};
 ghost use Rattle.aatry_program.specs.Inputs.{GivesLine, most_reads};
 ghost use Rattle.aatry_program.specs.Session.{goes_on, left_out_line, loading_text, sources_of};
@@ -19,18 +20,18 @@ ghost use Rattle.aatry_report.specs.declared.form.Form.TheVariants as form;
 ghost use Rattle.aatry_session.specs.SeenTurns.{IsAskable, seen_turn};
 ghost use Rattle.aatry_session.specs.Turns.{Told};
 
+use crate::faults::push_told;
 use crate::input::LineInput;
 use aa_profile_access::cut_full_name;
 use aa_set_commands::Question;
 use aa_set_lines::{LineBuffer, Sink, Source, write_all};
 use aa_text_files::Files;
 use aaset_start::FileSystem;
-use aatry_asking::{Sources, push_answer};
-use aatry_commands::{Fault, PolicyFiles, policy_below, push_told};
-use aatry_folder::Folders;
-use aatry_report::{Form, push_shown};
+use aatry_folder::{Fault, Folders, PolicyFolder, policy_below};
+use aatry_report::{Form, Teller, push_shown};
 use aatry_requests::who_asks;
 use aatry_session::{Session, Turn};
+use aatry_why::{Sources, push_answer};
 use std::alloc::{AllocError, Global};
 
 // How many lines are answered at most.
@@ -133,8 +134,7 @@ fn reload<F: Folders, D: FileSystem>(
 {
     match policy_below(alloc, setting.folders, setting.disk, setting.base) {
         Ok(read) => {
-            let PolicyFiles { files, top: _ } = read;
-            table.files = files;
+            table.files = read.files;
             table.session.forget_places();
             out.extend_from_slice(TAKEN)
         }
@@ -168,14 +168,11 @@ fn answer_question(
         (seen_question question.entry.now)) }
 {
     let sources = sources_of(base, table, question);
-    push_answer(
+    let teller = Teller {
         alloc,
-        Form::Lines,
-        &sources,
-        table.session.manager(),
-        question,
-        out,
-    )?;
+        form: Form::Lines,
+    };
+    push_answer(teller, &sources, table.session.manager(), question, out)?;
     Ok(())
 }
 
@@ -325,7 +322,7 @@ fn begin<F: Folders, D: FileSystem>(
         (seen_table table) text) }
     ensures fault { IfErr result (IsOfFolder (F.told setting.now.folders.now) (D.known setting.now.disk.now) setting.now.base.now) }
 {
-    let PolicyFiles { files, top } = policy_below(
+    let PolicyFolder { files, top, .. } = policy_below(
         alloc,
         setting.folders,
         setting.disk,
@@ -345,7 +342,7 @@ fn all_lines(alloc: Global) -> Result<Lines, AllocError>
     Ok(Lines { input, line })
 }
 
-/// Has a session over a folder of policy: finds and reads all files below it as `check_folder` does, adds the profiles of those at its top, each file in
+/// Has a session over a folder of policy: reads it as `aatry_folder::policy_below` does, adds the profiles of those at its top, each file in
 /// its turn, and tells those that are refused. Then each line of the input is answered as `aatry_session::Session::answer` answers it, until a line ends
 /// the session, or the input does. `prompt` is written before each line is read. `reload` reads all below the folder again: the policy set and its
 /// history stay, and where in the files the loaded profiles have their rules isn't known any more. `why` is answered with the rules of the loaded

@@ -4,7 +4,7 @@ ghost use Rattle.std.specs.Prelude.{◌≡◌};
 ghost use Rattle.std.specs.IoError.{error_kind};
 ghost use Rattle.aatry_program.specs.Status.{failure_status, fault_of_words, status_of};
 
-use aatry_commands::Fault;
+use aatry_folder::Fault;
 use std::io;
 
 // The exit status of a command, by how much of it failed.

@@ -1,5 +1,7 @@
 //! The forms in which what is found is told.
 
+use std::alloc::Global;
+
 /// The form in which what is found is told.
 #[derive(Clone, Copy)]
 pub enum Form {
@@ -7,4 +9,13 @@ pub enum Form {
     Lines,
     /// Records for programs: objects of JSON, one a line.
     Records,
+}
+
+/// How things are told: in which form, and where memory for what is told comes from.
+#[derive(Clone, Copy)]
+pub struct Teller {
+    /// Where memory comes from.
+    pub alloc: Global,
+    /// The form.
+    pub form: Form,
 }

@@ -25,7 +25,7 @@ mod words;
 pub use caret_line::push_caret_line;
 pub use faults::{push_fault, push_fault_at, push_place, put_fault, put_fault_at};
 pub use file_places::{path_below, put_place};
-pub use form::Form;
+pub use form::{Form, Teller};
 pub use headings::push_heading;
 pub use laws::what_places_are;
 pub use line::line_at;

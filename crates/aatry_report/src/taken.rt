@@ -7,7 +7,7 @@ ghost use Rattle.aatry_report.specs.Taken.{counted, is_kept, kept_in, kept_in_ch
 ghost use Rattle.aatry_report.specs.Taken.{profile_names, taken_line, taken_record};
 ghost use Rattle.aatry_report.specs.declared.form.Form.TheVariants as form;
 
-use crate::form::Form;
+use crate::form::{Form, Teller};
 use crate::numbers::push_number;
 use crate::record::Record;
 use crate::shown::push_shown;
@@ -146,16 +146,15 @@ fn taken_record(alloc: Global, path: &[u8], profiles: &[Profile]) -> Result<Reco
 ///
 /// Where memory runs out. A beginning may have been put then.
 pub fn push_taken(
-    alloc: Global,
-    form: Form,
+    teller: Teller,
     path: &[u8],
     profiles: &[Profile],
     out: &mut Vec<u8>,
 ) -> Result<(), AllocError>
-    ensures { OnOk result (out.new.items ≡ out.old.items ++ taken_line form path.now profiles.now) }
+    ensures { OnOk result (out.new.items ≡ out.old.items ++ taken_line teller.form path.now profiles.now) }
 {
-    match form {
+    match teller.form {
         Form::Lines => push_line(path, profiles, out),
-        Form::Records => taken_record(alloc, path, profiles)?.push(alloc, out),
+        Form::Records => taken_record(teller.alloc, path, profiles)?.push(teller.alloc, out),
     }
 }

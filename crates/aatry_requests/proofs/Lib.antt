@@ -1,4 +1,5 @@
 mod LineLemmas
+mod LoggedLemmas
 mod MaskLemmas
 mod PairLemmas
 mod QuoteLemmas

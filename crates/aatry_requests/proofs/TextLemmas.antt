@@ -76,11 +76,11 @@ written-no_space text fit = elim (cases_Bool (list_all is_shown text)) [
 ]
 
 -- a test holds of each number below another
-abbrev holds_below : ℕ → (ℕ → Bool) → Bool
+abbrev pub holds_below : ℕ → (ℕ → Bool) → Bool
 holds_below zero test = true
 holds_below (suc n) test = test n && holds_below n test
 
-below : (n : ℕ) (test : ℕ → Bool) → holds_below n test ≡ true → (k : ℕ) → k < n → test k ≡ true
+pub below : (n : ℕ) (test : ℕ → Bool) → holds_below n test ≡ true → (k : ℕ) → k < n → test k ≡ true
 below zero test h k within = absurd (omega (arith, within))
 below (suc n) test h k within =
     let parts = and_parts (test n) (holds_below n test) h in
@@ -90,11 +90,11 @@ below (suc n) test h k within =
     ]
 
 -- a number that is read is this one
-abbrev reads : Option ℕ → ℕ → Bool
+abbrev pub reads : Option ℕ → ℕ → Bool
 reads None n = false
 reads (Some m) n = m == n
 
-reads-is : (found : Option ℕ) (n : ℕ) → reads found n ≡ true → found ≡ Some n
+pub reads-is : (found : Option ℕ) (n : ℕ) → reads found n ≡ true → found ≡ Some n
 reads-is None n h = absurd (true≢false (sym h))
 reads-is (Some m) n h = ap Some (eqb-true m n h)
 
@@ -107,7 +107,7 @@ letters-read needs within =
 letters-no_space : (needs : ℕ) → needs < asked_letters → not (list_any is_space (letters_of needs)) ≡ true
 letters-no_space needs within = below asked_letters (λ n. not (list_any is_space (letters_of n))) refl needs within
 
-capability-read : (number : ℕ) → number < 41 → capability_number (name_or_none (capability_name number)) ≡ Some number
+pub capability-read : (number : ℕ) → number < 41 → capability_number (name_or_none (capability_name number)) ≡ Some number
 capability-read number within =
     reads-is (capability_number (name_or_none (capability_name number))) number
     (below 41 (λ n. reads (capability_number (name_or_none (capability_name n))) n) refl number within)
@@ -115,7 +115,7 @@ capability-read number within =
 capability-no_space : (number : ℕ) → number < 41 → not (list_any is_space (name_or_none (capability_name number))) ≡ true
 capability-no_space number within = below 41 (λ n. not (list_any is_space (name_or_none (capability_name n)))) refl number within
 
-domain-read : (number : ℕ) → number < 44 → domain_number (name_or_none (domain_name number)) ≡ Some number
+pub domain-read : (number : ℕ) → number < 44 → domain_number (name_or_none (domain_name number)) ≡ Some number
 domain-read number within =
     reads-is (domain_number (name_or_none (domain_name number))) number
     (below 44 (λ n. reads (domain_number (name_or_none (domain_name n))) n) refl number within)
@@ -123,7 +123,7 @@ domain-read number within =
 domain-no_space : (number : ℕ) → number < 44 → not (list_any is_space (name_or_none (domain_name number))) ≡ true
 domain-no_space number within = below 44 (λ n. not (list_any is_space (name_or_none (domain_name n)))) refl number within
 
-kind-read : (number : ℕ) → number < 6 → kind_number (name_or_none (kind_name number)) ≡ Some number
+pub kind-read : (number : ℕ) → number < 6 → kind_number (name_or_none (kind_name number)) ≡ Some number
 kind-read number within =
     reads-is (kind_number (name_or_none (kind_name number))) number
     (below 6 (λ n. reads (kind_number (name_or_none (kind_name n))) n) refl number within)
@@ -131,7 +131,7 @@ kind-read number within =
 kind-no_space : (number : ℕ) → number < 6 → not (list_any is_space (name_or_none (kind_name number))) ≡ true
 kind-no_space number within = below 6 (λ n. not (list_any is_space (name_or_none (kind_name n)))) refl number within
 
-none-space : (b : Bool) → not b ≡ true → b ≡ false
+pub none-space : (b : Bool) → not b ≡ true → b ≡ false
 none-space true h = absurd (true≢false (sym h))
 none-space false h = refl
 

@@ -19,7 +19,7 @@ shown-no_quote b shown =
     not-true (b == quote) parts.1
 
 -- the quote behind a text that is shown ends it
-quoted-back : (text : List ℕ) → list_all is_shown text ≡ true → before_last_quote (text ++ quote ∷ []) ≡ Some text
+pub quoted-back : (text : List ℕ) → list_all is_shown text ≡ true → before_last_quote (text ++ quote ∷ []) ≡ Some text
 quoted-back [] shown = refl
 quoted-back (b ∷ bs) shown =
     let parts = and_parts (is_shown b) (list_all is_shown bs) shown in

@@ -1,4 +1,5 @@
 pub mod Asked
+pub mod AskedWords
 pub mod Gathering
 pub mod Laws
 pub mod Lines

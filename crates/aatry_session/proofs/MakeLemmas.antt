@@ -7,7 +7,7 @@ use Rattle.aa_profile.specs.FilePlaces.{file_places}
 use Rattle.aa_profile.specs.FileReading.{file_profiles}
 use Rattle.aa_profile_data.specs.declared.profile.Profile.{Profile}
 use Rattle.aa_profile_errors.specs.declared.profile_error.ProfileError.{ProfileError}
-use Rattle.aa_profile_places.specs.declared.places.ProfilePlaces.{ProfilePlaces}
+use Rattle.aa_profile_patterns.specs.declared.places.ProfilePlaces.{ProfilePlaces}
 use Rattle.aa_set.specs.Laws.{command_in}
 use Rattle.aa_set.specs.Manager.{Managed, added, after_change, made, replaced}
 use Rattle.aa_set.specs.Run.{command_outcome, line_outcome, obeyed_flagged, refused}

@@ -1,3 +1,4 @@
+mod BelowLemmas
 mod CompareLemmas
 mod LineLemmas
 mod PartLemmas

@@ -1,3 +1,4 @@
+pub mod Below
 pub mod Differences
 pub mod Laws
 pub mod Replies

@@ -4,18 +4,15 @@ use Rattle.serde_json.specs.Data.{Members}
 use Rattle.aa_bytes.specs.Bytes.{line_feed}
 use Rattle.aa_bytes.specs.Texts.{is_empty}
 use Rattle.aa_decide.specs.Exec.{Asker}
-use Rattle.aa_decide_exec_rules.specs.Choices.{choice}
 use Rattle.aa_decide_slots.specs.Confinement.{By, Confinement, Unconfined, in_state}
 use Rattle.aa_decide_slots.specs.Entries.{Loaded}
-use Rattle.aa_decide_slots.specs.Ready.{audits, rules_at}
 use Rattle.aa_profile_access.specs.ExecWords.{row}
 use Rattle.aa_profile_access.specs.declared.exec_word.Destination.{Destination}
 use Rattle.aa_profile_access.specs.declared.exec_word.Destination.TheVariants as to
-use Rattle.aa_profile_data.specs.declared.profile.Transition.{Transition}
 use Rattle.aa_set_answers.specs.Askers.{asker}
 use Rattle.aatry_transition.specs.AttachmentLines.{attachment_lines}
 use Rattle.aa_explain.specs.Candidates.{Candidate, child_candidates, profile_candidates}
-use Rattle.aa_explain.specs.Leading.{lead_of}
+use Rattle.aa_explain.specs.Leads.{Lead, lead_of}
 use Rattle.aatry_report.specs.Headings.{heading_line}
 use Rattle.aatry_report.specs.Records.{record_line, record_of, with_text}
 use Rattle.aatry_report.specs.declared.form.Form.{Form}
@@ -34,12 +31,12 @@ asked_candidates None entries asker to.Child = own_children asker
 asked_candidates None entries asker to.Inherit = []
 asked_candidates None entries asker to.Unconfined = []
 
--- the lines of a transition, if there is one, and of the attachment, where it decides where that leads
-abbrev pub led_lines : Form → List ℕ → List Loaded → Asker → Option Transition → List ℕ
+-- the lines of where the rules lead, if they lead somewhere, and of the attachment, where it decides where that is
+abbrev pub led_lines : Form → List ℕ → List Loaded → Asker → Option Lead → List ℕ
 led_lines form path entries asker None = []
-led_lines form path entries asker (Some transition) =
-    transition_lines form path entries asker transition
-    ++ attachment_lines form path (asked_candidates transition.target entries asker (row transition.word).destination)
+led_lines form path entries asker (Some lead) =
+    transition_lines form lead
+    ++ attachment_lines form path (asked_candidates lead.transition.target entries asker (row lead.transition.word).destination)
 
 -- a record of an attachment that there isn't
 abbrev pub none_record : Members
@@ -65,8 +62,7 @@ profile_lines form path entries = lines_or_none form (attachment_lines form path
 -- by what confines who asks: where nothing does, the path's attachment decides alone, and else what the rules say together
 abbrev pub confined_lines : Form → Bool → List ℕ → List Loaded → Asker → Confinement → List ℕ
 confined_lines form owned path entries asker Unconfined = profile_lines form path entries
-confined_lines form owned path entries asker (By profile child mode) =
-    led_lines form path entries asker (lead_of (choice (audits profile child) owned path (rules_at profile child)))
+confined_lines form owned path entries asker (By profile child mode) = led_lines form path entries asker (lead_of owned path entries asker)
 
 -- what confines who asks
 abbrev pub confinement_of : Asker → Confinement

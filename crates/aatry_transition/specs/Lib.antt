@@ -1,4 +1,3 @@
 pub mod AttachmentLines
 pub mod How
-pub mod SeenLeads
 pub mod Transitions

@@ -1,9 +1,10 @@
 -- What is told of where a transition leads (docs/policy.md, "The start of a program").
-use Rattle.std.specs.Prelude.{ℕ, List, [], ◌∷◌, ◌++◌, Option, None, Some, codes, option_and_then}
+use Rattle.std.specs.Prelude.{ℕ, List, [], ◌∷◌, ◌++◌, Option, None, Some, codes}
+use Rattle.std.specs.Option.{option_map}
 use Rattle.serde_json.specs.Data.{Members}
 use Rattle.aa_bytes.specs.Bytes.{line_feed}
-use Rattle.aa_decide.specs.Exec.{Asker, Nowhere, Null, Started, Unconfined, Under, led}
-use Rattle.aa_decide_slots.specs.Entries.{Loaded}
+use Rattle.aa_decide.specs.Exec.{Nowhere, Null, Started, Unconfined, Under}
+use Rattle.aa_explain.specs.Leads.{Lead}
 use Rattle.aa_profile_access.specs.ExecWords.{row}
 use Rattle.aa_profile_access.specs.declared.exec_word.Destination.{Destination}
 use Rattle.aa_profile_access.specs.declared.exec_word.Destination.TheVariants as to
@@ -16,19 +17,21 @@ use Rattle.aatry_report.specs.Records.{record_line, record_of, with_text}
 use Rattle.aatry_report.specs.declared.form.Form.{Form}
 use Rattle.aatry_report.specs.declared.form.Form.TheVariants.{Lines, Records}
 
--- under what a program runs that is started: its full name, or the word where that is no profile, as none is named
-abbrev pub started_name : Started → List ℕ
-started_name (Under entry child) = full_name_at entry.profile child
-started_name Unconfined = codes "unconfined"
-started_name Null = []
-started_name Nowhere = []
+-- a name, as a line writes names, or as it is
+abbrev pub name_text : Form → List ℕ → List ℕ
+name_text Lines name = written_text name
+name_text Records name = name
 
--- the same, as a line writes it: the full name as names are written
-abbrev pub started_text : Started → List ℕ
-started_text (Under entry child) = written_text (full_name_at entry.profile child)
-started_text Unconfined = codes "unconfined"
-started_text Null = []
-started_text Nowhere = []
+-- under what a program runs that is started: its full name, or the word where that is no profile, as none is named
+abbrev pub started_text : Form → Started → List ℕ
+started_text form (Under entry child) = name_text form (full_name_at entry.profile child)
+started_text form Unconfined = codes "unconfined"
+started_text form Null = []
+started_text form Nowhere = []
+
+-- the same of what a transition leads to, if it leads somewhere
+abbrev pub destination_text : Form → Option Started → Option (List ℕ)
+destination_text form to = option_map (started_text form) to
 
 -- what isn't there, where a destination leads nowhere. Who asks is always there, and so is no profile.
 abbrev pub lack_text : Option (List ℕ) → Destination → List ℕ
@@ -40,50 +43,41 @@ lack_text target to.Inherit = []
 lack_text target to.Unconfined = []
 
 -- where the fallback leads, if it leads somewhere
-abbrev pub fallback_text : Option Started → List ℕ
+abbrev pub fallback_text : Option (List ℕ) → List ℕ
 fallback_text None = codes ", so it leads nowhere"
-fallback_text (Some to) = codes ", so it falls back to " ++ started_text to
+fallback_text (Some to) = codes ", so it falls back to " ++ to
 
 -- where a word leads, or else what isn't there, and where its fallback leads
-abbrev pub lead_text : List ℕ → Option Started → Option Started → List ℕ
-lead_text lack (Some to) fallback = codes "leads to " ++ started_text to
+abbrev pub lead_text : List ℕ → Option (List ℕ) → Option (List ℕ) → List ℕ
+lead_text lack (Some to) fallback = codes "leads to " ++ to
 lead_text lack None fallback = lack ++ fallback_text fallback
-
--- where a transition's word leads, if that is there
-abbrev pub word_leads : List ℕ → List Loaded → Asker → Transition → Option Started
-word_leads path entries asker transition = led path transition.target entries asker (row transition.word).destination
-
--- where its fallback leads, if it has one
-abbrev pub fallback_leads : List ℕ → List Loaded → Asker → Transition → Option Started
-fallback_leads path entries asker transition = option_and_then (led path transition.target entries asker) (row transition.word).fallback
 
 -- what a transition's word leads to isn't there
 abbrev pub lack_of : Transition → List ℕ
 lack_of transition = lack_text transition.target (row transition.word).destination
 
 -- a record with where a fallback leads, if it leads somewhere
-abbrev pub with_fallback : Option Started → Members → Members
+abbrev pub with_fallback : Option (List ℕ) → Members → Members
 with_fallback None members = members
-with_fallback (Some to) members = with_text (codes "falls_back_to") (started_name to) members
+with_fallback (Some to) members = with_text (codes "falls_back_to") to members
 
 -- a record with where a word leads, or else with what isn't there, and where its fallback leads
-abbrev pub with_lead : List ℕ → Option Started → Option Started → Members → Members
-with_lead lack (Some to) fallback members = with_text (codes "leads_to") (started_name to) members
+abbrev pub with_lead : List ℕ → Option (List ℕ) → Option (List ℕ) → Members → Members
+with_lead lack (Some to) fallback members = with_text (codes "leads_to") to members
 with_lead lack None fallback members = with_fallback fallback (with_text (codes "lacks") lack members)
 
 -- the record of a transition, by where its word and its fallback lead
-abbrev pub transition_record : Transition → Option Started → Option Started → Members
-transition_record transition lead fallback =
-    with_lead (lack_of transition) lead fallback (with_text (codes "rule") (exec_text (Some transition)) (record_of (codes "transition")))
+abbrev pub transition_record : Transition → Option (List ℕ) → Option (List ℕ) → Members
+transition_record transition to fallback =
+    with_lead (lack_of transition) to fallback (with_text (codes "rule") (exec_text (Some transition)) (record_of (codes "transition")))
 
 -- the line of a transition, by where its word and its fallback lead
-abbrev pub line_of : Form → Transition → Option Started → Option Started → List ℕ
-line_of Lines transition lead fallback =
-    codes "  " ++ exec_text (Some transition) ++ codes ": " ++ lead_text (lack_of transition) lead fallback ++ line_feed ∷ []
-line_of Records transition lead fallback = record_line (transition_record transition lead fallback)
+abbrev pub line_of : Form → Transition → Option (List ℕ) → Option (List ℕ) → List ℕ
+line_of Lines transition to fallback =
+    codes "  " ++ exec_text (Some transition) ++ codes ": " ++ lead_text (lack_of transition) to fallback ++ line_feed ∷ []
+line_of Records transition to fallback = record_line (transition_record transition to fallback)
 
--- the line of a transition, below a heading
-abbrev pub transition_lines : Form → List ℕ → List Loaded → Asker → Transition → List ℕ
-transition_lines form path entries asker transition =
-    heading_line form (codes "transition")
-    ++ line_of form transition (word_leads path entries asker transition) (fallback_leads path entries asker transition)
+-- the line of a transition that leads somewhere, below a heading
+abbrev pub transition_lines : Form → Lead → List ℕ
+transition_lines form lead =
+    heading_line form (codes "transition") ++ line_of form lead.transition (destination_text form lead.to) (destination_text form lead.fallback)

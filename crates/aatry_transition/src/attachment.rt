@@ -12,7 +12,7 @@ use aa_bytes::push_text;
 use aa_explain::{Candidate, Standing, best_pattern, patterns_of, rank_of, ranks_of, standing_of};
 use aa_glob_pattern::Pattern;
 use aa_set_answers::full_name;
-use aatry_report::{Form, Record, push_heading};
+use aatry_report::{Form, Record, Teller, push_heading};
 use std::alloc::{AllocError, Global};
 
 // The words that tell how it comes out.
@@ -26,7 +26,7 @@ fn standing_words(standing: Standing) -> &'static str
     }
 }
 
-// Puts the words that tell a candidate behind a text, by the pattern that fits the path best.
+// Appends the line of a candidate for people, by the pattern that fits the path best.
 fn push_words(
     alloc: Global,
     standing: Standing,
@@ -50,7 +50,7 @@ fn push_words(
     Ok(())
 }
 
-// Puts the full name of a candidate into a record.
+// Adds the full name of a candidate to a record.
 fn put_name(alloc: Global, candidate: Candidate<'_>, into: &mut Record) -> Result<(), AllocError>
     ensures { OnOk result (seen_record into.new ≡ with_name (seen_candidate candidate.entry) (seen_record into.old)) }
 {
@@ -74,66 +74,66 @@ fn attachment_record(
     Ok(made)
 }
 
-// Puts the line of a candidate behind a text, by the pattern that fits the path best; nothing where none matches.
+// Appends the line of a candidate, by the pattern that fits the path best; nothing where none matches.
 fn push_line(
-    alloc: Global,
-    form: Form,
+    teller: Teller,
     standing: Standing,
     candidate: Candidate<'_>,
     pattern: Option<&Pattern>,
     out: &mut Vec<u8>,
 ) -> Result<(), AllocError>
     ensures { OnOk result (out.new.items
-        ≡ out.old.items ++ line_by form standing (seen_candidate candidate.entry) (option_map (λ pattern. pattern.now) pattern.entry)) }
+        ≡ out.old.items ++ line_by teller.form standing (seen_candidate candidate.entry) (option_map (λ pattern. pattern.now) pattern.entry)) }
 {
     let Some(pattern) = pattern else {
         return Ok(());
     };
-    match form {
-        Form::Lines => push_words(alloc, standing, candidate, pattern, out),
-        Form::Records => attachment_record(alloc, standing, candidate, pattern)?.push(alloc, out),
+    match teller.form {
+        Form::Lines => push_words(teller.alloc, standing, candidate, pattern, out),
+        Form::Records => attachment_record(teller.alloc, standing, candidate, pattern)?.push(
+            teller.alloc,
+            out,
+        ),
     }
 }
 
-// Puts the line of the candidate at a place among those of some ranks behind a text.
+// Appends the line of the candidate at a place among those of some ranks.
 fn push_candidate(
-    alloc: Global,
-    form: Form,
+    teller: Teller,
     path: &[u8],
     ranks: &[u128],
     place: usize,
     candidate: Candidate<'_>,
     out: &mut Vec<u8>,
 ) -> Result<(), AllocError>
-    ensures { OnOk result (out.new.items ≡ out.old.items ++ candidate_line form path.now ranks.now place (seen_candidate candidate.entry)) }
+    ensures { OnOk result (out.new.items ≡ out.old.items ++ candidate_line teller.form path.now ranks.now place (seen_candidate candidate.entry)) }
 {
     let standing = standing_of(ranks, place, rank_of(path, candidate));
     let pattern = best_pattern(path, patterns_of(candidate));
-    push_line(alloc, form, standing, candidate, pattern, out)
+    push_line(teller, standing, candidate, pattern, out)
 }
 
-// Puts the lines of candidates of these ranks behind a text.
+// Appends the lines of candidates of these ranks.
 fn push_candidates(
-    alloc: Global,
-    form: Form,
+    teller: Teller,
     path: &[u8],
     ranks: &[u128],
     candidates: &[Candidate<'_>],
     out: &mut Vec<u8>,
 ) -> Result<(), AllocError>
-    ensures { OnOk result (out.new.items ≡ out.old.items ++ lines_from form path.now ranks.now 0 (seen_candidates candidates.now)) }
+    ensures { OnOk result (out.new.items ≡ out.old.items ++ lines_from teller.form path.now ranks.now 0 (seen_candidates candidates.now)) }
 {
     let mut place: usize = 0;
     let mut rest = candidates;
     while let [candidate, behind @ ..] = rest {
-        push_candidate(alloc, form, path, ranks, place, *candidate, out)?;
+        push_candidate(teller, path, ranks, place, *candidate, out)?;
         place += 1;
         rest = behind;
     }
     Ok(())
 }
 
-// Puts lines below a heading behind a text; nothing where there is no line.
+// Appends a heading and lines below it; nothing where there is no line.
 fn push_headed(form: Form, words: &str, lines: &[u8], out: &mut Vec<u8>) -> Result<(), AllocError>
     ensures { OnOk result (out.new.items ≡ out.old.items ++ headed form words.now lines.now) }
 {
@@ -144,24 +144,23 @@ fn push_headed(form: Form, words: &str, lines: &[u8], out: &mut Vec<u8>) -> Resu
     out.extend_from_slice(lines)
 }
 
-/// Puts a line behind a text for each candidate that has a pattern which matches a path, below the word `attachment`: `attached:`, `equally near:`
+/// Appends a line for each candidate that has a pattern which matches a path, below the word `attachment`: `attached:`, `equally near:`
 /// where it fits the path best and so does another, or `not attached:`, with its full name and the pattern that fits best. As records, of the kind
 /// `attachment`, these are `standing`, `name` and `pattern` of each, as they are, with no word above. Nothing where there is none.
 ///
 /// # Errors
 ///
-/// Where memory runs out. A beginning may have been put then.
+/// Where memory runs out. A beginning may have been appended then.
 pub fn push_attachment(
-    alloc: Global,
-    form: Form,
+    teller: Teller,
     path: &[u8],
     candidates: &[Candidate<'_>],
     out: &mut Vec<u8>,
 ) -> Result<(), AllocError>
-    ensures { OnOk result (out.new.items ≡ out.old.items ++ attachment_lines form path.now (seen_candidates candidates.now)) }
+    ensures { OnOk result (out.new.items ≡ out.old.items ++ attachment_lines teller.form path.now (seen_candidates candidates.now)) }
 {
-    let ranks = ranks_of(alloc, path, candidates)?;
-    let mut lines = Vec::new(alloc);
-    push_candidates(alloc, form, path, &ranks, candidates, &mut lines)?;
-    push_headed(form, "attachment", &lines, out)
+    let ranks = ranks_of(teller.alloc, path, candidates)?;
+    let mut lines = Vec::new(teller.alloc);
+    push_candidates(teller, path, &ranks, candidates, &mut lines)?;
+    push_headed(teller.form, "attachment", &lines, out)
 }

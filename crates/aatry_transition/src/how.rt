@@ -1,29 +1,23 @@
 //! What is told of how the answer to the start of a program came about, behind the rules that decide.
 
-ghost use Rattle.std.specs.Prelude.{◌≡◌, ◌++◌, IfOk, OnOk};
+ghost use Rattle.std.specs.Prelude.{◌≡◌, ◌++◌, IfOk, IfSome, OnOk};
 ghost use Rattle.std.specs.Option.{option_map};
-ghost use Rattle.aa_decide.specs.SeenExec.{seen_asker};
-ghost use Rattle.aa_decide_exec_rules.specs.Choices.{choice};
-ghost use Rattle.aa_decide_slots.specs.Ready.{audits, rules_at};
+ghost use Rattle.aa_decide.specs.SeenExec.{IsIn, seen_asker};
 ghost use Rattle.aa_decide_slots.specs.Slots.{filled};
 ghost use Rattle.aa_explain.specs.Candidates.{seen_candidates};
 ghost use Rattle.aatry_transition.specs.How.{asked_candidates, asked_lines, confined_lines, confinement_of, how_lines, led_lines};
 ghost use Rattle.aatry_transition.specs.How.{lines_or_none, none_attached, none_line, none_record, own_children, profile_lines};
-ghost use Rattle.aa_explain.specs.Leading.{lead_of};
+ghost use Rattle.aa_explain.specs.Leads.{seen_lead};
 ghost use Rattle.aatry_report.specs.SeenRecord.{seen_record};
 
 use crate::attachment::push_attachment;
 use crate::transition::push_transition;
 use aa_bytes::SharedBytes;
-use aa_decide::{Asker, Confinement, IndexedSlots, Ready};
-use aa_explain::{
-    AskedRules, Candidate, child_candidates, first_transition, leading_rules, profile_candidates,
-    which_rules_lead,
-};
+use aa_decide::{Asker, Confinement, IndexedSlots};
+use aa_explain::{Candidate, Lead, child_candidates, lead_of, profile_candidates};
 use aa_profile_access::Destination;
-use aa_profile_data::Transition;
 use aa_set_answers::find_asker;
-use aatry_report::{Form, Record, push_heading};
+use aatry_report::{Form, Record, Teller, push_heading};
 use std::alloc::{AllocError, Global};
 
 // The children and hats of who asks.
@@ -63,7 +57,7 @@ fn none_record(alloc: Global) -> Result<Record, AllocError>
     Ok(made)
 }
 
-// Puts the line behind a text of an attachment that there isn't.
+// Appends the line of an attachment that there isn't.
 fn push_none_line(out: &mut Vec<u8>) -> Result<(), AllocError>
     ensures { OnOk result (out.new.items ≡ out.old.items ++ none_line) }
 {
@@ -72,153 +66,129 @@ fn push_none_line(out: &mut Vec<u8>) -> Result<(), AllocError>
     Ok(())
 }
 
-// Puts behind a text that no profile in force has a pattern that matches the path.
-fn push_none_attached(alloc: Global, form: Form, out: &mut Vec<u8>) -> Result<(), AllocError>
-    ensures { OnOk result (out.new.items ≡ out.old.items ++ none_attached form) }
+// Appends that no profile in force has a pattern that matches the path.
+fn push_none_attached(teller: Teller, out: &mut Vec<u8>) -> Result<(), AllocError>
+    ensures { OnOk result (out.new.items ≡ out.old.items ++ none_attached teller.form) }
 {
-    match form {
+    match teller.form {
         Form::Lines => {
-            push_heading(form, "attachment", out)?;
+            push_heading(teller.form, "attachment", out)?;
             push_none_line(out)
         }
-        Form::Records => none_record(alloc)?.push(alloc, out),
+        Form::Records => none_record(teller.alloc)?.push(teller.alloc, out),
     }
 }
 
-// Puts lines behind a text, or that there is none to be attached to.
-fn push_lines_or_none(
-    alloc: Global,
-    form: Form,
-    lines: &[u8],
-    out: &mut Vec<u8>,
-) -> Result<(), AllocError>
-    ensures { OnOk result (out.new.items ≡ out.old.items ++ lines_or_none form lines.now) }
+// Appends lines, or that there is none to be attached to.
+fn push_lines_or_none(teller: Teller, lines: &[u8], out: &mut Vec<u8>) -> Result<(), AllocError>
+    ensures { OnOk result (out.new.items ≡ out.old.items ++ lines_or_none teller.form lines.now) }
 {
     if lines.is_empty() {
-        return push_none_attached(alloc, form, out);
+        return push_none_attached(teller, out);
     }
     out.extend_from_slice(lines)
 }
 
-// Puts the lines of the profiles that the path may be attached to behind a text.
+// Appends the lines of the profiles that the path may be attached to.
 fn push_profiles(
-    alloc: Global,
-    form: Form,
+    teller: Teller,
     slots: &IndexedSlots<'_>,
     path: &[u8],
     out: &mut Vec<u8>,
 ) -> Result<(), AllocError>
-    ensures { OnOk result (out.new.items ≡ out.old.items ++ profile_lines form path.now (filled slots.now)) }
+    ensures { OnOk result (out.new.items ≡ out.old.items ++ profile_lines teller.form path.now (filled slots.now)) }
 {
-    let candidates = profile_candidates(alloc, slots.as_slice())?;
-    let mut lines = Vec::new(alloc);
-    push_attachment(alloc, form, path, &candidates, &mut lines)?;
-    push_lines_or_none(alloc, form, &lines, out)
+    let candidates = profile_candidates(teller.alloc, slots.as_slice())?;
+    let mut lines = Vec::new(teller.alloc);
+    push_attachment(teller, path, &candidates, &mut lines)?;
+    push_lines_or_none(teller, &lines, out)
 }
 
-// Puts the lines of a transition behind a text, if there is one, and of the attachment, where it decides where that leads.
+// Appends the lines of where the rules lead, if they lead somewhere, and of the attachment, where it decides where that is.
 fn push_led(
-    alloc: Global,
-    form: Form,
+    teller: Teller,
     slots: &IndexedSlots<'_>,
     asker: Asker<'_>,
     path: &[u8],
-    transition: Option<&Transition>,
+    lead: Option<Lead<'_>>,
     out: &mut Vec<u8>,
 ) -> Result<(), AllocError>
     ensures { OnOk result (out.new.items ≡ out.old.items
-        ++ led_lines form path.now (filled slots.now) (seen_asker asker.entry) (option_map (λ transition. transition.now) transition.entry)) }
+        ++ led_lines teller.form path.now (filled slots.now) (seen_asker asker.entry) (option_map (seen_lead slots.now) lead.entry)) }
 {
-    let Some(transition) = transition else {
+    let Some(lead) = lead else {
         return Ok(());
     };
+    let transition = lead.transition;
     let destination = transition.word.destination();
-    let candidates = asked_candidates(alloc, slots, asker, &transition.target, destination)?;
-    push_transition(alloc, form, slots, asker, path, transition, out)?;
-    push_attachment(alloc, form, path, &candidates, out)
+    let candidates = asked_candidates(teller.alloc, slots, asker, &transition.target, destination)?;
+    push_transition(teller, slots, lead, out)?;
+    push_attachment(teller, path, &candidates, out)
 }
 
-// Where the rules of a profile, or of its child or hat at a place, lead together, if they lead somewhere.
-fn lead_at<'a>(
-    alloc: Global,
-    ready: &'a Ready,
-    child: Option<usize>,
-    owned: bool,
-    path: &[u8],
-) -> Result<Option<&'a Transition>, AllocError>
-    ensures { IfOk result (λ transition. option_map (λ transition. transition.now) transition
-        ≡ lead_of (choice (audits ready.now child) owned path.now (rules_at ready.now child))) }
-{
-    which_rules_lead();
-    let rules = ready.rules_at(child);
-    let places = leading_rules(alloc, AskedRules::Loaded { ready, child }, owned, path)?;
-    Ok(first_transition(rules, &places))
-}
-
-// Puts the lines behind a text for who asks by a loaded profile.
+// Appends the lines for who asks by a loaded profile.
 fn push_asked_by(
-    alloc: Global,
-    form: Form,
+    teller: Teller,
     slots: &IndexedSlots<'_>,
     asker: Asker<'_>,
     owned: bool,
     path: &[u8],
     out: &mut Vec<u8>,
 ) -> Result<(), AllocError>
+    requires { IsIn slots.now asker }
     ensures { OnOk result (out.new.items ≡ out.old.items
-        ++ confined_lines form owned path.now (filled slots.now) (seen_asker asker.entry) (confinement_of (seen_asker asker.entry))) }
+        ++ confined_lines teller.form owned path.now (filled slots.now) (seen_asker asker.entry) (confinement_of (seen_asker asker.entry))) }
 {
     match asker.entry.confinement(asker.child) {
-        Confinement::Unconfined => push_profiles(alloc, form, slots, path, out),
-        Confinement::By { ready, child, .. } => {
-            let transition = lead_at(alloc, ready, child, owned, path)?;
-            push_led(alloc, form, slots, asker, path, transition, out)
+        Confinement::Unconfined => push_profiles(teller, slots, path, out),
+        Confinement::By { .. } => {
+            let lead = lead_of(teller.alloc, slots, asker, owned, path)?;
+            push_led(teller, slots, asker, path, lead, out)
         }
     }
 }
 
-// Puts them there for who asks, or for no one in particular.
+// Appends them for who asks, or for no one in particular.
 fn push_asked(
-    alloc: Global,
-    form: Form,
+    teller: Teller,
     slots: &IndexedSlots<'_>,
     asker: Option<Asker<'_>>,
     owned: bool,
     path: &[u8],
     out: &mut Vec<u8>,
 ) -> Result<(), AllocError>
+    requires { IfSome asker (IsIn slots.now) }
     ensures { OnOk result (out.new.items ≡ out.old.items
-        ++ asked_lines form (filled slots.now) (option_map seen_asker asker.entry) owned path.now) }
+        ++ asked_lines teller.form (filled slots.now) (option_map seen_asker asker.entry) owned path.now) }
 {
     match asker {
-        None => push_profiles(alloc, form, slots, path, out),
-        Some(asker) => push_asked_by(alloc, form, slots, asker, owned, path, out),
+        None => push_profiles(teller, slots, path, out),
+        Some(asker) => push_asked_by(teller, slots, asker, owned, path, out),
     }
 }
 
-/// Puts lines behind a text that tell how the answer came about to who asks to start the program of a path, by a full name or as the word
+/// Appends lines that tell how the answer came about to who asks to start the program of a path, by a full name or as the word
 /// `unconfined`: below `transition` where the rules lead, and below `attachment` which profiles or children the path may be attached to, where that
 /// decides; or, as the form says, a record of each, of the kinds `transition` and `attachment`. Where nothing confines who asks and no profile in force
 /// has a pattern that matches, `attachment` says so: the standing is `none` then. Where no rule leads, or one denies, and where no one
-/// of the name is loaded, nothing is put. `owned` says whether the task's user owns the file. What is told is said of the filled slots in their
+/// of the name is loaded, nothing is appended. `owned` says whether the task's user owns the file. What is told is said of the filled slots in their
 /// order.
 ///
 /// # Errors
 ///
-/// Where memory runs out. A beginning may have been put then.
+/// Where memory runs out. A beginning may have been appended then.
 pub fn push_how(
-    alloc: Global,
-    form: Form,
+    teller: Teller,
     slots: &IndexedSlots<'_>,
     who: &[u8],
     owned: bool,
     path: &[u8],
     out: &mut Vec<u8>,
 ) -> Result<(), AllocError>
-    ensures { OnOk result (out.new.items ≡ out.old.items ++ how_lines form (filled slots.now) who.now owned path.now) }
+    ensures { OnOk result (out.new.items ≡ out.old.items ++ how_lines teller.form (filled slots.now) who.now owned path.now) }
 {
     match find_asker(slots, who) {
         None => Ok(()),
-        Some(asker) => push_asked(alloc, form, slots, asker, owned, path, out),
+        Some(asker) => push_asked(teller, slots, asker, owned, path, out),
     }
 }

@@ -2,8 +2,8 @@
 #![tactic(auto)]
 
 mod attachment;
+mod destinations;
 mod how;
-mod leads;
 mod records;
 mod transition;
 

@@ -2,9 +2,9 @@
 use Rattle.std.proofs.Common.{◌≡◌, Bool, true, false, not, List, [], ◌∷◌, refl}
 use Rattle.std.specs.List.{filter, list_any}
 use Rattle.aa_bytes.specs.Texts.{is_empty}
-use Rattle.aa_explain.specs.Laws.{places_of}
-use Rattle.aa_explain.specs.Logged.{is_denied, is_logged, some_is_logged}
-use Rattle.aa_explain.specs.declared.told.ToldRule.{ToldRule}
+use Rattle.aa_explain_rules.specs.Laws.{places_of}
+use Rattle.aa_explain_rules.specs.Logged.{is_denied, is_logged, some_is_logged}
+use Rattle.aa_explain_rules.specs.declared.told.ToldRule.{ToldRule}
 use Rattle.aatry_why_lines.specs.Groups.{places_in}
 use Rattle.aatry_why_lines.specs.declared.groups.Group.TheVariants.{Auditing}
 

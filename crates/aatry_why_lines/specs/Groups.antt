@@ -1,9 +1,9 @@
 -- The rules behind an answer by what they do.
 use Rattle.std.specs.Prelude.{ℕ, Bool, true, false, not, ◌&&◌, List, codes}
 use Rattle.std.specs.List.{filter}
-use Rattle.aa_explain.specs.Laws.{places_of}
-use Rattle.aa_explain.specs.Logged.{does_something}
-use Rattle.aa_explain.specs.declared.told.ToldRule.{ToldRule}
+use Rattle.aa_explain_rules.specs.Laws.{places_of}
+use Rattle.aa_explain_rules.specs.Logged.{does_something}
+use Rattle.aa_explain_rules.specs.declared.told.ToldRule.{ToldRule}
 use Rattle.aatry_why_lines.specs.declared.groups.Group.{Group}
 use Rattle.aatry_why_lines.specs.declared.groups.Group.TheVariants.{Allowing, Auditing, Denying}
 

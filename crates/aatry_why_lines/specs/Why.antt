@@ -3,11 +3,11 @@ use Rattle.std.specs.Prelude.{ℕ, Bool, if◌then◌else◌, List, [], ◌++◌
 use Rattle.aa_profile_access.specs.Access.{EXEC, has}
 use Rattle.aa_profile_access.specs.Request.{ForFile, Request}
 use Rattle.aa_profile_data.specs.declared.profile.Rule.{Rule}
-use Rattle.aa_explain.specs.Leading.{leading_places}
-use Rattle.aa_explain.specs.Logged.{is_denied}
-use Rattle.aa_explain.specs.Missing.{missing_rule}
-use Rattle.aa_explain.specs.Told.{near, told}
-use Rattle.aa_explain.specs.declared.told.ToldRule.{ToldRule}
+use Rattle.aa_explain_rules.specs.Leading.{leading_places}
+use Rattle.aa_explain_rules.specs.Logged.{is_denied}
+use Rattle.aa_explain_rules.specs.Missing.{missing_rule}
+use Rattle.aa_explain_rules.specs.Told.{near, told}
+use Rattle.aa_explain_rules.specs.declared.told.ToldRule.{ToldRule}
 use Rattle.aatry_report.specs.declared.form.Form.{Form}
 use Rattle.aatry_why_lines.specs.Groups.{heading, places_in}
 use Rattle.aatry_why_lines.specs.Lines.{group_lines, line_at, missing_line}

@@ -3,7 +3,7 @@ use Rattle.std.specs.Prelude.{ℕ, Bool, List, Option}
 use Rattle.aa_profile_data.specs.declared.profile.Rule.{Rule}
 use Rattle.aa_text_files.specs.Files.{File}
 use Rattle.aa_text_files.specs.declared.text_error.Place.{Place}
-use Rattle.aa_explain.specs.Asked.{audits_of, rules_of}
+use Rattle.aa_explain_rules.specs.Asked.{audits_of, rules_of}
 use Rattle.aatry_why_lines.specs.Finding.{Folder}
 use Rattle.aatry_why_lines.specs.declared.written.WrittenRules.{WrittenRules}
 

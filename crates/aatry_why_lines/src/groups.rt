@@ -1,10 +1,10 @@
 //! The rules behind an answer by what they do.
 
 ghost use Rattle.std.specs.Prelude.{◌≡◌, IfOk};
-ghost use Rattle.aa_explain.specs.Logged.{does_something, is_denied};
+ghost use Rattle.aa_explain_rules.specs.Logged.{does_something, is_denied};
 ghost use Rattle.aatry_why_lines.specs.Groups.{does, heading, is_in, places_in};
 
-use aa_explain::ToldRule;
+use aa_explain_rules::ToldRule;
 use bitflags::Flags;
 use std::alloc::{AllocError, Global};
 

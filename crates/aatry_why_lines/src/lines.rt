@@ -14,7 +14,7 @@ use crate::written::WrittenRules;
 use aa_profile_data::Rule;
 use aa_set_answers::push_rule;
 use aa_text_files::Place;
-use aatry_report::{Form, Record, push_heading, push_place, push_shown, put_place};
+use aatry_report::{Form, Record, Teller, push_heading, push_place, push_shown, put_place};
 use std::alloc::{AllocError, Global};
 
 /// Puts where a rule stands behind a text: the folder's path with the name of the file, the line and the column where it is written. One without a
@@ -132,21 +132,19 @@ fn push_rule_line(
 // Puts the line of a rule of a group below these words behind a text.
 fn push_told(
     finder: &mut Finder<'_>,
-    form: Form,
+    teller: Teller,
     name: &[u8],
     words: &str,
     place: Option<Place>,
     rule: &Rule,
     out: &mut Vec<u8>,
 ) -> Result<(), AllocError>
-    ensures told { OnOk result (out.new.items ≡ out.old.items ++ told_line form finder.old name.now words.now place rule.now) }
+    ensures told { OnOk result (out.new.items ≡ out.old.items ++ told_line teller.form finder.old name.now words.now place rule.now) }
     ensures same { finder.new ≡ finder.old }
 {
-    match form {
+    match teller.form {
         Form::Lines => push_rule_line(finder, name, place, rule, out),
-        Form::Records => {
-            rule_record(finder, name, words, place, rule)?.push(finder.alloc(), out)
-        }
+        Form::Records => { rule_record(finder, name, words, place, rule)?.push(teller.alloc, out) }
     }
 }
 
@@ -163,21 +161,21 @@ fn place_at(places: &[Option<Place>], index: usize) -> Option<Place>
 // Puts the line of the rule at an index behind a text, if there is one.
 fn push_line(
     finder: &mut Finder<'_>,
-    form: Form,
+    teller: Teller,
     written: &WrittenRules<'_>,
     words: &str,
     index: usize,
     out: &mut Vec<u8>,
 ) -> Result<(), AllocError>
     requires { finder.old ≡ folder_of (seen_rules written.now) }
-    ensures told { OnOk result (out.new.items ≡ out.old.items ++ line_at form (seen_rules written.now) words.now index) }
+    ensures told { OnOk result (out.new.items ≡ out.old.items ++ line_at teller.form (seen_rules written.now) words.now index) }
     ensures same { finder.new ≡ finder.old }
 {
     match written.rules.as_slice().get(index) {
         None => Ok(()),
         Some(rule) => {
             let place = place_at(written.places, index);
-            push_told(finder, form, written.name, words, place, rule, out)
+            push_told(finder, teller, written.name, words, place, rule, out)
         }
     }
 }
@@ -188,19 +186,18 @@ fn push_line(
 ///
 /// Where memory runs out. A beginning may have been put then.
 pub fn push_lines(
-    alloc: Global,
-    form: Form,
+    teller: Teller,
     written: &WrittenRules<'_>,
     words: &str,
     indexes: &[usize],
     out: &mut Vec<u8>,
 ) -> Result<(), AllocError>
-    ensures { OnOk result (out.new.items ≡ out.old.items ++ flat_map (line_at form (seen_rules written.now) words.now) indexes.now) }
+    ensures { OnOk result (out.new.items ≡ out.old.items ++ flat_map (line_at teller.form (seen_rules written.now) words.now) indexes.now) }
 {
-    let mut finder = Finder::new(alloc, written.files, written.base);
+    let mut finder = Finder::new(teller.alloc, written.files, written.base);
     let mut rest = indexes;
     while let [index, behind @ ..] = rest {
-        push_line(&mut finder, form, written, words, *index, out)?;
+        push_line(&mut finder, teller, written, words, *index, out)?;
         rest = behind;
     }
     Ok(())
@@ -213,20 +210,19 @@ pub fn push_lines(
 ///
 /// Where memory runs out. A beginning may have been put then.
 pub fn push_group(
-    alloc: Global,
-    form: Form,
+    teller: Teller,
     written: &WrittenRules<'_>,
     words: &str,
     indexes: &[usize],
     out: &mut Vec<u8>,
 ) -> Result<(), AllocError>
-    ensures { OnOk result (out.new.items ≡ out.old.items ++ group_lines form (seen_rules written.now) words.now indexes.now) }
+    ensures { OnOk result (out.new.items ≡ out.old.items ++ group_lines teller.form (seen_rules written.now) words.now indexes.now) }
 {
     if indexes.is_empty() {
         return Ok(());
     }
-    push_heading(form, words, out)?;
-    push_lines(alloc, form, written, words, indexes, out)
+    push_heading(teller.form, words, out)?;
+    push_lines(teller, written, words, indexes, out)
 }
 
 // The record of a rule that isn't there.
@@ -254,16 +250,11 @@ fn push_missing_line(alloc: Global, rule: &Rule, out: &mut Vec<u8>) -> Result<()
 /// # Errors
 ///
 /// Where memory runs out. A beginning may have been put then.
-pub fn push_missing(
-    alloc: Global,
-    form: Form,
-    rule: &Rule,
-    out: &mut Vec<u8>,
-) -> Result<(), AllocError>
-    ensures { OnOk result (out.new.items ≡ out.old.items ++ missing_line form rule.now) }
+pub fn push_missing(teller: Teller, rule: &Rule, out: &mut Vec<u8>) -> Result<(), AllocError>
+    ensures { OnOk result (out.new.items ≡ out.old.items ++ missing_line teller.form rule.now) }
 {
-    match form {
-        Form::Lines => push_missing_line(alloc, rule, out),
-        Form::Records => missing_record(alloc, rule)?.push(alloc, out),
+    match teller.form {
+        Form::Lines => push_missing_line(teller.alloc, rule, out),
+        Form::Records => missing_record(teller.alloc, rule)?.push(teller.alloc, out),
     }
 }

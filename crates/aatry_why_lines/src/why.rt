@@ -5,32 +5,31 @@ ghost use Rattle.aa_profile_access.specs.SeenRequests.{request_of};
 ghost use Rattle.aatry_why_lines.specs.Why.{allowing_lines, auditing_lines, deciding, deciding_lines, lacking_lines, lines_of};
 ghost use Rattle.aatry_why_lines.specs.Why.{missing_lines, nearest_lines, told_lines, why_lines};
 ghost use Rattle.aatry_why_lines.specs.Written.{seen_rules};
-ghost use Rattle.aa_explain.specs.Asked.{audits_of, rules_of};
-ghost use Rattle.aa_explain.specs.Missing.{missing_rule};
-ghost use Rattle.aa_explain.specs.Told.{told};
+ghost use Rattle.aa_explain_rules.specs.Asked.{audits_of, rules_of};
+ghost use Rattle.aa_explain_rules.specs.Missing.{missing_rule};
+ghost use Rattle.aa_explain_rules.specs.Told.{told};
 
 use crate::groups::{Group, heading, is_denied, places_in};
 use crate::lines::{push_group, push_lines, push_missing};
 use crate::written::WrittenRules;
-use aa_explain::{AskedRules, ToldRule, leading_rules, missing_rule, near_rules, told_rules};
+use aa_explain_rules::{AskedRules, ToldRule, leading_rules, missing_rule, near_rules, told_rules};
 use aa_profile_access::{Perms, Request};
-use aatry_report::Form;
+use aatry_report::Teller;
 use bitflags::Flags;
 use std::alloc::{AllocError, Global};
 
 // Puts the lines of the rules of a group behind a text.
 fn push_told_group(
-    alloc: Global,
-    form: Form,
+    teller: Teller,
     written: &WrittenRules<'_>,
     told: &[ToldRule],
     group: Group,
     out: &mut Vec<u8>,
 ) -> Result<(), AllocError>
-    ensures { OnOk result (out.new.items ≡ out.old.items ++ lines_of form (seen_rules written.now) told.now group) }
+    ensures { OnOk result (out.new.items ≡ out.old.items ++ lines_of teller.form (seen_rules written.now) told.now group) }
 {
-    let indexes = places_in(alloc, group, told)?;
-    push_group(alloc, form, written, heading(group), &indexes, out)
+    let indexes = places_in(teller.alloc, group, told)?;
+    push_group(teller, written, heading(group), &indexes, out)
 }
 
 // The places of the rules that decide where a program runs, where its start is asked for.
@@ -55,65 +54,61 @@ fn deciding(
 
 // Puts the lines of the rules that decide where a program runs behind a text.
 fn push_deciding(
-    alloc: Global,
-    form: Form,
+    teller: Teller,
     written: &WrittenRules<'_>,
     request: &Request<'_>,
     out: &mut Vec<u8>,
 ) -> Result<(), AllocError>
-    ensures { OnOk result (out.new.items ≡ out.old.items ++ deciding_lines form (seen_rules written.now) (request_of request.entry.now)) }
+    ensures { OnOk result (out.new.items ≡ out.old.items ++ deciding_lines teller.form (seen_rules written.now) (request_of request.entry.now)) }
 {
-    let indexes = deciding(alloc, request, written.rules)?;
-    push_group(alloc, form, written, "decided by", &indexes, out)
+    let indexes = deciding(teller.alloc, request, written.rules)?;
+    push_group(teller, written, "decided by", &indexes, out)
 }
 
 // Puts the line of the rule that a request lacks behind a text, if it lacks one.
 fn push_missing_rule(
-    alloc: Global,
-    form: Form,
+    teller: Teller,
     rules: AskedRules<'_>,
     request: &Request<'_>,
     out: &mut Vec<u8>,
 ) -> Result<(), AllocError>
-    ensures { OnOk result (out.new.items ≡ out.old.items ++ missing_lines form (missing_rule (request_of request.entry.now) (rules_of rules.entry))) }
+    ensures { OnOk result (out.new.items ≡ out.old.items ++ missing_lines teller.form (missing_rule (request_of request.entry.now) (rules_of rules.entry))) }
 {
-    match missing_rule(alloc, rules, request)? {
+    match missing_rule(teller.alloc, rules, request)? {
         None => Ok(()),
-        Some(rule) => push_missing(alloc, form, &rule, out),
+        Some(rule) => push_missing(teller, &rule, out),
     }
 }
 
 // Puts the lines of the nearest rules behind a text.
 fn push_nearest(
-    alloc: Global,
-    form: Form,
+    teller: Teller,
     written: &WrittenRules<'_>,
     request: &Request<'_>,
     out: &mut Vec<u8>,
 ) -> Result<(), AllocError>
-    ensures { OnOk result (out.new.items ≡ out.old.items ++ nearest_lines form (seen_rules written.now) (request_of request.entry.now)) }
+    ensures { OnOk result (out.new.items ≡ out.old.items ++ nearest_lines teller.form (seen_rules written.now) (request_of request.entry.now)) }
 {
-    let indexes = near_rules(alloc, written.rules, request)?;
-    push_group(alloc, form, written, "nearest rules", &indexes, out)
+    let indexes = near_rules(teller.alloc, written.rules, request)?;
+    push_group(teller, written, "nearest rules", &indexes, out)
 }
 
 // Puts both there where something of the request isn't allowed.
 fn push_lacking(
-    alloc: Global,
-    form: Form,
+    teller: Teller,
     written: &WrittenRules<'_>,
     request: &Request<'_>,
     lacking: bool,
     out: &mut Vec<u8>,
 ) -> Result<(), AllocError>
     ensures { OnOk result (out.new.items
-        ≡ out.old.items ++ lacking_lines form (seen_rules written.now) (request_of request.entry.now) lacking) }
+        ≡ out.old.items ++ lacking_lines teller.form (seen_rules written.now) (request_of request.entry.now) lacking) }
 {
     if !lacking {
         return Ok(());
     }
-    push_missing_rule(alloc, form, written.rules, request, out)?;
-    push_nearest(alloc, form, written, request, out)
+    push_missing_rule(teller, written.rules, request, out)?;
+    push_nearest(teller, written, request, out)
 }
 
 /// Puts the rules behind a text that allow something of what a request asks for, as `push_why` tells those that allow, but with no words over them.
@@ -122,64 +117,53 @@ fn push_lacking(
 ///
 /// Where memory runs out. A beginning may have been put then.
 pub fn push_allowing(
-    alloc: Global,
-    form: Form,
+    teller: Teller,
     written: &WrittenRules<'_>,
     request: &Request<'_>,
     out: &mut Vec<u8>,
 ) -> Result<(), AllocError>
-    ensures { OnOk result (out.new.items ≡ out.old.items ++ allowing_lines form (seen_rules written.now) (request_of request.entry.now)) }
+    ensures { OnOk result (out.new.items ≡ out.old.items ++ allowing_lines teller.form (seen_rules written.now) (request_of request.entry.now)) }
 {
-    let told = told_rules(alloc, written.rules, request)?;
-    let indexes = places_in(alloc, Group::Allowing, &told)?;
-    push_lines(
-        alloc,
-        form,
-        written,
-        heading(Group::Allowing),
-        &indexes,
-        out,
-    )
+    let told = told_rules(teller.alloc, written.rules, request)?;
+    let indexes = places_in(teller.alloc, Group::Allowing, &told)?;
+    push_lines(teller, written, heading(Group::Allowing), &indexes, out)
 }
 
 // Appends the lines of the rules to a text whose doings are logged; none where something of the request isn't allowed.
 fn push_auditing(
-    alloc: Global,
-    form: Form,
+    teller: Teller,
     written: &WrittenRules<'_>,
     told: &[ToldRule],
     lacking: bool,
     out: &mut Vec<u8>,
 ) -> Result<(), AllocError>
-    ensures { OnOk result (out.new.items ≡ out.old.items ++ auditing_lines form (seen_rules written.now) lacking told.now) }
+    ensures { OnOk result (out.new.items ≡ out.old.items ++ auditing_lines teller.form (seen_rules written.now) lacking told.now) }
 {
     if lacking {
         return Ok(());
     }
     let denied = is_denied(told);
-    push_told_group(alloc, form, written, told, Group::Auditing { denied }, out)
+    push_told_group(teller, written, told, Group::Auditing { denied }, out)
 }
 
 // Puts the lines of the rules of each group behind a text.
 fn push_groups(
-    alloc: Global,
-    form: Form,
+    teller: Teller,
     written: &WrittenRules<'_>,
     told: &[ToldRule],
     lacking: bool,
     out: &mut Vec<u8>,
 ) -> Result<(), AllocError>
-    ensures { OnOk result (out.new.items ≡ out.old.items ++ told_lines form (seen_rules written.now) lacking told.now) }
+    ensures { OnOk result (out.new.items ≡ out.old.items ++ told_lines teller.form (seen_rules written.now) lacking told.now) }
 {
-    push_told_group(alloc, form, written, told, Group::Denying, out)?;
-    push_told_group(alloc, form, written, told, Group::Allowing, out)?;
-    push_auditing(alloc, form, written, told, lacking, out)
+    push_told_group(teller, written, told, Group::Denying, out)?;
+    push_told_group(teller, written, told, Group::Allowing, out)?;
+    push_auditing(teller, written, told, lacking, out)
 }
 
 // Puts the lines of the rules that apply to a request behind a text.
 fn push_applying(
-    alloc: Global,
-    form: Form,
+    teller: Teller,
     written: &WrittenRules<'_>,
     request: &Request<'_>,
     lacking: bool,
@@ -187,15 +171,15 @@ fn push_applying(
 ) -> Result<(), AllocError>
     ensures { OnOk result (out.new.items
         ≡ out.old.items
-        ++ told_lines form (seen_rules written.now) lacking (told (audits_of written.now.rules) (request_of request.entry.now) (rules_of written.now.rules))) }
+        ++ told_lines teller.form (seen_rules written.now) lacking (told (audits_of written.now.rules) (request_of request.entry.now) (rules_of written.now.rules))) }
 {
-    let told = told_rules(alloc, written.rules, request)?;
-    push_groups(alloc, form, written, &told, lacking, out)
+    let told = told_rules(teller.alloc, written.rules, request)?;
+    push_groups(teller, written, &told, lacking, out)
 }
 
 /// Appends the rules behind the answer to a request to a text, as they decide it: those that deny, that allow, and by which the answer is logged, those that
 /// decide where a program runs, where its start is asked for, each group below its words, and, where `lacking` says that something of it isn't allowed, the
-/// rule that is missing (`aa_explain::missing_rule`) and those that are near. A rule that is in two groups is told in both. Each has a line of its own:
+/// rule that is missing (`aa_explain_rules::missing_rule`) and those that are near. A rule that is in two groups is told in both. Each has a line of its own:
 /// `base` with the file's name, the line and the column where it is written, and the rule as `show` tells it. As records, of the kind `rule`, these are
 /// `file`, `line` and `column`, and `rule`, with the words of the group, `group`, in each and none above; the missing rule, of the kind `missing`, has
 /// `rule` alone.
@@ -204,16 +188,15 @@ fn push_applying(
 ///
 /// Where memory runs out. A beginning may have been appended then.
 pub fn push_why(
-    alloc: Global,
-    form: Form,
+    teller: Teller,
     written: &WrittenRules<'_>,
     request: &Request<'_>,
     lacking: bool,
     out: &mut Vec<u8>,
 ) -> Result<(), AllocError>
-    ensures { OnOk result (out.new.items ≡ out.old.items ++ why_lines form (seen_rules written.now) (request_of request.entry.now) lacking) }
+    ensures { OnOk result (out.new.items ≡ out.old.items ++ why_lines teller.form (seen_rules written.now) (request_of request.entry.now) lacking) }
 {
-    push_applying(alloc, form, written, request, lacking, out)?;
-    push_deciding(alloc, form, written, request, out)?;
-    push_lacking(alloc, form, written, request, lacking, out)
+    push_applying(teller, written, request, lacking, out)?;
+    push_deciding(teller, written, request, out)?;
+    push_lacking(teller, written, request, lacking, out)
 }

@@ -1,6 +1,6 @@
 //! Rules with where they are written.
 
-use aa_explain::AskedRules;
+use aa_explain_rules::AskedRules;
 use aa_text_files::{Files, Place};
 
 /// The rules of a profile, or of a child or hat, with where they are written.

@@ -1,9 +1,9 @@
 //! Why requests are answered as they are: the calls whose findings no row tells.
 
 use crate::given::{first_wrong, managed};
-use aa_decide::{Entry, Request, find_named};
+use aa_decide::{Entry, ExecTo, IndexedSlots, Request, find_loaded, find_named};
 use aa_explain::{
-    AskedRules, attached_child, child_candidates, leading_rules, missing_rule, near_rules,
+    AskedRules, attached_child, child_candidates, lead_of, leading_rules, missing_rule, near_rules,
     profile_candidates, ranks_of, told_rules,
 };
 use aa_profile::{Perms, Rule};
@@ -75,9 +75,20 @@ fn has_child(alloc: Global, entry: &Entry) -> bool {
 }
 
 fn is_attached(alloc: Global, entry: &Entry) -> bool {
-    match attached_child(alloc, entry, b"/usr/bin/php") {
+    match attached_child(alloc, entry.ready(), b"/usr/bin/php") {
         Ok(child) => child == Some(0),
         Err(_) => false,
+    }
+}
+
+// The program of an exact pattern is led to no profile.
+fn has_lead(alloc: Global, slots: &IndexedSlots<'_>) -> bool {
+    let Some(web) = find_loaded(slots, b"web") else {
+        return false;
+    };
+    match lead_of(alloc, slots, web, false, b"/usr/bin/vi") {
+        Ok(Some(lead)) => lead.to == Some(ExecTo::Unconfined) && lead.fallback.is_none(),
+        _ => false,
     }
 }
 
@@ -130,6 +141,7 @@ fn wrong(alloc: Global) -> Option<&'static str> {
         ("ranks_of", are_ranked(alloc, slots.as_slice())),
         ("child_candidates", has_child(alloc, web)),
         ("attached_child", is_attached(alloc, web)),
+        ("lead_of", has_lead(alloc, &slots)),
     ];
     match (wrong_listed(alloc, web), wrong_loaded(alloc, web)) {
         (None, None) => first_wrong(&attachments),

@@ -1,14 +1,11 @@
 use Rattle.std.proofs.Common.{◌≡◌, ap, ◌∙◌}
-use Rattle.aaset_start.specs.CommandLine.{with_last_option, without_own_name}
-use Rattle.clap.specs.Words.{app_of}
-use Rattle.clap.specs.Simple.{app_of_fields, on_top}
 use Rattle.aatry_arguments.proofs.check_line.bare_command.Goals as goal
+use Rattle.clap.specs.Words.{app_of}
+use Rattle.clap.specs.Simple.{app_of_fields}
 
--- What each builder says of its own setting, one after the other, is the command line.
+-- What help says is no part of how words are read.
 pub returns : goal.returns
 returns c =
-    let bare : app_of c.no_binary_name.result ≡ on_top without_own_name (app_of c.new.result) = ap app_of_fields c.no_binary_name.ensures in
-    let last : app_of c.args_override_self.result ≡ on_top with_last_option (app_of c.no_binary_name.result) = ap app_of_fields c.args_override_self.ensures in
-    let about : app_of c.about.result ≡ app_of c.args_override_self.result = ap app_of_fields c.about.ensures in
+    let about : app_of c.about.result ≡ app_of c.bare_command.result = ap app_of_fields c.about.ensures in
     let after : app_of c.after_help.result ≡ app_of c.about.result = ap app_of_fields c.after_help.ensures in
-    after ∙ about ∙ last ∙ ap (on_top with_last_option) (bare ∙ ap (on_top without_own_name) c.new.ensures.app)
+    after ∙ about ∙ c.bare_command.ensures

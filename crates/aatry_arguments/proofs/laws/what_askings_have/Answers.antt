@@ -1,7 +1,7 @@
 use Rattle.std.proofs.Common.{◌≡◌, ◌∙◌, ℕ, List, [], ◌∷◌, length, ◌≢◌, eqb, false, refl, arith}
 use Rattle.std.proofs.lemmas.Bool.Decides.{nat_tests}
 use Rattle.aatry_arguments.specs.Arguments.{ForWho, ForWhy}
-use Rattle.aatry_arguments.specs.Asked.{Nothing, asked_as}
+use Rattle.aa_options.specs.Options.{Nothing, asked_as}
 use Rattle.aatry_arguments.specs.AskingWords.{who_of, why_of}
 use Rattle.aatry_arguments.specs.CheckWords.{asked_check, check_with}
 use Rattle.aatry_arguments.proofs.AskedLemmas.{asked_of_check}

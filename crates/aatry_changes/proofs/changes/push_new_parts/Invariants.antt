@@ -7,7 +7,7 @@ use Rattle.aatry_policy.specs.SeenProfiles.{seen_part}
 -- what was told so far, with what is told of the parts that are left, is all; and so is how many these are
 abbrev pub invariant-loop-rest : goal.invariant-loop-rest
 invariant-loop-rest l =
-    let text = new_text l.form (seen_folder l.old) in
+    let text = new_text l.teller.form (seen_folder l.old) in
     let counts = is_new (seen_folder l.old) in
     record {
       told : l.out.items ++ flat_map text (map seen_part l.rest) ≡ l.initial.out.items ++ flat_map text (map seen_part l.parts);

@@ -8,7 +8,7 @@ use Rattle.aatry_policy.specs.SeenProfiles.{seen_part}
 -- found in both folders
 abbrev pub invariant-loop-rest : goal.invariant-loop-rest
 invariant-loop-rest l =
-    let text = old_text l.form (seen_folder l.old) (seen_folder l.new) in
+    let text = old_text l.teller.form (seen_folder l.old) (seen_folder l.new) in
     let counts = is_gone_or_changed (seen_folder l.new) in
     record {
       told : l.out.items ++ flat_map text (map seen_part l.rest) ≡ l.initial.out.items ++ flat_map text (map seen_part l.parts);

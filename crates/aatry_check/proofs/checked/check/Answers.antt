@@ -6,7 +6,7 @@ use Rattle.aatry_check.proofs.checked.check.Goals as goal
 pub loop-name-preserved : goal.loop-name-preserved
 loop-name-preserved c =
     let so_far = c.loop-name.invariant in
-    let form = c.args.form in
+    let form = c.args.teller.form in
     let files = c.args.files.now in
     let base = c.args.base.now in
     let names = c.args.names.now in

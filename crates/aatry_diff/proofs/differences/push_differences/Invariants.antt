@@ -7,7 +7,7 @@ use Rattle.aatry_diff.proofs.differences.push_differences.Given as goal
 -- the text so far, with what is told of the questions that are left, is all
 abbrev pub invariant-loop-rest : goal.invariant-loop-rest
 invariant-loop-rest l =
-    let text = told_differences l.form (seen_folders l.folders) in
+    let text = told_differences l.teller.form (seen_folders l.folders) in
     l.out.items ++ text (seen_differences l.rest) ≡ l.initial.out.items ++ text (seen_differences l.differences)
 
 abbrev pub decreases-loop-rest : goal.decreases-loop-rest

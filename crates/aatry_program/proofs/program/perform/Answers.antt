@@ -2,11 +2,12 @@ use Rattle.std.proofs.Common.{string_bytes, subst}
 use Rattle.aaset_start.specs.Gathering.{texts_of}
 use Rattle.aatry_arguments.specs.Arguments.{ForCheck, ForDiff, ForTest, ForWho, ForWhy}
 use Rattle.aatry_arguments.specs.Given.{meant_asking, meant_check, meant_comparison, meant_test}
-use Rattle.aatry_commands.specs.Asking.{IsWhoToldBelow, IsWhyToldBelow}
-use Rattle.aatry_commands.specs.Checking.{IsChecked}
-use Rattle.aatry_commands.specs.Comparing.{IsComparedBelow}
-use Rattle.aatry_commands.specs.Ends.{MayEndWith}
-use Rattle.aatry_commands.specs.Testing.{IsTestedBelow}
+use Rattle.aatry_who.specs.Who.{IsWhoToldBelow}
+use Rattle.aatry_why.specs.Why.{IsWhyToldBelow}
+use Rattle.aatry_check.specs.Below.{IsChecked}
+use Rattle.aatry_diff.specs.Below.{IsComparedBelow}
+use Rattle.aatry_program.specs.Ends.{MayEndWith}
+use Rattle.aatry_test.specs.Below.{IsTestedBelow}
 use Rattle.aatry_program.proofs.ProgramLemmas.{command_done}
 use Rattle.aatry_program.specs.Program.{IsSessionDone, input_of, output_of}
 use Rattle.aatry_program.proofs.program.perform.Goals as goal

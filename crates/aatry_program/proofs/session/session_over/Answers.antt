@@ -2,7 +2,7 @@ use Rattle.std.proofs.Common.{◌≡◌, ◌∙◌, ◌++◌, ℕ, List, ap, inl
 use Rattle.std.specs.Io.KnownBytes.{Appends}
 use Rattle.std.proofs.lemmas.Result.{IfErr-weaker, err_from_is_err_and, on_ok_weaker}
 use Rattle.aa_set_lines.specs.Streams.{AppendsFront}
-use Rattle.aatry_commands.specs.declared.fault.Fault.{Fault}
+use Rattle.aatry_folder.specs.declared.fault.Fault.{Fault}
 use Rattle.aatry_program.specs.Broken.{IsBrokenRun, IsBrokenSession}
 use Rattle.aatry_program.specs.Session.{IsRun}
 use Rattle.aatry_program.specs.code.Sessions.{seen_table, standing}

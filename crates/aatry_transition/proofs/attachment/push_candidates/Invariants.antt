@@ -6,8 +6,8 @@ use Rattle.aatry_transition.proofs.attachment.push_candidates.Given as goal
 -- the text so far, with the lines of the rest, is all
 abbrev pub invariant-loop-rest : goal.invariant-loop-rest
 invariant-loop-rest l = record {
-  same : l.out.items ++ lines_from l.form l.path l.ranks l.place (seen_candidates l.rest)
-      ≡ l.initial.out.items ++ lines_from l.form l.path l.ranks 0 (seen_candidates l.candidates);
+  same : l.out.items ++ lines_from l.teller.form l.path l.ranks l.place (seen_candidates l.rest)
+      ≡ l.initial.out.items ++ lines_from l.teller.form l.path l.ranks 0 (seen_candidates l.candidates);
   count : l.place + length l.rest ≡ length l.candidates;
 }
 

@@ -1,7 +1,7 @@
 use Rattle.std.proofs.Common.{◌∙◌, ap, not, ◌||◌}
 use Rattle.std.specs.Prelude.{◌==◌}
 use Rattle.aa_decide_rules.specs.Verdict.{missing}
-use Rattle.aa_explain.specs.Told.{told}
+use Rattle.aa_explain_rules.specs.Told.{told}
 use Rattle.aatry_why_lines.proofs.GroupLemmas.{some-audits}
 use Rattle.aatry_why_lines.proofs.laws.what_is_told_as_audited.Goals as goal
 

@@ -8,8 +8,8 @@ use Rattle.aatry_why_lines.proofs.lines.push_lines.Given as goal
 abbrev pub invariant-loop-rest : goal.invariant-loop-rest
 invariant-loop-rest l = record {
   told :
-      l.out.items ++ flat_map (line_at l.form (seen_rules l.written) l.words) l.rest
-      ≡ l.initial.out.items ++ flat_map (line_at l.form (seen_rules l.written) l.words) l.indexes;
+      l.out.items ++ flat_map (line_at l.teller.form (seen_rules l.written) l.words) l.rest
+      ≡ l.initial.out.items ++ flat_map (line_at l.teller.form (seen_rules l.written) l.words) l.indexes;
   folder : l.finder ≡ folder_of (seen_rules l.written);
 }
 

@@ -1,8 +1,0 @@
-use Rattle.aa_explain.proofs.PlaceLemmas.{are-all, rise}
-use Rattle.aa_explain.proofs.laws.where_rules_stand.Goals as goal
-
-pub returns-clause-they_are_all : goal.returns-clause-they_are_all
-returns-clause-they_are_all c = are-all
-
-pub returns-clause-they_rise : goal.returns-clause-they_rise
-returns-clause-they_rise c = rise

@@ -1,0 +1,2 @@
+mod AlikeLemmas
+mod KeyLemmas

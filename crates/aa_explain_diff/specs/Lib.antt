@@ -1,0 +1,4 @@
+pub mod Alike
+pub mod Features
+pub mod Sections
+pub mod code

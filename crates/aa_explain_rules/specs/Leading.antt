@@ -1,0 +1,44 @@
+-- Which rules decide where a program runs that is started (docs/policy.md, "The start of a program").
+use Rattle.std.specs.Prelude.{ℕ, Bool, false, if◌then◌else◌, List, [], ◌∷◌, Option, None, Some, slice_get}
+use Rattle.std.specs.List.{list_any}
+use Rattle.aa_decide_exec_rules.specs.Choices.{Choice, Denied, Leads, Missing, denies, dominates, is_exact_lead}
+use Rattle.aa_decide_exec_rules.specs.ExecRules.{ExecRule, said_of}
+use Rattle.aa_profile_data.specs.declared.profile.Rule.{Rule}
+use Rattle.aa_profile_data.specs.declared.profile.Rule.TheVariants.{File}
+use Rattle.aa_profile_data.specs.declared.profile.Transition.{Transition}
+use Rattle.aa_explain_rules.specs.Told.{places_where}
+
+-- what a rule says of the start of the program of a path passes a test; a rule that says nothing passes none
+abbrev pub says : (ExecRule → Bool) → Bool → Bool → List ℕ → Rule → Bool
+says test flag owned path rule = elim (said_of flag owned path rule) [ None ↦ false | Some said ↦ test said ]
+
+-- Some rule passes the test. That rules are audited plays no part in the tests here.
+abbrev pub some_says : (ExecRule → Bool) → Bool → List ℕ → List Rule → Bool
+some_says test owned path rules = list_any (says test false owned path) rules
+
+-- The places of the rules that decide where the program runs: of those that dominate, in their order. Where a rule denies, there are none.
+abbrev pub leading_places : Bool → List ℕ → List Rule → List ℕ
+leading_places owned path rules =
+    if some_says denies owned path rules
+    then []
+    else places_where (says (dominates (some_says is_exact_lead owned path rules)) false owned path) 0 rules
+
+-- the transition of a rule, if it has one
+abbrev pub transition_of : Rule → Option Transition
+transition_of (File rule) = rule.exec
+transition_of _ = None
+
+-- that of the rule at a place
+abbrev pub transition_at : List Rule → ℕ → Option Transition
+transition_at rules place = elim (slice_get rules place) [ None ↦ None | Some rule ↦ transition_of rule ]
+
+-- that of the rule at the first of some places
+abbrev pub first_transition : List Rule → List ℕ → Option Transition
+first_transition rules [] = None
+first_transition rules (place ∷ places) = transition_at rules place
+
+-- where a choice leads, if it leads somewhere
+abbrev pub chosen_transition : Choice → Option Transition
+chosen_transition (Denied audited) = None
+chosen_transition Missing = None
+chosen_transition (Leads transition audited) = Some transition

@@ -1,0 +1,117 @@
+//! The rules that a request is asked of, and which of them concern it.
+
+ghost use Rattle.std.specs.Prelude.{◌≡◌, IfOk};
+ghost use Rattle.aa_profile_access.specs.SeenRequests.{request_of};
+ghost use Rattle.aa_decide_slots.specs.Ready.{rules_at};
+ghost use Rattle.aa_explain_rules.specs.Asked.{audits_of, concerned, concerns, rules_of};
+
+use aa_decide_rules::applies;
+use aa_decide_slots::{Ready, Steps};
+use aa_profile_access::Request;
+use aa_profile_data::Rule;
+use std::alloc::{AllocError, Global};
+
+/// The rules that a request is asked of.
+#[derive(Clone, Copy)]
+pub enum AskedRules<'a> {
+    /// Rules of which nothing was made ready: each pattern is tried by itself.
+    Listed {
+        /// Whether each of them is audited, whatever its own words are: the flag of their profile.
+        audit: bool,
+        /// The rules, in their order.
+        rules: &'a [Rule],
+    },
+    /// Those by which a loaded profile decides: one automaton finds the patterns that match.
+    Loaded {
+        /// The profile.
+        ready: &'a Ready,
+        /// The place of the child or hat among its children whose rules are asked; none where it is the profile itself.
+        child: Option<usize>,
+    },
+}
+
+// Whether a rule concerns a request.
+fn concerns(request: &Request<'_>, rule: &Rule) -> bool
+    ensures { result ≡ concerns (request_of request.entry.now) rule.now }
+{
+    match (request, rule) {
+        (Request::File { path, .. }, Rule::File(rule)) => rule.pattern.matches(path),
+        (Request::File { .. }, _) => false,
+        (Request::Cap(_), _) => applies(request, rule),
+        (Request::Net { .. }, _) => applies(request, rule),
+    }
+}
+
+// The places of those of some rules that concern a request. Each is tried by itself.
+fn concerned_listed(
+    alloc: Global,
+    rules: &[Rule],
+    request: &Request<'_>,
+) -> Result<Vec<usize>, AllocError>
+    ensures { IfOk result (λ places. places.items ≡ concerned (request_of request.entry.now) rules.now) }
+{
+    let mut found = Vec::new(alloc);
+    let mut place = 0;
+    let mut rest = rules;
+    while let [rule, behind @ ..] = rest {
+        if concerns(request, rule) {
+            found.push(place)?;
+        }
+        place += 1;
+        rest = behind;
+    }
+    Ok(found)
+}
+
+// The places of those of a loaded profile that concern a request, or of its child or hat at a place.
+fn concerned_loaded(
+    alloc: Global,
+    ready: &Ready,
+    child: Option<usize>,
+    request: &Request<'_>,
+) -> Result<Vec<usize>, AllocError>
+    ensures { IfOk result (λ places. places.items ≡ concerned (request_of request.entry.now) (rules_at ready.now child)) }
+{
+    match request {
+        Request::File { path, .. } => ready.matching_rules(alloc, child, path, &mut Steps::new()),
+        Request::Cap(_) => concerned_listed(alloc, ready.rules_at(child), request),
+        Request::Net { .. } => concerned_listed(alloc, ready.rules_at(child), request),
+    }
+}
+
+impl<'a> AskedRules<'a> {
+    /// The rules themselves, in their order.
+    pub fn as_slice(self) -> &'a [Rule]
+        ensures { result.now ≡ rules_of self.entry }
+    {
+        match self {
+            AskedRules::Listed { rules, .. } => rules,
+            AskedRules::Loaded { ready, child } => ready.rules_at(child),
+        }
+    }
+
+    /// Whether the flag of their profile audits each of them.
+    pub fn audits(self) -> bool
+        ensures { result ≡ audits_of self.entry }
+    {
+        match self {
+            AskedRules::Listed { audit, .. } => audit,
+            AskedRules::Loaded { ready, child } => ready.audits(child),
+        }
+    }
+
+    /// The places of the rules that concern a request, in their order: those on files whose pattern matches the path that is asked for, whoever owns
+    /// the file, or those that cover the capability or the sockets. No other rule is behind its answer.
+    ///
+    /// # Errors
+    ///
+    /// Where memory runs out.
+    pub fn concerned(self, alloc: Global, request: &Request<'_>) -> Result<Vec<usize>, AllocError>
+        ensures { IfOk result (λ places. places.items ≡ concerned (request_of request.entry.now) (rules_of self.entry)) }
+    {
+        match self {
+            AskedRules::Listed { rules, .. } => concerned_listed(alloc, rules, request),
+            AskedRules::Loaded { ready, child } => concerned_loaded(alloc, ready, child, request),
+        }
+    }
+}

@@ -1,0 +1,204 @@
+//! The rules that decide where a program runs that is started.
+
+ghost use Rattle.std.specs.Prelude.{◌≡◌, IfOk, false};
+ghost use Rattle.std.specs.Option.{option_map};
+ghost use Rattle.aa_decide_exec_rules.specs.Choices.{denies, dominates, is_exact_lead};
+ghost use Rattle.aa_decide_exec_rules.specs.ExecRules.{applies_to, covers_exec};
+ghost use Rattle.aa_explain_rules.specs.Asked.{rules_of};
+ghost use Rattle.aa_explain_rules.specs.Leading.{first_transition, leading_places, says, transition_at, transition_of};
+ghost use Rattle.aa_explain_rules.specs.code.Among.{among, passes_at, some_among};
+
+use crate::asked::AskedRules;
+use aa_profile_access::{Perms, Request};
+use aa_profile_data::{FileRule, Rule, Transition};
+use bitflags::Flags;
+use std::alloc::{AllocError, Global};
+
+// Whether a rule applies to a path.
+fn applies_to(owned: bool, path: &[u8], rule: &FileRule) -> bool
+    ensures { result ≡ applies_to owned path.now rule.now }
+{
+    rule.pattern.matches(path) && (!rule.owner || owned)
+}
+
+// Whether a rule covers the start of programs: it has an exec word, or a bare `x`.
+fn covers_exec(rule: &FileRule) -> bool
+    ensures { result ≡ covers_exec rule.now }
+{
+    rule.exec.is_some() || rule.access.contains(Perms::EXEC)
+}
+
+// Whether a rule denies the start of the program of a path.
+fn denies(owned: bool, path: &[u8], rule: &Rule) -> bool
+    ensures { result ≡ says denies false owned path.now rule.now }
+{
+    match rule {
+        Rule::File(rule) => applies_to(owned, path, rule) && rule.deny && covers_exec(rule),
+        _ => false,
+    }
+}
+
+// Whether a rule leads it somewhere by an exact pattern.
+fn is_exact_lead(owned: bool, path: &[u8], rule: &Rule) -> bool
+    ensures { result ≡ says is_exact_lead false owned path.now rule.now }
+{
+    match rule {
+        Rule::File(rule) => {
+            applies_to(owned, path, rule)
+                && !rule.deny
+                && rule.exec.is_some()
+                && rule.pattern.is_exact()
+        }
+        _ => false,
+    }
+}
+
+// Whether a rule leads it somewhere, and is one of those that decide where to go.
+fn dominates(some_exact: bool, owned: bool, path: &[u8], rule: &Rule) -> bool
+    ensures { result ≡ says (dominates some_exact) false owned path.now rule.now }
+{
+    match rule {
+        Rule::File(rule) => {
+            applies_to(owned, path, rule)
+                && !rule.deny
+                && rule.exec.is_some()
+                && (rule.pattern.is_exact() || !some_exact)
+        }
+        _ => false,
+    }
+}
+
+// Whether the rule at a place denies it.
+fn denies_at(owned: bool, path: &[u8], rules: &[Rule], place: usize) -> bool
+    ensures { result ≡ passes_at (says denies false owned path.now) rules.now place }
+{
+    match rules.get(place) {
+        None => false,
+        Some(rule) => denies(owned, path, rule),
+    }
+}
+
+// Whether the rule at a place leads it somewhere by an exact pattern.
+fn is_exact_at(owned: bool, path: &[u8], rules: &[Rule], place: usize) -> bool
+    ensures { result ≡ passes_at (says is_exact_lead false owned path.now) rules.now place }
+{
+    match rules.get(place) {
+        None => false,
+        Some(rule) => is_exact_lead(owned, path, rule),
+    }
+}
+
+// Whether the rule at a place leads it somewhere, and is one of those that decide where to go.
+fn dominates_at(some_exact: bool, owned: bool, path: &[u8], rules: &[Rule], place: usize) -> bool
+    ensures { result ≡ passes_at (says (dominates some_exact) false owned path.now) rules.now place }
+{
+    match rules.get(place) {
+        None => false,
+        Some(rule) => dominates(some_exact, owned, path, rule),
+    }
+}
+
+// Whether a rule at some places denies it.
+fn some_denies(owned: bool, path: &[u8], rules: &[Rule], places: &[usize]) -> bool
+    ensures { result ≡ some_among (says denies false owned path.now) rules.now places.now }
+{
+    let mut rest = places;
+    while let [place, behind @ ..] = rest {
+        if denies_at(owned, path, rules, *place) {
+            return true;
+        }
+        rest = behind;
+    }
+    false
+}
+
+// Whether a rule at some places leads it somewhere by an exact pattern.
+fn some_is_exact(owned: bool, path: &[u8], rules: &[Rule], places: &[usize]) -> bool
+    ensures { result ≡ some_among (says is_exact_lead false owned path.now) rules.now places.now }
+{
+    let mut rest = places;
+    while let [place, behind @ ..] = rest {
+        if is_exact_at(owned, path, rules, *place) {
+            return true;
+        }
+        rest = behind;
+    }
+    false
+}
+
+// Those of some places whose rules dominate.
+fn dominating(
+    alloc: Global,
+    some_exact: bool,
+    owned: bool,
+    path: &[u8],
+    rules: &[Rule],
+    places: &[usize],
+) -> Result<Vec<usize>, AllocError>
+    ensures { IfOk result (λ found. found.items ≡ among (says (dominates some_exact) false owned path.now) rules.now places.now) }
+{
+    let mut found = Vec::new(alloc);
+    let mut rest = places;
+    while let [place, behind @ ..] = rest {
+        if dominates_at(some_exact, owned, path, rules, *place) {
+            found.push(*place)?;
+        }
+        rest = behind;
+    }
+    Ok(found)
+}
+
+/// The places of the rules that decide where the program of a path runs that is started (docs/policy.md, "The start of a program"), in their order:
+/// of those with an exec word that apply, the ones with an exact pattern, where there are some, and else all. None where a deny rule with `x`
+/// applies. `owned` says whether the task's user owns the file.
+///
+/// # Errors
+///
+/// Where memory runs out.
+pub fn leading_rules(
+    alloc: Global,
+    rules: AskedRules<'_>,
+    owned: bool,
+    path: &[u8],
+) -> Result<Vec<usize>, AllocError>
+    ensures { IfOk result (λ found. found.items ≡ leading_places owned path.now (rules_of rules.entry)) }
+{
+    let needs = Perms::EXEC;
+    let places = rules.concerned(alloc, &Request::File { needs, owned, path })?;
+    let rules = rules.as_slice();
+    if some_denies(owned, path, rules, &places) {
+        return Ok(Vec::new(alloc));
+    }
+    let some_exact = some_is_exact(owned, path, rules, &places);
+    dominating(alloc, some_exact, owned, path, rules, &places)
+}
+
+// The transition of a rule, if it has one.
+fn transition_of(rule: &Rule) -> Option<&Transition>
+    ensures { option_map (λ transition. transition.now) result ≡ transition_of rule.now }
+{
+    match rule {
+        Rule::File(rule) => rule.exec.as_ref(),
+        _ => None,
+    }
+}
+
+// That of the rule at a place.
+fn transition_at(rules: &[Rule], place: usize) -> Option<&Transition>
+    ensures { option_map (λ transition. transition.now) result ≡ transition_at rules.now place }
+{
+    match rules.get(place) {
+        None => None,
+        Some(rule) => transition_of(rule),
+    }
+}
+
+/// The transition of the rule at the first of some places, if there is one. It takes no memory.
+pub fn first_transition<'a>(rules: &'a [Rule], places: &[usize]) -> Option<&'a Transition>
+    ensures { option_map (λ transition. transition.now) result ≡ first_transition rules.now places.now }
+{
+    match places {
+        [] => None,
+        [place, ..] => transition_at(rules, *place),
+    }
+}

@@ -1,0 +1,19 @@
+//! The rules behind the answer to a request: those that apply, those that are near, the one that is missing, and those that decide where a program runs.
+//! What is found are values; no text is made of them here.
+#![tactic(auto)]
+
+mod asked;
+mod laws;
+mod leading;
+mod missing;
+mod near;
+mod told;
+
+pub use asked::AskedRules;
+pub use laws::{
+    how_narrow_a_missing_rule_is, what_a_missing_rule_lets, what_is_logged, what_is_told,
+    what_told_rules_decide, where_a_missing_rule_leads, where_rules_stand, which_rules_lead,
+};
+pub use leading::{first_transition, leading_rules};
+pub use missing::missing_rule;
+pub use told::{ToldRule, near_rules, told_rules};

@@ -1,0 +1,45 @@
+-- What a part has, one by one, and how each of that is told.
+use Rattle.std.specs.Prelude.{ℕ, ◌+◌, ◌==◌, if◌then◌else◌, List, [], ◌∷◌, ◌++◌, codes, Option, option_and_then, slice_get}
+use Rattle.aa_decide_rules.specs.Verdict.{covers}
+use Rattle.aa_explain_diff.specs.Features.{Feature, OfAttachment, OfAudit, OfFlag, OfHat, OfMode, OfRule}
+use Rattle.aa_explain_diff.specs.Sections.{Section}
+use Rattle.aa_profile_access.specs.Request.{Request}
+use Rattle.aa_profile_data.specs.declared.profile.Rule.{Rule}
+use Rattle.aa_set_answers.specs.RuleLines.{rule_text}
+use Rattle.aa_set_answers.specs.Show.{attachment_text}
+use Rattle.aa_set_answers.specs.States.{mode_word}
+use Rattle.aa_text_files.specs.declared.text_error.Place.{Place}
+use Rattle.aatry_policy.specs.Parts.{Part}
+
+-- a part, as far as it is compared
+abbrev pub section_of : Part → Section
+section_of part = record {
+  mode = part.mode;
+  hat = part.hat;
+  audit = part.audit;
+  flags = part.flags;
+  attachments = part.attachments;
+  rules = part.rules;
+}
+
+-- how a feature is told: by the word of a mode or a flag, or as `show` shows it
+abbrev pub feature_text : Feature → List ℕ
+feature_text (OfMode mode) = mode_word mode
+feature_text OfHat = codes "hat"
+feature_text OfAudit = codes "audit"
+feature_text (OfFlag flag) = flag
+feature_text (OfAttachment pattern) = attachment_text pattern
+feature_text (OfRule rule number) = rule_text rule
+
+-- where the rule of a number stands, if that is known
+abbrev pub place_at : List (Option Place) → ℕ → Option Place
+place_at places number = option_and_then (λ place. place) (slice_get places number)
+
+-- a rule by its number, if it covers something of what is asked for
+abbrev pub covering_feature : Request → ℕ → Rule → List Feature
+covering_feature request number rule = if covers request rule == 0 then [] else OfRule rule number ∷ []
+
+-- those of some rules that do, where the first has this number
+abbrev pub covering_from : Request → ℕ → List Rule → List Feature
+covering_from request number [] = []
+covering_from request number (rule ∷ rules) = covering_feature request number rule ++ covering_from request (number + 1) rules

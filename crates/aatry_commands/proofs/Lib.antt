@@ -1,2 +1,0 @@
-mod EndLemmas
-mod TestingLemmas

@@ -1,0 +1,54 @@
+-- What a comparison of two folders of policy on a disk comes to.
+use Rattle.std.specs.Prelude.{◌≡◌, ◌⊎◌, ℕ, List, [], ◌∷◌, MatchOption, Option, None, Some}
+use Rattle.aa_text_files.specs.Files.{File}
+use Rattle.aaset_start.specs.Known.{Known}
+use Rattle.aatry_arguments.specs.DiffWords.{ComparisonAsked, LogAt, QuestionsAt, SourceAsked}
+use Rattle.aatry_diff.specs.Comparing.{are_alike, diff_text}
+use Rattle.aatry_folder.specs.OneFile.{IsFileAt}
+use Rattle.aatry_folder.specs.PolicyFolders.{AreBelow}
+use Rattle.aatry_folder.specs.Reports.{failed_by}
+use Rattle.aatry_folder.specs.Told.{ToldFolders}
+use Rattle.aatry_folder.specs.Unread.{IsOfFile, IsOfFolder}
+use Rattle.aatry_folder.specs.declared.fault.Fault.{Fault}
+use Rattle.aatry_policy.specs.Folders.{folder_at}
+use Rattle.aatry_report.specs.declared.form.Form.{Form}
+use Rattle.aatry_requests.specs.Gathering.{Gathered, gathered}
+use Rattle.aatry_requests.specs.declared.sources.Source.{Source}
+use Rattle.aatry_requests.specs.declared.sources.Source.TheVariants.{Log, Questions}
+
+-- of which form a source of requests is
+abbrev pub form_of : SourceAsked → Source
+form_of (LogAt path) = Log
+form_of (QuestionsAt path) = Questions
+
+-- and its path
+abbrev pub path_of : SourceAsked → List ℕ
+path_of (LogAt path) = path
+path_of (QuestionsAt path) = path
+
+-- What a source of requests tells of is gathered from the file at its path; where there is no source, nothing is.
+abbrev pub IsGathered : Known → Option SourceAsked → Option Gathered → Type 0
+IsGathered known None requests = requests ≡ None
+IsGathered known (Some source) requests =
+    (bytes : List ℕ) × IsFileAt known (path_of source) ((path_of source, bytes) ∷ []) × (requests ≡ Some (gathered (form_of source) bytes))
+
+-- The two folders, each with all that lies below it, were compared, by what the file of requests tells of too, if there is one, and the text tells how
+-- they differ. One failed where something differs.
+pub record IsComparedBelow (form : Form) (folders : ToldFolders) (known : Known) (asked : ComparisonAsked) (text : List ℕ) (failed : ℕ) : Type 0 where
+  pub old_files : List File
+  pub new_files : List File
+  pub old_below : AreBelow folders known asked.old old_files
+  pub new_below : AreBelow folders known asked.new new_files
+  pub requests : Option Gathered
+  pub gathered : IsGathered known asked.source requests
+  pub told : text ≡ diff_text form (folder_at asked.old old_files) (folder_at asked.new new_files) requests
+  pub counted : failed ≡ failed_by (are_alike (folder_at asked.old old_files) (folder_at asked.new new_files) requests)
+
+-- a fault keeps the file of a source of requests from being read, if there is one
+abbrev pub IsOfSource : Known → Option SourceAsked → Fault → Type 0
+IsOfSource known source fault = MatchOption source ⊥ (λ asked. IsOfFile known (path_of asked) fault)
+
+-- A comparison may end with this fault: one of the two folders can't be read, or the source of requests can't be, if there is one.
+abbrev pub IsEndOfDiff : ToldFolders → Known → ComparisonAsked → Fault → Type 0
+IsEndOfDiff folders known asked fault =
+    IsOfFolder folders known asked.old fault ⊎ IsOfFolder folders known asked.new fault ⊎ IsOfSource known asked.source fault

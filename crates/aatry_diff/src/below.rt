@@ -1,0 +1,92 @@
+//! Two folders of policy on a disk, compared.
+
+ghost use Rattle.std.specs.Prelude.{◌≡◌, IfErr, IfOk, option_map, string_bytes};
+ghost use Rattle.aatry_arguments.specs.Given.{meant_comparison, meant_source};
+ghost use Rattle.aatry_diff.specs.Below.{IsComparedBelow, IsEndOfDiff, IsGathered, IsOfSource, form_of, path_of};
+ghost use Rattle.aatry_diff.specs.Sources.{seen_source};
+ghost use Rattle.aatry_diff.specs.code.Requests.{gathered_of};
+
+use crate::comparing::diff;
+use aa_text_files::Files;
+use aaset_start::FileSystem;
+use aatry_arguments::{Comparison, RequestSource};
+use aatry_folder::{Fault, Folders, Report, file_at, policy_below};
+use aatry_report::Teller;
+use aatry_requests::Source;
+use std::alloc::Global;
+
+// Of which form a source of requests is.
+fn form_of(source: &RequestSource) -> Source
+    ensures { result ≡ form_of (meant_source source.now) }
+{
+    match source {
+        RequestSource::Log(_) => Source::Log,
+        RequestSource::Questions(_) => Source::Questions,
+    }
+}
+
+// The path of a source of requests.
+fn path_of(source: RequestSource) -> String
+    ensures { string_bytes result ≡ path_of (meant_source source) }
+{
+    match source {
+        RequestSource::Log(path) => path,
+        RequestSource::Questions(path) => path,
+    }
+}
+
+// The file at the path of a source of requests, with the form of the source; nothing where there is none.
+fn requests_at<D: FileSystem>(
+    alloc: Global,
+    disk: &D,
+    source: Option<RequestSource>,
+) -> Result<Option<(Source, Files)>, Fault>
+    ensures gathered { IfOk result (λ found. IsGathered (D.known disk.now) (option_map meant_source source) (gathered_of found)) }
+    ensures fault { IfErr result (IsOfSource (D.known disk.now) (option_map meant_source source)) }
+{
+    match source {
+        None => Ok(None),
+        Some(source) => {
+            let form = form_of(&source);
+            let file = file_at(alloc, disk, path_of(source))?;
+            Ok(Some((form, file)))
+        }
+    }
+}
+
+// The form and the bytes of a source of requests, if there is one.
+fn source_of(found: &Option<(Source, Files)>) -> Option<(Source, &[u8])>
+    ensures { seen_source result ≡ gathered_of found.now }
+{
+    match found {
+        None => None,
+        Some((form, file)) => Some((*form, file.bytes_at(0))),
+    }
+}
+
+/// Compares two folders of policy, and by the requests of a log or the questions of a file too, where one is given: reads each folder as
+/// `aatry_folder::policy_below` does. Told are the files of either that are left out; the profiles, children and hats that are gone, changed or new, with
+/// what differs of them (`aatry_changes::push_changes`); and what the folders answer otherwise, and what sums up. One failed where something differs: a
+/// profile, child or hat, or an answer.
+///
+/// # Errors
+///
+/// - `Unreadable` with the first folder or file below the old folder that can't be read, or else below the new one, or else the log or the file of questions.
+/// - `TooMany` where there are more than 65,536 files and folders below one of them.
+/// - `NoMemory` where memory ran out.
+pub fn diff_folders<F: Folders, D: FileSystem>(
+    teller: Teller,
+    folders: &F,
+    disk: &D,
+    asked: Comparison,
+) -> Result<Report, Fault>
+    ensures told { IfOk result (λ report. IsComparedBelow teller.form (F.told folders.now) (D.known disk.now) (meant_comparison asked)
+        report.text.items report.failed) }
+    ensures fault { IfErr result (IsEndOfDiff (F.told folders.now) (D.known disk.now) (meant_comparison asked)) }
+{
+    let Comparison { old, new, source } = asked;
+    let before = policy_below(teller.alloc, folders, disk, old.as_str())?;
+    let after = policy_below(teller.alloc, folders, disk, new.as_str())?;
+    let found = requests_at(teller.alloc, disk, source)?;
+    Ok(diff(teller, &before, &after, source_of(&found))?)
+}

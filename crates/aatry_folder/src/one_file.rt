@@ -1,0 +1,40 @@
+//! A file at a path of its own, read from a disk.
+
+ghost use Rattle.std.specs.Prelude.{◌≡◌, ◌∷◌, [], IfErr, IfOk, string_bytes};
+ghost use Rattle.aaset_start.specs.Gathering.{texts_of};
+ghost use Rattle.aatry_folder.specs.OneFile.{IsFileAt};
+ghost use Rattle.aatry_folder.specs.Unread.{IsOfFile};
+
+use crate::fault::Fault;
+use aa_text_files::Files;
+use aaset_start::{FileSystem, gather};
+use std::alloc::{AllocError, Global};
+
+// The folder that the path of a file begins in, where it is no whole path.
+const CURRENT: &str = ".";
+
+// A path alone.
+fn one_path(alloc: Global, path: String) -> Result<Vec<String>, AllocError>
+    ensures { IfOk result (λ paths. texts_of paths ≡ string_bytes path ∷ []) }
+{
+    let mut paths = Vec::new(alloc);
+    paths.push(path)?;
+    Ok(paths)
+}
+
+/// The file of this path, as the one file of some. The path begins in the current folder where it isn't whole.
+///
+/// # Errors
+///
+/// - `Unreadable` with the path, where no file can be read there.
+/// - `NoMemory` where memory ran out.
+pub fn file_at<D: FileSystem>(alloc: Global, disk: &D, path: String) -> Result<Files, Fault>
+    ensures found { IfOk result (λ found. IsFileAt (D.known disk.now) (string_bytes path) found) }
+    ensures fault { IfErr result (IsOfFile (D.known disk.now) (string_bytes path)) }
+{
+    if Files::is_folder(path.as_bytes()) {
+        return Err(Fault::Unreadable(path));
+    }
+    let paths = one_path(alloc, path)?;
+    Ok(gather(disk, alloc, CURRENT, paths)?)
+}

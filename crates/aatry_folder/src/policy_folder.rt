@@ -1,0 +1,78 @@
+//! Folders of policy, read from a disk.
+
+ghost use Rattle.std.specs.Prelude.{◌≡◌, ◌++◌, ◌∷◌, [], IfErr, IfOk, OnOk, map, string_bytes};
+ghost use Rattle.aaset_start.specs.Gathering.{names_of, texts_of};
+ghost use Rattle.aatry_folder.specs.PolicyFolders.{AreBelow, is_at_top, top_names};
+ghost use Rattle.aatry_folder.specs.Unread.{IsOfFolder};
+
+use crate::below::names_below;
+use crate::fault::Fault;
+use crate::folders::Folders;
+use aa_bytes::has_byte;
+use aa_text_files::Files;
+use aaset_start::{FileSystem, gather};
+use std::alloc::{AllocError, Global};
+
+/// A folder of policy that was read.
+#[derive(Drop)]
+pub struct PolicyFolder<'a> {
+    /// Its path.
+    pub base: &'a str,
+    /// All files and folders below it, by their names in it.
+    pub files: Files,
+    /// The names of the files at its top, in their order: those whose profiles are loaded.
+    pub top: Vec<String>,
+}
+
+// Whether a file stands at the top of the folder.
+fn is_at_top(name: &str) -> bool
+    ensures { result ≡ is_at_top name.now }
+{
+    !has_byte(b'/', name.as_bytes())
+}
+
+// Appends a name to others, if its file stands at the top of the folder.
+fn push_top(alloc: Global, names: &mut Vec<String>, name: &str) -> Result<(), AllocError>
+    ensures { OnOk result (texts_of names.new ≡ texts_of names.old ++ top_names (name.now ∷ [])) }
+{
+    if is_at_top(name) {
+        names.push(String::from_str(alloc, name)?)?;
+    }
+    Ok(())
+}
+
+// The names of the files at the top of the folder.
+fn top_names(alloc: Global, names: &[String]) -> Result<Vec<String>, AllocError>
+    ensures { IfOk result (λ top. texts_of top ≡ top_names (map string_bytes names.now)) }
+{
+    let mut top = Vec::new(alloc);
+    for name in names {
+        push_top(alloc, &mut top, name.as_str())?;
+    }
+    Ok(top)
+}
+
+/// A folder of policy, of which all files and folders are found, as `names_below` does, and read, as `aaset_start::gather` does. So nothing that an include
+/// asks for is missing where it stands in the folder and isn't passed over.
+///
+/// # Errors
+///
+/// - `Unreadable` with the first folder or file that can't be read.
+/// - `TooMany` where there are more than 65,536 files and folders.
+/// - `NoMemory` where memory ran out.
+pub fn policy_below<'a, F: Folders, D: FileSystem>(
+    alloc: Global,
+    folders: &F,
+    disk: &D,
+    base: &'a str,
+) -> Result<PolicyFolder<'a>, Fault>
+    ensures base { IfOk result (λ policy. policy.base.now ≡ base.now) }
+    ensures below { IfOk result (λ policy. AreBelow (F.told folders.now) (D.known disk.now) base.now policy.files) }
+    ensures top { IfOk result (λ policy. texts_of policy.top ≡ top_names (names_of policy.files)) }
+    ensures fault { IfErr result (IsOfFolder (F.told folders.now) (D.known disk.now) base.now) }
+{
+    let names = names_below(folders, alloc, base)?;
+    let top = top_names(alloc, &names)?;
+    let files = gather(disk, alloc, base, names)?;
+    Ok(PolicyFolder { base, files, top })
+}

@@ -1,0 +1,50 @@
+use Rattle.std.proofs.Common.{rules, ◌≡◌, ◌∙◌, [], ◌∷◌, ◌++◌, ap, append_assoc, arith, length, map, string_bytes, subst, sym}
+use Rattle.std.proofs.lemmas.List.{length-map}
+use Rattle.std.proofs.lemmas.Result.{err_from_is_err_and}
+use Rattle.std.specs.Vec.Iter.{into_iter_items}
+use Rattle.aaset_start.specs.Gathering.{texts_of}
+use Rattle.aatry_test.specs.Below.{TestsEach}
+use Rattle.aatry_test.proofs.BelowLemmas.{tests_all, tests_one_more}
+use Rattle.aatry_test.proofs.below.test_each.Goals as goal
+
+-- What is told of the next path stands behind the text.
+pub loop-path-preserved : goal.loop-path-preserved
+loop-path-preserved g c =
+    let known = g.D.FileSystem.known c.args.disk.now in
+    let files = c.args.files.now in
+    let path = string_bytes c.in-Some.path in
+    let behind = map string_bytes (into_iter_items c.next.new.self) in
+    let all = texts_of c.args.paths in
+    let so_far = c.loop-path.invariant in
+    let next : map string_bytes (into_iter_items c.loop-path.path-iterator) ≡ path ∷ behind = ap (map string_bytes) c.in-Some.ensures.steps.0 in
+    let own = c.in_ok-failed.ensures.told in
+    let one = c.in_ok-failed.field-0 in
+    record {
+      stands = (
+        so_far.stands.0 ++ path ∷ [],
+        so_far.stands.1 ∙ ap (λ left. so_far.stands.0 ++ left) next ∙ sym (append_assoc so_far.stands.0 (path ∷ []) behind),
+      );
+      told = λ rest left tests. tests_one_more known files path behind all c.loop-path.text.items c.test_at.new.text.items own.0 rest c.loop-path.failed one left own.1 own.2
+          (λ r l t. so_far.told r l (subst (λ ps. TestsEach known files ps r l) (sym next) t)) tests;
+      few = omega (arith, so_far.few, c.in_ok-failed.ensures.few, ap length c.in-Some.ensures.steps.0);
+    }
+
+-- the transcript that can't be read stands behind those that were tested
+pub returns-in_err-failed-clause-fault : goal.returns-in_err-failed-clause-fault
+returns-in_err-failed-clause-fault g c =
+    let p = err_from_is_err_and c.from_residual.result c.from_residual.ensures.1 in
+    let path = string_bytes c.in-Some.path in
+    let behind = map string_bytes (into_iter_items c.next.new.self) in
+    let so_far = c.loop-path.invariant.stands in
+    rw (p.1, p.2) (
+      so_far.0,
+      path,
+      behind,
+      so_far.1 ∙ ap (λ items. so_far.0 ++ map string_bytes items) c.in-Some.ensures.steps.0,
+      c.in_err-failed.ensures.fault,
+    )
+
+pub returns-clause-told : goal.returns-clause-told
+returns-clause-told g c =
+    tests_all (g.D.FileSystem.known c.args.disk.now) c.args.files.now (map string_bytes (into_iter_items c.loop-path.path-iterator)) (texts_of c.args.paths)
+    c.loop-path.text.items c.loop-path.failed (length-map (into_iter_items c.loop-path.path-iterator) string_bytes ∙ (search rules)) c.loop-path.invariant.told

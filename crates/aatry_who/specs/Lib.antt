@@ -1,0 +1,3 @@
+pub mod Laws
+pub mod Letting
+pub mod Who

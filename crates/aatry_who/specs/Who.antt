@@ -1,0 +1,39 @@
+-- What is told of who would be let through by the policy of a folder (docs/aatry.md).
+use Rattle.std.specs.Prelude.{◌≡◌, ℕ, Bool, not, List, ◌++◌, Ok}
+use Rattle.aa_bytes.specs.Texts.{is_empty}
+use Rattle.aa_set_commands.specs.Question.{Question, question_of}
+use Rattle.aa_text_files.specs.Files.{File}
+use Rattle.aaset_start.specs.Known.{Known}
+use Rattle.aatry_folder.specs.PolicyFolders.{AreBelow}
+use Rattle.aatry_folder.specs.Reports.{failed_by}
+use Rattle.aatry_folder.specs.Told.{ToldFolders}
+use Rattle.aatry_policy.specs.FolderParts.{by_parts}
+use Rattle.aatry_policy.specs.Folders.{Folder, folder_at, left_out_in, policy_in}
+use Rattle.aatry_report.specs.declared.form.Form.{Form}
+use Rattle.aatry_requests.specs.AskedWords.{letting_words}
+use Rattle.aatry_requests.specs.Questions.{rule_request}
+use Rattle.aatry_who.specs.Letting.{who_lines}
+
+-- who lets through what a question asks for, and by which rules
+abbrev pub let_by : Form → Folder → Question → List ℕ
+let_by form folder question = who_lines form (by_parts folder) (rule_request question) (policy_in folder)
+
+-- somebody is told
+abbrev pub is_let : List ℕ → Bool
+is_let text = not (is_empty text)
+
+-- The words ask for a file, and a text tells the files that are left out and who would be let through.
+abbrev pub IsWhoTold : Form → Folder → List (List ℕ) → List ℕ → Bool → Type 0
+IsWhoTold form folder words text found =
+    (question : Question) × (question_of (letting_words words) ≡ Ok question)
+    × (text ≡ left_out_in form folder ++ let_by form folder question)
+    × (found ≡ is_let (let_by form folder question))
+
+-- The files at the top of the folder, with all that lies below it, were asked for, and the text tells who would be let through. It failed where nobody
+-- would.
+pub record IsWhoToldBelow (form : Form) (folders : ToldFolders) (known : Known) (base : List ℕ) (words : List (List ℕ)) (text : List ℕ) (failed : ℕ) : Type 0 where
+  pub files : List File
+  pub below : AreBelow folders known base files
+  pub found : Bool
+  pub told : IsWhoTold form (folder_at base files) words text found
+  pub counted : failed ≡ failed_by found

@@ -1,0 +1,111 @@
+//! Who would be let through by the policy of a folder.
+
+ghost use Rattle.std.specs.Prelude.{◌≡◌, ◌⊎◌, Bool, Ok, IfErr, IfOk, IfSome, IsNone, map, string_bytes};
+ghost use Rattle.aa_set_commands.specs.Question.{question_of, seen_question};
+ghost use Rattle.aaset_start.specs.Gathering.{texts_of};
+ghost use Rattle.aatry_folder.specs.Reports.{failed_by};
+ghost use Rattle.aatry_folder.specs.Unread.{IsOfFolder};
+ghost use Rattle.aatry_folder.specs.declared.fault.Fault.TheVariants as fault;
+ghost use Rattle.aatry_policy.specs.Folders.{loaded_in, origins_in, seen_folder};
+ghost use Rattle.aatry_requests.specs.AskedWords.{AskNothing, letting_words};
+ghost use Rattle.aatry_who.specs.Who.{IsWhoTold, IsWhoToldBelow, is_let, let_by};
+
+use crate::letting::who_lines;
+use aa_set_commands::Question;
+use aaset_start::FileSystem;
+use aatry_arguments::Asking;
+use aatry_folder::{Fault, Folders, PolicyFolder, Report, failed_by, policy_below};
+use aatry_policy::{LoadedFolder, by_parts, load_folder, parts_of};
+use aatry_report::Teller;
+use aatry_requests::{question_by, rule_request};
+use std::alloc::{AllocError, Global};
+
+// Whether a text tells somebody.
+fn is_let(text: &[u8]) -> bool
+    ensures { result ≡ is_let text.now }
+{
+    !text.is_empty()
+}
+
+// The question whether a file may be used, by its access, its owner's word and its path, if words ask one: who asks is nobody in particular.
+fn letting_question<'a>(
+    alloc: Global,
+    words: &'a [String],
+) -> Result<Option<Question<'a>>, AllocError>
+    ensures some { IfOk result (λ found. IfSome found (λ question.
+        question_of (letting_words (map string_bytes words.now)) ≡ Ok (seen_question question))) }
+    ensures none { IfOk result (λ found. IsNone found → AskNothing (letting_words (map string_bytes words.now))) }
+{
+    let before = [b"file".as_slice(), b"unconfined".as_slice()];
+    question_by(alloc, &before, words)
+}
+
+// Who lets through what a question asks for, and by which rules, told by the policy of a folder that is loaded.
+fn let_by(
+    teller: Teller,
+    loaded: &LoadedFolder<'_>,
+    question: &Question<'_>,
+) -> Result<Vec<u8>, AllocError>
+    requires set { loaded.now.policy.manager ≡ loaded_in (seen_folder loaded.now.folder.now) }
+    requires origins { loaded.now.policy.origins.items ≡ origins_in (seen_folder loaded.now.folder.now) }
+    ensures { IfOk result (λ lines. lines.items ≡ let_by teller.form (seen_folder loaded.now.folder.now) (seen_question question.entry.now)) }
+{
+    let set = loaded.policy.manager.policy_set();
+    let parts = parts_of(teller.alloc, &set, &loaded.policy.origins)?;
+    who_lines(
+        teller,
+        &by_parts(loaded.folder, &parts),
+        &set,
+        &rule_request(question),
+    )
+}
+
+// The same of a folder that was read, by words, with what is told of the files that are left out before it.
+fn told_of(teller: Teller, folder: &PolicyFolder<'_>, words: &[String]) -> Result<Report, Fault>
+    ensures told { IfOk result (λ report. (found : Bool) × IsWhoTold teller.form (seen_folder folder.now) (map string_bytes words.now) report.text.items found
+        × (report.failed ≡ failed_by found)) }
+    ensures fault { IfErr result (λ told. (told ≡ fault.NoMemory)
+        ⊎ ((told ≡ fault.BadQuestion) × AskNothing (letting_words (map string_bytes words.now)))) }
+{
+    let Some(question) = letting_question(teller.alloc, words)? else {
+        return Err(Fault::BadQuestion);
+    };
+    let mut text = Vec::new(teller.alloc);
+    let loaded = load_folder(teller, folder, &mut text)?;
+    let own = let_by(teller, &loaded, &question)?;
+    text.extend_from_slice(&own)?;
+    Ok(Report {
+        failed: failed_by(is_let(&own)),
+        text,
+    })
+}
+
+/// Which profiles, children and hats of a folder would let a request for a file through, by its access, its owner's word and its path, told in a form: reads
+/// the folder as `aatry_folder::policy_below` does. First come the files that are left out (`aatry_policy::load_folder`). Then comes a line for each, with
+/// its full name and the word of its answer, `allow` or, in complain mode, `complain`; and below one that allows it the rules that allow something of it
+/// (`aatry_why_lines::push_allowing`). They stand in the order of the set, children and hats behind their profile. Disabled profiles confine nobody and have
+/// no line. One failed where nobody is told.
+///
+/// As records the lines are of the kind `let`, with the members `name` and `answer`, and of the kind `rule`.
+///
+/// # Errors
+///
+/// - `Unreadable` with the first folder or file that can't be read.
+/// - `TooMany` where there are more than 65,536 files and folders.
+/// - `BadQuestion` where the words ask no question.
+/// - `NoMemory` where memory ran out.
+pub fn who_folder<F: Folders, D: FileSystem>(
+    teller: Teller,
+    folders: &F,
+    disk: &D,
+    asked: Asking,
+) -> Result<Report, Fault>
+    ensures told { IfOk result (λ report. IsWhoToldBelow teller.form (F.told folders.now) (D.known disk.now) (string_bytes asked.base) (texts_of asked.words)
+        report.text.items report.failed) }
+    ensures fault { IfErr result (λ told. IsOfFolder (F.told folders.now) (D.known disk.now) (string_bytes asked.base) told
+        ⊎ ((told ≡ fault.BadQuestion) × AskNothing (letting_words (texts_of asked.words)))) }
+{
+    let Asking { base, words } = asked;
+    let folder = policy_below(teller.alloc, folders, disk, base.as_str())?;
+    told_of(teller, &folder, &words)
+}

@@ -1,0 +1,107 @@
+-- What is told of questions to the policy of a folder (docs/aatry.md).
+use Rattle.std.specs.Prelude.{◌≡◌, ℕ, Bool, true, false, List, [], ◌∷◌, ◌++◌, codes, is_ok, Option, None, Some, Result, Ok, Err}
+use Rattle.std.specs.List.{before_first}
+use Rattle.serde_json.specs.Data.{Members}
+use Rattle.aa_bytes.specs.Bytes.{line_feed}
+use Rattle.aa_decide.specs.Exec.{Asker}
+use Rattle.aa_decide_audit.specs.declared.verdict.Answer.{Answer}
+use Rattle.aa_decide_audit.specs.declared.verdict.Answer.TheVariants.{Allow, Complain, Deny, Refuse}
+use Rattle.aa_decide_slots.specs.Entries.{Loaded}
+use Rattle.aa_profile_access.specs.Request.{Request}
+use Rattle.aa_set_answers.specs.Answers.{answered, lines_of, who_asks}
+use Rattle.aa_set_answers.specs.Askers.{asker}
+use Rattle.aa_set_answers.specs.declared.answers.Answered.{Answered}
+use Rattle.aa_set_commands.specs.Question.{OfAccess, OfExec, Question, question_of}
+use Rattle.aa_set_commands.specs.Refusal.{name_of, number_of}
+use Rattle.aa_set_commands.specs.declared.refusal.Refusal.{Refusal}
+use Rattle.aa_set_lines.specs.Lines.{is_line_feed}
+use Rattle.aatry_why.specs.Sources.{Sources, asked_origin, written_by}
+use Rattle.aaset_start.specs.Known.{Known}
+use Rattle.aatry_folder.specs.PolicyFolders.{AreBelow}
+use Rattle.aatry_folder.specs.Reports.{failed_by}
+use Rattle.aatry_folder.specs.Told.{ToldFolders}
+use Rattle.aatry_policy.specs.Folders.{Folder, folder_at, left_out_in, origins_in, policy_in}
+use Rattle.aa_text_files.specs.Files.{File}
+use Rattle.aatry_policy.specs.LeftOut.{refusal_text}
+use Rattle.aatry_requests.specs.Questions.{rule_request}
+use Rattle.aatry_transition.specs.How.{how_lines}
+use Rattle.aatry_why_lines.specs.Why.{why_lines}
+use Rattle.aatry_report.specs.Records.{record_line, record_of, with_number, with_text}
+use Rattle.aatry_report.specs.declared.form.Form.{Form}
+use Rattle.aatry_report.specs.declared.form.Form.TheVariants.{Lines, Records}
+
+-- how the answer to the start of a program came about, behind the rules that decide; of any other question nothing is told
+abbrev pub how_of : Form → List Loaded → Question → List ℕ
+how_of form entries (OfAccess who request) = []
+how_of form entries (OfExec who owned path) = how_lines form entries who owned path
+
+-- the line that logs an answer, without its line feed; empty where none does
+abbrev pub audit_line : Answered → List ℕ
+audit_line told = before_first is_line_feed told.logged
+
+-- a record of what a question is answered
+abbrev pub reply_record : Answered → Members
+reply_record told = with_text (codes "audit") (audit_line told) (with_text (codes "answer") told.text (record_of (codes "answer")))
+
+-- what is told of it: the lines of the reply, or the record
+abbrev pub reply_text : Form → Answered → List ℕ
+reply_text Lines told = lines_of told
+reply_text Records told = record_line (reply_record told)
+
+-- a record of a question that is refused
+abbrev pub refused_record : Refusal → Members
+refused_record refusal =
+    with_text (codes "refusal") (name_of refusal.refusal) (with_number (codes "number") (number_of refusal.refusal) (record_of (codes "refused")))
+
+-- what is told of a question that is refused
+abbrev pub refused_text : Form → Refusal → List ℕ
+refused_text Lines refusal = codes "refused " ++ refusal_text refusal ++ line_feed ∷ []
+refused_text Records refusal = record_line (refused_record refusal)
+
+-- no rule allows something that was asked for, or nothing confines who asks
+abbrev pub is_lacking : Option Answer → Bool
+is_lacking None = true
+is_lacking (Some Allow) = false
+is_lacking (Some Deny) = false
+is_lacking (Some Refuse) = true
+is_lacking (Some Complain) = true
+
+-- the rules behind the answer to who asks: those by which it decides; no one in particular has none
+abbrev pub reasons : Form → Sources → Option (Option Asker) → Request → Bool → List ℕ
+reasons form sources (Some (Some who)) request lacking = why_lines form (written_by sources who) request lacking
+reasons form sources _ request lacking = []
+
+-- what is told of what a question is answered: that itself, the rules behind it, and how it came about; or why the question is refused
+abbrev pub replied_text : Form → Sources → List Loaded → Question → Result Answered Refusal → List ℕ
+replied_text form sources entries question (Ok told) =
+    reply_text form told ++ reasons form sources (asker entries (who_asks question)) (rule_request question) (is_lacking told.answer)
+    ++ how_of form entries question
+replied_text form sources entries question (Err refusal) = refused_text form refusal
+
+-- what a policy set answers to a question, with the rules behind it
+abbrev pub answered_text : Form → Sources → List Loaded → Question → List ℕ
+answered_text form sources entries question = replied_text form sources entries question (answered entries question)
+
+-- a question has an answer
+abbrev pub has_answer : List Loaded → Question → Bool
+has_answer entries question = is_ok (answered entries question)
+
+-- where the rules of who asks are written, of a folder
+abbrev pub sources_in : Folder → Question → Sources
+sources_in folder question = record { files = folder.files; base = folder.base; origin = asked_origin (origins_in folder) question }
+
+-- The words ask a question of the policy set of a folder, and a text tells the files that are left out and what is answered.
+abbrev pub IsWhyTold : Form → Folder → List (List ℕ) → List ℕ → Bool → Type 0
+IsWhyTold form folder words text found =
+    (question : Question) × (question_of words ≡ Ok question)
+    × (text ≡ left_out_in form folder ++ answered_text form (sources_in folder question) (policy_in folder) question)
+    × (found ≡ has_answer (policy_in folder) question)
+
+-- The question was asked of the files at the top of the folder, with all that lies below it, and the text tells its answer and the rules behind it. It
+-- failed where nobody of the name is loaded.
+pub record IsWhyToldBelow (form : Form) (folders : ToldFolders) (known : Known) (base : List ℕ) (words : List (List ℕ)) (text : List ℕ) (failed : ℕ) : Type 0 where
+  pub files : List File
+  pub below : AreBelow folders known base files
+  pub found : Bool
+  pub told : IsWhyTold form (folder_at base files) words text found
+  pub counted : failed ≡ failed_by found

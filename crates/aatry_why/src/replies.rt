@@ -1,0 +1,101 @@
+//! What is told of replies to questions.
+
+ghost use Rattle.std.specs.Prelude.{◌≡◌, ◌++◌, IfOk, OnOk};
+ghost use Rattle.aa_set_answers.specs.Answers.{lines_of};
+ghost use Rattle.aatry_why.specs.Why.{audit_line, is_lacking, refused_record, refused_text, reply_record, reply_text};
+ghost use Rattle.aatry_report.specs.SeenRecord.{seen_record};
+ghost use Rattle.aatry_report.specs.declared.form.Form.TheVariants as form;
+
+use aa_bytes::length_while;
+use aa_decide::Answer;
+use aa_set_answers::Answered;
+use aa_set_commands::Refusal;
+use aatry_policy::push_refusal;
+use aatry_report::{Form, Record, Teller};
+use std::alloc::{AllocError, Global};
+
+/// Whether no rule allows something that was asked for, or nothing confines who asks.
+pub fn is_lacking(answer: Option<Answer>) -> bool
+    ensures { result ≡ is_lacking answer }
+{
+    match answer {
+        None => true,
+        Some(Answer::Allow | Answer::Deny) => false,
+        Some(Answer::Refuse | Answer::Complain) => true,
+    }
+}
+
+// The line that logs an answer, without its line feed; empty where none does.
+fn audit_line(told: &Answered) -> &[u8]
+    ensures { result.now ≡ audit_line told.now }
+{
+    let logged = told.logged.as_slice();
+    &logged[..length_while(logged, |byte| byte != b'\n')]
+}
+
+// The record of what a question is answered.
+fn reply_record(alloc: Global, told: &Answered) -> Result<Record, AllocError>
+    ensures { IfOk result (λ made. seen_record made ≡ reply_record told.now) }
+{
+    let mut made = Record::new(alloc, "answer")?;
+    made.put_text(alloc, "answer", told.text.as_slice())?;
+    made.put_text(alloc, "audit", audit_line(told))?;
+    Ok(made)
+}
+
+// Appends the lines of what a question is answered to a text.
+fn push_lines(told: &Answered, out: &mut Vec<u8>) -> Result<(), AllocError>
+    ensures { OnOk result (out.new.items ≡ out.old.items ++ lines_of told.now) }
+{
+    out.extend_from_slice(told.text.as_slice())?;
+    out.push(b'\n')?;
+    out.extend_from_slice(told.logged.as_slice())
+}
+
+/// Appends what a question is answered to a text: the lines of the reply, or a record of the answer and the line that logs it.
+///
+/// # Errors
+///
+/// Where memory runs out. A beginning may have been appended then.
+pub fn push_reply(teller: Teller, told: &Answered, out: &mut Vec<u8>) -> Result<(), AllocError>
+    ensures { OnOk result (out.new.items ≡ out.old.items ++ reply_text teller.form told.now) }
+{
+    match teller.form {
+        Form::Lines => push_lines(told, out),
+        Form::Records => reply_record(teller.alloc, told)?.push(teller.alloc, out),
+    }
+}
+
+// Appends the line of a question that is refused to a text.
+fn push_refused_line(out: &mut Vec<u8>, refusal: Refusal) -> Result<(), AllocError>
+    ensures { OnOk result (out.new.items ≡ out.old.items ++ refused_text form.Lines refusal) }
+{
+    out.extend_from_slice(b"refused ")?;
+    push_refusal(out, refusal)?;
+    out.push(b'\n')?;
+    Ok(())
+}
+
+// The record of a question that is refused.
+fn refused_record(alloc: Global, refusal: Refusal) -> Result<Record, AllocError>
+    ensures { IfOk result (λ made. seen_record made ≡ refused_record refusal) }
+{
+    let mut made = Record::new(alloc, "refused")?;
+    made.put_number(alloc, "number", refusal.number() as usize)?;
+    made.put_text(alloc, "refusal", refusal.name().as_bytes())?;
+    Ok(made)
+}
+
+/// Appends what is told of a question that is refused to a text.
+///
+/// # Errors
+///
+/// Where memory runs out. A beginning may have been appended then.
+pub fn push_refused(teller: Teller, refusal: Refusal, out: &mut Vec<u8>) -> Result<(), AllocError>
+    ensures { OnOk result (out.new.items ≡ out.old.items ++ refused_text teller.form refusal) }
+{
+    match teller.form {
+        Form::Lines => push_refused_line(out, refusal),
+        Form::Records => refused_record(teller.alloc, refusal)?.push(teller.alloc, out),
+    }
+}

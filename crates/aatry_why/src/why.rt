@@ -1,0 +1,205 @@
+//! Questions to the policy of a folder, answered with the rules behind the answer.
+
+ghost use Rattle.std.specs.Prelude.{◌≡◌, ◌++◌, ◌⊎◌, Bool, Ok, IfErr, IfOk, OnOk, map, string_bytes};
+ghost use Rattle.aa_set_answers.specs.Answers.{who_asks};
+ghost use Rattle.aa_set_answers.specs.Askers.{asker};
+ghost use Rattle.aa_set_commands.specs.Question.{IsWellFormed, seen_question};
+ghost use Rattle.aaset_start.specs.Gathering.{texts_of};
+ghost use Rattle.aatry_folder.specs.Reports.{failed_by};
+ghost use Rattle.aatry_folder.specs.Unread.{IsOfFolder};
+ghost use Rattle.aatry_folder.specs.declared.fault.Fault.TheVariants as fault;
+ghost use Rattle.aatry_policy.specs.Folders.{loaded_in, origins_in, policy_in, seen_folder};
+ghost use Rattle.aatry_requests.specs.AskedWords.{AskNothing};
+ghost use Rattle.aatry_requests.specs.Questions.{rule_request};
+ghost use Rattle.aatry_why.specs.Sources.{seen_sources};
+ghost use Rattle.aatry_why.specs.Why.{IsWhyTold, IsWhyToldBelow, answered_text, has_answer, how_of, reasons, replied_text, sources_in};
+
+use crate::replies::{is_lacking, push_refused, push_reply};
+use crate::sources::{Sources, asked_origin, sources_at, written_by};
+use aa_set::Manager;
+use aa_set_answers::{Answered, find_asker};
+use aa_set_commands::{Question, RefusalKind};
+use aaset_start::FileSystem;
+use aatry_arguments::Asking;
+use aatry_folder::{Fault, Folders, PolicyFolder, Report, failed_by, policy_below};
+use aatry_policy::{LoadedFolder, load_folder};
+use aatry_report::Teller;
+use aatry_requests::{question_by, rule_request, who_asks};
+use aatry_transition::push_how;
+use aatry_why_lines::push_why;
+use std::alloc::{AllocError, Global};
+
+// Appends how the answer to the start of a program came about to a text; of any other question, nothing.
+fn push_how_of(
+    teller: Teller,
+    manager: &Manager,
+    question: &Question<'_>,
+    out: &mut Vec<u8>,
+) -> Result<(), AllocError>
+    ensures { OnOk result (out.new.items ≡ out.old.items ++ how_of teller.form manager.now.machine.now (seen_question question.entry.now)) }
+{
+    match question {
+        Question::Exec { who, owned, path } => {
+            push_how(
+                teller,
+                &manager.policy_set().slots(),
+                who,
+                *owned,
+                path,
+                out,
+            )
+        }
+        _ => Ok(()),
+    }
+}
+
+// Appends the rules behind the answer to who asks to a text; where it is no one in particular, or isn't there, nothing.
+fn push_reasons(
+    teller: Teller,
+    sources: &Sources<'_>,
+    manager: &Manager,
+    question: &Question<'_>,
+    lacking: bool,
+    out: &mut Vec<u8>,
+) -> Result<(), AllocError>
+    ensures { OnOk result (out.new.items ≡ out.old.items
+        ++ reasons teller.form (seen_sources sources.now) (asker manager.now.machine.now (who_asks (seen_question question.entry.now)))
+        (rule_request (seen_question question.entry.now)) lacking) }
+{
+    match find_asker(&manager.policy_set().slots(), who_asks(question)) {
+        Some(Some(asker)) => {
+            let written = written_by(sources, asker);
+            push_why(teller, &written, &rule_request(question), lacking, out)
+        }
+        _ => Ok(()),
+    }
+}
+
+// Appends what a question is answered to a text, the rules behind that, and how it came about.
+fn push_replied(
+    teller: Teller,
+    sources: &Sources<'_>,
+    manager: &Manager,
+    question: &Question<'_>,
+    told: &Answered,
+    out: &mut Vec<u8>,
+) -> Result<(), AllocError>
+    ensures { OnOk result (out.new.items ≡ out.old.items
+        ++ replied_text teller.form (seen_sources sources.now) manager.now.machine.now (seen_question question.entry.now) (Ok told.now)) }
+{
+    push_reply(teller, told, out)?;
+    push_reasons(
+        teller,
+        sources,
+        manager,
+        question,
+        is_lacking(told.answer),
+        out,
+    )?;
+    push_how_of(teller, manager, question, out)
+}
+
+/// Appends the answer of a policy set to a question to a text, and behind it the rules by which who asks decides, as `why` tells them: those of the loaded
+/// profile, child or hat, with where they are written. Says whether there is an answer. The caller sees to it that the question is well-formed, as one of
+/// `Question::read` is.
+///
+/// # Errors
+///
+/// Where memory runs out. A beginning may have been appended then.
+pub fn push_answer(
+    teller: Teller,
+    sources: &Sources<'_>,
+    manager: &Manager,
+    question: &Question<'_>,
+    out: &mut Vec<u8>,
+) -> Result<bool, AllocError>
+    requires { IsWellFormed question.now }
+    ensures told { OnOk result (out.new.items ≡ out.old.items
+        ++ answered_text teller.form (seen_sources sources.now) manager.now.machine.now (seen_question question.entry.now)) }
+    ensures found { IfOk result (λ found. found ≡ has_answer manager.now.machine.now (seen_question question.entry.now)) }
+{
+    match manager.answered(question) {
+        Ok(told) => {
+            push_replied(teller, sources, manager, question, &told, out)?;
+            Ok(true)
+        }
+        Err(refusal) => {
+            if refusal.refusal == RefusalKind::Memory {
+                return Err(AllocError);
+            }
+            push_refused(teller, refusal, out)?;
+            Ok(false)
+        }
+    }
+}
+
+// What the policy of a folder that is loaded answers to a question, appended to a text.
+fn push_asked(
+    teller: Teller,
+    loaded: &mut LoadedFolder<'_>,
+    question: &Question<'_>,
+    out: &mut Vec<u8>,
+) -> Result<bool, AllocError>
+    requires asked { IsWellFormed question.now }
+    requires set { loaded.old.policy.manager ≡ loaded_in (seen_folder loaded.old.folder.now) }
+    requires origins { loaded.old.policy.origins.items ≡ origins_in (seen_folder loaded.old.folder.now) }
+    ensures told { OnOk result (out.new.items ≡ out.old.items
+        ++ answered_text teller.form (sources_in (seen_folder loaded.old.folder.now) (seen_question question.entry.now))
+        (policy_in (seen_folder loaded.old.folder.now)) (seen_question question.entry.now)) }
+    ensures found { IfOk result (λ found. found ≡ has_answer (policy_in (seen_folder loaded.old.folder.now)) (seen_question question.entry.now)) }
+{
+    loaded.policy.manager.remember(question);
+    let folder = loaded.folder;
+    let origin = asked_origin(&loaded.policy.origins, question);
+    let sources = sources_at(&folder.files, folder.base.as_bytes(), origin);
+    push_answer(teller, &sources, &loaded.policy.manager, question, out)
+}
+
+// The same of a folder that was read, by words, with what is told of the files that are left out before it.
+fn told_of(teller: Teller, folder: &PolicyFolder<'_>, words: &[String]) -> Result<Report, Fault>
+    ensures told { IfOk result (λ report. (found : Bool) × IsWhyTold teller.form (seen_folder folder.now) (map string_bytes words.now) report.text.items found
+        × (report.failed ≡ failed_by found)) }
+    ensures fault { IfErr result (λ told. (told ≡ fault.NoMemory) ⊎ ((told ≡ fault.BadQuestion) × AskNothing (map string_bytes words.now))) }
+{
+    let Some(question) = question_by(teller.alloc, &[], words)? else {
+        return Err(Fault::BadQuestion);
+    };
+    let mut text = Vec::new(teller.alloc);
+    let mut loaded = load_folder(teller, folder, &mut text)?;
+    let found = push_asked(teller, &mut loaded, &question, &mut text)?;
+    Ok(Report {
+        failed: failed_by(found),
+        text,
+    })
+}
+
+/// What the policy of a folder answers to a question, and the rules behind the answer, told in a form: reads the folder as `aatry_folder::policy_below` does.
+/// First come the files that are left out (`aatry_policy::load_folder`). Then comes what `ask` would be answered, and behind it the rules, each with the
+/// place where it is written (`aatry_why_lines`); where something isn't allowed, the rule that is missing and the nearest ones too; and of the start of a
+/// program where its transition leads and what its path may be attached to (`aatry_transition`). Where nobody of the name is loaded, the refusal is told,
+/// and one failed.
+///
+/// As records, the reply is one of the kind `answer`, with the texts `answer` and `audit`, the line that logs it, which is empty where none does; and a
+/// refusal is one of the kind `refused`, with `number` and `refusal`.
+///
+/// # Errors
+///
+/// - `Unreadable` with the first folder or file that can't be read.
+/// - `TooMany` where there are more than 65,536 files and folders.
+/// - `BadQuestion` where the words ask no question.
+/// - `NoMemory` where memory ran out.
+pub fn why_folder<F: Folders, D: FileSystem>(
+    teller: Teller,
+    folders: &F,
+    disk: &D,
+    asked: Asking,
+) -> Result<Report, Fault>
+    ensures told { IfOk result (λ report. IsWhyToldBelow teller.form (F.told folders.now) (D.known disk.now) (string_bytes asked.base) (texts_of asked.words)
+        report.text.items report.failed) }
+    ensures fault { IfErr result (λ told. IsOfFolder (F.told folders.now) (D.known disk.now) (string_bytes asked.base) told
+        ⊎ ((told ≡ fault.BadQuestion) × AskNothing (texts_of asked.words))) }
+{
+    let Asking { base, words } = asked;
+    let folder = policy_below(teller.alloc, folders, disk, base.as_str())?;
+    told_of(teller, &folder, &words)
+}
