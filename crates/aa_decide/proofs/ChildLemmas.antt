@@ -4,7 +4,7 @@ use Rattle.std.specs.Prelude.{slice_get}
 use Rattle.std.proofs.lemmas.Option.{slice_get-get_or}
 use Rattle.aa_decide_attachment.specs.Ranks.{best_rank}
 use Rattle.aa_profile_data.specs.declared.profile.Child.{Child}
-use Rattle.aa_decide_slots.specs.Visits.{child_attachments}
+use Rattle.aa_decide_ready.specs.Visits.{child_attachments}
 
 -- one more is told of the next child
 map-more : (rank : Child → ℕ) (children : List Child) (place : ℕ) (child : Child) → place < length children → child ≡ get_or children place child

@@ -17,7 +17,6 @@ use Rattle.aa_profile_access.specs.FullNames.{full_name}
 use Rattle.aa_profile_data.specs.Profile.{child_place}
 use Rattle.aa_profile_data.specs.declared.profile.Mode.{Mode}
 use Rattle.aa_profile_data.specs.declared.profile.Mode.TheVariants.{Complain, Enforce}
-use Rattle.aa_profile_data.specs.declared.profile.Profile.{Profile}
 use Rattle.aa_profile_data.specs.declared.profile.Rule.{Rule}
 use Rattle.aa_profile_data.specs.declared.profile.Transition.{Transition}
 use Rattle.aa_decide.specs.Attachment.{attached}
@@ -25,7 +24,7 @@ use Rattle.aa_decide_slots.specs.Confinement.{By, Confinement, Unconfined as Not
 use Rattle.aa_decide_slots.specs.Entries.{Loaded, is_in_force}
 use Rattle.aa_decide.specs.Exec.{Asker, ExecAnswer, Nowhere, Null, Started, Unconfined, Under, by_choice, by_full_name, carried_out, confined_start, entry_asker, exec_answer, is_named_in_force, led, led_by, missing, named_in_force, place_of_child, started, to_child, to_profile, unconfined_start, under}
 use Rattle.aa_decide.specs.ExecLaws.{DifferInOrder, SomeRuleDenies}
-use Rattle.aa_decide_slots.specs.Ready.{audits, rules_at}
+use Rattle.aa_decide_ready.specs.Sections.{Section, section_at}
 use Rattle.aa_decide_slots.specs.declared.entry.State.{State}
 use Rattle.aa_decide_slots.specs.declared.entry.State.TheVariants.{Disabled, Modes}
 use Rattle.aa_decide_audit.specs.declared.verdict.Answer.TheVariants.{Deny}
@@ -186,7 +185,8 @@ module _ (law : RankLaw) where
       by : (state : State) → asker.entry.state ≡ state → IsInForce (confined_start owned path entries asker (in_state asker.entry.profile state asker.child)).to
       by Disabled e = unconfined-in_force path entries
       by (Modes modes) e =
-          choice-in_force path entries asker _ (choice (audits asker.entry.profile asker.child) owned path (rules_at asker.entry.profile asker.child)) (ap is_in_force e)
+          let section = section_at asker.entry.profile asker.child in
+          choice-in_force path entries asker _ (choice section.audit owned path section.rules) (ap is_in_force e)
 
   -- a program never runs under a disabled profile
   pub answer-in_force : (entries : List Loaded) (asker : Option Asker) (owned : Bool) (path : List ℕ) (entry : Loaded) (child : Option ℕ)
@@ -236,7 +236,7 @@ module _ (law : RankLaw) where
     where
       by : (confinement : Confinement) → confined_start owned path entries asker confinement ≡ confined_start owned path others asker confinement
       by NotConfined = unconfined-order path entries others same
-      by (By profile child mode) = choice-order path entries others asker mode (choice (audits profile child) owned path (rules_at profile child)) same
+      by (By section mode) = choice-order path entries others asker mode (choice section.audit owned path section.rules) same
 
 -- a rule that denies is among what the rules say
 denies-among : (flag owned : Bool) (path : List ℕ) (rules : List Rule) (place : ℕ) (rule : Rule) (audited : Bool) → slice_get rules place ≡ Some rule
@@ -263,12 +263,12 @@ denies-among flag owned path (first ∷ rules) (suc place) rule audited at says 
         or false rest = rest
 
 -- it wins over all others
-pub denied-first : (entries : List Loaded) (asker : Asker) (owned : Bool) (path : List ℕ) (profile : Profile) (child : Option ℕ) (mode : Mode)
-    → in_state asker.entry.profile asker.entry.state asker.child ≡ By profile child mode
-    → SomeRuleDenies owned path profile child
+pub denied-first : (entries : List Loaded) (asker : Asker) (owned : Bool) (path : List ℕ) (section : Section) (mode : Mode)
+    → in_state asker.entry.profile asker.entry.state asker.child ≡ By section mode
+    → SomeRuleDenies owned path section
     → (exec_answer entries (Some asker) owned path).verdict.answer ≡ Deny
-denied-first entries asker owned path profile child mode confined (rule, audited, there, says) =
-    let some = denies-among (audits profile child) owned path (rules_at profile child) there.0 rule audited (at-there (rules_at profile child) rule there) says in
+denied-first entries asker owned path section mode confined (rule, audited, there, says) =
+    let some = denies-among section.audit owned path section.rules there.0 rule audited (at-there section.rules rule there) says in
     rw (confined, choice_of, some) refl
 
 -- the mask of each answer is `x`
@@ -298,4 +298,4 @@ answer-masked entries (Some asker) owned path = by (in_state asker.entry.profile
   where
     by : (confinement : Confinement) → (confined_start owned path entries asker confinement).verdict.mask.0 ≡ EXEC
     by NotConfined = unconfined-masked path entries
-    by (By profile child mode) = choice-masked path entries asker mode (choice (audits profile child) owned path (rules_at profile child))
+    by (By section mode) = choice-masked path entries asker mode (choice section.audit owned path section.rules)

@@ -17,7 +17,6 @@ use Rattle.aa_decide.specs.Attachment.{attached, attached_child}
 use Rattle.aa_decide_slots.specs.Confinement.{By, Confinement, Unconfined as NotConfined, in_state}
 use Rattle.aa_decide_slots.specs.Entries.{Loaded, is_in_force}
 use Rattle.aa_decide_slots.specs.Named.{entry_named}
-use Rattle.aa_decide_slots.specs.Ready.{audits, rules_at}
 use Rattle.aa_decide_audit.specs.declared.verdict.Answer.{Answer}
 use Rattle.aa_decide_audit.specs.declared.verdict.Answer.TheVariants.{Allow, Deny, Refuse, Complain as Complained}
 use Rattle.aa_decide_audit.specs.declared.verdict.Tag.{Tag}
@@ -147,8 +146,7 @@ unconfined_start path entries = elim (attached path entries) [
 -- by what confines who asks
 abbrev pub confined_start : Bool → List ℕ → List Loaded → Asker → Confinement → ExecAnswer
 confined_start owned path entries asker NotConfined = unconfined_start path entries
-confined_start owned path entries asker (By profile child mode) =
-    by_choice path entries asker mode (choice (audits profile child) owned path (rules_at profile child))
+confined_start owned path entries asker (By section mode) = by_choice path entries asker mode (choice section.audit owned path section.rules)
 
 -- Under what the program of a path runs that is started, by the entries and by who asks; no one in particular is confined by nothing.
 abbrev pub exec_answer : List Loaded → Option Asker → Bool → List ℕ → ExecAnswer

@@ -1,14 +1,13 @@
 -- Words that the laws of attachment and of the start of programs are said in.
-use Rattle.std.specs.Prelude.{◌≡◌, ◌<◌, ℕ, Bool, true, false, List, Option, Some}
+use Rattle.std.specs.Prelude.{◌≡◌, ◌<◌, ℕ, Bool, true, false, List, Some}
 use Rattle.std.specs.List.{Contains}
 use Rattle.std.specs.Str.{bytes_eq}
 use Rattle.aa_decide_exec_rules.specs.ExecRules.{Denying, said_of}
-use Rattle.aa_profile_data.specs.declared.profile.Profile.{Profile}
 use Rattle.aa_profile_data.specs.declared.profile.Rule.{Rule}
 use Rattle.aa_decide.specs.Attachment.{entry_rank}
 use Rattle.aa_decide_slots.specs.Named.{have_distinct_names}
 use Rattle.aa_decide_slots.specs.Entries.{Loaded}
-use Rattle.aa_decide_slots.specs.Ready.{audits, rules_at}
+use Rattle.aa_decide_ready.specs.Sections.{Section}
 
 -- no two entries have one name
 abbrev pub HaveDistinctNames : List Loaded → Type 0
@@ -32,8 +31,7 @@ RanksAboveOthers path entries entry =
 abbrev pub FitsBest : List ℕ → List Loaded → Loaded → Type 0
 FitsBest path entries entry = Contains entries entry × (0 < entry_rank path entry) × RanksAboveOthers path entries entry
 
--- some rule of a profile, or of its child or hat at a place, denies the start of the program of a path
-abbrev pub SomeRuleDenies : Bool → List ℕ → Profile → Option ℕ → Type 0
-SomeRuleDenies owned path profile child =
-    (rule : Rule) × (audited : Bool)
-    × Contains (rules_at profile child) rule × (said_of (audits profile child) owned path rule ≡ Some (Denying audited))
+-- some rule of a profile, or of a child or hat, denies the start of the program of a path
+abbrev pub SomeRuleDenies : Bool → List ℕ → Section → Type 0
+SomeRuleDenies owned path section =
+    (rule : Rule) × (audited : Bool) × Contains section.rules rule × (said_of section.audit owned path rule ≡ Some (Denying audited))

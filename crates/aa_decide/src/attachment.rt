@@ -4,24 +4,18 @@ ghost use Rattle.std.specs.Prelude.{◌≡◌, IfOk, map, slice_get};
 ghost use Rattle.aa_decide_attachment.specs.Ranks.{best_rank};
 ghost use Rattle.aa_decide.specs.Attachment.{attached, attached_child, entry_rank};
 ghost use Rattle.aa_decide_slots.specs.Slots.{Holds, entry_at, filled};
-ghost use Rattle.aa_decide_slots.specs.Visits.{attachments_at};
 ghost use Rattle.aa_decide.specs.code.SlotRanks.{slot_rank};
 
 use aa_decide_attachment::{best_rank, standing_out, which_rank_stands_out};
-use aa_decide_slots::{Entry, IndexedSlots, Ready, Steps, entry_at};
+use aa_decide_slots::{Entry, IndexedSlots, Ready, ReadySection, Steps, entry_at};
 use std::alloc::{AllocError, Global};
 
-// The rank of a profile on a path, or of its child or hat at a place.
-fn ready_rank(
-    alloc: Global,
-    ready: &Ready,
-    child: Option<usize>,
-    path: &[u8],
-) -> Result<u128, AllocError>
-    ensures { IfOk result (λ rank. rank ≡ best_rank path.now (attachments_at ready.now child)) }
+// The rank of a profile, or of a child or hat, on a path.
+fn section_rank(alloc: Global, section: ReadySection<'_>, path: &[u8]) -> Result<u128, AllocError>
+    ensures { IfOk result (λ rank. rank ≡ best_rank path.now section.entry.attachments.now) }
 {
-    let places = ready.matching_attachments(alloc, child, path, &mut Steps::new())?;
-    Ok(best_rank(ready.attachments_at(child), places.as_slice()))
+    let places = section.matching_attachments(alloc, path, &mut Steps::new())?;
+    Ok(best_rank(section.attachments, places.as_slice()))
 }
 
 // The rank of a loaded profile on a path.
@@ -29,7 +23,7 @@ fn entry_rank(alloc: Global, entry: &Entry, path: &[u8]) -> Result<u128, AllocEr
     ensures { IfOk result (λ rank. rank ≡ entry_rank path.now entry.now) }
 {
     if entry.state().is_in_force() {
-        ready_rank(alloc, entry.ready(), None, path)
+        section_rank(alloc, entry.ready().section(None), path)
     } else {
         Ok(0)
     }
@@ -103,7 +97,7 @@ fn child_ranks(alloc: Global, ready: &Ready, path: &[u8]) -> Result<Vec<u128>, A
     let children = ready.profile.children.as_slice();
     let mut ranks = Vec::with_capacity(alloc, children.len())?;
     for (place, _) in children.iter().enumerate() {
-        ranks.push(ready_rank(alloc, ready, Some(place), path)?)?;
+        ranks.push(section_rank(alloc, ready.section(Some(place)), path)?)?;
     }
     Ok(ranks)
 }

@@ -10,7 +10,6 @@ ghost use Rattle.aa_decide.specs.code.SeenExec.{IsAnswerAnywhere, IsDestinationO
 ghost use Rattle.aa_decide.specs.SeenExec.{IsAnswer, IsDestination, IsIn, asker_in, seen_asker, seen_to};
 ghost use Rattle.aa_decide_audit.specs.declared.verdict.Answer.TheVariants.{Allow};
 ghost use Rattle.aa_decide_audit.specs.declared.verdict.Tag.TheVariants.{Audit};
-ghost use Rattle.aa_decide_slots.specs.Ready.{audits, rules_at};
 ghost use Rattle.aa_decide_exec_rules.specs.Choices.{choice};
 ghost use Rattle.aa_decide_exec_rules.specs.SeenChoices.{seen_choice};
 
@@ -20,7 +19,7 @@ use crate::slots::find_in_force;
 use aa_bytes::SharedBytes;
 use aa_decide_audit::{Answer, ExecTo, ExecVerdict, Tag, Verdict};
 use aa_decide_exec_rules::{ExecChoice, exec_choice};
-use aa_decide_slots::{Confinement, IndexedSlots, Ready, Steps};
+use aa_decide_slots::{Confinement, IndexedSlots, Ready, ReadySection, Steps};
 use aa_profile_access::{Destination, Perms, cut_full_name};
 use aa_profile_data::{Mode, Transition, child_place};
 use std::alloc::{AllocError, Global};
@@ -275,19 +274,29 @@ fn unconfined_start(
     }
 }
 
-// What the rules of a profile say together, or those of its child or hat at a place.
-fn choice_at<'a>(
+/// What the rules of a profile, or of a child or hat of it, say together of the program of a path that is started (docs/policy.md, "The start of a
+/// program"): that it is denied, where a deny rule with `x` applies; that no rule speaks of it; or where it leads, which is the transition of the first
+/// rule that dominates. One automaton finds the rules whose patterns match. `owned` says whether the task's user owns the file.
+///
+/// # Errors
+///
+/// Where memory runs out.
+pub fn choice_of<'a>(
     alloc: Global,
-    ready: &'a Ready,
-    child: Option<usize>,
+    section: ReadySection<'a>,
     owned: bool,
     path: &[u8],
 ) -> Result<ExecChoice<'a>, AllocError>
-    ensures { IfOk result (λ found. seen_choice found ≡ choice (audits ready.now child) owned path.now (rules_at ready.now child)) }
+    ensures { IfOk result (λ found. seen_choice found ≡ choice section.entry.audit owned path.now section.entry.rules.now) }
 {
-    let places = ready.matching_rules(alloc, child, path, &mut Steps::new())?;
-    let (audit, rules) = (ready.audits(child), ready.rules_at(child));
-    exec_choice(alloc, audit, rules, places.as_slice(), owned)
+    let places = section.matching_rules(alloc, path, &mut Steps::new())?;
+    exec_choice(
+        alloc,
+        section.audit,
+        section.rules,
+        places.as_slice(),
+        owned,
+    )
 }
 
 // The answer to who asks by a loaded profile.
@@ -304,8 +313,8 @@ fn asked_by(
 {
     match asker.entry.confinement(asker.child) {
         Confinement::Unconfined => unconfined_start(alloc, slots, path),
-        Confinement::By { ready, child, mode } => {
-            let choice = choice_at(alloc, ready, child, owned, path)?;
+        Confinement::By { section, mode } => {
+            let choice = choice_of(alloc, section, owned, path)?;
             by_choice(alloc, slots, asker, mode, path, choice)
         }
     }
@@ -316,7 +325,7 @@ fn asked_by(
 /// the profile in force that the path is attached to, or else under none. Asked by a profile in force, by its own
 /// rules, or those of its child or hat: `Deny` where a deny rule with `x` applies; what its mode says, `Refuse` or
 /// `Complain`, where no allow rule with an exec word does; else where the first of those leads that dominate. The rules
-/// of a profile that was made ready agree ([`Ready::rules_agree`]), and of such rules all that dominate have one
+/// of a profile that was made ready agree ([`ReadySection::rules_agree`]), and of such rules all that dominate have one
 /// transition (`where_agreeing_rules_lead` of `aa_decide_exec_rules`). A disabled profile is never gone to. `owned`
 /// says whether the task's user owns the file. What it answers is said of the filled slots in their order, and a
 /// profile that it tells is in a filled one.

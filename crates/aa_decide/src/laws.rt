@@ -9,14 +9,13 @@ ghost use Rattle.aa_decide_slots.specs.Entries.{Loaded, is_in_force};
 ghost use Rattle.aa_decide.specs.Exec.{Asker, Under, exec_answer};
 ghost use Rattle.aa_decide.specs.ExecLaws.{DifferInOrder, FitsBest, HaveDistinctNames, SomeRuleDenies};
 ghost use Rattle.aa_decide_exec_rules.specs.Laws.{RulesLeadOneWay};
-ghost use Rattle.aa_decide_slots.specs.Ready.{rules_at};
+ghost use Rattle.aa_decide_ready.specs.Sections.{Section};
 ghost use Rattle.aa_decide_audit.specs.declared.verdict.Answer.TheVariants.{Deny};
 ghost use Rattle.aa_profile_data.specs.declared.profile.Mode.{Mode};
-ghost use Rattle.aa_profile_data.specs.declared.profile.Profile.{Profile};
 
 use aa_decide_attachment::which_rank_stands_out;
 use aa_decide_exec_rules::where_agreeing_rules_lead;
-use aa_decide_slots::Ready;
+use aa_decide_slots::ReadySection;
 
 /// A program never runs under a disabled profile, nor under a child or hat of one. Of profiles of different names a path is attached to one exactly
 /// where this has an attachment that matches and ranks above all others. The order of the profiles changes neither that nor any answer. A
@@ -36,9 +35,9 @@ pub fn where_programs_run()
         → DifferInOrder entries others
         → exec_answer entries asker owned path ≡ exec_answer others asker owned path }
     ensures deny_rule_wins { (entries : List Loaded) (asker : Asker) (owned : Bool) (path : List ℕ)
-        → (profile : Profile) (child : Option ℕ) (mode : Mode)
-        → in_state asker.entry.profile asker.entry.state asker.child ≡ By profile child mode
-        → SomeRuleDenies owned path profile child
+        → (section : Section) (mode : Mode)
+        → in_state asker.entry.profile asker.entry.state asker.child ≡ By section mode
+        → SomeRuleDenies owned path section
         → (exec_answer entries (Some asker) owned path).verdict.answer ≡ Deny }
     ensures mask_is_exec { (entries : List Loaded) (asker : Option Asker) (owned : Bool) (path : List ℕ)
         → (exec_answer entries asker owned path).verdict.mask.0 ≡ EXEC }
@@ -46,11 +45,11 @@ pub fn where_programs_run()
     which_rank_stands_out();
 }
 
-/// Of the rules of a profile that is ready, or of its child or hat at a place, those that dominate on a path have one transition: where the first of
-/// them leads, all lead. A path is a list of bytes.
-pub fn where_the_rules_lead(ready: &Ready, child: Option<usize>)
-    ensures { (flag owned : Bool) (path : List ℕ) → All (λ b. b < 2 ^ 8) path → RulesLeadOneWay flag owned path (rules_at ready.now child) }
+/// Of the rules of a profile that is ready, or of a child or hat of it, those that dominate on a path have one transition: where the first of them
+/// leads, all lead. A path is a list of bytes.
+pub fn where_the_rules_lead(section: ReadySection<'_>)
+    ensures { (flag owned : Bool) (path : List ℕ) → All (λ b. b < 2 ^ 8) path → RulesLeadOneWay flag owned path section.entry.rules.now }
 {
     where_agreeing_rules_lead();
-    ready.rules_agree(child);
+    section.rules_agree();
 }

@@ -2,9 +2,6 @@ pub mod Confinement
 pub mod Entries
 pub mod Indexes
 pub mod Named
-pub mod Ready
 pub mod SlotAttachments
 pub mod SlotNames
 pub mod Slots
-pub mod Visits
-pub mod code

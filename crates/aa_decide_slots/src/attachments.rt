@@ -7,8 +7,8 @@ ghost use Rattle.aa_decide_slots.specs.Indexes.{IsAttachmentIndexOf};
 ghost use Rattle.aa_glob_automaton.specs.Built.{IsBuilt};
 
 use crate::entry::Entry;
-use crate::part::picked;
 use aa_bytes::Sequence;
+use aa_decide_ready::picked;
 use aa_glob_automaton::{Automaton, AutomatonBuilder, Steps};
 use aa_glob_pattern::Pattern;
 use std::alloc::{AllocError, Global};

@@ -4,7 +4,7 @@ ghost use Rattle.std.specs.Prelude.{◌≡◌};
 ghost use Rattle.aa_decide_slots.specs.Confinement.{found, in_state, mode_at};
 
 use crate::entry::{Entry, State};
-use crate::ready::Ready;
+use aa_decide_ready::ReadySection;
 use aa_profile_data::Mode;
 
 /// What confines a task.
@@ -14,10 +14,8 @@ pub enum Confinement<'a> {
     Unconfined,
     /// A profile, or a child or hat of it.
     By {
-        /// The profile.
-        ready: &'a Ready,
-        /// The place of the child or hat among its children; none where the profile itself confines.
-        child: Option<usize>,
+        /// What decides of it.
+        section: ReadySection<'a>,
         /// The mode.
         mode: Mode,
     },
@@ -47,8 +45,7 @@ impl Entry {
         match self.state() {
             State::Disabled => Confinement::Unconfined,
             State::Modes(modes) => Confinement::By {
-                ready: self.ready(),
-                child,
+                section: self.ready().section(child),
                 mode: mode_at(modes.as_slice(), child),
             },
         }

@@ -3,8 +3,8 @@
 ghost use Rattle.std.specs.Prelude.{◌≡◌, true};
 ghost use Rattle.aa_decide_slots.specs.Entries.{fits, is_in_force, state_left, with_state};
 
-use crate::ready::Ready;
 use aa_bytes::Sequence;
+use aa_decide_ready::Ready;
 use aa_profile_data::{Mode, Profile};
 use std::alloc::Global;
 use std::marker::Model;

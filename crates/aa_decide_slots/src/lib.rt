@@ -1,5 +1,5 @@
-//! Loaded profiles with their states, made ready to be asked; slots with these, and what is kept beside them to find names and
-//! attachments without going over all.
+//! Loaded profiles with their states; slots with these, and what is kept beside them to find names and attachments without going
+//! over all.
 #![tactic(auto)]
 
 mod attachments;
@@ -7,16 +7,12 @@ mod confinement;
 mod entry;
 mod indexed;
 mod names;
-mod part;
-mod ready;
 mod slots;
 
-pub use aa_glob_automaton::Steps;
+pub use aa_decide_ready::{Ready, ReadySection, Steps};
 pub use attachments::AttachmentIndex;
 pub use confinement::Confinement;
 pub use entry::{Entry, State};
 pub use indexed::IndexedSlots;
 pub use names::NameIndex;
-pub use part::picked;
-pub use ready::Ready;
 pub use slots::{entry_at, find_named, slots_named};

@@ -6,7 +6,7 @@ use Rattle.aa_decide.specs.Attachment.{attached, attached_child, entry_rank}
 use Rattle.aa_decide_attachment.specs.Ranks.{best_rank}
 use Rattle.aa_decide_attachment.specs.StandingOut.{greatest, standing_out}
 use Rattle.aa_decide_slots.specs.Entries.{Loaded, is_in_force}
-use Rattle.aa_decide_slots.specs.Visits.{child_attachments}
+use Rattle.aa_decide_ready.specs.Visits.{child_attachments}
 use Rattle.aa_profile_data.specs.declared.profile.Child.{Child}
 use Rattle.aa_explain.specs.Standings.{is_the_one, standing_of}
 use Rattle.aa_explain.specs.Candidates.{child_candidates, children_from, profile_candidates, rank_of}

@@ -1,2 +1,8 @@
+mod AttachedAlikeLemmas
 mod AttachmentLemmas
+mod LedAlikeLemmas
+mod NamedLemmas
+mod PatternLemmas
+mod StartAlikeLemmas
 mod StartLemmas
+mod TwinLemmas

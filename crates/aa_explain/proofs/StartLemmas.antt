@@ -9,7 +9,7 @@ use Rattle.aa_decide_audit.specs.declared.verdict.Answer.TheVariants.{Allow}
 use Rattle.aa_decide_exec_rules.specs.Choices.{Leads, Missing, choice}
 use Rattle.aa_decide_slots.specs.Confinement.{in_state, mode_at}
 use Rattle.aa_decide_slots.specs.Entries.{Loaded, is_in_force}
-use Rattle.aa_decide_slots.specs.Ready.{audits, rules_at}
+use Rattle.aa_decide_ready.specs.Ready.{audits, rules_at}
 use Rattle.aa_decide_slots.specs.declared.entry.State.{State}
 use Rattle.aa_decide_slots.specs.declared.entry.State.TheVariants.{Disabled, Modes}
 use Rattle.aa_explain_rules.specs.Missing.{inherit}

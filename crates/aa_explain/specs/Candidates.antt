@@ -2,7 +2,7 @@
 use Rattle.std.specs.Prelude.{ℕ, ◌+◌, ◌==◌, if◌then◌else◌, find, List, [], ◌∷◌, map, Option, None, Some}
 use Rattle.aa_decide_attachment.specs.Ranks.{best_rank, rank}
 use Rattle.aa_decide_slots.specs.Entries.{Loaded, is_in_force}
-use Rattle.aa_decide_slots.specs.Visits.{attachments_at}
+use Rattle.aa_decide_ready.specs.Visits.{attachments_at}
 use Rattle.aa_profile_data.specs.declared.profile.Child.{Child}
 use Rattle.aa_explain.specs.declared.candidates.Candidate.{Candidate as CodeCandidate}
 

@@ -7,7 +7,6 @@ use Rattle.aa_decide_audit.specs.declared.exec_verdict.ExecTo.{ExecTo}
 use Rattle.aa_decide_exec_rules.specs.Choices.{choice}
 use Rattle.aa_decide_slots.specs.Confinement.{By, Confinement, Unconfined, in_state}
 use Rattle.aa_decide_slots.specs.Entries.{Loaded}
-use Rattle.aa_decide_slots.specs.Ready.{audits, rules_at}
 use Rattle.aa_profile_access.specs.ExecWords.{row}
 use Rattle.aa_profile_data.specs.declared.profile.Transition.{Transition}
 use Rattle.aa_explain_rules.specs.Leading.{chosen_transition}
@@ -30,8 +29,8 @@ lead_by path entries asker transition = record {
 -- by what confines who asks: where the transition leads that the rules say together; where nothing confines it, no rule leads
 abbrev pub confined_lead : Bool → List ℕ → List Loaded → Asker → Confinement → Option Lead
 confined_lead owned path entries asker Unconfined = None
-confined_lead owned path entries asker (By profile child mode) =
-    option_map (lead_by path entries asker) (chosen_transition (choice (audits profile child) owned path (rules_at profile child)))
+confined_lead owned path entries asker (By section mode) =
+    option_map (lead_by path entries asker) (chosen_transition (choice section.audit owned path section.rules))
 
 -- where the rules of who asks lead, if they lead somewhere
 abbrev pub lead_of : Bool → List ℕ → List Loaded → Asker → Option Lead

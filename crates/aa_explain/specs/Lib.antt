@@ -1,3 +1,5 @@
+pub mod AlikePolicies
 pub mod Candidates
 pub mod Leads
+pub mod NamedAskers
 pub mod Standings

@@ -92,7 +92,7 @@ pub fn patterns_of<'a>(candidate: Candidate<'a>) -> &'a [Pattern]
 {
     match candidate.child {
         None => own_patterns(candidate.entry),
-        Some(place) => candidate.entry.ready().attachments_at(Some(place)),
+        Some(place) => candidate.entry.ready().section(Some(place)).attachments,
     }
 }
 

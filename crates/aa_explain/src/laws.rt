@@ -12,7 +12,7 @@ ghost use Rattle.aa_decide.specs.Exec.{Asker, Under, exec_answer};
 ghost use Rattle.aa_decide_attachment.specs.StandingOut.{standing_out};
 ghost use Rattle.aa_decide_audit.specs.declared.verdict.Answer.TheVariants.{Allow};
 ghost use Rattle.aa_decide_slots.specs.Entries.{Loaded, is_in_force};
-ghost use Rattle.aa_decide_slots.specs.Ready.{rules_at};
+ghost use Rattle.aa_decide_ready.specs.Ready.{rules_at};
 ghost use Rattle.aa_explain.specs.Candidates.{child_candidates, profile_candidates, rank_of};
 ghost use Rattle.aa_explain.specs.Standings.{standing_of};
 ghost use Rattle.aa_explain.specs.declared.standing.Standing.TheVariants.{Attached};

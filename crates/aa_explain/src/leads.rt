@@ -4,16 +4,14 @@ ghost use Rattle.std.specs.Prelude.{◌≡◌, IfOk, IfSome, option_and_then};
 ghost use Rattle.std.specs.Option.{option_map};
 ghost use Rattle.aa_decide.specs.Exec.{led};
 ghost use Rattle.aa_decide.specs.SeenExec.{IsIn, seen_asker};
-ghost use Rattle.aa_decide_exec_rules.specs.Choices.{choice};
-ghost use Rattle.aa_decide_slots.specs.Ready.{audits, rules_at};
+ghost use Rattle.aa_decide_exec_rules.specs.SeenChoices.{seen_choice};
 ghost use Rattle.aa_decide_slots.specs.Slots.{filled};
 ghost use Rattle.aa_profile_access.specs.ExecWords.{row};
 ghost use Rattle.aa_explain.specs.Leads.{IsThere, LeadsThere, lead_by, lead_of, seen_destination, seen_lead};
 ghost use Rattle.aa_explain_rules.specs.Leading.{chosen_transition};
 
 use aa_bytes::SharedBytes;
-use aa_decide::{Asker, Confinement, ExecTo, IndexedSlots, Ready, led};
-use aa_explain_rules::{AskedRules, first_transition, leading_rules, which_rules_lead};
+use aa_decide::{Asker, Confinement, ExecChoice, ExecTo, IndexedSlots, choice_of, led};
 use aa_profile_access::Destination;
 use aa_profile_data::Transition;
 use std::alloc::{AllocError, Global};
@@ -29,21 +27,15 @@ pub struct Lead<'a> {
     pub fallback: Option<ExecTo>,
 }
 
-// The transition that the rules of a profile say together, or those of its child or hat at a place, if they lead somewhere.
-fn chosen_transition<'a>(
-    alloc: Global,
-    ready: &'a Ready,
-    child: Option<usize>,
-    owned: bool,
-    path: &[u8],
-) -> Result<Option<&'a Transition>, AllocError>
-    ensures { IfOk result (λ transition. option_map (λ transition. transition.now) transition
-        ≡ chosen_transition (choice (audits ready.now child) owned path.now (rules_at ready.now child))) }
+// Where a choice leads, if it leads somewhere.
+fn chosen_transition<'a>(choice: ExecChoice<'a>) -> Option<&'a Transition>
+    ensures { option_map (λ transition. transition.now) result ≡ chosen_transition (seen_choice choice.entry) }
 {
-    which_rules_lead();
-    let rules = ready.rules_at(child);
-    let places = leading_rules(alloc, AskedRules::Loaded { ready, child }, owned, path)?;
-    Ok(first_transition(rules, &places))
+    match choice {
+        ExecChoice::Denied { .. } => None,
+        ExecChoice::Missing => None,
+        ExecChoice::Leading { transition, .. } => Some(transition),
+    }
 }
 
 // Where a destination leads who asks, if that is there.
@@ -147,9 +139,9 @@ pub fn lead_of<'a>(
 {
     match asker.entry.confinement(asker.child) {
         Confinement::Unconfined => Ok(None),
-        Confinement::By { ready, child, .. } => {
-            let transition = chosen_transition(alloc, ready, child, owned, path)?;
-            led_by(alloc, slots, asker, path, transition)
+        Confinement::By { section, .. } => {
+            let choice = choice_of(alloc, section, owned, path)?;
+            led_by(alloc, slots, asker, path, chosen_transition(choice))
         }
     }
 }

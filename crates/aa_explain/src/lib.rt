@@ -2,6 +2,7 @@
 //! what its path may be attached to. What is found are values; no text is made of them here.
 #![tactic(auto)]
 
+mod alike;
 mod candidates;
 mod laws;
 mod leads;
@@ -10,10 +11,11 @@ mod standing;
 
 pub use aa_decide::attached_child;
 pub use aa_explain_rules::{
-    AskedRules, ToldRule, first_transition, how_narrow_a_missing_rule_is, leading_rules,
-    missing_rule, near_rules, told_rules, what_a_missing_rule_lets, what_is_logged, what_is_told,
-    what_told_rules_decide, where_a_missing_rule_leads, where_rules_stand, which_rules_lead,
+    AskedRules, ToldRule, how_narrow_a_missing_rule_is, leading_rules, missing_rule, near_rules,
+    told_rules, what_a_missing_rule_lets, what_is_logged, what_is_told, what_told_rules_decide,
+    where_a_missing_rule_leads, where_rules_stand, which_rules_lead,
 };
+pub use alike::{policies_alike_decide_alike, who_has_a_full_name};
 pub use candidates::{
     Candidate, child_candidates, patterns_of, profile_candidates, rank_of, ranks_of,
 };

@@ -1,7 +1,6 @@
 -- The rules that a request is asked of, and which of them concern it.
 use Rattle.std.specs.Prelude.{ℕ, Bool, List}
 use Rattle.aa_decide_rules.specs.Verdict.{applies}
-use Rattle.aa_decide_slots.specs.Ready.{audits, rules_at}
 use Rattle.aa_profile_access.specs.Request.{ForCapability, ForFile, ForSockets, Request}
 use Rattle.aa_profile_data.specs.Matching.{is_matching}
 use Rattle.aa_profile_data.specs.declared.profile.Rule.{Rule}
@@ -12,12 +11,12 @@ use Rattle.aa_explain_rules.specs.declared.asked.AskedRules.TheVariants.{Listed,
 -- the rules themselves
 abbrev pub rules_of : AskedRules → List Rule
 rules_of (Listed audit rules) = rules.now
-rules_of (Loaded ready child) = rules_at ready.now child
+rules_of (Loaded section) = section.rules.now
 
 -- the flag of their profile audits each of them
 abbrev pub audits_of : AskedRules → Bool
 audits_of (Listed audit rules) = audit
-audits_of (Loaded ready child) = audits ready.now child
+audits_of (Loaded section) = section.audit
 
 -- A rule concerns a request: its pattern matches the path that is asked for, whoever owns the file, or it covers the capability or the sockets.
 abbrev pub concerns : Request → Rule → Bool

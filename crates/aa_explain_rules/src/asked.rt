@@ -2,11 +2,10 @@
 
 ghost use Rattle.std.specs.Prelude.{◌≡◌, IfOk};
 ghost use Rattle.aa_profile_access.specs.SeenRequests.{request_of};
-ghost use Rattle.aa_decide_slots.specs.Ready.{rules_at};
 ghost use Rattle.aa_explain_rules.specs.Asked.{audits_of, concerned, concerns, rules_of};
 
+use aa_decide_ready::{ReadySection, Steps};
 use aa_decide_rules::applies;
-use aa_decide_slots::{Ready, Steps};
 use aa_profile_access::Request;
 use aa_profile_data::Rule;
 use std::alloc::{AllocError, Global};
@@ -21,13 +20,8 @@ pub enum AskedRules<'a> {
         /// The rules, in their order.
         rules: &'a [Rule],
     },
-    /// Those by which a loaded profile decides: one automaton finds the patterns that match.
-    Loaded {
-        /// The profile.
-        ready: &'a Ready,
-        /// The place of the child or hat among its children whose rules are asked; none where it is the profile itself.
-        child: Option<usize>,
-    },
+    /// Those by which a loaded profile decides, or a child or hat of it: one automaton finds the patterns that match.
+    Loaded(ReadySection<'a>),
 }
 
 // Whether a rule concerns a request.
@@ -63,19 +57,18 @@ fn concerned_listed(
     Ok(found)
 }
 
-// The places of those of a loaded profile that concern a request, or of its child or hat at a place.
+// The places of those of a loaded profile, or of a child or hat of it, that concern a request.
 fn concerned_loaded(
     alloc: Global,
-    ready: &Ready,
-    child: Option<usize>,
+    section: ReadySection<'_>,
     request: &Request<'_>,
 ) -> Result<Vec<usize>, AllocError>
-    ensures { IfOk result (λ places. places.items ≡ concerned (request_of request.entry.now) (rules_at ready.now child)) }
+    ensures { IfOk result (λ places. places.items ≡ concerned (request_of request.entry.now) section.entry.rules.now) }
 {
     match request {
-        Request::File { path, .. } => ready.matching_rules(alloc, child, path, &mut Steps::new()),
-        Request::Cap(_) => concerned_listed(alloc, ready.rules_at(child), request),
-        Request::Net { .. } => concerned_listed(alloc, ready.rules_at(child), request),
+        Request::File { path, .. } => section.matching_rules(alloc, path, &mut Steps::new()),
+        Request::Cap(_) => concerned_listed(alloc, section.rules, request),
+        Request::Net { .. } => concerned_listed(alloc, section.rules, request),
     }
 }
 
@@ -86,7 +79,7 @@ impl<'a> AskedRules<'a> {
     {
         match self {
             AskedRules::Listed { rules, .. } => rules,
-            AskedRules::Loaded { ready, child } => ready.rules_at(child),
+            AskedRules::Loaded(section) => section.rules,
         }
     }
 
@@ -96,7 +89,7 @@ impl<'a> AskedRules<'a> {
     {
         match self {
             AskedRules::Listed { audit, .. } => audit,
-            AskedRules::Loaded { ready, child } => ready.audits(child),
+            AskedRules::Loaded(section) => section.audit,
         }
     }
 
@@ -111,7 +104,7 @@ impl<'a> AskedRules<'a> {
     {
         match self {
             AskedRules::Listed { rules, .. } => concerned_listed(alloc, rules, request),
-            AskedRules::Loaded { ready, child } => concerned_loaded(alloc, ready, child, request),
+            AskedRules::Loaded(section) => concerned_loaded(alloc, section, request),
         }
     }
 }

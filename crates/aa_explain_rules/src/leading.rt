@@ -1,16 +1,15 @@
 //! The rules that decide where a program runs that is started.
 
 ghost use Rattle.std.specs.Prelude.{◌≡◌, IfOk, false};
-ghost use Rattle.std.specs.Option.{option_map};
 ghost use Rattle.aa_decide_exec_rules.specs.Choices.{denies, dominates, is_exact_lead};
 ghost use Rattle.aa_decide_exec_rules.specs.ExecRules.{applies_to, covers_exec};
 ghost use Rattle.aa_explain_rules.specs.Asked.{rules_of};
-ghost use Rattle.aa_explain_rules.specs.Leading.{first_transition, leading_places, says, transition_at, transition_of};
+ghost use Rattle.aa_explain_rules.specs.Leading.{leading_places, says};
 ghost use Rattle.aa_explain_rules.specs.code.Among.{among, passes_at, some_among};
 
 use crate::asked::AskedRules;
 use aa_profile_access::{Perms, Request};
-use aa_profile_data::{FileRule, Rule, Transition};
+use aa_profile_data::{FileRule, Rule};
 use bitflags::Flags;
 use std::alloc::{AllocError, Global};
 
@@ -171,34 +170,4 @@ pub fn leading_rules(
     }
     let some_exact = some_is_exact(owned, path, rules, &places);
     dominating(alloc, some_exact, owned, path, rules, &places)
-}
-
-// The transition of a rule, if it has one.
-fn transition_of(rule: &Rule) -> Option<&Transition>
-    ensures { option_map (λ transition. transition.now) result ≡ transition_of rule.now }
-{
-    match rule {
-        Rule::File(rule) => rule.exec.as_ref(),
-        _ => None,
-    }
-}
-
-// That of the rule at a place.
-fn transition_at(rules: &[Rule], place: usize) -> Option<&Transition>
-    ensures { option_map (λ transition. transition.now) result ≡ transition_at rules.now place }
-{
-    match rules.get(place) {
-        None => None,
-        Some(rule) => transition_of(rule),
-    }
-}
-
-/// The transition of the rule at the first of some places, if there is one. It takes no memory.
-pub fn first_transition<'a>(rules: &'a [Rule], places: &[usize]) -> Option<&'a Transition>
-    ensures { option_map (λ transition. transition.now) result ≡ first_transition rules.now places.now }
-{
-    match places {
-        [] => None,
-        [place, ..] => transition_at(rules, *place),
-    }
 }

@@ -14,6 +14,6 @@ pub use laws::{
     how_narrow_a_missing_rule_is, what_a_missing_rule_lets, what_is_logged, what_is_told,
     what_told_rules_decide, where_a_missing_rule_leads, where_rules_stand, which_rules_lead,
 };
-pub use leading::{first_transition, leading_rules};
+pub use leading::leading_rules;
 pub use missing::missing_rule;
 pub use told::{ToldRule, near_rules, told_rules};

@@ -75,7 +75,7 @@ fn told_among(
     Ok(found)
 }
 
-/// The rules that apply to a request, and what each of them does, in their order: those by which `aa_decide_slots::Ready::decide` answers it.
+/// The rules that apply to a request, and what each of them does, in their order: those by which `aa_decide_ready::ReadySection::decide` answers it.
 ///
 /// # Errors
 ///

@@ -7,4 +7,5 @@ pub mod NumberLemmas
 pub mod PlaceLemmas
 pub mod ProfileLemmas
 pub mod ReadLemmas
+pub mod ReadPatternLemmas
 pub mod ReadingLemmas

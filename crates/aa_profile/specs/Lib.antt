@@ -6,4 +6,5 @@ pub mod Laws
 pub mod PlaceLaws
 pub mod ProfileNames
 pub mod Profiles
+pub mod ReadPatterns
 pub mod code

@@ -1,7 +1,7 @@
 //! What holds of files that are read, as laws over the definitions that `read_file` is proved to follow.
 
 ghost use Rattle.std.specs.Prelude.{◌≡◌, ℕ, List, IfOk, true};
-ghost use Rattle.std.specs.List.{list_all};
+ghost use Rattle.std.specs.List.{All, list_all};
 ghost use Rattle.aa_text_files.specs.Files.{File};
 ghost use Rattle.aa_profile_data.specs.Conflicts.{profile_agrees};
 ghost use Rattle.aa_profile_data.specs.Numbers.{profile_has_known_numbers};
@@ -13,6 +13,7 @@ ghost use Rattle.aa_profile.specs.FilePlaces.{file_places};
 ghost use Rattle.aa_profile_data.specs.declared.profile.Profile.{Profile};
 ghost use Rattle.aa_profile_patterns.specs.declared.places.ProfilePlaces.{ProfilePlaces};
 ghost use Rattle.aa_profile.specs.ProfileNames.{has_distinct_children, is_named_well};
+ghost use Rattle.aa_profile.specs.ReadPatterns.{HasReadPatterns};
 
 use aa_profile_data::how_conflicts_are_tested;
 
@@ -40,6 +41,11 @@ pub fn which_numbers_rules_have()
 pub fn which_rules_agree()
     ensures { (files : List File) (name : List ℕ)
         → IfOk (file_profiles files name) (λ profiles. list_all profile_agrees profiles ≡ true) }
+{}
+
+/// The pattern of each rule of a file's profiles reads, and so does that of each rule of their children and hats.
+pub fn which_patterns_read()
+    ensures { (files : List File) (name : List ℕ) → IfOk (file_profiles files name) (All HasReadPatterns) }
 {}
 
 /// Where all patterns of a file's profiles can be made and read, it is refused for a conflict exactly where two rules of one of its profiles,

@@ -20,6 +20,6 @@ pub use aa_profile_patterns::{MOST_RULES, ProfilePlaces, SectionPlaces};
 pub use file_profiles::FileProfiles;
 pub use laws::{
     how_profiles_are_named, when_conflicts_are_refused, where_rules_are_made,
-    which_numbers_rules_have, which_rules_agree,
+    which_numbers_rules_have, which_patterns_read, which_rules_agree,
 };
 pub use reading::read_file;

@@ -11,7 +11,7 @@ use Rattle.aa_decide_slots.specs.Confinement.{By, Confinement, Unconfined}
 use Rattle.aa_decide_slots.specs.Entries.{Loaded}
 use Rattle.aa_decide.specs.Exec.{Asker, ExecAnswer, Nowhere, Null, Started, Unconfined as Free, Under, exec_answer, named_asker}
 use Rattle.aa_decide_audit.specs.LogLines.{exec_line, log_line}
-use Rattle.aa_decide_slots.specs.Ready.{decided}
+use Rattle.aa_decide_ready.specs.Sections.{decided_by}
 use Rattle.aa_decide_audit.specs.declared.verdict.Answer.{Answer}
 use Rattle.aa_decide_audit.specs.declared.verdict.Verdict.{Verdict}
 use Rattle.aa_profile_data.specs.declared.profile.Profile.{Profile}
@@ -29,7 +29,7 @@ line_with text = text ++ line_feed ∷ []
 -- the verdict on a request, by what confines who asks; where nothing does, there is none
 abbrev pub confined_answer : Confinement → Request → Option Verdict
 confined_answer Unconfined request = None
-confined_answer (By profile child mode) request = Some (decided profile child mode request)
+confined_answer (By section mode) request = Some (decided_by section mode request)
 
 -- what a request is answered by a verdict: its word, and the line that logs it, where it is logged; where nothing confines who asks, the word says so
 abbrev pub told_verdict : List ℕ → Request → Option Verdict → Answered

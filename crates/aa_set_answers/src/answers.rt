@@ -75,8 +75,8 @@ fn confined_told(
 {
     match confinement {
         Confinement::Unconfined => unconfined(alloc),
-        Confinement::By { ready, child, mode } => {
-            let verdict = ready.decide(alloc, child, mode, request, &mut Steps::new())?;
+        Confinement::By { section, mode } => {
+            let verdict = section.decide(alloc, mode, request, &mut Steps::new())?;
             told_verdict(alloc, who, request, &verdict)
         }
     }

@@ -16,6 +16,6 @@ pub use asker::find_asker;
 pub use laws::where_listed_names_lead;
 pub use list::list_lines;
 pub use names::full_name;
-pub use rule_lines::push_rule;
+pub use rule_lines::{push_exec_transition, push_rule};
 pub use show::push_attachment;
 pub use states::mode_word;

@@ -54,16 +54,25 @@ fn push_target(text: &mut Vec<u8>, target: &Option<SharedBytes>) -> Result<(), A
     }
 }
 
+/// Appends a transition to a text, as a rule writes it: its exec word, and the target that it names, if it names one.
+///
+/// # Errors
+///
+/// Where memory runs out. The word may have been appended then.
+pub fn push_exec_transition(text: &mut Vec<u8>, transition: &Transition) -> Result<(), AllocError>
+    ensures { OnOk result (text.new.items ≡ text.old.items ++ exec_text (Some transition.now)) }
+{
+    text.extend_from_slice(transition.word.text().as_bytes())?;
+    push_target(text, &transition.target)
+}
+
 // Puts the exec word of a rule behind a text, if it has one, and its target.
 fn push_exec(text: &mut Vec<u8>, exec: &Option<Transition>) -> Result<(), AllocError>
     ensures { OnOk result (text.new.items ≡ text.old.items ++ exec_text exec.now) }
 {
     match exec {
         None => Ok(()),
-        Some(transition) => {
-            text.extend_from_slice(transition.word.text().as_bytes())?;
-            push_target(text, &transition.target)
-        }
+        Some(transition) => push_exec_transition(text, transition),
     }
 }
 

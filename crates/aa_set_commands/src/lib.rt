@@ -6,5 +6,5 @@ mod question;
 mod refusal;
 
 pub use command::{Command, PolicyChange, read};
-pub use question::Question;
+pub use question::{Question, is_path, type_number};
 pub use refusal::{Refusal, RefusalKind, plain};

@@ -143,8 +143,8 @@ fn capability_question<'a>(who: &'a [u8], name: &[u8]) -> Result<Question<'a>, R
     Ok(Question::Cap { who, number })
 }
 
-// The number of the type of a name, which no protocol's is.
-fn type_number(name: &[u8]) -> Option<u8>
+/// The number of the type of sockets of a name, which no protocol's is (apparmor.d(5), "Network Rules"). None of any other name. It takes no memory.
+pub fn type_number(name: &[u8]) -> Option<u8>
     ensures number { result ≡ type_number name.now }
     ensures known { IfSome result (λ kind. kind < 6) }
 {
@@ -221,7 +221,8 @@ fn read_owned(word: &[u8]) -> Option<bool>
     }
 }
 
-fn is_path(word: &[u8]) -> bool
+/// Whether a word is a path, as a question has it: it begins with `/`, and has no byte 0. It takes no memory.
+pub fn is_path(word: &[u8]) -> bool
     ensures { result ≡ is_path word.now }
 {
     begins_with_byte(b'/', word) && !has_byte(0, word)

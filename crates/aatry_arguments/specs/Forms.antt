@@ -1,7 +1,7 @@
 -- In which form is told what a command finds.
 use Rattle.std.specs.Prelude.{ℕ, Bool, false, ◌||◌, if◌then◌else◌, List, [], ◌∷◌, codes}
 use Rattle.std.specs.Str.{bytes_eq}
-use Rattle.aatry_arguments.specs.Arguments.{CommandAsked, ForCheck, ForDiff, ForSession, ForTest, ForWho, ForWhy, asked}
+use Rattle.aatry_arguments.specs.Arguments.{CommandAsked, ForSession, ForTest, asked}
 use Rattle.aa_options.specs.Options.{Asked, ForThis, Nothing, asked_as, asked_then}
 use Rattle.aatry_report.specs.declared.form.Form.{Form}
 use Rattle.aatry_report.specs.declared.form.Form.TheVariants.{Lines, Records}
@@ -34,14 +34,11 @@ without_json [] = []
 without_json (word ∷ words) =
     if ends_options word then word ∷ words else if is_json_word word then without_json words else word ∷ without_json words
 
--- a command that is to tell in records: there are none of a test or a session
+-- a command that is to tell in records: a test and a session alone have none
 abbrev pub in_records : CommandAsked → Asked CallAsked
-in_records (ForCheck check) = ForThis (call_with Records (ForCheck check))
 in_records (ForTest test) = Nothing
-in_records (ForWho asking) = ForThis (call_with Records (ForWho asking))
-in_records (ForWhy asking) = ForThis (call_with Records (ForWhy asking))
-in_records (ForDiff comparison) = ForThis (call_with Records (ForDiff comparison))
 in_records (ForSession session) = Nothing
+in_records command = ForThis (call_with Records command)
 
 -- what the words of all arguments ask for, and in which form
 abbrev pub asked_call : List (List ℕ) → Asked CallAsked

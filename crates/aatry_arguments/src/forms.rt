@@ -84,7 +84,7 @@ fn in_lines(command: Command) -> Call
     }
 }
 
-// A command that is to tell in records: there are none of a test or a session.
+// A command that is to tell in records: a test and a session alone have none.
 fn in_records(command: Command) -> Result<Call, ArgumentFault>
     ensures { IsGivenFor meant_call (in_records (meant_command command)) result }
 {

@@ -49,30 +49,12 @@ fn command_by(alloc: Global, first: &str, words: &[String]) -> Result<Command, A
     ensures { IsGivenFor meant_command (asked_by_first first.now (map string_bytes words.now)) result }
 {
     match first {
-        "check" => match check_of(alloc, words) {
-            Ok(check) => Ok(Command::Check(check)),
-            Err(fault) => Err(fault),
-        },
-        "test" => match test_of(alloc, words) {
-            Ok(test) => Ok(Command::Test(test)),
-            Err(fault) => Err(fault),
-        },
-        "who" => match who_of(alloc, words) {
-            Ok(asking) => Ok(Command::Who(asking)),
-            Err(fault) => Err(fault),
-        },
-        "why" => match why_of(alloc, words) {
-            Ok(asking) => Ok(Command::Why(asking)),
-            Err(fault) => Err(fault),
-        },
-        "diff" => match diff_of(alloc, words) {
-            Ok(comparison) => Ok(Command::Diff(comparison)),
-            Err(fault) => Err(fault),
-        },
-        "session" => match session_of(alloc, words) {
-            Ok(session) => Ok(Command::Session(session)),
-            Err(fault) => Err(fault),
-        },
+        "check" => check_of(alloc, words).map(Command::Check),
+        "test" => test_of(alloc, words).map(Command::Test),
+        "who" => who_of(alloc, words).map(Command::Who),
+        "why" => why_of(alloc, words).map(Command::Why),
+        "diff" => diff_of(alloc, words).map(Command::Diff),
+        "session" => session_of(alloc, words).map(Command::Session),
         "-h" | "--help" => Err(help_with(alloc, HELP)),
         "-V" | "--version" => Err(version(alloc)),
         _ => Err(ArgumentFault::Bad),

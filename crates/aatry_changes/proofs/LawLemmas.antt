@@ -6,13 +6,12 @@ use Rattle.aa_explain_diff.specs.Features.{are_alike}
 use Rattle.aatry_changes.proofs.CountLemmas.{old-told}
 use Rattle.aatry_changes.specs.Changes.{alone, below_text, change_lines, changed_text, headed, is_gone_or_changed_by, new_text, new_text_by, old_text, old_text_by}
 use Rattle.aatry_changes.specs.Laws.{HasAlike, HaveAlike}
-use Rattle.aatry_changes.specs.PartFeatures.{section_of}
 use Rattle.aatry_policy.specs.FolderParts.{FolderParts}
 use Rattle.aatry_policy.specs.Parts.{Part, part_of}
 use Rattle.aatry_report.specs.declared.form.Form.{Form}
 
 -- a part that is like the other isn't changed
-unchanged : (form : Form) (old new : FolderParts) (part other : Part) → are_alike (section_of part) (section_of other) ≡ true
+unchanged : (form : Form) (old new : FolderParts) (part other : Part) → are_alike part.section other.section ≡ true
     → changed_text form old new part other ≡ []
 unchanged form old new part other alike =
     ap (λ same. cond (not same) (headed form (codes "changed") part.name ++ below_text form old new part other (alone part other) (alone other part)) []) alike

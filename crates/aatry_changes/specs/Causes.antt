@@ -13,7 +13,7 @@ use Rattle.aatry_report.specs.declared.form.Form.{Form}
 -- the rules of a part that cover something of what is asked for, if there is such a part
 abbrev pub covering_of : Request → Option Part → List Feature
 covering_of request None = []
-covering_of request (Some part) = covering_from request 0 part.rules
+covering_of request (Some part) = covering_from request 0 part.section.rules
 
 -- those of a part's rules that others lack
 abbrev pub causes_of : Form → FolderParts → Option Part → Side → List Feature → List Feature → List ℕ

@@ -6,7 +6,6 @@ use Rattle.aa_bytes.specs.Bytes.{line_feed}
 use Rattle.aa_bytes.specs.Texts.{is_empty}
 use Rattle.aa_explain_diff.specs.Features.{Feature, features_of, lacking}
 use Rattle.aatry_changes.specs.Differing.{told_lines}
-use Rattle.aatry_changes.specs.PartFeatures.{section_of}
 use Rattle.aatry_changes.specs.declared.side.Side.TheVariants.{New, Old}
 use Rattle.aatry_policy.specs.FolderParts.{FolderParts}
 use Rattle.aatry_policy.specs.Parts.{Part, part_of}
@@ -30,7 +29,7 @@ headed Records word name = record_line (headed_record word name)
 
 -- what a part has and another lacks
 abbrev pub alone : Part → Part → List Feature
-alone part other = lacking (features_of (section_of other)) (features_of (section_of part))
+alone part other = lacking (features_of other.section) (features_of part.section)
 
 -- one of two sides has something alone
 abbrev pub differ : List Feature → List Feature → Bool

@@ -16,12 +16,12 @@ use Rattle.aatry_why_lines.specs.Lines.{where_text, with_where}
 
 -- where the rule stands that a feature of a part is, if it is one
 abbrev pub where_of : FolderParts → Part → Feature → List ℕ
-where_of folder part (OfRule rule number) = where_text folder.files folder.base part.file (place_at part.places number)
+where_of folder part (OfRule rule number) = where_text folder.below part.file (place_at part.places number)
 where_of folder part feature = []
 
 -- the same in a record
 abbrev pub with_where_of : FolderParts → Part → Feature → Members → Members
-with_where_of folder part (OfRule rule number) members = with_where folder.files folder.base part.file (place_at part.places number) members
+with_where_of folder part (OfRule rule number) members = with_where folder.below part.file (place_at part.places number) members
 with_where_of folder part feature members = members
 
 -- a feature of a part that one side has alone, as a line, behind blanks and a sign

@@ -7,12 +7,11 @@ use Rattle.aa_explain_diff.specs.Features.{are_alike}
 use Rattle.aa_profile_access.specs.Request.{Request}
 use Rattle.aa_profile_data.specs.ConflictLaws.{HasReadPattern}
 use Rattle.aa_profile_data.specs.Conflicts.{agree}
-use Rattle.aatry_changes.specs.PartFeatures.{section_of}
 use Rattle.aatry_policy.specs.Parts.{Part, part_of}
 
 -- some parts have one of the full name of another, and neither of the two has something that the other lacks
 abbrev pub HasAlike : List Part → Part → Type 0
-HasAlike others part = (other : Part) × (part_of others part.name ≡ Some other) × (are_alike (section_of part) (section_of other) ≡ true)
+HasAlike others part = (other : Part) × (part_of others part.name ≡ Some other) × (are_alike part.section other.section ≡ true)
 
 -- they have such a one for each of these
 abbrev pub HaveAlike : List Part → List Part → Type 0
@@ -22,11 +21,11 @@ HaveAlike others (part ∷ parts) = HasAlike others part × HaveAlike others par
 -- Two parts decide alike, whatever is asked: each verdict is the same, with its tag and its mask; and so is what their rules say together of the start of
 -- a program, where those of one agree (as the rules of a file that was read do), their patterns read, and its path is a list of bytes.
 pub record AnswerAlike (part other : Part) : Type 0 where
-  pub verdicts : (request : Request) → verdict part.mode part.audit part.rules request ≡ verdict other.mode other.audit other.rules request
+  pub verdicts : (request : Request) → verdict part.section.mode part.section.audit part.section.rules request ≡ verdict other.section.mode other.section.audit other.section.rules request
   pub choices :
       (owned : Bool) (path : List ℕ)
-      → agree part.rules ≡ true → All HasReadPattern part.rules → All (λ b. b < 2 ^ 8) path
-      → choice part.audit owned path part.rules ≡ choice other.audit owned path other.rules
+      → agree part.section.rules ≡ true → All HasReadPattern part.section.rules → All (λ b. b < 2 ^ 8) path
+      → choice part.section.audit owned path part.section.rules ≡ choice other.section.audit owned path other.section.rules
 
 -- some parts have one of the full name of another that answers alike
 abbrev pub HasAnsweringAlike : List Part → Part → Type 0

@@ -2,25 +2,12 @@
 use Rattle.std.specs.Prelude.{ℕ, ◌+◌, ◌==◌, if◌then◌else◌, List, [], ◌∷◌, ◌++◌, codes, Option, option_and_then, slice_get}
 use Rattle.aa_decide_rules.specs.Verdict.{covers}
 use Rattle.aa_explain_diff.specs.Features.{Feature, OfAttachment, OfAudit, OfFlag, OfHat, OfMode, OfRule}
-use Rattle.aa_explain_diff.specs.Sections.{Section}
 use Rattle.aa_profile_access.specs.Request.{Request}
 use Rattle.aa_profile_data.specs.declared.profile.Rule.{Rule}
 use Rattle.aa_set_answers.specs.RuleLines.{rule_text}
 use Rattle.aa_set_answers.specs.Show.{attachment_text}
 use Rattle.aa_set_answers.specs.States.{mode_word}
 use Rattle.aa_text_files.specs.declared.text_error.Place.{Place}
-use Rattle.aatry_policy.specs.Parts.{Part}
-
--- a part, as far as it is compared
-abbrev pub section_of : Part → Section
-section_of part = record {
-  mode = part.mode;
-  hat = part.hat;
-  audit = part.audit;
-  flags = part.flags;
-  attachments = part.attachments;
-  rules = part.rules;
-}
 
 -- how a feature is told: by the word of a mode or a flag, or as `show` shows it
 abbrev pub feature_text : Feature → List ℕ

@@ -4,7 +4,6 @@ use Rattle.aatry_changes.specs.declared.side.Side.{Side}
 use Rattle.aatry_changes.specs.declared.side.Side.TheVariants.{New, Old}
 use Rattle.aatry_changes.specs.declared.side.Finders.{Finders}
 use Rattle.aatry_policy.specs.FolderParts.{FolderParts}
-use Rattle.aatry_why_lines.specs.Finding.{Folder}
 
 -- the sign before it, in lines
 abbrev pub sign : Side → List ℕ
@@ -16,10 +15,6 @@ abbrev pub kind : Side → List ℕ
 kind Old = codes "less"
 kind New = codes "more"
 
--- the folder in which the rules of parts stand
-abbrev pub folder_in : FolderParts → Folder
-folder_in folder = record { files = folder.files; base = folder.base }
-
 -- Places are found in these two folders.
 abbrev pub FindIn : FolderParts → FolderParts → Finders → Type 0
-FindIn old new finders = (finders.of_old ≡ folder_in old) × (finders.of_new ≡ folder_in new)
+FindIn old new finders = (finders.of_old ≡ old.below) × (finders.of_new ≡ new.below)

@@ -27,7 +27,7 @@ fn covering_of<'a>(
 {
     match part {
         None => Ok(Vec::new(alloc)),
-        Some(part) => covering_features(alloc, request, part.rules),
+        Some(part) => covering_features(alloc, request, part.section.rules),
     }
 }
 

@@ -11,7 +11,6 @@ ghost use Rattle.aatry_report.specs.SeenRecord.{seen_record};
 ghost use Rattle.aatry_report.specs.Taken.{counted};
 
 use crate::differing::push_lines;
-use crate::part_features::section_of;
 use crate::side::{Finders, PartPair, Side, SidePart, finders_in};
 use aa_explain_diff::{Feature, features_of, lacking};
 use aatry_policy::{FolderParts, Part, part_of};
@@ -136,8 +135,8 @@ fn push_changed(
     ensures whether { IfOk result (λ told. told ≡ is_changed (seen_part pair.now.part.now) (seen_part pair.now.other.now)) }
     ensures same { finders.new ≡ finders.old }
 {
-    let before = features_of(teller.alloc, &section_of(pair.part))?;
-    let after = features_of(teller.alloc, &section_of(pair.other))?;
+    let before = features_of(teller.alloc, &pair.part.section)?;
+    let after = features_of(teller.alloc, &pair.other.section)?;
     push_between(finders, teller, pair, &before, &after, out)
 }
 

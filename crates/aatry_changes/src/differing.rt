@@ -3,7 +3,6 @@
 ghost use Rattle.std.specs.Prelude.{◌≡◌, ◌++◌, IfOk, OnOk, map};
 ghost use Rattle.aa_explain_diff.specs.Features.{seen_feature};
 ghost use Rattle.aatry_changes.specs.Differing.{line_record, line_text, told_line, told_lines, where_of, with_where_of};
-ghost use Rattle.aatry_changes.specs.Sides.{folder_in};
 ghost use Rattle.aatry_policy.specs.FolderParts.{seen_folder};
 ghost use Rattle.aatry_policy.specs.SeenProfiles.{seen_part};
 ghost use Rattle.aatry_report.specs.SeenRecord.{seen_record};
@@ -22,7 +21,7 @@ fn push_where_of(
     feature: Feature<'_>,
     out: &mut Vec<u8>,
 ) -> Result<(), AllocError>
-    requires { finder.old ≡ folder_in (seen_folder own.now.folder.now) }
+    requires { finder.old ≡ (seen_folder own.now.folder.now).below }
     ensures told { OnOk result (out.new.items
         ≡ out.old.items ++ where_of (seen_folder own.now.folder.now) (seen_part own.now.part.now) (seen_feature feature.entry)) }
     ensures same { finder.new ≡ finder.old }
@@ -45,7 +44,7 @@ fn put_where_of(
     feature: Feature<'_>,
     into: &mut Record,
 ) -> Result<(), AllocError>
-    requires { finder.old ≡ folder_in (seen_folder own.now.folder.now) }
+    requires { finder.old ≡ (seen_folder own.now.folder.now).below }
     ensures told { OnOk result (seen_record into.new
         ≡ with_where_of (seen_folder own.now.folder.now) (seen_part own.now.part.now) (seen_feature feature.entry) (seen_record into.old)) }
     ensures same { finder.new ≡ finder.old }
@@ -69,7 +68,7 @@ fn push_line(
     feature: Feature<'_>,
     out: &mut Vec<u8>,
 ) -> Result<(), AllocError>
-    requires { finder.old ≡ folder_in (seen_folder own.now.folder.now) }
+    requires { finder.old ≡ (seen_folder own.now.folder.now).below }
     ensures told { OnOk result (out.new.items
         ≡ out.old.items ++ line_text (seen_folder own.now.folder.now) (seen_part own.now.part.now) blanks.now own.now.side (seen_feature feature.entry)) }
     ensures same { finder.new ≡ finder.old }
@@ -89,7 +88,7 @@ fn line_record(
     own: &SidePart<'_>,
     feature: Feature<'_>,
 ) -> Result<Record, AllocError>
-    requires { finder.old ≡ folder_in (seen_folder own.now.folder.now) }
+    requires { finder.old ≡ (seen_folder own.now.folder.now).below }
     ensures told { IfOk result (λ made. seen_record made
         ≡ line_record (seen_folder own.now.folder.now) (seen_part own.now.part.now) own.now.side (seen_feature feature.entry)) }
     ensures same { finder.new ≡ finder.old }
@@ -111,7 +110,7 @@ fn push_told(
     feature: Feature<'_>,
     out: &mut Vec<u8>,
 ) -> Result<(), AllocError>
-    requires { finder.old ≡ folder_in (seen_folder own.now.folder.now) }
+    requires { finder.old ≡ (seen_folder own.now.folder.now).below }
     ensures told { OnOk result (out.new.items
         ≡ out.old.items ++ told_line teller.form (seen_folder own.now.folder.now) (seen_part own.now.part.now) blanks.now own.now.side (seen_feature feature.entry)) }
     ensures same { finder.new ≡ finder.old }
@@ -137,7 +136,7 @@ pub fn push_lines(
     features: &[Feature<'_>],
     out: &mut Vec<u8>,
 ) -> Result<(), AllocError>
-    requires { finder.old ≡ folder_in (seen_folder own.now.folder.now) }
+    requires { finder.old ≡ (seen_folder own.now.folder.now).below }
     ensures told { OnOk result (out.new.items ≡ out.old.items
         ++ told_lines teller.form (seen_folder own.now.folder.now) (seen_part own.now.part.now) blanks.now own.now.side (map seen_feature features.now)) }
     ensures same { finder.new ≡ finder.old }

@@ -2,34 +2,17 @@
 
 ghost use Rattle.std.specs.Prelude.{◌≡◌, ◌++◌, IfOk, OnOk, map};
 ghost use Rattle.aa_explain_diff.specs.Features.{seen_feature};
-ghost use Rattle.aa_explain_diff.specs.Sections.{seen_section};
 ghost use Rattle.aa_profile_access.specs.SeenRequests.{request_of};
-ghost use Rattle.aatry_changes.specs.PartFeatures.{covering_feature, covering_from, feature_text, place_at, section_of};
-ghost use Rattle.aatry_policy.specs.SeenProfiles.{seen_part};
+ghost use Rattle.aatry_changes.specs.PartFeatures.{covering_feature, covering_from, feature_text, place_at};
 
 use aa_decide_rules::covers;
-use aa_explain_diff::{Feature, Section};
+use aa_explain_diff::Feature;
 use aa_profile_access::Request;
 use aa_profile_data::Rule;
 use aa_set_answers::{mode_word, push_attachment, push_rule};
 use aa_text_files::Place;
-use aatry_policy::Part;
 use bitflags::Flags;
 use std::alloc::{AllocError, Global};
-
-/// A part, as far as it is compared.
-pub fn section_of<'a>(part: &Part<'a>) -> Section<'a>
-    ensures { seen_section result ≡ section_of (seen_part part.now) }
-{
-    Section {
-        mode: part.mode,
-        hat: part.hat,
-        audit: part.audit,
-        flags: part.flags,
-        attachments: part.attachments,
-        rules: part.rules,
-    }
-}
 
 // Appends how a feature is told to a text.
 fn push_feature(feature: Feature<'_>, out: &mut Vec<u8>) -> Result<(), AllocError>

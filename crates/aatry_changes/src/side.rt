@@ -1,7 +1,7 @@
 //! The folders that are compared.
 
 ghost use Rattle.std.specs.Prelude.{◌≡◌};
-ghost use Rattle.aatry_changes.specs.Sides.{FindIn, folder_in, kind, sign};
+ghost use Rattle.aatry_changes.specs.Sides.{FindIn, kind, sign};
 ghost use Rattle.aatry_policy.specs.FolderParts.{seen_folder};
 
 use aatry_policy::{FolderParts, Part};
@@ -72,9 +72,9 @@ pub struct Finders<'a> {
 
 /// What finds the places of rules in a folder. It takes no memory.
 pub fn finder_in<'a>(alloc: Global, folder: &FolderParts<'a>) -> Finder<'a>
-    ensures { result ≡ folder_in (seen_folder folder.now) }
+    ensures { result ≡ (seen_folder folder.now).below }
 {
-    Finder::new(alloc, folder.files, folder.base)
+    Finder::new(alloc, folder.below)
 }
 
 /// What finds them in both of two folders. It takes no memory.

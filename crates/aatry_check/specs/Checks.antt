@@ -9,9 +9,10 @@ use Rattle.aa_profile.specs.FileReading.{file_profiles}
 use Rattle.aa_profile_data.specs.declared.profile.Profile.{Profile}
 use Rattle.aa_profile_errors.specs.ProfileError.{number_of}
 use Rattle.aa_profile_errors.specs.declared.profile_error.ProfileError.{ProfileError}
-use Rattle.aatry_report.specs.Faults.{fault_lines, with_fault}
+use Rattle.aatry_report.specs.Faults.{with_fault}
 use Rattle.aatry_report.specs.FilePlaces.{path_below}
 use Rattle.aatry_report.specs.Records.{record_line, record_of, with_text}
+use Rattle.aatry_report.specs.Refusals.{placed_refusal}
 use Rattle.aatry_report.specs.Shown.{shown}
 use Rattle.aatry_report.specs.Taken.{taken_line}
 use Rattle.aatry_report.specs.declared.form.Form.{Form}
@@ -20,6 +21,11 @@ use Rattle.aatry_report.specs.declared.form.Form.TheVariants.{Lines, Records}
 -- which file includes the one that a fault stands in, where it isn't that file itself
 abbrev pub included_line : List ℕ → List ℕ → List ℕ → List ℕ
 included_line base name faulty = if bytes_eq name faulty then [] else codes "  included from " ++ shown (path_below base name) ++ line_feed ∷ []
+
+-- the same of a place in a file, if there is one
+abbrev pub included_lines : List File → List ℕ → List ℕ → Option Place → List ℕ
+included_lines files base name None = []
+included_lines files base name (Some place) = included_line base name (name_at files place.file)
 
 -- a record with the same
 abbrev pub with_included : List ℕ → List ℕ → List ℕ → Members → Members
@@ -38,10 +44,8 @@ refusal_record words files base name number place = with_refusal words files bas
 
 -- what is told of a file that is refused, in these words: lines, or its record
 abbrev pub refusal_lines : Form → List ℕ → List File → List ℕ → List ℕ → ℕ → Option Place → List ℕ
-refusal_lines Lines words files base name number None = fault_lines words (path_below base name) number None []
-refusal_lines Lines words files base name number (Some place) =
-    fault_lines words (path_below base (name_at files place.file)) number (Some place.at) (bytes_at files place.file)
-    ++ included_line base name (name_at files place.file)
+refusal_lines Lines words files base name number place =
+    placed_refusal words files base (path_below base name) number place ++ included_lines files base name place
 refusal_lines Records words files base name number place = record_line (refusal_record words files base name number place)
 
 -- lines tell how the reading of a file came out

@@ -4,7 +4,7 @@ ghost use Rattle.std.specs.Prelude.{◌≡◌, IfErr, IfOk, map, string_bytes};
 ghost use Rattle.aaset_start.specs.Gathering.{texts_of};
 ghost use Rattle.aatry_check.specs.Below.{IsChecked, given_or};
 ghost use Rattle.aatry_check.specs.Checks.{TellsEach, refused_count};
-ghost use Rattle.aatry_folder.specs.Unread.{IsOfFolder};
+ghost use Rattle.aatry_check.specs.Ends.{IsEndOfCheck};
 
 use crate::checked::check;
 use aa_text_files::Files;
@@ -55,7 +55,7 @@ pub fn check_folder<F: Folders, D: FileSystem>(
 ) -> Result<Report, Fault>
     ensures checked { IfOk result (λ report. IsChecked teller.form (F.told folders.now) (D.known disk.now) (string_bytes asked.base) (texts_of asked.names)
         report.text.items report.failed) }
-    ensures fault { IfErr result (IsOfFolder (F.told folders.now) (D.known disk.now) (string_bytes asked.base)) }
+    ensures fault { IfErr result (IsEndOfCheck (F.told folders.now) (D.known disk.now) (string_bytes asked.base)) }
 {
     let Check { base, names: given } = asked;
     let PolicyFolder { base, files, top } = policy_below(

@@ -8,4 +8,3 @@ mod refusal;
 
 pub use below::check_folder;
 pub use checked::{Checked, check};
-pub use refusal::push_placed;

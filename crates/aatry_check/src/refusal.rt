@@ -1,17 +1,14 @@
 //! What is told of a file that is refused.
 
-ghost use Rattle.std.specs.Prelude.{◌≡◌, ◌++◌, ℕ, List, Some, OnOk};
+ghost use Rattle.std.specs.Prelude.{◌≡◌, ◌++◌, ℕ, List, OnOk};
 ghost use Rattle.aa_profile_errors.specs.ProfileError.{number_of};
-ghost use Rattle.aatry_check.specs.Checks.{included_line, refusal_lines};
-ghost use Rattle.aatry_report.specs.Faults.{fault_lines};
-ghost use Rattle.aa_text_files.specs.Files.{bytes_at, name_at};
-ghost use Rattle.aatry_report.specs.FilePlaces.{path_below};
+ghost use Rattle.aatry_check.specs.Checks.{included_line, included_lines, refusal_lines};
 ghost use Rattle.aatry_report.specs.declared.form.Form.TheVariants as form;
 
 use crate::records::refusal_record;
 use aa_profile::ProfileError;
 use aa_text_files::{Files, Place};
-use aatry_report::{Form, Teller, path_below, push_fault, push_fault_at, push_shown, words_of};
+use aatry_report::{Form, Teller, path_below, push_placed_refusal, push_shown, words_of};
 use std::alloc::{AllocError, Global};
 
 // Puts which file includes the one that a fault stands in behind a text, where it isn't that file itself.
@@ -34,50 +31,21 @@ fn push_included(
     Ok(())
 }
 
-/// Puts the lines of a fault at a place behind a text, in these words. `base` is the folder that `files` were taken from, without a `/` at its end.
-///
-/// # Errors
-///
-/// Where memory runs out. A beginning may have been put then.
-pub fn push_placed(
-    alloc: Global,
-    files: &Files,
-    base: &[u8],
-    words: &str,
-    number: u8,
-    place: Place,
-    out: &mut Vec<u8>,
-) -> Result<(), AllocError>
-    ensures { OnOk result (out.new.items ≡ out.old.items
-        ++ fault_lines words.now (path_below base.now (name_at files.now place.file)) number (Some place.at) (bytes_at files.now place.file)) }
-{
-    let path = path_below(alloc, base, files.name_at(place.file))?;
-    push_fault_at(
-        out,
-        &path,
-        words,
-        number,
-        files.bytes_at(place.file),
-        place.at,
-    )
-}
-
-// Puts the lines of a file that is refused at a place behind a text, in these words.
-fn push_with_place(
+// Puts the same behind a text of a place in a file, if there is one.
+fn push_included_at(
     alloc: Global,
     files: &Files,
     base: &[u8],
     name: &[u8],
-    words: &str,
-    number: u8,
-    place: Place,
+    place: Option<Place>,
     out: &mut Vec<u8>,
 ) -> Result<(), AllocError>
-    ensures { OnOk result (out.new.items ≡ out.old.items ++ refusal_lines form.Lines words.now files.now base.now name.now number (Some place)) }
+    ensures { OnOk result (out.new.items ≡ out.old.items ++ included_lines files.now base.now name.now place) }
 {
-    push_placed(alloc, files, base, words, number, place, out)?;
-    push_included(alloc, base, name, files.name_at(place.file), out)?;
-    Ok(())
+    match place {
+        None => Ok(()),
+        Some(place) => push_included(alloc, base, name, files.name_at(place.file), out),
+    }
 }
 
 // Puts the lines of a file that is refused behind a text, in these words.
@@ -90,17 +58,21 @@ fn push_lines(
     error: ProfileError,
     out: &mut Vec<u8>,
 ) -> Result<(), AllocError>
-    ensures { OnOk result (out.new.items ≡ out.old.items
-        ++ refusal_lines form.Lines words.now files.now base.now name.now (number_of error.refusal) error.place) }
+    ensures { OnOk result (out.new.items
+        ≡ out.old.items ++ refusal_lines form.Lines words.now files.now base.now name.now (number_of error.refusal) error.place) }
 {
-    let number = error.number();
-    match error.place {
-        None => {
-            let path = path_below(alloc, base, name)?;
-            push_fault(out, &path, words, number)
-        }
-        Some(place) => push_with_place(alloc, files, base, name, words, number, place, out),
-    }
+    let path = path_below(alloc, base, name)?;
+    push_placed_refusal(
+        alloc,
+        files,
+        base,
+        &path,
+        words,
+        error.number(),
+        error.place,
+        out,
+    )?;
+    push_included_at(alloc, files, base, name, error.place, out)
 }
 
 /// Puts what is told of a file that is refused behind a text.

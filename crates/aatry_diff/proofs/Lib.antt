@@ -1,2 +1,5 @@
+mod AlikeAnswerLemmas
+mod CountLemmas
 mod DifferenceLemmas
 mod LawLemmas
+mod PolicyLemmas

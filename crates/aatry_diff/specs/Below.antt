@@ -1,5 +1,5 @@
 -- What a comparison of two folders of policy on a disk comes to.
-use Rattle.std.specs.Prelude.{◌≡◌, ◌⊎◌, ℕ, List, [], ◌∷◌, MatchOption, Option, None, Some}
+use Rattle.std.specs.Prelude.{◌≡◌, ℕ, List, [], ◌∷◌, Option, None, Some}
 use Rattle.aa_text_files.specs.Files.{File}
 use Rattle.aaset_start.specs.Known.{Known}
 use Rattle.aatry_arguments.specs.DiffWords.{ComparisonAsked, LogAt, QuestionsAt, SourceAsked}
@@ -8,8 +8,6 @@ use Rattle.aatry_folder.specs.OneFile.{IsFileAt}
 use Rattle.aatry_folder.specs.PolicyFolders.{AreBelow}
 use Rattle.aatry_folder.specs.Reports.{failed_by}
 use Rattle.aatry_folder.specs.Told.{ToldFolders}
-use Rattle.aatry_folder.specs.Unread.{IsOfFile, IsOfFolder}
-use Rattle.aatry_folder.specs.declared.fault.Fault.{Fault}
 use Rattle.aatry_policy.specs.Folders.{folder_at}
 use Rattle.aatry_report.specs.declared.form.Form.{Form}
 use Rattle.aatry_requests.specs.Gathering.{Gathered, gathered}
@@ -43,12 +41,3 @@ pub record IsComparedBelow (form : Form) (folders : ToldFolders) (known : Known)
   pub gathered : IsGathered known asked.source requests
   pub told : text ≡ diff_text form (folder_at asked.old old_files) (folder_at asked.new new_files) requests
   pub counted : failed ≡ failed_by (are_alike (folder_at asked.old old_files) (folder_at asked.new new_files) requests)
-
--- a fault keeps the file of a source of requests from being read, if there is one
-abbrev pub IsOfSource : Known → Option SourceAsked → Fault → Type 0
-IsOfSource known source fault = MatchOption source ⊥ (λ asked. IsOfFile known (path_of asked) fault)
-
--- A comparison may end with this fault: one of the two folders can't be read, or the source of requests can't be, if there is one.
-abbrev pub IsEndOfDiff : ToldFolders → Known → ComparisonAsked → Fault → Type 0
-IsEndOfDiff folders known asked fault =
-    IsOfFolder folders known asked.old fault ⊎ IsOfFolder folders known asked.new fault ⊎ IsOfSource known asked.source fault

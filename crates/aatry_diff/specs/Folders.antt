@@ -1,6 +1,7 @@
 -- Two folders of policy that are compared, by their profiles, children and hats.
 use Rattle.aatry_diff.specs.declared.folders.BothFolders.{BothFolders as CodeFolders}
 use Rattle.aatry_policy.specs.FolderParts.{FolderParts, seen_folder}
+use Rattle.aatry_policy.specs.Folders.{below, seen_folder as seen_policy}
 use Rattle.aatry_policy.specs.Parts.{set_parts}
 use Rattle.aatry_policy.specs.declared.folder.LoadedFolder.{LoadedFolder}
 
@@ -15,8 +16,7 @@ seen_folders folders = record { old = seen_folder folders.old; new = seen_folder
 -- a folder by the parts of what is loaded of it
 abbrev pub seen_loaded : LoadedFolder → FolderParts
 seen_loaded loaded = record {
-  files = loaded.folder.now.files;
-  base = loaded.folder.now.base.now;
+  below = below (seen_policy loaded.folder.now);
   parts = set_parts loaded.policy.manager.machine.now loaded.policy.origins.items;
 }
 

@@ -3,7 +3,9 @@ pub mod Below
 pub mod Comparing
 pub mod Differences
 pub mod Differing
+pub mod Ends
 pub mod Folders
+pub mod Paths
 pub mod SeenDifferences
 pub mod Sources
 pub mod Summary

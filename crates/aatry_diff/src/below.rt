@@ -2,7 +2,8 @@
 
 ghost use Rattle.std.specs.Prelude.{◌≡◌, IfErr, IfOk, option_map, string_bytes};
 ghost use Rattle.aatry_arguments.specs.Given.{meant_comparison, meant_source};
-ghost use Rattle.aatry_diff.specs.Below.{IsComparedBelow, IsEndOfDiff, IsGathered, IsOfSource, form_of, path_of};
+ghost use Rattle.aatry_diff.specs.Below.{IsComparedBelow, IsGathered, form_of, path_of};
+ghost use Rattle.aatry_diff.specs.Ends.{IsEndOfDiff, IsOfSource};
 ghost use Rattle.aatry_diff.specs.Sources.{seen_source};
 ghost use Rattle.aatry_diff.specs.code.Requests.{gathered_of};
 

@@ -5,6 +5,7 @@ pub mod Members
 pub mod NamesBelow
 pub mod OneFile
 pub mod PassedOver
+pub mod PolicyFiles
 pub mod PolicyFolders
 pub mod Reports
 pub mod Told

@@ -9,6 +9,7 @@ mod laws;
 mod member;
 mod one_file;
 mod passed_over;
+mod policy_files;
 mod policy_folder;
 mod report;
 
@@ -20,5 +21,6 @@ pub use laws::{
 };
 pub use one_file::file_at;
 pub use passed_over::{is_kept_aside, is_passed_over};
+pub use policy_files::PolicyFiles;
 pub use policy_folder::{PolicyFolder, policy_below};
 pub use report::{Report, failed_by};

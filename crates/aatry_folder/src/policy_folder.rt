@@ -2,12 +2,14 @@
 
 ghost use Rattle.std.specs.Prelude.{◌≡◌, ◌++◌, ◌∷◌, [], IfErr, IfOk, OnOk, map, string_bytes};
 ghost use Rattle.aaset_start.specs.Gathering.{names_of, texts_of};
+ghost use Rattle.aatry_folder.specs.PolicyFiles.{seen_files};
 ghost use Rattle.aatry_folder.specs.PolicyFolders.{AreBelow, is_at_top, top_names};
 ghost use Rattle.aatry_folder.specs.Unread.{IsOfFolder};
 
 use crate::below::names_below;
 use crate::fault::Fault;
 use crate::folders::Folders;
+use crate::policy_files::PolicyFiles;
 use aa_bytes::has_byte;
 use aa_text_files::Files;
 use aaset_start::{FileSystem, gather};
@@ -22,6 +24,18 @@ pub struct PolicyFolder<'a> {
     pub files: Files,
     /// The names of the files at its top, in their order: those whose profiles are loaded.
     pub top: Vec<String>,
+}
+
+impl<'a> PolicyFolder<'a> {
+    /// What lies below it, lent. It takes no memory.
+    pub fn lent(&self) -> PolicyFiles<'_>
+        ensures { seen_files result ≡ record { files = self.now.files; base = self.now.base.now } }
+    {
+        PolicyFiles {
+            files: &self.files,
+            base: self.base.as_bytes(),
+        }
+    }
 }
 
 // Whether a file stands at the top of the folder.

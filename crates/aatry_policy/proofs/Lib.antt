@@ -1,4 +1,5 @@
 mod LoadLemmas
+mod LoadedLemmas
 mod OriginLemmas
 mod PartLemmas
 mod PlaceLemmas

@@ -1,5 +1,6 @@
 -- The policy set of a folder: the profiles of the files that are read, in their order.
-use Rattle.std.proofs.Common.{◌≡◌, ℕ, Bool, true, false, List, [], ◌∷◌, ◌++◌, length, flat_map, map, Option, None, Some, Ok, Err, Result, refl, sym, ap, subst, ◌∙◌, cond}
+use Rattle.std.proofs.Common.{◌≡◌, ℕ, Bool, true, false, List, [], ◌∷◌, ◌++◌, length, flat_map, map, Option, None, Some, Ok, Err, Result, refl, sym}
+use Rattle.std.proofs.Common.{ap, subst, ◌∙◌, cond}
 use Rattle.std.specs.Prelude.{IfOk}
 use Rattle.std.proofs.lemmas.List.{append-nil, append_assoc, map-append}
 use Rattle.std.proofs.lemmas.List.Elements.{All-append, All-contains, All-head, All-map, All-nil, All-tail}
@@ -112,7 +113,8 @@ loads files [] managed = sym (append-nil managed.machine.now)
 loads files (name ∷ names) managed = step files managed name names (loads files names)
 
 -- no two profiles that are loaded have one name
-distinct : (files : List File) (names : List (List ℕ)) (managed : Managed) → ChangesKeepNamesApart → have_distinct_names managed.machine.now ≡ true
+pub distinct : (files : List File) (names : List (List ℕ)) (managed : Managed) → ChangesKeepNamesApart
+    → have_distinct_names managed.machine.now ≡ true
     → have_distinct_names (loaded files managed names).machine.now ≡ true
 distinct files [] managed keeps apart = apart
 distinct files (name ∷ names) managed keeps apart =
@@ -125,10 +127,10 @@ distinct files (name ∷ names) managed keeps apart =
     by (Err refusal) h = apart
 
 -- what the laws say of the files that are read
-abbrev HaveNames : (Profile → Bool) → Type 0
+abbrev pub HaveNames : (Profile → Bool) → Type 0
 HaveNames test = (files : List File) (name : List ℕ) → IfOk (file_profiles files name) (λ profiles. list_all test profiles ≡ true)
 
-all-named : (files : List File) (read : List FileProfiles) → HaveNames is_named_well → HaveNames has_distinct_children
+pub all-named : (files : List File) (read : List FileProfiles) → HaveNames is_named_well → HaveNames has_distinct_children
     → All (IsRead files) read → All HasFileNames (profiles_in read)
 all-named files [] well apart is = All-nil HasFileNames
 all-named files (file ∷ read) well apart is =

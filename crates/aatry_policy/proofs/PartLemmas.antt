@@ -3,17 +3,22 @@ use Rattle.std.proofs.Common.{◌≡◌, ℕ, zero, suc, ◌+◌, Bool, true, fa
 use Rattle.std.proofs.Math.Nat.{add-zero, zero-add}
 use Rattle.std.proofs.lemmas.List.Elements.{All-append, All-cons, All-contains, All-head, All-nil, All-tail, All-weaker}
 use Rattle.std.proofs.lemmas.List.Elements.{Contains-append_right}
+use Rattle.std.proofs.lemmas.List.{get_or-map}
+use Rattle.std.proofs.lemmas.Option.{get_or_from_slice_get, slice_get_within}
 use Rattle.std.proofs.lemmas.Slice.Eq.{bytes_eq-Decides}
 use Rattle.std.specs.List.{All, Contains}
 use Rattle.std.specs.Str.{bytes_eq}
 use Rattle.aa_decide.specs.Exec.{Asker}
+use Rattle.aa_decide_slots.specs.Confinement.{mode_at}
 use Rattle.aa_decide_slots.specs.Entries.{Loaded}
-use Rattle.aa_decide_slots.specs.Ready.{audits, child_audits, child_rules, rules_at}
+use Rattle.aa_decide_ready.specs.Ready.{audits, child_audits, child_rules, rules_at}
+use Rattle.aa_decide_ready.specs.Visits.{child_attachments}
 use Rattle.aa_profile_data.specs.declared.profile.Child.{Child}
 use Rattle.aa_profile_data.specs.declared.profile.Profile.{Profile}
 use Rattle.aa_set_answers.specs.Laws.{IsListed, StandsAt}
 use Rattle.aa_set_answers.specs.ProfileNames.{full_name_at}
-use Rattle.aatry_policy.specs.Laws.{HasOwnRules}
+use Rattle.aa_set_changes.specs.Changes.{mode_of, modes_of}
+use Rattle.aatry_policy.specs.Laws.{HasOwnRules, IsPartIn}
 use Rattle.aatry_policy.specs.Parts.{Part, behind_first, child_part, child_parts, first_of, part_of, profile_part, profile_parts, set_parts}
 use Rattle.aatry_policy.specs.declared.origins.Origin.{Origin}
 
@@ -95,46 +100,56 @@ has-set (entry ∷ entries) origins =
     (All-weaker (λ entry. HasAll behind entry.profile) (λ entry. HasAll (front ++ behind) entry.profile) (λ other. all-right front behind other.profile)
     entries (has-set entries (behind_first origins)))
 
--- a part is that of one of the loaded profiles, or of a child or hat of one
-abbrev pub IsOf : List Loaded → Part → Type 0
-IsOf entries part =
-    (who : Asker) × IsListed entries who × (part.name ≡ full_name_at who.entry.profile who.child)
-    × (part.rules ≡ rules_at who.entry.profile who.child) × (part.audit ≡ audits who.entry.profile who.child)
-
 are-children : (entries : List Loaded) (origin : Option Origin) (entry : Loaded) (at : ℕ) (children : List Child)
     → Contains entries entry → ((k : ℕ) → slice_get children k ≡ slice_get entry.profile.children (at + k))
-    → All (IsOf entries) (child_parts origin entry.profile at children)
-are-children entries origin entry at [] there same = All-nil (IsOf entries)
+    → All (IsPartIn entries) (child_parts origin entry.profile at children)
+are-children entries origin entry at [] there same = All-nil (IsPartIn entries)
 are-children entries origin entry at (child ∷ children) there same =
     let is : slice_get entry.profile.children at ≡ Some child = ap (slice_get entry.profile.children) (sym (add-zero at)) ∙ sym (same 0) in
     let who : Asker = record { entry = entry; child = Some at } in
-    All-cons (IsOf entries) (child_part origin entry.profile at child) (child_parts origin entry.profile (at + 1) children)
-    (who, (there, (child, is)), refl, ap child_rules (sym is), ap child_audits (sym is))
+    All-cons (IsPartIn entries) (child_part origin entry.profile at child) (child_parts origin entry.profile (at + 1) children) (
+      who,
+      (there, (child, is)),
+      record {
+        name = refl;
+        mode = sym (mode-at is);
+        audit = ap child_audits (sym is);
+        attachments = ap child_attachments (sym is);
+        rules = ap child_rules (sym is);
+      },
+    )
     (are-children entries origin entry (at + 1) children there
     (λ k. same (suc k) ∙ ap (slice_get entry.profile.children) (more k)))
   where
     more : (k : ℕ) → at + suc k ≡ at + 1 + k
     more k = omega arith
 
+    -- in the modes of a profile, that of a child or hat stands at its place
+    mode-at : slice_get entry.profile.children at ≡ Some child → mode_at (modes_of None entry.profile) (Some at) ≡ child.mode
+    mode-at is =
+        get_or-map (λ (child : Child). mode_of None child.mode) entry.profile.children at child entry.profile.mode
+        (slice_get_within entry.profile.children at child is)
+        ∙ ap (λ (child : Child). child.mode) (get_or_from_slice_get entry.profile.children at child child is)
+
 are-own : (entries : List Loaded) (origin : Option Origin) (entry : Loaded) → Contains entries entry
-    → All (IsOf entries) (profile_parts origin entry.profile)
+    → All (IsPartIn entries) (profile_parts origin entry.profile)
 are-own entries origin entry there =
     let who : Asker = record { entry = entry; child = None } in
-    All-cons (IsOf entries) (profile_part origin entry.profile) (child_parts origin entry.profile 0 entry.profile.children)
-    (who, (there, tt), refl, refl, refl)
+    All-cons (IsPartIn entries) (profile_part origin entry.profile) (child_parts origin entry.profile 0 entry.profile.children)
+    (who, (there, tt), record { name = refl; mode = refl; audit = refl; attachments = refl; rules = refl })
     (are-children entries origin entry 0 entry.profile.children there (λ k. ap (slice_get entry.profile.children) (sym (zero-add k))))
 
 -- and each is one of them
 pub are-set : (all entries : List Loaded) (origins : List Origin) → ((entry : Loaded) → Contains entries entry → Contains all entry)
-    → All (IsOf all) (set_parts entries origins)
-are-set all [] origins there = All-nil (IsOf all)
+    → All (IsPartIn all) (set_parts entries origins)
+are-set all [] origins there = All-nil (IsPartIn all)
 are-set all (entry ∷ entries) origins there =
-    All-append (IsOf all) (profile_parts (first_of origins) entry.profile) (set_parts entries (behind_first origins))
+    All-append (IsPartIn all) (profile_parts (first_of origins) entry.profile) (set_parts entries (behind_first origins))
     (are-own all (first_of origins) entry (there entry (0, omega arith, refl)))
     (are-set all entries (behind_first origins) (λ other is. there other (Contains-append_right (entry ∷ []) entries other is)))
 
 -- the part of a name is one of the parts, and has that name
-part-is : (P : Part → Type 0) (parts : List Part) (name : List ℕ) (found : Part) → All P parts → part_of parts name ≡ Some found
+pub part-is : (P : Part → Type 0) (parts : List Part) (name : List ℕ) (found : Part) → All P parts → part_of parts name ≡ Some found
     → P found × (found.name ≡ name)
 part-is P [] name found all is = absurd (cc)
 part-is P (part ∷ parts) name found all is =
@@ -165,15 +180,15 @@ module _ (asker : List ℕ → Option (Option Asker)) (entries : List Loaded) (p
       by None stands has = has.0
       by (Some place) stands has = has.1 place stands.0 stands.1
 
-  pub rules-of : All (λ entry. HasAll parts entry.profile) entries → All (IsOf entries) parts
+  pub rules-of : All (λ entry. HasAll parts entry.profile) entries → All (IsPartIn entries) parts
       → (who : Asker) → IsListed entries who → HasOwnRules parts who
   rules-of has are who listed =
       let (part, found) = has-listed has who listed in
-      let (is, named) = part-is (IsOf entries) parts (name_of who) part are found in
-      let (other, there, name, rules, audited) = is in
-      let same : other ≡ who = same-asker other who there listed (sym name ∙ named) in (
+      let (is, named) = part-is (IsPartIn entries) parts (name_of who) part are found in
+      let (other, there, own) = is in
+      let same : other ≡ who = same-asker other who there listed (sym own.name ∙ named) in (
         part,
         found,
-        rules ∙ ap (λ (one : Asker). rules_at one.entry.profile one.child) same,
-        audited ∙ ap (λ (one : Asker). audits one.entry.profile one.child) same,
+        own.rules ∙ ap (λ (one : Asker). rules_at one.entry.profile one.child) same,
+        own.audit ∙ ap (λ (one : Asker). audits one.entry.profile one.child) same,
       )

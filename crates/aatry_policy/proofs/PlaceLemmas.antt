@@ -8,7 +8,7 @@ use Rattle.std.specs.Option.{option_map}
 use Rattle.std.specs.Str.{bytes_eq}
 use Rattle.aa_decide_slots.specs.Entries.{Loaded}
 use Rattle.aa_decide_slots.specs.Named.{entry_named}
-use Rattle.aa_decide_slots.specs.Ready.{child_rules, rules_at}
+use Rattle.aa_decide_ready.specs.Ready.{child_rules, rules_at}
 use Rattle.aa_profile.specs.Assignments.{variables_of}
 use Rattle.aa_profile.specs.FilePlaces.{file_places}
 use Rattle.aa_profile.specs.FileReading.{file_profiles}

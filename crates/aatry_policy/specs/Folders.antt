@@ -6,6 +6,7 @@ use Rattle.aa_set_commands.specs.declared.refusal.Refusal.{Refusal}
 use Rattle.aa_text_files.specs.Files.{File}
 use Rattle.aaset_start.specs.Gathering.{names_of, texts_of}
 use Rattle.aatry_folder.specs.declared.policy_folder.PolicyFolder.{PolicyFolder}
+use Rattle.aatry_folder.specs.PolicyFiles.{PolicyFiles}
 use Rattle.aatry_folder.specs.PolicyFolders.{top_names}
 use Rattle.aatry_policy.specs.LeftOut.{left_out_lines}
 use Rattle.aatry_policy.specs.Origins.{origins_of}
@@ -23,6 +24,10 @@ pub record Folder : Type 0 where
 -- a folder that was read
 abbrev pub seen_folder : PolicyFolder → Folder
 seen_folder folder = record { files = folder.files; base = folder.base.now; names = texts_of folder.top }
+
+-- what lies below it
+abbrev pub below : Folder → PolicyFiles
+below folder = record { files = folder.files; base = folder.base }
 
 -- a folder by its path and all that lies below it, of which the files at the top are loaded
 abbrev pub folder_at : List ℕ → List File → Folder

@@ -1,25 +1,24 @@
 -- What is told of refusals, and of the files that are left out of a policy set.
 use Rattle.std.specs.Prelude.{ℕ, List, [], ◌∷◌, ◌++◌, codes, Option, None, Some}
-use Rattle.std.specs.Fmt.{decimal}
 use Rattle.serde_json.specs.Data.{Members}
 use Rattle.aa_bytes.specs.Bytes.{line_feed}
 use Rattle.aa_set_commands.specs.Refusal.{name_of, number_of}
 use Rattle.aa_set_commands.specs.declared.refusal.Refusal.{Refusal}
 use Rattle.aatry_report.specs.FilePlaces.{path_below}
-use Rattle.aatry_report.specs.Records.{record_line, record_of, with_number, with_text}
+use Rattle.aatry_report.specs.Records.{record_line, record_of, with_text}
+use Rattle.aatry_report.specs.Refusals.{named_refusal, with_named_refusal}
 use Rattle.aatry_report.specs.Shown.{shown}
 use Rattle.aatry_report.specs.declared.form.Form.{Form}
 use Rattle.aatry_report.specs.declared.form.Form.TheVariants.{Lines, Records}
 
 -- the number and the name of a refusal
 abbrev pub refusal_text : Refusal → List ℕ
-refusal_text refusal = decimal (number_of refusal.refusal) ++ codes " " ++ name_of refusal.refusal
+refusal_text refusal = named_refusal (number_of refusal.refusal) (name_of refusal.refusal)
 
 -- a record of a file that is left out, by its path
 abbrev pub left_out_record : List ℕ → Refusal → Members
 left_out_record path refusal =
-    with_text (codes "refusal") (name_of refusal.refusal) (with_number (codes "number") (number_of refusal.refusal)
-    (with_text (codes "file") path (record_of (codes "left_out"))))
+    with_named_refusal (number_of refusal.refusal) (name_of refusal.refusal) (with_text (codes "file") path (record_of (codes "left_out")))
 
 -- what is told of a file that is left out, by its path
 abbrev pub left_out_text : Form → List ℕ → Refusal → List ℕ

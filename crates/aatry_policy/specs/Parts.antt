@@ -1,39 +1,50 @@
 -- The parts of a policy set: its profiles, and the children and hats of these, each with where its rules are written.
-use Rattle.std.specs.Prelude.{ℕ, ◌+◌, Bool, false, if◌then◌else◌, List, [], ◌∷◌, ◌++◌, Option, None, Some}
+use Rattle.std.specs.Prelude.{ℕ, ◌+◌, false, if◌then◌else◌, List, [], ◌∷◌, ◌++◌, Option, None, Some}
 use Rattle.std.specs.Str.{bytes_eq}
 use Rattle.aa_decide_slots.specs.Entries.{Loaded}
+use Rattle.aa_explain_diff.specs.Sections.{Section}
 use Rattle.aa_profile_data.specs.declared.profile.Child.{Child}
-use Rattle.aa_profile_data.specs.declared.profile.Mode.{Mode}
 use Rattle.aa_profile_data.specs.declared.profile.Profile.{Profile}
-use Rattle.aa_profile_data.specs.declared.profile.Rule.{Rule}
 use Rattle.aa_set_answers.specs.ProfileNames.{full_name_at}
 use Rattle.aa_text_files.specs.declared.text_error.Place.{Place}
 use Rattle.aatry_policy.specs.Origins.{file_of, idle_flags, rule_places}
 use Rattle.aatry_policy.specs.declared.origins.Origin.{Origin}
 
--- a profile, or a child or hat of one, with its flags that decide nothing and the places of its rules
+-- a profile, or a child or hat of one: its full name, the file that it is read from, what it has, and the places of its rules
 pub record Part : Type 0 where
   pub name : List ℕ
   pub file : List ℕ
-  pub hat : Bool
-  pub mode : Mode
-  pub audit : Bool
-  pub flags : List (List ℕ)
-  pub attachments : List (List ℕ)
-  pub rules : List Rule
+  pub section : Section
   pub places : List (Option Place)
+
+-- what a profile has by itself, with its flags that decide nothing
+abbrev pub profile_section : List (List ℕ) → Profile → Section
+profile_section flags profile = record {
+  mode = profile.mode;
+  hat = false;
+  audit = profile.audit;
+  flags = flags;
+  attachments = profile.attachments;
+  rules = profile.rules;
+}
+
+-- what a child or hat has
+abbrev pub child_section : List (List ℕ) → Child → Section
+child_section flags child = record {
+  mode = child.mode;
+  hat = child.hat;
+  audit = child.audit;
+  flags = flags;
+  attachments = child.attachments;
+  rules = child.rules;
+}
 
 -- a profile by itself, by its origin
 abbrev pub profile_part : Option Origin → Profile → Part
 profile_part origin profile = record {
   name = full_name_at profile None;
   file = file_of origin;
-  hat = false;
-  mode = profile.mode;
-  audit = profile.audit;
-  flags = idle_flags origin None;
-  attachments = profile.attachments;
-  rules = profile.rules;
+  section = profile_section (idle_flags origin None) profile;
   places = rule_places origin None;
 }
 
@@ -42,12 +53,7 @@ abbrev pub child_part : Option Origin → Profile → ℕ → Child → Part
 child_part origin profile place child = record {
   name = full_name_at profile (Some place);
   file = file_of origin;
-  hat = child.hat;
-  mode = child.mode;
-  audit = child.audit;
-  flags = idle_flags origin (Some place);
-  attachments = child.attachments;
-  rules = child.rules;
+  section = child_section (idle_flags origin (Some place)) child;
   places = rule_places origin (Some place);
 }
 

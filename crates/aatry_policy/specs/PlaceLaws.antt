@@ -70,4 +70,4 @@ AreWrittenIn files name child rules places =
 
 -- so are the rules of a part, in the file that it is read from
 abbrev pub IsPartWritten : List File → Part → Type 0
-IsPartWritten files part = (child : Option ℕ) × AreWrittenIn files part.file child part.rules part.places
+IsPartWritten files part = (child : Option ℕ) × AreWrittenIn files part.file child part.section.rules part.places

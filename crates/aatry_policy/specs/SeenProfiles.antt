@@ -1,4 +1,5 @@
 -- What contracts see of the code's parts.
+use Rattle.aa_explain_diff.specs.Sections.{seen_section}
 use Rattle.aatry_policy.specs.Parts.{Part}
 use Rattle.aatry_policy.specs.declared.parts.Part.{Part as CodePart}
 
@@ -6,11 +7,6 @@ abbrev pub seen_part : CodePart → Part
 seen_part part = record {
   name = part.name;
   file = part.file.now;
-  hat = part.hat;
-  mode = part.mode;
-  audit = part.audit;
-  flags = part.flags.now;
-  attachments = part.attachments.now;
-  rules = part.rules.now;
+  section = seen_section part.section;
   places = part.places.now;
 }

@@ -1,7 +1,8 @@
 //! Folders of policy, loaded.
 
 ghost use Rattle.std.specs.Prelude.{◌≡◌, ◌++◌, IfOk, OnOk};
-ghost use Rattle.aatry_policy.specs.Folders.{left_out_in, loaded_in, origins_in, outcomes_in, seen_folder};
+ghost use Rattle.aatry_folder.specs.PolicyFiles.{seen_files};
+ghost use Rattle.aatry_policy.specs.Folders.{below, left_out_in, loaded_in, origins_in, outcomes_in, seen_folder};
 
 use crate::folder_parts::FolderParts;
 use crate::left_out::push_left_out;
@@ -22,13 +23,11 @@ pub struct LoadedFolder<'a> {
 
 /// A folder by its profiles, children and hats.
 pub fn by_parts<'a>(folder: &'a PolicyFolder<'_>, parts: &'a [Part<'a>]) -> FolderParts<'a>
-    ensures files { result.files.now ≡ (seen_folder folder.now).files }
-    ensures base { result.base.now ≡ (seen_folder folder.now).base }
+    ensures below { seen_files result.below ≡ below (seen_folder folder.now) }
     ensures parts { result.parts.now ≡ parts.now }
 {
     FolderParts {
-        files: &folder.files,
-        base: folder.base.as_bytes(),
+        below: folder.lent(),
         parts,
     }
 }

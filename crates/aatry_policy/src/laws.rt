@@ -5,7 +5,7 @@ ghost use Rattle.std.specs.List.{All};
 ghost use Rattle.aa_decide.specs.Exec.{Asker};
 ghost use Rattle.aa_decide_slots.specs.Entries.{Loaded};
 ghost use Rattle.aa_decide_slots.specs.Named.{entry_named};
-ghost use Rattle.aa_decide_slots.specs.Ready.{rules_at};
+ghost use Rattle.aa_decide_ready.specs.Ready.{rules_at};
 ghost use Rattle.aa_profile.specs.FileReading.{file_profiles};
 ghost use Rattle.aa_profile_data.specs.declared.profile.Profile.{Profile};
 ghost use Rattle.aa_set_answers.specs.Askers.{asker};

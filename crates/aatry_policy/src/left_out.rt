@@ -6,8 +6,9 @@ ghost use Rattle.aatry_report.specs.SeenRecord.{seen_record};
 ghost use Rattle.aatry_report.specs.declared.form.Form.TheVariants as form;
 
 use aa_set_commands::Refusal;
-use aatry_report::{Form, Record, Teller, path_below, push_shown};
-use itoa::Buffer;
+use aatry_report::{
+    Form, Record, Teller, path_below, push_named_refusal, push_shown, put_named_refusal,
+};
 use std::alloc::{AllocError, Global};
 
 /// Puts the number and the name of a refusal behind a text.
@@ -18,11 +19,7 @@ use std::alloc::{AllocError, Global};
 pub fn push_refusal(out: &mut Vec<u8>, refusal: Refusal) -> Result<(), AllocError>
     ensures { OnOk result (out.new.items ≡ out.old.items ++ refusal_text refusal) }
 {
-    let mut digits = Buffer::new();
-    out.extend_from_slice(digits.format(refusal.number()).as_bytes())?;
-    out.push(b' ')?;
-    out.extend_from_slice(refusal.name().as_bytes())?;
-    Ok(())
+    push_named_refusal(out, refusal.number(), refusal.name())
 }
 
 // Puts the line of a file that is left out behind a text.
@@ -42,8 +39,7 @@ fn left_out_record(alloc: Global, path: &[u8], refusal: Refusal) -> Result<Recor
 {
     let mut made = Record::new(alloc, "left_out")?;
     made.put_text(alloc, "file", path)?;
-    made.put_number(alloc, "number", refusal.number() as usize)?;
-    made.put_text(alloc, "refusal", refusal.name().as_bytes())?;
+    put_named_refusal(alloc, refusal.number(), refusal.name(), &mut made)?;
     Ok(made)
 }
 

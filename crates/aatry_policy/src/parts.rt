@@ -2,15 +2,16 @@
 
 ghost use Rattle.std.specs.Prelude.{◌≡◌, ◌++◌, Some, IfOk, OnOk, map, option_map};
 ghost use Rattle.aa_decide_slots.specs.Slots.{filled};
-ghost use Rattle.aatry_policy.specs.Parts.{child_part, child_parts, first_of, part_of, profile_part, profile_parts, set_parts};
+ghost use Rattle.aa_explain_diff.specs.Sections.{seen_section};
+ghost use Rattle.aatry_policy.specs.Parts.{child_part, child_parts, child_section, first_of, part_of, profile_part, profile_parts, profile_section, set_parts};
 ghost use Rattle.aatry_policy.specs.code.Slots.{left_behind, slot_parts};
 ghost use Rattle.aatry_policy.specs.SeenProfiles.{seen_part};
 
 use crate::origins::{Origin, file_of, idle_flags, rule_places};
 use aa_bytes::Sequence;
 use aa_decide::Entry;
-use aa_glob_pattern::Pattern;
-use aa_profile_data::{Child, Mode, Profile, Rule};
+use aa_explain_diff::Section;
+use aa_profile_data::{Child, Profile};
 use aa_set_answers::full_name;
 use aa_set_changes::PolicySet;
 use aa_text_files::Place;
@@ -23,20 +24,38 @@ pub struct Part<'a> {
     pub name: Sequence<u8>,
     /// The name of the file that it is read from.
     pub file: &'a [u8],
-    /// Whether it is a hat.
-    pub hat: bool,
-    /// The mode that its own flags give.
-    pub mode: Mode,
-    /// Whether what each of its rules decides is logged.
-    pub audit: bool,
-    /// Its flags that decide nothing, as they are written; none where they aren't known.
-    pub flags: &'a [Sequence<u8>],
-    /// The patterns of the programs that it is attached to.
-    pub attachments: &'a [Pattern],
-    /// The rules, in the order of the file.
-    pub rules: &'a [Rule],
-    /// Where these stand.
+    /// What it has; of its flags that decide nothing there are none where they aren't known.
+    pub section: Section<'a>,
+    /// Where its rules stand.
     pub places: &'a [Option<Place>],
+}
+
+// What a profile has by itself, with its flags that decide nothing.
+fn profile_section<'a>(flags: &'a [Sequence<u8>], profile: &'a Profile) -> Section<'a>
+    ensures { seen_section result ≡ profile_section flags.now profile.now }
+{
+    Section {
+        mode: profile.mode,
+        hat: false,
+        audit: profile.audit,
+        flags,
+        attachments: profile.attachments.as_slice(),
+        rules: profile.rules.as_slice(),
+    }
+}
+
+// What a child or hat has.
+fn child_section<'a>(flags: &'a [Sequence<u8>], child: &'a Child) -> Section<'a>
+    ensures { seen_section result ≡ child_section flags.now child.now }
+{
+    Section {
+        mode: child.mode,
+        hat: child.hat,
+        audit: child.audit,
+        flags,
+        attachments: child.attachments.as_slice(),
+        rules: child.rules.as_slice(),
+    }
 }
 
 // The part that a profile is by itself.
@@ -51,12 +70,7 @@ fn profile_part<'a>(
     Ok(Part {
         name: Sequence::from_vec(name),
         file: file_of(origin),
-        hat: false,
-        mode: profile.mode,
-        audit: profile.audit,
-        flags: idle_flags(origin, None),
-        attachments: profile.attachments.as_slice(),
-        rules: profile.rules.as_slice(),
+        section: profile_section(idle_flags(origin, None), profile),
         places: rule_places(origin, None),
     })
 }
@@ -75,12 +89,7 @@ fn child_part<'a>(
     Ok(Part {
         name: Sequence::from_vec(name),
         file: file_of(origin),
-        hat: child.hat,
-        mode: child.mode,
-        audit: child.audit,
-        flags: idle_flags(origin, Some(place)),
-        attachments: child.attachments.as_slice(),
-        rules: child.rules.as_slice(),
+        section: child_section(idle_flags(origin, Some(place)), child),
         places: rule_places(origin, Some(place)),
     })
 }

@@ -1,3 +1,1 @@
-mod InputLemmas
 mod ProgramLemmas
-mod SessionLemmas

@@ -7,17 +7,21 @@ use Rattle.aa_options.specs.Options.{Asked, ForHelp, ForThis, ForVersion, Nothin
 use Rattle.aatry_arguments.specs.Forms.{CallAsked, asked_call}
 use Rattle.aa_options.specs.declared.fault.ArgumentFault.{ArgumentFault}
 use Rattle.aa_options.specs.declared.fault.ArgumentFault.TheVariants.{Help, Version, Bad, Memory}
+use Rattle.aatry_who.specs.Ends.{IsEndOfWho}
 use Rattle.aatry_who.specs.Who.{IsWhoToldBelow}
+use Rattle.aatry_why.specs.Ends.{IsEndOfWhy}
 use Rattle.aatry_why.specs.Why.{IsWhyToldBelow}
 use Rattle.aatry_check.specs.Below.{IsChecked}
+use Rattle.aatry_check.specs.Ends.{IsEndOfCheck}
 use Rattle.aatry_diff.specs.Below.{IsComparedBelow}
-use Rattle.aatry_program.specs.Ends.{MayEndWith}
+use Rattle.aatry_diff.specs.Ends.{IsEndOfDiff}
 use Rattle.aatry_test.specs.Below.{IsTestedBelow}
+use Rattle.aatry_test.specs.Ends.{IsEndOfTest}
 use Rattle.aatry_folder.specs.declared.report.Report.{Report}
 use Rattle.aatry_folder.specs.declared.fault.Fault.{Fault}
 use Rattle.aatry_folder.specs.declared.fault.Fault.TheVariants.{BadArguments, NoMemory}
-use Rattle.aatry_program.specs.Broken.{IsBrokenSession}
-use Rattle.aatry_program.specs.Session.{IsSession}
+use Rattle.aatry_session_run.specs.Broken.{IsBrokenSession}
+use Rattle.aatry_session_run.specs.Session.{IsSession}
 use Rattle.aatry_program.specs.Status.{failure_status, status_of}
 use Rattle.aatry_report.specs.declared.form.Form.{Form}
 use Rattle.aatry_folder.specs.Told.{ToldFolders}
@@ -72,11 +76,11 @@ IsSessionDone folders known base input output status =
 
 -- A command is done: what it comes to is shown in a form, of a test in lines alone; and a session is had.
 abbrev pub IsDoneBy : Form → ToldFolders → Known → Input → CommandAsked → Output → ℕ → Type 0
-IsDoneBy form folders known input (ForCheck check) output status = IsCommandDone (IsChecked form folders known check.base check.names) (MayEndWith folders known (ForCheck check)) output status
-IsDoneBy form folders known input (ForTest test) output status = IsCommandDone (IsTestedBelow folders known test.base test.paths) (MayEndWith folders known (ForTest test)) output status
-IsDoneBy form folders known input (ForWho asking) output status = IsCommandDone (IsWhoToldBelow form folders known asking.base asking.words) (MayEndWith folders known (ForWho asking)) output status
-IsDoneBy form folders known input (ForWhy asking) output status = IsCommandDone (IsWhyToldBelow form folders known asking.base asking.words) (MayEndWith folders known (ForWhy asking)) output status
-IsDoneBy form folders known input (ForDiff comparison) output status = IsCommandDone (IsComparedBelow form folders known comparison) (MayEndWith folders known (ForDiff comparison)) output status
+IsDoneBy form folders known input (ForCheck check) output status = IsCommandDone (IsChecked form folders known check.base check.names) (IsEndOfCheck folders known check.base) output status
+IsDoneBy form folders known input (ForTest test) output status = IsCommandDone (IsTestedBelow folders known test.base test.paths) (IsEndOfTest folders known test.base test.paths) output status
+IsDoneBy form folders known input (ForWho asking) output status = IsCommandDone (IsWhoToldBelow form folders known asking.base asking.words) (IsEndOfWho folders known asking.base asking.words) output status
+IsDoneBy form folders known input (ForWhy asking) output status = IsCommandDone (IsWhyToldBelow form folders known asking.base asking.words) (IsEndOfWhy folders known asking.base asking.words) output status
+IsDoneBy form folders known input (ForDiff comparison) output status = IsCommandDone (IsComparedBelow form folders known comparison) (IsEndOfDiff folders known comparison) output status
 IsDoneBy form folders known input (ForSession session) output status = IsSessionDone folders known session.base input output status
 
 -- What is asked for is done: a command, or help or the version is shown, if memory allows; all else is reported as bad arguments.

@@ -7,16 +7,16 @@ ghost use Rattle.aatry_program.specs.Program.{IsDone, IsDoneBy, IsFaultShown, Is
 ghost use Rattle.aatry_program.specs.Status.{status_of};
 
 use crate::reporting::report;
-use crate::session::session_over;
 use crate::status::failure_status;
 use crate::streams::Streams;
 use aa_set_lines::{Sink, Source, write_all};
 use aaset_start::FileSystem;
-use aatry_arguments::{ArgumentFault, Call, Command, call_of};
+use aatry_arguments::{ArgumentFault, Call, Command, Session, call_of};
 use aatry_check::check_folder;
 use aatry_diff::diff_folders;
 use aatry_folder::{Fault, Folders, Report};
 use aatry_report::Teller;
+use aatry_session_run::session_folder;
 use aatry_test::test_folder;
 use aatry_who::who_folder;
 use aatry_why::why_folder;
@@ -64,24 +64,24 @@ fn session_status<E: Sink>(alloc: Global, outcome: Result<(), Fault>, errors: &m
     }
 }
 
-// Has a session over a folder, and gives the exit status.
+// Has the session that is asked for, and gives the exit status.
 fn have_session<F: Folders, D: FileSystem, S: Source, W: Sink, E: Sink>(
     alloc: Global,
-    base: &str,
+    asked: Session,
     folders: &F,
     disk: &D,
     prompt: &[u8],
     streams: &mut Streams<S, W, E>,
 ) -> u8
     requires { S.reads streams.old.input ≤ 2 ^ 62 }
-    ensures { IsSessionDone (F.told folders.now) (D.known disk.now) base.now (input_of (S.left streams.old.input) prompt.now)
+    ensures { IsSessionDone (F.told folders.now) (D.known disk.now) (string_bytes asked.base) (input_of (S.left streams.old.input) prompt.now)
         (output_of (W.written streams.old.output) (W.written streams.new.output) (W.failed streams.new.output)) result }
 {
-    let outcome = session_over(
+    let outcome = session_folder(
         alloc,
         folders,
         disk,
-        base,
+        asked,
         prompt,
         &mut streams.input,
         &mut streams.output,
@@ -107,33 +107,21 @@ fn perform<F: Folders, D: FileSystem, S: Source, W: Sink, E: Sink>(
     let teller = Teller { alloc, form };
     match command {
         Command::Check(asked) => {
-            let outcome = check_folder(teller, folders, disk, asked);
-            show_outcome(alloc, outcome, streams)
+            show_outcome(alloc, check_folder(teller, folders, disk, asked), streams)
         }
         Command::Test(asked) => {
-            let outcome = test_folder(alloc, folders, disk, asked);
-            show_outcome(alloc, outcome, streams)
+            show_outcome(alloc, test_folder(alloc, folders, disk, asked), streams)
         }
         Command::Who(asked) => {
-            let outcome = who_folder(teller, folders, disk, asked);
-            show_outcome(alloc, outcome, streams)
+            show_outcome(alloc, who_folder(teller, folders, disk, asked), streams)
         }
         Command::Why(asked) => {
-            let outcome = why_folder(teller, folders, disk, asked);
-            show_outcome(alloc, outcome, streams)
+            show_outcome(alloc, why_folder(teller, folders, disk, asked), streams)
         }
         Command::Diff(asked) => {
-            let outcome = diff_folders(teller, folders, disk, asked);
-            show_outcome(alloc, outcome, streams)
+            show_outcome(alloc, diff_folders(teller, folders, disk, asked), streams)
         }
-        Command::Session(asked) => have_session(
-            alloc,
-            asked.base.as_str(),
-            folders,
-            disk,
-            prompt,
-            streams,
-        ),
+        Command::Session(asked) => have_session(alloc, asked, folders, disk, prompt, streams),
     }
 }
 

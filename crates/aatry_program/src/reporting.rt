@@ -3,11 +3,11 @@
 ghost use Rattle.std.specs.Prelude.{◌≡◌};
 ghost use Rattle.aatry_program.specs.Status.{status_of};
 
-use crate::faults::{name_of, words_of};
 use crate::status::status_of;
 use aa_set_lines::{Failed, Sink, write_all};
 use aatry_folder::Fault;
 use aatry_report::push_shown;
+use aatry_session_run::{name_of, words_of};
 use std::alloc::Global;
 
 // The name that a fault is about, as it is shown; a beginning of it where memory runs out.

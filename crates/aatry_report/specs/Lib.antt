@@ -6,6 +6,7 @@ pub mod FilePlaces
 pub mod Headings
 pub mod Lines
 pub mod Records
+pub mod Refusals
 pub mod SeenRecord
 pub mod Shown
 pub mod Taken

@@ -1,5 +1,6 @@
 pub mod Asked
 pub mod AskedWords
+pub mod Ends
 pub mod Gathering
 pub mod Laws
 pub mod Lines

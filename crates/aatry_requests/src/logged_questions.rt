@@ -1,17 +1,14 @@
 //! The questions that lines ask.
 
-ghost use Rattle.std.specs.Prelude.{◌≡◌, ◌<◌, option_map, IfSome};
-ghost use Rattle.aa_set_commands.specs.Question.{is_path, type_number};
+ghost use Rattle.std.specs.Prelude.{◌≡◌, option_map};
 ghost use Rattle.aatry_requests.specs.LoggedQuestions.{capability_asked, file_asked, path_question, seen_logged, sockets_asked};
 ghost use Rattle.aatry_requests.specs.Values.{seen_text};
 
 use crate::asked::{Asked, LoggedQuestion};
 use crate::masks::needs_of_mask;
 use crate::values::LoggedText;
-use aa_bytes::{begins_with_byte, has_byte};
-use aa_profile_tables::{
-    capability_number, domain_number, is_protocol, kind_number, which_numbers_names_have,
-};
+use aa_profile_tables::{capability_number, domain_number, which_numbers_names_have};
+use aa_set_commands::{is_path, type_number};
 
 /// The question for the capability of a name, if there is one. It takes no memory.
 pub fn capability_asked<'a>(
@@ -24,15 +21,6 @@ pub fn capability_asked<'a>(
     let number = capability_number(name?)?;
     which_numbers_names_have();
     Some(LoggedQuestion::new(Asked::Cap { who, number }))
-}
-
-// The number of the type of a name, which no protocol's is.
-fn type_number(name: &[u8]) -> Option<u8>
-    ensures number { result ≡ type_number name.now }
-    ensures known { IfSome result (λ kind. kind < 6) }
-{
-    let kind = kind_number(name)?;
-    if is_protocol(kind) { None } else { Some(kind) }
 }
 
 /// The question for sockets of a family and a type, if there are such. It takes no memory.
@@ -49,13 +37,6 @@ pub fn sockets_asked<'a>(
     let kind = type_number(sort?)?;
     which_numbers_names_have();
     Some(LoggedQuestion::new(Asked::Net { who, domain, kind }))
-}
-
-// Whether a text is a path.
-fn is_path(text: &[u8]) -> bool
-    ensures { result ≡ is_path text.now }
-{
-    begins_with_byte(b'/', text) && !has_byte(0, text)
 }
 
 // The question for a path by its mask, if there is one.

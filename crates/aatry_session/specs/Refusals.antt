@@ -1,13 +1,11 @@
 -- What is told of a line that is refused.
-use Rattle.std.specs.Prelude.{ℕ, List, [], codes, Option, None, Some}
+use Rattle.std.specs.Prelude.{ℕ, List, codes}
 use Rattle.aa_set_commands.specs.Refusal.{number_of}
 use Rattle.aa_set_commands.specs.declared.refusal.Refusal.{Refusal}
 use Rattle.aa_set_commands.specs.declared.refusal.RefusalKind.{RefusalKind}
 use Rattle.aa_set_commands.specs.declared.refusal.RefusalKind.TheVariants.{File, Exists, Absent, Disabled, NothingToUndo, NothingToRedo, BadCommand, LineTooLong, BadRequest, NoMark, Memory}
-use Rattle.aa_text_files.specs.Files.{File as NamedFile, bytes_at, name_at}
-use Rattle.aa_text_files.specs.declared.text_error.Place.{Place}
-use Rattle.aatry_report.specs.Faults.{fault_lines}
-use Rattle.aatry_report.specs.FilePlaces.{path_below}
+use Rattle.aa_text_files.specs.Files.{File as NamedFile}
+use Rattle.aatry_report.specs.Refusals.{placed_refusal}
 
 -- what is wrong, in words: that of a file in these
 abbrev pub words_for : RefusalKind → List ℕ → List ℕ
@@ -23,12 +21,7 @@ words_for BadRequest words = codes "no question can have these words, or no mark
 words_for NoMark words = codes "no mark has this name"
 words_for Memory words = codes "memory ran out"
 
--- what is told of a refusal of this number, in these words: at its place in a file, if it has one
-abbrev pub refusal_in_words : List ℕ → List NamedFile → List ℕ → ℕ → Option Place → List ℕ
-refusal_in_words words files base number None = fault_lines words (codes "refused") number None []
-refusal_in_words words files base number (Some place) =
-    fault_lines words (path_below base (name_at files place.file)) number (Some place.at) (bytes_at files place.file)
-
--- what is told of a refusal, that of a file in these words
+-- what is told of a refusal, that of a file in these words: at its place in a file, if it has one
 abbrev pub refusal_told : List NamedFile → List ℕ → List ℕ → Refusal → List ℕ
-refusal_told files base words refusal = refusal_in_words (words_for refusal.refusal words) files base (number_of refusal.refusal) refusal.place
+refusal_told files base words refusal =
+    placed_refusal (words_for refusal.refusal words) files base (codes "refused") (number_of refusal.refusal) refusal.place

@@ -1,12 +1,13 @@
 //! What is told of a line that is refused.
 
-ghost use Rattle.std.specs.Prelude.{◌≡◌, ◌++◌, ℕ, List, [], OnOk};
-ghost use Rattle.aatry_session.specs.Refusals.{refusal_in_words, refusal_told, words_for};
+ghost use Rattle.std.specs.Prelude.{◌≡◌, ◌++◌, ℕ, List, [], OnOk, codes};
+ghost use Rattle.aa_set_commands.specs.Refusal.{number_of};
+ghost use Rattle.aatry_report.specs.Refusals.{placed_refusal};
+ghost use Rattle.aatry_session.specs.Refusals.{refusal_told, words_for};
 
 use aa_set_commands::{Refusal, RefusalKind};
-use aa_text_files::{Files, Place};
-use aatry_check::push_placed;
-use aatry_report::{push_fault, words_of};
+use aa_text_files::Files;
+use aatry_report::{push_placed_refusal, words_of};
 use std::alloc::{AllocError, Global};
 
 // What is wrong, in words; none where it is a file, which has words of its own.
@@ -34,16 +35,22 @@ fn push_in_words(
     files: &Files,
     base: &[u8],
     words: &str,
-    number: u8,
-    place: Option<Place>,
+    refusal: Refusal,
     out: &mut Vec<u8>,
 ) -> Result<(), AllocError>
-    ensures { OnOk result (out.new.items ≡ out.old.items ++ refusal_in_words words.now files.now base.now number place) }
+    ensures { OnOk result (out.new.items
+        ≡ out.old.items ++ placed_refusal words.now files.now base.now (codes "refused") (number_of refusal.refusal) refusal.place) }
 {
-    match place {
-        None => push_fault(out, b"refused", words, number),
-        Some(place) => push_placed(alloc, files, base, words, number, place, out),
-    }
+    push_placed_refusal(
+        alloc,
+        files,
+        base,
+        b"refused",
+        words,
+        refusal.number(),
+        refusal.place,
+        out,
+    )
 }
 
 /// Puts what is told of a refusal behind a text: where it has a place in a file, as a check of that file tells it.
@@ -60,26 +67,9 @@ pub fn push_refusal(
 ) -> Result<(), AllocError>
     ensures { OnOk result ((words : List ℕ) × (out.new.items ≡ out.old.items ++ refusal_told files.now base.now words refusal)) }
 {
-    let number = refusal.number();
     let RefusalKind::File(fault) = refusal.refusal else {
-        return push_in_words(
-            alloc,
-            files,
-            base,
-            own_words(refusal.refusal),
-            number,
-            refusal.place,
-            out,
-        );
+        return push_in_words(alloc, files, base, own_words(refusal.refusal), refusal, out);
     };
     let words = words_of(alloc, fault)?;
-    push_in_words(
-        alloc,
-        files,
-        base,
-        words.as_str(),
-        number,
-        refusal.place,
-        out,
-    )
+    push_in_words(alloc, files, base, words.as_str(), refusal, out)
 }

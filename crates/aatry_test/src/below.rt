@@ -1,9 +1,10 @@
 //! The test of transcripts over a folder of policy on a disk.
 
-ghost use Rattle.std.specs.Prelude.{◌≡◌, ◌++◌, ◌≤◌, ◌⊎◌, ℕ, List, IfErr, IfOk, string_bytes};
+ghost use Rattle.std.specs.Prelude.{◌≡◌, ◌++◌, ◌≤◌, ℕ, List, IfErr, IfOk, string_bytes};
 ghost use Rattle.aaset_start.specs.Gathering.{texts_of};
-ghost use Rattle.aatry_folder.specs.Unread.{IsOfFile, IsOfFolder, IsOfOneFile};
+ghost use Rattle.aatry_folder.specs.Unread.{IsOfFile, IsOfOneFile};
 ghost use Rattle.aatry_test.specs.Below.{IsFileTested, IsTestedBelow, TestsEach};
+ghost use Rattle.aatry_test.specs.Ends.{IsEndOfTest};
 
 use crate::testing::test;
 use aa_text_files::Files;
@@ -70,8 +71,7 @@ pub fn test_folder<F: Folders, D: FileSystem>(
 ) -> Result<Report, Fault>
     ensures tested { IfOk result (λ report. IsTestedBelow (F.told folders.now) (D.known disk.now) (string_bytes asked.base) (texts_of asked.paths)
         report.text.items report.failed) }
-    ensures fault { IfErr result (λ fault. IsOfFolder (F.told folders.now) (D.known disk.now) (string_bytes asked.base) fault
-        ⊎ IsOfOneFile (D.known disk.now) (texts_of asked.paths) fault) }
+    ensures fault { IfErr result (IsEndOfTest (F.told folders.now) (D.known disk.now) (string_bytes asked.base) (texts_of asked.paths)) }
 {
     let Test { base, paths } = asked;
     let policy = policy_below(alloc, folders, disk, base.as_str())?;

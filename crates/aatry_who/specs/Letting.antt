@@ -42,11 +42,10 @@ let_line Records name answer = record_line (let_record name answer)
 -- the rules of a part of a folder, with where they are written
 abbrev pub written_of : FolderParts → Part → Written
 written_of folder part = record {
-  files = folder.files;
-  base = folder.base;
+  below = folder.below;
   name = part.file;
-  audit = part.audit;
-  rules = part.rules;
+  audit = part.section.audit;
+  rules = part.section.rules;
   places = part.places;
 }
 

@@ -1,3 +1,4 @@
+pub mod Ends
 pub mod Laws
 pub mod Letting
 pub mod Who

@@ -75,12 +75,11 @@ fn written_of<'a>(folder: &FolderParts<'a>, part: &Part<'a>) -> WrittenRules<'a>
     ensures { seen_rules result ≡ written_of (seen_folder folder.now) (seen_part part.now) }
 {
     WrittenRules {
-        files: folder.files,
-        base: folder.base,
+        below: folder.below,
         name: part.file,
         rules: AskedRules::Listed {
-            audit: part.audit,
-            rules: part.rules,
+            audit: part.section.audit,
+            rules: part.section.rules,
         },
         places: part.places,
     }
@@ -153,8 +152,8 @@ fn answer_by(
 {
     match confinement {
         Confinement::Unconfined => Ok(None),
-        Confinement::By { ready, child, mode } => {
-            let verdict = ready.decide(alloc, child, mode, request, &mut Steps::new())?;
+        Confinement::By { section, mode } => {
+            let verdict = section.decide(alloc, mode, request, &mut Steps::new())?;
             Ok(Some(verdict.answer))
         }
     }

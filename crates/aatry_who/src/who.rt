@@ -4,10 +4,10 @@ ghost use Rattle.std.specs.Prelude.{◌≡◌, ◌⊎◌, Bool, Ok, IfErr, IfOk,
 ghost use Rattle.aa_set_commands.specs.Question.{question_of, seen_question};
 ghost use Rattle.aaset_start.specs.Gathering.{texts_of};
 ghost use Rattle.aatry_folder.specs.Reports.{failed_by};
-ghost use Rattle.aatry_folder.specs.Unread.{IsOfFolder};
 ghost use Rattle.aatry_folder.specs.declared.fault.Fault.TheVariants as fault;
 ghost use Rattle.aatry_policy.specs.Folders.{loaded_in, origins_in, seen_folder};
 ghost use Rattle.aatry_requests.specs.AskedWords.{AskNothing, letting_words};
+ghost use Rattle.aatry_who.specs.Ends.{IsEndOfWho};
 ghost use Rattle.aatry_who.specs.Who.{IsWhoTold, IsWhoToldBelow, is_let, let_by};
 
 use crate::letting::who_lines;
@@ -102,8 +102,7 @@ pub fn who_folder<F: Folders, D: FileSystem>(
 ) -> Result<Report, Fault>
     ensures told { IfOk result (λ report. IsWhoToldBelow teller.form (F.told folders.now) (D.known disk.now) (string_bytes asked.base) (texts_of asked.words)
         report.text.items report.failed) }
-    ensures fault { IfErr result (λ told. IsOfFolder (F.told folders.now) (D.known disk.now) (string_bytes asked.base) told
-        ⊎ ((told ≡ fault.BadQuestion) × AskNothing (letting_words (texts_of asked.words)))) }
+    ensures fault { IfErr result (IsEndOfWho (F.told folders.now) (D.known disk.now) (string_bytes asked.base) (texts_of asked.words)) }
 {
     let Asking { base, words } = asked;
     let folder = policy_below(teller.alloc, folders, disk, base.as_str())?;

@@ -1,7 +1,7 @@
 -- What the law on the rules that `why` tells speaks of.
 use Rattle.std.specs.Prelude.{◌≡◌}
 use Rattle.aa_decide.specs.Exec.{Asker}
-use Rattle.aa_decide_slots.specs.Ready.{audits, rules_at}
+use Rattle.aa_decide_ready.specs.Ready.{audits, rules_at}
 use Rattle.aatry_policy.specs.Folders.{Folder}
 use Rattle.aatry_policy.specs.PlaceLaws.{AreWrittenIn}
 use Rattle.aatry_why_lines.specs.Written.{Written}

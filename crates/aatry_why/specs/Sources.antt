@@ -1,25 +1,24 @@
 -- Where the rules of who asks are written.
-use Rattle.std.specs.Prelude.{ℕ, List, Option, option_map}
+use Rattle.std.specs.Prelude.{List, Option, option_map}
 use Rattle.aa_decide.specs.Exec.{Asker}
-use Rattle.aa_decide_slots.specs.Ready.{audits, rules_at}
+use Rattle.aa_decide_ready.specs.Ready.{audits, rules_at}
 use Rattle.aa_profile_access.specs.FullNames.{full_name}
 use Rattle.aa_set_answers.specs.Answers.{who_asks}
 use Rattle.aa_set_commands.specs.Question.{Question}
-use Rattle.aa_text_files.specs.Files.{File}
+use Rattle.aatry_folder.specs.PolicyFiles.{PolicyFiles, seen_files}
 use Rattle.aatry_why.specs.declared.sources.Sources.{Sources as CodeSources}
 use Rattle.aatry_policy.specs.Origins.{file_of, origin_in, rule_places}
 use Rattle.aatry_policy.specs.declared.origins.Origin.{Origin}
 use Rattle.aatry_why_lines.specs.Written.{Written}
 
--- all that lies below the folder of policy and its path, and where the profile of who asks was read, if that is known
+-- what lies below the folder of policy, and where the profile of who asks was read, if that is known
 pub record Sources : Type 0 where
-  pub files : List File
-  pub base : List ℕ
+  pub below : PolicyFiles
   pub origin : Option Origin
 
 -- sources of the code
 abbrev pub seen_sources : CodeSources → Sources
-seen_sources sources = record { files = sources.files.now; base = sources.base.now; origin = option_map (λ origin. origin.now) sources.origin }
+seen_sources sources = record { below = seen_files sources.below; origin = option_map (λ origin. origin.now) sources.origin }
 
 -- where the profile of who asks was read, among some origins, if it is there
 abbrev pub asked_origin : List Origin → Question → Option Origin
@@ -28,8 +27,7 @@ asked_origin origins question = origin_in (full_name (who_asks question)).profil
 -- the rules by which who asks decides, with where they are written
 abbrev pub written_by : Sources → Asker → Written
 written_by sources who = record {
-  files = sources.files;
-  base = sources.base;
+  below = sources.below;
   name = file_of sources.origin;
   audit = audits who.entry.profile who.child;
   rules = rules_at who.entry.profile who.child;

@@ -20,13 +20,14 @@ use Rattle.aaset_start.specs.Known.{Known}
 use Rattle.aatry_folder.specs.PolicyFolders.{AreBelow}
 use Rattle.aatry_folder.specs.Reports.{failed_by}
 use Rattle.aatry_folder.specs.Told.{ToldFolders}
-use Rattle.aatry_policy.specs.Folders.{Folder, folder_at, left_out_in, origins_in, policy_in}
+use Rattle.aatry_policy.specs.Folders.{Folder, below, folder_at, left_out_in, origins_in, policy_in}
 use Rattle.aa_text_files.specs.Files.{File}
 use Rattle.aatry_policy.specs.LeftOut.{refusal_text}
 use Rattle.aatry_requests.specs.Questions.{rule_request}
-use Rattle.aatry_transition.specs.How.{how_lines}
+use Rattle.aatry_why.specs.How.{how_lines}
 use Rattle.aatry_why_lines.specs.Why.{why_lines}
-use Rattle.aatry_report.specs.Records.{record_line, record_of, with_number, with_text}
+use Rattle.aatry_report.specs.Records.{record_line, record_of, with_text}
+use Rattle.aatry_report.specs.Refusals.{with_named_refusal}
 use Rattle.aatry_report.specs.declared.form.Form.{Form}
 use Rattle.aatry_report.specs.declared.form.Form.TheVariants.{Lines, Records}
 
@@ -51,7 +52,7 @@ reply_text Records told = record_line (reply_record told)
 -- a record of a question that is refused
 abbrev pub refused_record : Refusal → Members
 refused_record refusal =
-    with_text (codes "refusal") (name_of refusal.refusal) (with_number (codes "number") (number_of refusal.refusal) (record_of (codes "refused")))
+    with_named_refusal (number_of refusal.refusal) (name_of refusal.refusal) (record_of (codes "refused"))
 
 -- what is told of a question that is refused
 abbrev pub refused_text : Form → Refusal → List ℕ
@@ -88,7 +89,7 @@ has_answer entries question = is_ok (answered entries question)
 
 -- where the rules of who asks are written, of a folder
 abbrev pub sources_in : Folder → Question → Sources
-sources_in folder question = record { files = folder.files; base = folder.base; origin = asked_origin (origins_in folder) question }
+sources_in folder question = record { below = below folder; origin = asked_origin (origins_in folder) question }
 
 -- The words ask a question of the policy set of a folder, and a text tells the files that are left out and what is answered.
 abbrev pub IsWhyTold : Form → Folder → List (List ℕ) → List ℕ → Bool → Type 0

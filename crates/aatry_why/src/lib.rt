@@ -1,11 +1,17 @@
-//! The command `why`: what the policy of a folder answers to a question, with the rules behind the answer.
+//! The command `why`: what the policy of a folder answers to a question, with the rules behind the answer; and of the start of a program where the rules
+//! lead, and what its path may be attached to.
 #![tactic(auto)]
 
+mod attachment;
+mod destinations;
+mod how;
 mod laws;
+mod records;
 mod replies;
 mod sources;
+mod transition;
 mod why;
 
 pub use laws::which_rules_why_tells;
-pub use sources::{Sources, sources_at};
+pub use sources::Sources;
 pub use why::{push_answer, why_folder};

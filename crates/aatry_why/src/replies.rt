@@ -11,7 +11,7 @@ use aa_decide::Answer;
 use aa_set_answers::Answered;
 use aa_set_commands::Refusal;
 use aatry_policy::push_refusal;
-use aatry_report::{Form, Record, Teller};
+use aatry_report::{Form, Record, Teller, put_named_refusal};
 use std::alloc::{AllocError, Global};
 
 /// Whether no rule allows something that was asked for, or nothing confines who asks.
@@ -81,8 +81,7 @@ fn refused_record(alloc: Global, refusal: Refusal) -> Result<Record, AllocError>
     ensures { IfOk result (λ made. seen_record made ≡ refused_record refusal) }
 {
     let mut made = Record::new(alloc, "refused")?;
-    made.put_number(alloc, "number", refusal.number() as usize)?;
-    made.put_text(alloc, "refusal", refusal.name().as_bytes())?;
+    put_named_refusal(alloc, refusal.number(), refusal.name(), &mut made)?;
     Ok(made)
 }
 

@@ -10,7 +10,7 @@ use aa_decide::Asker;
 use aa_explain_rules::AskedRules;
 use aa_profile_access::cut_full_name;
 use aa_set_commands::Question;
-use aa_text_files::Files;
+use aatry_folder::PolicyFiles;
 use aatry_policy::{Origin, file_of, origin_in, rule_places};
 use aatry_requests::who_asks;
 use aatry_why_lines::WrittenRules;
@@ -18,23 +18,10 @@ use aatry_why_lines::WrittenRules;
 /// Where the rules of who asks are written.
 #[derive(Clone, Copy)]
 pub struct Sources<'a> {
-    /// All files and folders below the folder of policy, by their names in it.
-    pub files: &'a Files,
-    /// The folder's path, without a `/` at its end.
-    pub base: &'a [u8],
+    /// What lies below the folder of policy.
+    pub below: PolicyFiles<'a>,
     /// Where the profile of who asks was read, if that is known.
     pub origin: Option<&'a Origin>,
-}
-
-/// The sources of a folder's files, its path without a `/` at its end, and where the profile of who asks was read, if that is known.
-pub fn sources_at<'a>(files: &'a Files, base: &'a [u8], origin: Option<&'a Origin>) -> Sources<'a>
-    ensures { seen_sources result ≡ record { files = files.now; base = base.now; origin = option_map (λ origin. origin.now) origin.entry } }
-{
-    Sources {
-        files,
-        base,
-        origin,
-    }
 }
 
 /// Where the profile of who asks was read, among some origins, if it is there. It takes no memory.
@@ -50,13 +37,9 @@ pub fn written_by<'a>(sources: &Sources<'a>, asker: Asker<'a>) -> WrittenRules<'
     ensures { seen_rules result ≡ written_by (seen_sources sources.now) (seen_asker asker.entry) }
 {
     WrittenRules {
-        files: sources.files,
-        base: sources.base,
+        below: sources.below,
         name: file_of(sources.origin),
-        rules: AskedRules::Loaded {
-            ready: asker.entry.ready(),
-            child: asker.child,
-        },
+        rules: AskedRules::Loaded(asker.entry.ready().section(asker.child)),
         places: rule_places(sources.origin, asker.child),
     }
 }

@@ -6,16 +6,17 @@ ghost use Rattle.aa_set_answers.specs.Askers.{asker};
 ghost use Rattle.aa_set_commands.specs.Question.{IsWellFormed, seen_question};
 ghost use Rattle.aaset_start.specs.Gathering.{texts_of};
 ghost use Rattle.aatry_folder.specs.Reports.{failed_by};
-ghost use Rattle.aatry_folder.specs.Unread.{IsOfFolder};
 ghost use Rattle.aatry_folder.specs.declared.fault.Fault.TheVariants as fault;
 ghost use Rattle.aatry_policy.specs.Folders.{loaded_in, origins_in, policy_in, seen_folder};
 ghost use Rattle.aatry_requests.specs.AskedWords.{AskNothing};
 ghost use Rattle.aatry_requests.specs.Questions.{rule_request};
+ghost use Rattle.aatry_why.specs.Ends.{IsEndOfWhy};
 ghost use Rattle.aatry_why.specs.Sources.{seen_sources};
 ghost use Rattle.aatry_why.specs.Why.{IsWhyTold, IsWhyToldBelow, answered_text, has_answer, how_of, reasons, replied_text, sources_in};
 
+use crate::how::push_how;
 use crate::replies::{is_lacking, push_refused, push_reply};
-use crate::sources::{Sources, asked_origin, sources_at, written_by};
+use crate::sources::{Sources, asked_origin, written_by};
 use aa_set::Manager;
 use aa_set_answers::{Answered, find_asker};
 use aa_set_commands::{Question, RefusalKind};
@@ -25,7 +26,6 @@ use aatry_folder::{Fault, Folders, PolicyFolder, Report, failed_by, policy_below
 use aatry_policy::{LoadedFolder, load_folder};
 use aatry_report::Teller;
 use aatry_requests::{question_by, rule_request, who_asks};
-use aatry_transition::push_how;
 use aatry_why_lines::push_why;
 use std::alloc::{AllocError, Global};
 
@@ -149,9 +149,10 @@ fn push_asked(
     ensures found { IfOk result (λ found. found ≡ has_answer (policy_in (seen_folder loaded.old.folder.now)) (seen_question question.entry.now)) }
 {
     loaded.policy.manager.remember(question);
-    let folder = loaded.folder;
-    let origin = asked_origin(&loaded.policy.origins, question);
-    let sources = sources_at(&folder.files, folder.base.as_bytes(), origin);
+    let sources = Sources {
+        below: loaded.folder.lent(),
+        origin: asked_origin(&loaded.policy.origins, question),
+    };
     push_answer(teller, &sources, &loaded.policy.manager, question, out)
 }
 
@@ -176,7 +177,7 @@ fn told_of(teller: Teller, folder: &PolicyFolder<'_>, words: &[String]) -> Resul
 /// What the policy of a folder answers to a question, and the rules behind the answer, told in a form: reads the folder as `aatry_folder::policy_below` does.
 /// First come the files that are left out (`aatry_policy::load_folder`). Then comes what `ask` would be answered, and behind it the rules, each with the
 /// place where it is written (`aatry_why_lines`); where something isn't allowed, the rule that is missing and the nearest ones too; and of the start of a
-/// program where its transition leads and what its path may be attached to (`aatry_transition`). Where nobody of the name is loaded, the refusal is told,
+/// program where its transition leads and what its path may be attached to. Where nobody of the name is loaded, the refusal is told,
 /// and one failed.
 ///
 /// As records, the reply is one of the kind `answer`, with the texts `answer` and `audit`, the line that logs it, which is empty where none does; and a
@@ -196,8 +197,7 @@ pub fn why_folder<F: Folders, D: FileSystem>(
 ) -> Result<Report, Fault>
     ensures told { IfOk result (λ report. IsWhyToldBelow teller.form (F.told folders.now) (D.known disk.now) (string_bytes asked.base) (texts_of asked.words)
         report.text.items report.failed) }
-    ensures fault { IfErr result (λ told. IsOfFolder (F.told folders.now) (D.known disk.now) (string_bytes asked.base) told
-        ⊎ ((told ≡ fault.BadQuestion) × AskNothing (texts_of asked.words))) }
+    ensures fault { IfErr result (IsEndOfWhy (F.told folders.now) (D.known disk.now) (string_bytes asked.base) (texts_of asked.words)) }
 {
     let Asking { base, words } = asked;
     let folder = policy_below(teller.alloc, folders, disk, base.as_str())?;

@@ -1,14 +1,9 @@
 -- Where rules stand in the files of a folder.
-use Rattle.std.specs.Prelude.{ℕ, List}
+use Rattle.std.specs.Prelude.{List}
 use Rattle.std.specs.List.{All}
 use Rattle.aa_text_files.specs.Files.{File, bytes_at}
 use Rattle.aatry_report.specs.Walks.{IsOf}
 use Rattle.aatry_why_lines.specs.declared.finding.FileWalk.{FileWalk}
-
--- a folder of policy: all that lies below it, and its path
-pub record Folder : Type 0 where
-  pub files : List File
-  pub base : List ℕ
 
 -- a walk is one of the file of its number
 abbrev pub IsOfItsFile : List File → FileWalk → Type 0

@@ -5,8 +5,9 @@ use Rattle.aa_bytes.specs.Bytes.{line_feed}
 use Rattle.aa_bytes.specs.Texts.{is_empty}
 use Rattle.aa_profile_data.specs.declared.profile.Rule.{Rule}
 use Rattle.aa_set_answers.specs.RuleLines.{rule_text}
-use Rattle.aa_text_files.specs.Files.{File, bytes_at, name_at}
+use Rattle.aa_text_files.specs.Files.{bytes_at, name_at}
 use Rattle.aa_text_files.specs.declared.text_error.Place.{Place}
+use Rattle.aatry_folder.specs.PolicyFiles.{PolicyFiles}
 use Rattle.aatry_report.specs.Faults.{place_text}
 use Rattle.aatry_report.specs.FilePlaces.{path_below, with_place}
 use Rattle.aatry_report.specs.Headings.{heading_line}
@@ -14,34 +15,33 @@ use Rattle.aatry_report.specs.Records.{record_line, record_of, with_text}
 use Rattle.aatry_report.specs.Shown.{shown}
 use Rattle.aatry_report.specs.declared.form.Form.{Form}
 use Rattle.aatry_report.specs.declared.form.Form.TheVariants.{Lines, Records}
-use Rattle.aatry_why_lines.specs.Finding.{Folder}
-use Rattle.aatry_why_lines.specs.Written.{Written, folder_of}
+use Rattle.aatry_why_lines.specs.Written.{Written}
 
 -- where a rule stands: its file, line and column, or the profile's file alone
-abbrev pub where_text : List File → List ℕ → List ℕ → Option Place → List ℕ
-where_text files base name None = shown (path_below base name) ++ codes ": "
-where_text files base name (Some place) = place_text (path_below base (name_at files place.file)) (bytes_at files place.file) place.at
+abbrev pub where_text : PolicyFiles → List ℕ → Option Place → List ℕ
+where_text below name None = shown (path_below below.base name) ++ codes ": "
+where_text below name (Some place) = place_text (path_below below.base (name_at below.files place.file)) (bytes_at below.files place.file) place.at
 
 -- a record with where a rule stands: its file, line and column, or the profile's file alone
-abbrev pub with_where : List File → List ℕ → List ℕ → Option Place → Members → Members
-with_where files base name None members = with_text (codes "file") (path_below base name) members
-with_where files base name (Some place) members =
-    with_place (path_below base (name_at files place.file)) (bytes_at files place.file) place.at members
+abbrev pub with_where : PolicyFiles → List ℕ → Option Place → Members → Members
+with_where below name None members = with_text (codes "file") (path_below below.base name) members
+with_where below name (Some place) members =
+    with_place (path_below below.base (name_at below.files place.file)) (bytes_at below.files place.file) place.at members
 
 -- the record of a rule: the words over its group, where it stands, and the rule as `show` tells it
-abbrev pub rule_record : Folder → List ℕ → List ℕ → Option Place → Rule → Members
-rule_record folder name words place rule =
+abbrev pub rule_record : PolicyFiles → List ℕ → List ℕ → Option Place → Rule → Members
+rule_record below name words place rule =
     with_text (codes "rule") (rule_text rule)
-    (with_where folder.files folder.base name place (with_text (codes "group") words (record_of (codes "rule"))))
+    (with_where below name place (with_text (codes "group") words (record_of (codes "rule"))))
 
 -- a rule as `show` tells it, as it is shown
 abbrev pub shown_rule : Rule → List ℕ
 shown_rule rule = shown (rule_text rule)
 
 -- the line of a rule: where it stands, and the rule as `show` tells it; the words over its group stand in a record alone
-abbrev pub told_line : Form → Folder → List ℕ → List ℕ → Option Place → Rule → List ℕ
-told_line Lines folder name words place rule = codes "  " ++ where_text folder.files folder.base name place ++ shown_rule rule ++ line_feed ∷ []
-told_line Records folder name words place rule = record_line (rule_record folder name words place rule)
+abbrev pub told_line : Form → PolicyFiles → List ℕ → List ℕ → Option Place → Rule → List ℕ
+told_line Lines below name words place rule = codes "  " ++ where_text below name place ++ shown_rule rule ++ line_feed ∷ []
+told_line Records below name words place rule = record_line (rule_record below name words place rule)
 
 -- where the rule at an index stands
 abbrev pub place_at : List (Option Place) → ℕ → Option Place
@@ -51,7 +51,7 @@ place_at places index = elim (slice_get places index) [ None ↦ None | Some pla
 abbrev pub line_at : Form → Written → List ℕ → ℕ → List ℕ
 line_at form written words index = elim (slice_get written.rules index) [
   | None ↦ []
-  | Some rule ↦ told_line form (folder_of written) written.name words (place_at written.places index) rule
+  | Some rule ↦ told_line form written.below written.name words (place_at written.places index) rule
 ]
 
 -- the lines of the rules at some indexes, below these words; none where there is no index

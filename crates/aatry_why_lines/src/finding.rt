@@ -7,6 +7,7 @@ ghost use Rattle.aatry_report.specs.Lines.{line_number};
 ghost use Rattle.aatry_why_lines.specs.Finding.{AreOfTheirFiles};
 
 use aa_text_files::{Files, Place};
+use aatry_folder::PolicyFiles;
 use aatry_report::{LinePlace, Walk, path_below};
 use std::alloc::{AllocError, Global};
 use std::marker::Model;
@@ -24,22 +25,21 @@ pub struct FileWalk {
 /// whatever places in others come between them. Contracts see the files and the folder's path.
 #[derive(Drop)]
 pub struct Finder<'a> {
-    // All files and folders below the folder.
-    files: &'a Files,
-    // The folder's path.
-    base: &'a [u8],
+    // What lies below the folder.
+    below: PolicyFiles<'a>,
     // A walk over each file of which a place was found.
     walks: Vec<FileWalk>,
 }
 
 impl<'a> Model for Finder<'a> {
-    ghost use Rattle.aatry_why_lines.specs.Finding.{AreOfTheirFiles, Folder};
+    ghost use Rattle.aatry_folder.specs.PolicyFiles.{PolicyFiles, seen_files};
+    ghost use Rattle.aatry_why_lines.specs.Finding.{AreOfTheirFiles};
 
-    ghost Value = { Folder };
+    ghost Value = { PolicyFiles };
 
-    ghost view = { λ f. record { files = f.files.now; base = f.base.now } };
+    ghost view = { λ f. seen_files f.below };
 
-    ghost invariant = { λ f. AreOfTheirFiles f.files.now f.walks.items };
+    ghost invariant = { λ f. AreOfTheirFiles f.below.files.now f.walks.items };
 }
 
 // The place of the walk over a file among some.
@@ -80,17 +80,17 @@ fn walk_on(files: &Files, walks: &mut Vec<FileWalk>, place: Place) -> Result<Lin
 impl<'a> Finder<'a> {
     ghost use Rattle.std.specs.Prelude.{◌≡◌, IfOk};
     ghost use Rattle.aa_text_files.specs.Files.{bytes_at, name_at};
+    ghost use Rattle.aatry_folder.specs.PolicyFiles.{seen_files};
     ghost use Rattle.aatry_report.specs.Columns.{column};
     ghost use Rattle.aatry_report.specs.FilePlaces.{path_below};
     ghost use Rattle.aatry_report.specs.Lines.{line_number};
 
     /// A finder that has found no place yet. It takes no memory.
-    pub fn new(alloc: Global, files: &'a Files, base: &'a [u8]) -> Finder<'a>
-        ensures { result ≡ record { files = files.now; base = base.now } }
+    pub fn new(alloc: Global, below: PolicyFiles<'a>) -> Finder<'a>
+        ensures { result ≡ seen_files below.entry }
     {
         Finder {
-            files,
-            base,
+            below,
             walks: Vec::new(alloc),
         }
     }
@@ -104,14 +104,14 @@ impl<'a> Finder<'a> {
     pub(crate) fn path_below(&self, name: &[u8]) -> Result<Vec<u8>, AllocError>
         ensures { IfOk result (λ path. path.items ≡ path_below self.now.base name.now) }
     {
-        path_below(self.alloc(), self.base, name)
+        path_below(self.alloc(), self.below.base, name)
     }
 
     // The path that the file of a place is told by.
     pub(crate) fn path_of(&self, place: Place) -> Result<Vec<u8>, AllocError>
         ensures { IfOk result (λ path. path.items ≡ path_below self.now.base (name_at self.now.files place.file)) }
     {
-        self.path_below(self.files.name_at(place.file))
+        self.path_below(self.below.files.name_at(place.file))
     }
 
     // The line and the column of a place.
@@ -120,6 +120,6 @@ impl<'a> Finder<'a> {
         ensures line { IfOk result (λ found. found.line ≡ line_number (bytes_at self.old.files place.file) place.at) }
         ensures column { IfOk result (λ found. found.column ≡ column (bytes_at self.old.files place.file) place.at) }
     {
-        walk_on(self.files, &mut self.walks, place)
+        walk_on(self.below.files, &mut self.walks, place)
     }
 }

@@ -6,7 +6,7 @@ ghost use Rattle.aatry_report.specs.Records.{with_text};
 ghost use Rattle.aatry_report.specs.SeenRecord.{seen_record};
 ghost use Rattle.aatry_why_lines.specs.Lines.{group_lines, line_at, missing_line, missing_record, place_at, told_line};
 ghost use Rattle.aatry_why_lines.specs.Lines.{rule_record, shown_rule, where_text, with_where};
-ghost use Rattle.aatry_why_lines.specs.Written.{folder_of, seen_rules};
+ghost use Rattle.aatry_why_lines.specs.Written.{seen_rules};
 ghost use Rattle.aatry_report.specs.declared.form.Form.TheVariants.{Lines};
 
 use crate::finding::Finder;
@@ -29,7 +29,7 @@ pub fn push_where(
     place: Option<Place>,
     out: &mut Vec<u8>,
 ) -> Result<(), AllocError>
-    ensures told { OnOk result (out.new.items ≡ out.old.items ++ where_text finder.old.files finder.old.base name.now place) }
+    ensures told { OnOk result (out.new.items ≡ out.old.items ++ where_text finder.old name.now place) }
     ensures same { finder.new ≡ finder.old }
 {
     match place {
@@ -58,7 +58,7 @@ pub fn put_where(
     place: Option<Place>,
     into: &mut Record,
 ) -> Result<(), AllocError>
-    ensures told { OnOk result (seen_record into.new ≡ with_where finder.old.files finder.old.base name.now place (seen_record into.old)) }
+    ensures told { OnOk result (seen_record into.new ≡ with_where finder.old name.now place (seen_record into.old)) }
     ensures same { finder.new ≡ finder.old }
 {
     match place {
@@ -167,7 +167,7 @@ fn push_line(
     index: usize,
     out: &mut Vec<u8>,
 ) -> Result<(), AllocError>
-    requires { finder.old ≡ folder_of (seen_rules written.now) }
+    requires { finder.old ≡ (seen_rules written.now).below }
     ensures told { OnOk result (out.new.items ≡ out.old.items ++ line_at teller.form (seen_rules written.now) words.now index) }
     ensures same { finder.new ≡ finder.old }
 {
@@ -194,7 +194,7 @@ pub fn push_lines(
 ) -> Result<(), AllocError>
     ensures { OnOk result (out.new.items ≡ out.old.items ++ flat_map (line_at teller.form (seen_rules written.now) words.now) indexes.now) }
 {
-    let mut finder = Finder::new(teller.alloc, written.files, written.base);
+    let mut finder = Finder::new(teller.alloc, written.below);
     let mut rest = indexes;
     while let [index, behind @ ..] = rest {
         push_line(&mut finder, teller, written, words, *index, out)?;

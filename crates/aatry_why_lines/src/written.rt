@@ -1,15 +1,14 @@
 //! Rules with where they are written.
 
 use aa_explain_rules::AskedRules;
-use aa_text_files::{Files, Place};
+use aa_text_files::Place;
+use aatry_folder::PolicyFiles;
 
 /// The rules of a profile, or of a child or hat, with where they are written.
 #[derive(Clone, Copy)]
 pub struct WrittenRules<'a> {
-    /// All files and folders below the folder of policy, by their names in it.
-    pub files: &'a Files,
-    /// The folder's path, without a `/` at its end.
-    pub base: &'a [u8],
+    /// What lies below the folder of policy.
+    pub below: PolicyFiles<'a>,
     /// The name of the file that has the profile.
     pub name: &'a [u8],
     /// The rules.

@@ -74,7 +74,7 @@ fn rule_denies(alloc: Global) -> bool {
     let Some((_, web)) = find_named(&slots, b"web") else {
         return false;
     };
-    match explain::denying_places(alloc, web.ready().rules_at(None), b"/srv/www/private") {
+    match explain::denying_places(alloc, web.ready().section(None).rules, b"/srv/www/private") {
         Ok(places) => places.as_slice() == [1].as_slice(),
         Err(_) => false,
     }

@@ -117,16 +117,15 @@ fn rows(alloc: Global, rules: AskedRules<'_>) -> [(&'static str, bool); 6] {
 
 // What is wrong of the rules of a profile, each of which is tried by itself.
 fn wrong_listed(alloc: Global, entry: &Entry) -> Option<&'static str> {
-    let rules = entry.ready().rules_at(None);
+    let rules = entry.ready().section(None).rules;
     let audit = false;
     first_wrong(&rows(alloc, AskedRules::Listed { audit, rules }))
 }
 
 // And of the same rules, as the automaton of their profile finds them.
 fn wrong_loaded(alloc: Global, entry: &Entry) -> Option<&'static str> {
-    let ready = entry.ready();
-    let child = None;
-    first_wrong(&rows(alloc, AskedRules::Loaded { ready, child }))
+    let section = entry.ready().section(None);
+    first_wrong(&rows(alloc, AskedRules::Loaded(section)))
 }
 
 fn wrong(alloc: Global) -> Option<&'static str> {

@@ -1,7 +1,7 @@
 //! How many visits a request takes that a pattern of many splits almost matches.
 
 use crate::given::{files, last_profile};
-use aa_decide::{Answer, Ready, Request, Steps};
+use aa_decide::{Answer, Ready, ReadySection, Request, Steps};
 use aa_profile::{Mode, Perms};
 use std::alloc::Global;
 
@@ -31,31 +31,30 @@ fn are_many(steps: &Steps, states: usize) -> bool {
 }
 
 // Whether the profile refuses the path, and takes many visits for that.
-fn refuses(alloc: Global, ready: &Ready, path: &[u8]) -> Option<bool> {
+fn refuses(alloc: Global, section: ReadySection<'_>, path: &[u8]) -> Option<bool> {
     let mut steps = Steps::new();
     let request = Request::File {
         needs: Perms::READ,
         owned: false,
         path,
     };
-    let verdict = ready.decide(alloc, None, Mode::Enforce, &request, &mut steps);
-    Some(
-        verdict.ok()?.answer == Answer::Refuse && are_many(&steps, ready.states(alloc, None).ok()?),
-    )
+    let verdict = section.decide(alloc, Mode::Enforce, &request, &mut steps);
+    Some(verdict.ok()?.answer == Answer::Refuse && are_many(&steps, section.states(alloc).ok()?))
 }
 
 // Whether the path matches no attachment, and takes many visits for that.
-fn is_unattached(alloc: Global, ready: &Ready, path: &[u8]) -> Option<bool> {
+fn is_unattached(alloc: Global, section: ReadySection<'_>, path: &[u8]) -> Option<bool> {
     let mut steps = Steps::new();
-    let found = ready.matching_attachments(alloc, None, path, &mut steps);
-    Some(found.ok()?.is_empty() && are_many(&steps, ready.states(alloc, None).ok()?))
+    let found = section.matching_attachments(alloc, path, &mut steps);
+    Some(found.ok()?.is_empty() && are_many(&steps, section.states(alloc).ok()?))
 }
 
 // Whether the states are few, and the visits many.
 fn visits_many(alloc: Global, ready: &Ready, path: &[u8]) -> Option<bool> {
-    let is_refused = refuses(alloc, ready, path)?;
-    let is_unattached = is_unattached(alloc, ready, path)?;
-    Some(ready.states(alloc, None).ok()? <= 32 && is_refused && is_unattached)
+    let section = ready.section(None);
+    let is_refused = refuses(alloc, section, path)?;
+    let is_unattached = is_unattached(alloc, section, path)?;
+    Some(section.states(alloc).ok()? <= 32 && is_refused && is_unattached)
 }
 
 fn takes_many(alloc: Global) -> Option<bool> {

@@ -21,6 +21,7 @@ pub fn lets_write(
     let mut steps = Steps::new();
     let verdict = web
         .ready()
-        .decide(alloc, None, Mode::Enforce, &request, &mut steps)?;
+        .section(None)
+        .decide(alloc, Mode::Enforce, &request, &mut steps)?;
     Ok(Some(verdict.answer == Answer::Allow))
 }

@@ -1,4 +1,5 @@
 use Rattle.std.proofs.Common.{◌≡◌, ◌∙◌, ◌<◌, ap, get_or, length, sym}
+use Rattle.aa_decide_attachment.specs.Ranks.{best_rank}
 use Rattle.aa_decide.proofs.ChildLemmas.{ranks-more}
 use Rattle.aa_decide.proofs.attachment.child_ranks.Goals as goal
 
@@ -9,6 +10,8 @@ loop-place-preserved c =
     let place = c.loop-place.place in
     let child = c.index-children-place.result in
     let within : place < length children = rw (sym same) c.loop-place-test.true in
-    ranks-more c.args.path.now children place c.loop-place.ranks.items c.push.new.self.items c.in_ok-ready_rank.field-0 child within
+    ranks-more c.args.path.now children place c.loop-place.ranks.items c.push.new.self.items c.in_ok-section_rank.field-0 child within
     (c.index-children-place.is ∙ ap (λ all. get_or all place child) same)
-    c.loop-place.invariant c.in_ok-ready_rank.ensures c.in_ok-push.ensures.items
+    c.loop-place.invariant
+    (c.in_ok-section_rank.ensures ∙ ap (λ section. best_rank c.args.path.now section.attachments) c.section.ensures)
+    c.in_ok-push.ensures.items

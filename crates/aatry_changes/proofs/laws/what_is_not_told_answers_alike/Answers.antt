@@ -1,5 +1,4 @@
 use Rattle.aatry_changes.proofs.LawLemmas.{old-untold}
-use Rattle.aatry_changes.specs.PartFeatures.{section_of}
 use Rattle.aatry_changes.proofs.laws.what_is_not_told_answers_alike.Goals as goal
 
 pub returns-clause-of_a_part : goal.returns-clause-of_a_part
@@ -9,8 +8,8 @@ returns-clause-of_a_part c form old new part none =
       other,
       found,
       record {
-        verdicts = λ request. law.same_verdict (section_of part) (section_of other) request alike;
-        choices = λ owned path agrees read bytes. law.same_choice (section_of part) (section_of other) owned path alike agrees read bytes;
+        verdicts = λ request. law.same_verdict part.section other.section request alike;
+        choices = λ owned path agrees read bytes. law.same_choice part.section other.section owned path alike agrees read bytes;
       },
     )
 
@@ -21,7 +20,7 @@ returns-clause-of_all c form old new part none there =
       other,
       found,
       record {
-        verdicts = λ request. law.same_verdict (section_of part) (section_of other) request alike;
-        choices = λ owned path agrees read bytes. law.same_choice (section_of part) (section_of other) owned path alike agrees read bytes;
+        verdicts = λ request. law.same_verdict part.section other.section request alike;
+        choices = λ owned path agrees read bytes. law.same_choice part.section other.section owned path alike agrees read bytes;
       },
     )

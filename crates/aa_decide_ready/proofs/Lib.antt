@@ -1,0 +1,2 @@
+pub mod AgreementLemmas
+pub mod PartLemmas

@@ -1,0 +1,5 @@
+pub mod Ready
+pub mod Sections
+pub mod SeenSections
+pub mod Visits
+pub mod code

@@ -1,0 +1,28 @@
+-- A profile, or a child or hat of it, by what it decides.
+use Rattle.std.specs.Prelude.{ℕ, Bool, List, Option}
+use Rattle.aa_profile_access.specs.Request.{Request}
+use Rattle.aa_profile_data.specs.declared.profile.Mode.{Mode}
+use Rattle.aa_profile_data.specs.declared.profile.Profile.{Profile}
+use Rattle.aa_profile_data.specs.declared.profile.Rule.{Rule}
+use Rattle.aa_decide_rules.specs.Verdict.{verdict}
+use Rattle.aa_decide_audit.specs.declared.verdict.Verdict.{Verdict}
+use Rattle.aa_decide_ready.specs.Ready.{audits, rules_at}
+use Rattle.aa_decide_ready.specs.Visits.{attachments_at}
+
+-- what a profile, a child or a hat decides by: whether its flag audits each of its rules, these, and the patterns of its attachments
+pub record Section : Type 0 where
+  pub audit : Bool
+  pub rules : List Rule
+  pub attachments : List (List ℕ)
+
+-- that of a profile, or of its child or hat at a place; one that isn't there has no rules and no attachments
+abbrev pub section_at : Profile → Option ℕ → Section
+section_at profile child = record {
+  audit = audits profile child;
+  rules = rules_at profile child;
+  attachments = attachments_at profile child;
+}
+
+-- what it says of a request in a mode, by its own rules
+abbrev pub decided_by : Section → Mode → Request → Verdict
+decided_by section mode request = verdict mode section.audit section.rules request

@@ -1,0 +1,11 @@
+//! What is made ready of a profile: automata of its rules and of its attachments, by which it decides.
+#![tactic(auto)]
+
+mod part;
+mod ready;
+mod section;
+
+pub use aa_glob_front::Steps;
+pub use part::picked;
+pub use ready::Ready;
+pub use section::ReadySection;

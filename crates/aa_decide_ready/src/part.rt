@@ -1,0 +1,293 @@
+//! What is made ready of a profile, and of each of its children and hats.
+
+ghost use Rattle.std.specs.Prelude.{◌≡◌, ◌++◌, ◌∷◌, [], ℕ, List, IfOk, OnOk};
+ghost use Rattle.std.specs.List.Sorted.{IsStrictlyIncreasing};
+ghost use Rattle.aa_glob_automaton.specs.Automata.{IsAutomatonOf};
+ghost use Rattle.aa_glob_syntax.specs.Patterns.{AreMatching};
+ghost use Rattle.aa_glob_automaton.specs.Built.{IsBuilt};
+ghost use Rattle.aa_glob_pattern.specs.Beginnings.{HasStates};
+ghost use Rattle.aa_decide_ready.specs.Visits.{AreAllVisitsOf, AreFewStates, AreVisitsOf};
+ghost use Rattle.aa_profile_data.specs.Matching.{AreMatchingRules};
+ghost use Rattle.aa_decide_ready.specs.code.Parts.{AreFileRulesOf, ArePartsOf, HoldsOf, IsPartOf};
+ghost use Rattle.aa_profile_data.specs.FileRules.{places_from, file_patterns};
+ghost use Rattle.aa_profile_data.specs.Picked.{picked};
+
+use aa_bytes::Sequence;
+use aa_glob_automaton::{Automaton, AutomatonBuilder};
+use aa_glob_front::Steps;
+use aa_glob_pattern::Pattern;
+use aa_profile_data::{Child, Rule, which_rules_match};
+use std::alloc::{AllocError, Global};
+
+/// What is made of the file rules among some rules.
+#[derive(Drop)]
+pub struct FileRules {
+    // The automaton of their patterns, in the order of the rules.
+    automaton: Automaton,
+    // Where they stand among all rules.
+    places: Sequence<usize>,
+}
+
+/// What is made of a profile, or of a child or hat.
+#[derive(Drop)]
+pub struct Part {
+    // What is made of the file rules: nothing, until a path is remembered for the first time.
+    files: Option<FileRules>,
+    // The automaton of the attachments.
+    attachments: Automaton,
+}
+
+// The same with the pattern of a rule more, if it is one on files.
+fn with_file(
+    builder: AutomatonBuilder,
+    alloc: Global,
+    rule: &Rule,
+) -> Result<AutomatonBuilder, AllocError>
+    ensures { IfOk result (λ added. (patterns : List (List ℕ))
+        → IsBuilt builder patterns
+        → IsBuilt added (patterns ++ file_patterns (rule.now ∷ []))) }
+{
+    match rule {
+        Rule::File(rule) => builder.add(alloc, &rule.pattern),
+        _ => Ok(builder),
+    }
+}
+
+// The automaton of the patterns of the file rules.
+fn files_of(alloc: Global, rules: &[Rule]) -> Result<Automaton, AllocError>
+    ensures { IfOk result (λ automaton. IsAutomatonOf automaton (file_patterns rules.now)) }
+{
+    let mut builder = AutomatonBuilder::new(alloc)?;
+    for rule in rules {
+        builder = with_file(builder, alloc, rule)?;
+    }
+    Ok(builder.finish())
+}
+
+// The places of the file rules.
+fn places_of(alloc: Global, rules: &[Rule]) -> Result<Vec<usize>, AllocError>
+    ensures { IfOk result (λ places. places.items ≡ places_from 0 rules.now) }
+{
+    let mut places = Vec::new(alloc);
+    let mut place: usize = 0;
+    let mut rest = rules;
+    while let [rule, behind @ ..] = rest {
+        if let Rule::File(_) = rule {
+            places.push(place)?;
+        }
+        place += 1;
+        rest = behind;
+    }
+    Ok(places)
+}
+
+/// What stands at some places of a list, in the order of the places. Places behind its end pick nothing.
+///
+/// # Errors
+///
+/// Where memory runs out.
+pub fn picked(alloc: Global, numbers: &[usize], places: &[usize]) -> Result<Vec<usize>, AllocError>
+    ensures { IfOk result (λ found. found.items ≡ picked numbers.now places.now) }
+{
+    let mut found = Vec::with_capacity(alloc, places.len())?;
+    let mut rest = places;
+    while let [place, behind @ ..] = rest {
+        if let Some(number) = numbers.get(*place) {
+            found.push(*number)?;
+        }
+        rest = behind;
+    }
+    Ok(found)
+}
+
+impl FileRules {
+    /// What is made of the file rules among these.
+    ///
+    /// # Errors
+    ///
+    /// Where memory runs out.
+    pub fn build(alloc: Global, rules: &[Rule]) -> Result<FileRules, AllocError>
+        ensures { IfOk result (λ made. AreFileRulesOf made rules.now) }
+    {
+        let automaton = files_of(alloc, rules)?;
+        let places = places_of(alloc, rules)?;
+        Ok(FileRules {
+            automaton,
+            places: Sequence::from_vec(places),
+        })
+    }
+
+    // How many states the automaton has.
+    fn states(&self) -> usize
+        ensures states { (rules : List Rule) → AreFileRulesOf self.now rules → HasStates (file_patterns rules) result }
+        ensures few { (rules : List Rule) → AreFileRulesOf self.now rules → AreFewStates rules result }
+    {
+        self.automaton.states()
+    }
+
+    // The places of the file rules whose pattern matches a path.
+    fn matching(
+        &self,
+        alloc: Global,
+        path: &[u8],
+        steps: &mut Steps,
+    ) -> Result<Vec<usize>, AllocError>
+        ensures found { IfOk result (λ places. (rules : List Rule) → AreFileRulesOf self.now rules → AreMatchingRules rules path.now places.items) }
+        ensures rise { IfOk result (λ places. (rules : List Rule) → AreFileRulesOf self.now rules → IsStrictlyIncreasing places.items) }
+        ensures steps { (rules : List Rule) → AreFileRulesOf self.now rules → AreVisitsOf (file_patterns rules) path.now steps.old steps.new }
+        ensures all { (rules : List Rule) → AreFileRulesOf self.now rules
+            → OnOk result (AreAllVisitsOf (file_patterns rules) path.now steps.old steps.new) }
+    {
+        which_rules_match();
+        let found = self.automaton.matching(alloc, path, steps)?;
+        picked(alloc, self.places.as_slice(), found.as_slice())
+    }
+
+    // Remembers what follows at the places of a path (`Automaton::remember`), and reports whether all of it is remembered now.
+    fn remember(&mut self, alloc: Global, path: &[u8]) -> bool
+        ensures { self.new ≡ self.old }
+    {
+        self.automaton.remember(alloc, path)
+    }
+
+    // Forgets what was remembered.
+    fn forget(&mut self, alloc: Global)
+        ensures { self.new ≡ self.old }
+    {
+        self.automaton.forget(alloc);
+    }
+}
+
+impl Part {
+    /// What is made of some rules and these attachments at first: of the rules nothing yet.
+    ///
+    /// # Errors
+    ///
+    /// Where memory runs out.
+    pub fn build(alloc: Global, attachments: &[Pattern]) -> Result<Part, AllocError>
+        ensures { IfOk result (λ part. (rules : List Rule) → IsPartOf part rules attachments.now) }
+    {
+        Ok(Part {
+            files: None,
+            attachments: Automaton::build(alloc, attachments)?,
+        })
+    }
+
+    /// How many states the automaton of the file rules has, of which the part was made.
+    ///
+    /// # Errors
+    ///
+    /// Where memory runs out: where nothing was made of the rules yet, it is made for this.
+    pub fn states(&self, alloc: Global, rules: &[Rule]) -> Result<usize, AllocError>
+        ensures states { (attachments : List (List ℕ)) → IsPartOf self.now rules.now attachments
+            → IfOk result (HasStates (file_patterns rules.now)) }
+        ensures few { (attachments : List (List ℕ)) → IsPartOf self.now rules.now attachments → IfOk result (AreFewStates rules.now) }
+    {
+        match &self.files {
+            Some(files) => Ok(files.states()),
+            None => Ok(FileRules::build(alloc, rules)?.states()),
+        }
+    }
+
+    /// The places of the file rules whose pattern matches a path, among the rules of which the part was made. Where nothing was made of these yet, it is
+    /// made for this question alone.
+    ///
+    /// # Errors
+    ///
+    /// Where memory runs out.
+    pub fn matching_rules(
+        &self,
+        alloc: Global,
+        rules: &[Rule],
+        path: &[u8],
+        steps: &mut Steps,
+    ) -> Result<Vec<usize>, AllocError>
+        ensures found { (attachments : List (List ℕ)) → IsPartOf self.now rules.now attachments
+            → IfOk result (λ places. AreMatchingRules rules.now path.now places.items) }
+        ensures rise { (attachments : List (List ℕ)) → IsPartOf self.now rules.now attachments
+            → IfOk result (λ places. IsStrictlyIncreasing places.items) }
+        ensures steps { (attachments : List (List ℕ)) → IsPartOf self.now rules.now attachments
+            → AreVisitsOf (file_patterns rules.now) path.now steps.old steps.new }
+        ensures all { (attachments : List (List ℕ)) → IsPartOf self.now rules.now attachments
+            → OnOk result (AreAllVisitsOf (file_patterns rules.now) path.now steps.old steps.new) }
+    {
+        match &self.files {
+            Some(files) => files.matching(alloc, path, steps),
+            None => FileRules::build(alloc, rules)?.matching(alloc, path, steps),
+        }
+    }
+
+    /// The places of the attachments that match a path.
+    ///
+    /// # Errors
+    ///
+    /// Where memory runs out.
+    pub fn matching_attachments(
+        &self,
+        alloc: Global,
+        path: &[u8],
+        steps: &mut Steps,
+    ) -> Result<Vec<usize>, AllocError>
+        ensures found { IfOk result (λ places. HoldsOf self.now (λ rules attachments. AreMatching attachments path.now places.items)) }
+        ensures rise { IfOk result (λ places. HoldsOf self.now (λ rules attachments. IsStrictlyIncreasing places.items)) }
+        ensures steps { HoldsOf self.now (λ rules attachments. AreVisitsOf attachments path.now steps.old steps.new) }
+        ensures all { HoldsOf self.now (λ rules attachments. OnOk result (AreAllVisitsOf attachments path.now steps.old steps.new)) }
+    {
+        self.attachments.matching(alloc, path, steps)
+    }
+
+    // Makes what is made of the file rules among those of which the part was made, if that wasn't done yet and there is memory for it.
+    fn make_files(&mut self, alloc: Global, rules: &[Rule])
+        ensures { (attachments : List (List ℕ)) → IsPartOf self.old rules.now attachments → IsPartOf self.new rules.now attachments }
+    {
+        if self.files.is_some() {
+            return;
+        }
+        if let Ok(made) = FileRules::build(alloc, rules) {
+            self.files = Some(made);
+        }
+    }
+
+    // Remembers what follows at the places of a path, as far as something was made of the file rules.
+    fn remember_made(&mut self, alloc: Global, path: &[u8]) -> bool
+        ensures { self.new ≡ self.old }
+    {
+        match &mut self.files {
+            None => false,
+            Some(files) => files.remember(alloc, path),
+        }
+    }
+
+    /// Remembers what follows at the places of a path, of the file rules among those of which the part was made (`Automaton::remember`), and reports
+    /// whether all of it is remembered now.
+    pub fn remember(&mut self, alloc: Global, rules: &[Rule], path: &[u8]) -> bool
+        ensures { (attachments : List (List ℕ)) → IsPartOf self.old rules.now attachments → IsPartOf self.new rules.now attachments }
+    {
+        self.make_files(alloc, rules);
+        self.remember_made(alloc, path)
+    }
+
+    /// Forgets what was remembered.
+    pub fn forget(&mut self, alloc: Global)
+        ensures { self.new ≡ self.old }
+    {
+        if let Some(files) = &mut self.files {
+            files.forget(alloc);
+        }
+    }
+}
+
+/// The part of each child, in their order.
+///
+/// # Errors
+///
+/// Where memory runs out.
+pub fn parts_of(alloc: Global, children: &[Child]) -> Result<Vec<Part>, AllocError>
+    ensures { IfOk result (λ parts. ArePartsOf parts.items children.now) }
+{
+    let mut parts = Vec::with_capacity(alloc, children.len())?;
+    for child in children {
+        parts.push(Part::build(alloc, child.attachments.as_slice())?)?;
+    }
+    Ok(parts)
+}

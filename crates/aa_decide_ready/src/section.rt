@@ -1,0 +1,205 @@
+//! What decides of a profile that was made ready, or of a child or hat of it.
+
+ghost use Rattle.std.specs.Prelude.{◌≡◌, true, IfOk, OnOk, OnErr};
+ghost use Rattle.std.specs.List.{All};
+ghost use Rattle.std.specs.List.Sorted.{IsStrictlyIncreasing};
+ghost use Rattle.aa_glob_syntax.specs.Patterns.{AreMatching};
+ghost use Rattle.aa_glob_pattern.specs.Beginnings.{HasStates};
+ghost use Rattle.aa_decide_ready.specs.Visits.{AreAllStepsOf, AreAllVisitsOf, AreFewStates, AreStepsOf, AreVisitsOf, attachments_at};
+ghost use Rattle.aa_profile_data.specs.ConflictLaws.{HasReadPattern};
+ghost use Rattle.aa_profile_data.specs.Conflicts.{agree};
+ghost use Rattle.aa_profile_data.specs.FileRules.{file_patterns};
+ghost use Rattle.aa_profile_data.specs.Matching.{AreMatchingRules};
+ghost use Rattle.aa_decide_ready.specs.Ready.{rules_at};
+ghost use Rattle.aa_decide_rules.specs.Verdict.{is_for_file};
+ghost use Rattle.aa_profile_access.specs.SeenRequests.{request_of};
+
+use crate::ready::Ready;
+use aa_decide_audit::Verdict;
+use aa_decide_rules::{found_verdict, rules_verdict, what_matching_rules_decide};
+use aa_glob_front::Steps;
+use aa_glob_pattern::{Pattern, how_many_states_there_are};
+use aa_profile_access::Request;
+use aa_profile_data::{Mode, Rule, which_rules_match};
+use std::alloc::{AllocError, Global};
+
+/// A profile that was made ready, or a child or hat of it: what it decides by, lent. One that isn't there has no rules and no attachments.
+#[derive(Clone, Copy)]
+pub struct ReadySection<'a> {
+    /// Whether its flag audits each of its rules.
+    pub audit: bool,
+    /// The rules by which it decides, whatever the others of its profile say.
+    pub rules: &'a [Rule],
+    /// The patterns of its attachments.
+    pub attachments: &'a [Pattern],
+    // The profile,
+    ready: &'a Ready,
+    // and the place of the child or hat among its children; none where it is the profile itself.
+    child: Option<usize>,
+    ghost own: { rules.now ≡ rules_at ready.now child },
+    ghost attached: { attachments.now ≡ attachments_at ready.now child },
+}
+
+// The pattern of a rule on files reads.
+fn pattern_reads(rule: &Rule)
+    ensures { HasReadPattern rule.now }
+{
+    if let Rule::File(rule) = rule {
+        let _text = rule.pattern.text();
+    }
+}
+
+// So does that of each of some rules.
+fn patterns_read(rules: &[Rule])
+    ensures { All HasReadPattern rules.now }
+{
+    let mut rest = rules;
+    while let [rule, behind @ ..] = rest {
+        pattern_reads(rule);
+        rest = behind;
+    }
+}
+
+impl Ready {
+    ghost use Rattle.aa_decide_ready.specs.Sections.{section_at};
+    ghost use Rattle.aa_decide_ready.specs.SeenSections.{seen_section};
+
+    /// What decides of the profile, or of its child or hat at a place. It takes no memory.
+    pub fn section(&self, child: Option<usize>) -> ReadySection<'_>
+        ensures { seen_section result ≡ section_at self.now child }
+    {
+        let profile = &self.profile;
+        match child {
+            None => ReadySection {
+                audit: profile.audit,
+                rules: profile.rules.as_slice(),
+                attachments: profile.attachments.as_slice(),
+                ready: self,
+                child,
+            },
+            Some(place) => match profile.children.as_slice().get(place) {
+                None => ReadySection {
+                    audit: false,
+                    rules: &[],
+                    attachments: &[],
+                    ready: self,
+                    child,
+                },
+                Some(own) => ReadySection {
+                    audit: own.audit,
+                    rules: own.rules.as_slice(),
+                    attachments: own.attachments.as_slice(),
+                    ready: self,
+                    child,
+                },
+            },
+        }
+    }
+}
+
+impl<'a> ReadySection<'a> {
+    ghost use Rattle.aa_decide_ready.specs.Sections.{decided_by};
+    ghost use Rattle.aa_decide_ready.specs.SeenSections.{seen_section};
+
+    /// Of the rules no two conflict, and the pattern of each on files reads (docs/policy.md, "Rules that conflict").
+    pub fn rules_agree(self)
+        ensures agree { agree self.entry.rules.now ≡ true }
+        ensures read { All HasReadPattern self.entry.rules.now }
+    {
+        let ready = self.ready;
+        let _profile = &ready.profile;
+        patterns_read(self.rules);
+    }
+
+    /// How many states the automaton has that a request for a file asks (docs/policy.md, "Decisions").
+    ///
+    /// # Errors
+    ///
+    /// Where memory runs out: where nothing was made of the rules yet, it is made for this.
+    pub fn states(self, alloc: Global) -> Result<usize, AllocError>
+        ensures states { IfOk result (HasStates (file_patterns self.entry.rules.now)) }
+        ensures few { IfOk result (AreFewStates self.entry.rules.now) }
+    {
+        how_many_states_there_are();
+        match self.ready.part_at(self.child) {
+            None => Ok(0),
+            Some(part) => part.states(alloc, self.rules),
+        }
+    }
+
+    /// The places of the rules on files whose pattern matches a path, in rising order. One automaton finds them.
+    ///
+    /// # Errors
+    ///
+    /// Where memory runs out.
+    pub fn matching_rules(
+        self,
+        alloc: Global,
+        path: &[u8],
+        steps: &mut Steps,
+    ) -> Result<Vec<usize>, AllocError>
+        ensures found { IfOk result (λ places. AreMatchingRules self.entry.rules.now path.now places.items) }
+        ensures rise { IfOk result (λ places. IsStrictlyIncreasing places.items) }
+        ensures steps { AreVisitsOf (file_patterns self.entry.rules.now) path.now steps.old steps.new }
+        ensures all { OnOk result (AreAllVisitsOf (file_patterns self.entry.rules.now) path.now steps.old steps.new) }
+    {
+        match self.ready.part_at(self.child) {
+            None => Ok(Vec::new(alloc)),
+            Some(part) => part.matching_rules(alloc, self.rules, path, steps),
+        }
+    }
+
+    /// The places of the attachments that match a path, in rising order. One automaton finds them.
+    ///
+    /// # Errors
+    ///
+    /// Where memory runs out.
+    pub fn matching_attachments(
+        self,
+        alloc: Global,
+        path: &[u8],
+        steps: &mut Steps,
+    ) -> Result<Vec<usize>, AllocError>
+        ensures found { IfOk result (λ places. AreMatching self.entry.attachments.now path.now places.items) }
+        ensures rise { IfOk result (λ places. IsStrictlyIncreasing places.items) }
+        ensures steps { AreVisitsOf self.entry.attachments.now path.now steps.old steps.new }
+        ensures all { OnOk result (AreAllVisitsOf self.entry.attachments.now path.now steps.old steps.new) }
+    {
+        match self.ready.part_at(self.child) {
+            None => Ok(Vec::new(alloc)),
+            Some(part) => part.matching_attachments(alloc, path, steps),
+        }
+    }
+
+    /// What is said of a request in a mode: by the rules of the profile, child or hat itself, whatever those of the others say (apparmor.d(5);
+    /// docs/policy.md, "Decisions"). One that isn't there allows nothing. A request for a file is asked of one automaton, whose visits are counted;
+    /// any other goes over the rules, and takes neither visits nor memory.
+    ///
+    /// # Errors
+    ///
+    /// Where memory runs out for a request for a file; for any other there is no error.
+    pub fn decide(
+        self,
+        alloc: Global,
+        mode: Mode,
+        request: &Request<'_>,
+        steps: &mut Steps,
+    ) -> Result<Verdict, AllocError>
+        ensures verdict { IfOk result (λ verdict. verdict ≡ decided_by (seen_section self.entry) mode (request_of request.entry.now)) }
+        ensures steps { AreStepsOf self.entry.rules.now (request_of request.entry.now) steps.old steps.new }
+        ensures all { OnOk result (AreAllStepsOf self.entry.rules.now (request_of request.entry.now) steps.old steps.new) }
+        ensures memory { OnErr result (is_for_file (request_of request.entry.now) ≡ true) }
+    {
+        what_matching_rules_decide();
+        which_rules_match();
+        let (audit, rules) = (self.audit, self.rules);
+        match request {
+            Request::File { path, owned, .. } => {
+                let places = self.matching_rules(alloc, path, steps)?;
+                Ok(found_verdict(mode, audit, rules, places.as_slice(), request, *owned))
+            }
+            Request::Cap(_) => Ok(rules_verdict(mode, audit, rules, request)),
+            Request::Net { .. } => Ok(rules_verdict(mode, audit, rules, request)),
+        }
+    }
+}

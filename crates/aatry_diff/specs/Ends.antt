@@ -1,0 +1,17 @@
+-- With which faults a comparison of two folders of policy may end.
+use Rattle.std.specs.Prelude.{◌⊎◌, MatchOption, Option}
+use Rattle.aaset_start.specs.Known.{Known}
+use Rattle.aatry_arguments.specs.DiffWords.{ComparisonAsked, SourceAsked}
+use Rattle.aatry_diff.specs.Below.{path_of}
+use Rattle.aatry_folder.specs.Told.{ToldFolders}
+use Rattle.aatry_folder.specs.Unread.{IsOfFile, IsOfFolder}
+use Rattle.aatry_folder.specs.declared.fault.Fault.{Fault}
+
+-- a fault keeps the file of a source of requests from being read, if there is one
+abbrev pub IsOfSource : Known → Option SourceAsked → Fault → Type 0
+IsOfSource known source fault = MatchOption source ⊥ (λ asked. IsOfFile known (path_of asked) fault)
+
+-- A comparison may end with this fault: one of the two folders can't be read, or the source of requests can't be, if there is one.
+abbrev pub IsEndOfDiff : ToldFolders → Known → ComparisonAsked → Fault → Type 0
+IsEndOfDiff folders known asked fault =
+    IsOfFolder folders known asked.old fault ⊎ IsOfFolder folders known asked.new fault ⊎ IsOfSource known asked.source fault

@@ -1,0 +1,2 @@
+mod InputLemmas
+mod SessionLemmas

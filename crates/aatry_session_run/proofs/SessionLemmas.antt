@@ -1,0 +1,53 @@
+-- What is loaded of one file more.
+use Rattle.std.proofs.Common.{◌≡◌, ◌∙◌, ◌<◌, ◌+◌, ℕ, List, [], ◌∷◌, ◌++◌, Option, inl, inr, add-one, ap, append_assoc, get_or, length, map, refl, subst, sym, take}
+use Rattle.std.proofs.Math.Seq.{take-suc}
+use Rattle.std.proofs.lemmas.List.{append-nil, map-append}
+use Rattle.aa_text_files.specs.Files.{File}
+use Rattle.aatry_session_run.specs.Session.{LoadsEach, LoadsOne, Standing}
+use Rattle.aatry_session.specs.Turns.{Kept}
+use Rattle.aaset_start.specs.Known.{Known}
+use Rattle.aatry_session_run.specs.Ends.{IsEndOfSession}
+use Rattle.aatry_folder.specs.declared.fault.Fault.{Fault}
+use Rattle.aatry_folder.specs.declared.fault.Fault.TheVariants as fault
+use Rattle.aatry_folder.specs.Told.{ToldFolders}
+use Rattle.aatry_session_run.specs.Broken.{IsBrokenRun, IsBrokenStep}
+
+-- where some files are loaded, and behind them one more, all these are
+pub loads_one_more : (files : List File) (base : List ℕ) (before : Kept) (names : List (List ℕ)) (mid : Kept) (lines name : List ℕ) (after : Kept) (more : List ℕ)
+    → LoadsEach files base before names mid lines → LoadsOne files base mid name after more → LoadsEach files base before (names ++ name ∷ []) after (lines ++ more)
+loads_one_more files base before [] mid lines name after more loaded one = (
+  after,
+  more,
+  [],
+  ap (λ t. t ++ more) loaded.1 ∙ sym (append-nil more),
+  subst (λ kept. LoadsOne files base kept name after more) loaded.0 one,
+  (refl, refl),
+)
+loads_one_more files base before (first ∷ names) mid lines name after more (next, own, rest, put, loaded, behind) one = (
+  next,
+  own,
+  rest ++ more,
+  ap (λ t. t ++ more) put ∙ append_assoc own rest more,
+  loaded,
+  loads_one_more files base next names mid rest name after more behind one,
+)
+
+-- the next of a list stands behind those so far
+pub next_taken : {S : Type 0} (f : S → List ℕ) (xs : List S) (i : ℕ) (x : S) → i < length xs → x ≡ get_or xs i x
+    → map f (take (i + 1) xs) ≡ map f (take i xs) ++ f x ∷ []
+next_taken f xs i x within is = rw (add-one, take-suc xs i x within, map-append, sym is)
+
+-- the fault that ended the run of a session's lines is one that a session may end with
+pub run_ends : (folders : ToldFolders) (known : Known) (base prompt : List ℕ) (first : Standing) (after : Option (List ℕ)) (told : Fault)
+    → IsBrokenRun folders known base prompt first after told → IsEndOfSession folders known base told
+run_ends folders known base prompt first after told (lines, before, answered, inl broken) = step_ends told broken
+  where
+    step_ends : (told : Fault) → IsBrokenStep folders known base prompt before after told → IsEndOfSession folders known base told
+    step_ends fault.Read broken = inr (inl refl)
+    step_ends fault.NoMemory broken = inl tt
+    step_ends fault.Write broken = inr (inr refl)
+    step_ends fault.BadArguments broken = absurd broken
+    step_ends fault.BadQuestion broken = absurd broken
+    step_ends (fault.Unreadable name) broken = absurd broken
+    step_ends fault.TooMany broken = absurd broken
+run_ends folders known base prompt first after told (lines, before, answered, inr (many, written, is)) = inr (inl is)

@@ -1,0 +1,140 @@
+-- What a session over a folder of policy comes to.
+use Rattle.std.specs.Prelude.{◌≡◌, ◌⊎◌, ℕ, Bool, true, false, if◌then◌else◌, List, [], ◌∷◌, ◌++◌, Option, codes}
+use Rattle.std.specs.Io.KnownBytes.{Appends}
+use Rattle.std.specs.Str.{bytes_eq}
+use Rattle.aa_bytes.specs.Bytes.{line_feed}
+use Rattle.aa_profile_access.specs.FullNames.{full_name}
+use Rattle.aa_set_answers.specs.Answers.{who_asks}
+use Rattle.aa_set_commands.specs.Question.{Question}
+use Rattle.aa_text_files.specs.Files.{File}
+use Rattle.aaset_start.specs.Gathering.{names_of}
+use Rattle.aatry_why.specs.Why.{answered_text}
+use Rattle.aatry_why.specs.Sources.{Sources}
+use Rattle.aatry_folder.specs.PolicyFolders.{AreBelow, top_names}
+use Rattle.aatry_folder.specs.Unread.{IsOfFolder}
+use Rattle.aatry_session_run.specs.Faults.{told_line}
+use Rattle.aatry_folder.specs.declared.fault.Fault.{Fault}
+use Rattle.aatry_session_run.specs.Inputs.{GivesLine}
+use Rattle.aatry_report.specs.Shown.{shown}
+use Rattle.aatry_report.specs.declared.form.Form.TheVariants.{Lines}
+use Rattle.aatry_session.specs.History.{ok_line}
+use Rattle.aatry_session.specs.Turns.{Answer, Kept, Told, Ended, Anew, Asked, add_outcome, begun, origin_of, turn_outcome, unplaced}
+use Rattle.aatry_folder.specs.Told.{ToldFolders}
+use Rattle.aaset_start.specs.Known.{Known}
+
+-- a session over a folder of policy: all that lies below it, as it was read last, and the session itself
+pub record State : Type 0 where
+  pub files : List File
+  pub kept : Kept
+
+-- the line of a file that is left out
+abbrev pub left_out_line : List ℕ → List ℕ
+left_out_line name = codes "left out: " ++ shown name ++ line_feed ∷ []
+
+-- what is told of a file as it is loaded: that it is left out, and why; and nothing of one that is taken
+abbrev pub loading_text : List ℕ → Answer → List ℕ
+loading_text name (Told text) = if bytes_eq text ok_line then [] else left_out_line name ++ text
+loading_text name answer = []
+
+-- The profiles of a file were added by its name, as a line of the session would add them, and the text tells whether it is left out.
+abbrev pub LoadsOne : List File → List ℕ → Kept → List ℕ → Kept → List ℕ → Type 0
+LoadsOne files base before name after text =
+    (answer : Answer) × (flag : Bool) × (words : List ℕ)
+    × (record { answer = answer; kept = after } ≡ add_outcome files base words before name flag)
+    × (text ≡ loading_text name answer)
+
+-- The same of each of these files in its turn.
+abbrev pub LoadsEach : List File → List ℕ → Kept → List (List ℕ) → Kept → List ℕ → Type 0
+LoadsEach files base before [] after text = (after ≡ before) × (text ≡ [])
+LoadsEach files base before (name ∷ names) after text =
+    (next : Kept) × (first rest : List ℕ) × (text ≡ first ++ rest)
+    × LoadsOne files base before name next first × LoadsEach files base next names after rest
+
+-- The files were read again, which the text tells: the session is the same, but knows of no place in them any more. Or they couldn't be, and the
+-- text tells the fault that kept them from it, and all is as it was.
+abbrev pub IsReadAnew : ToldFolders → Known → List ℕ → (before after : State) → List ℕ → Type 0
+IsReadAnew folders known base before after text =
+    (AreBelow folders known base after.files × (after.kept ≡ unplaced before.kept) × (text ≡ ok_line))
+    ⊎ ((after ≡ before) × ((fault : Fault) × IsOfFolder folders known base fault × (text ≡ told_line fault)))
+
+-- where the rules of who asks are written: in the files that were read last, and where the loaded profile was read, as far as the session knows
+abbrev pub sources_of : List ℕ → State → Question → Sources
+sources_of base state question = record {
+  below = record { files = state.files; base = base };
+  origin = origin_of state.kept (full_name (who_asks question)).profile;
+}
+
+-- what is told of an answer, by how the session stands before that, and how it stands behind it
+abbrev pub IsTold : ToldFolders → Known → List ℕ → State → Answer → (after : State) → List ℕ → Type 0
+IsTold folders known base state (Told told) after text = (after ≡ state) × (text ≡ told)
+IsTold folders known base state Ended after text = (after ≡ state) × (text ≡ [])
+IsTold folders known base state Anew after text = IsReadAnew folders known base state after text
+IsTold folders known base state (Asked question) after text =
+    (after ≡ state) × (text ≡ answered_text Lines (sources_of base state question) state.kept.managed.machine.now question)
+
+-- the session goes on behind an answer
+abbrev pub goes_on : Answer → Bool
+goes_on Ended = false
+goes_on answer = true
+
+-- A line was answered by the session's own definition: the text is what is told of it, and the session goes on or not.
+abbrev pub IsTurn : ToldFolders → Known → List ℕ → State → List ℕ → State → List ℕ → Bool → Type 0
+IsTurn folders known base before line after text goes =
+    (answer : Answer) × (kept : Kept) × (flag : Bool) × (words : List ℕ)
+    × (record { answer = answer; kept = kept } ≡ turn_outcome before.files base words before.kept line flag)
+    × (goes ≡ goes_on answer)
+    × IsTold folders known base (record { files = before.files; kept = kept }) answer after text
+
+-- Where a session stands: the input that is left, the bytes of it that were read and wait, what is written so far, and its state.
+pub record Standing : Type 0 where
+  pub left : Option (List ℕ)
+  pub waits : List ℕ
+  pub written : Option (List ℕ)
+  pub state : State
+
+-- The prompt was written, the next line of the input was answered, and what is told of it was written.
+abbrev pub IsStep : ToldFolders → Known → List ℕ → List ℕ → Standing → List ℕ → Standing → Bool → Type 0
+IsStep folders known base prompt before line after goes =
+    (text : List ℕ) × (prompted : Option (List ℕ))
+    × Appends before.written prompted prompt
+    × GivesLine before.left after.left before.waits after.waits line true
+    × IsTurn folders known base before.state line after.state text goes
+    × Appends prompted after.written text
+
+-- These lines, the last one first, were answered one behind the other, and the session went on behind each.
+abbrev pub Answers : ToldFolders → Known → List ℕ → List ℕ → Standing → List (List ℕ) → Standing → Type 0
+Answers folders known base prompt first [] now = now ≡ first
+Answers folders known base prompt first (line ∷ lines) now =
+    (before : Standing) × Answers folders known base prompt first lines before × IsStep folders known base prompt before line now true
+
+-- The session ends: a line says so, or the prompt was written and the input has no line any more.
+abbrev pub IsLastStep : ToldFolders → Known → List ℕ → List ℕ → Standing → Standing → Type 0
+IsLastStep folders known base prompt before after =
+    ((line : List ℕ) × IsStep folders known base prompt before line after false)
+    ⊎ (Appends before.written after.written prompt × ((given : List ℕ) × GivesLine before.left after.left before.waits after.waits given false))
+
+-- The lines of the input were answered one behind the other, to the end of the session.
+abbrev pub IsRun : ToldFolders → Known → List ℕ → List ℕ → Standing → Standing → Type 0
+IsRun folders known base prompt first last =
+    (lines : List (List ℕ)) × (before : Standing)
+    × Answers folders known base prompt first lines before × IsLastStep folders known base prompt before last
+
+-- All that lies below a folder was read, the profiles of the files at its top were added in their order, and the text tells of that.
+pub record IsLoaded (folders : ToldFolders) (known : Known) (base : List ℕ) (state : State) (text : List ℕ) : Type 0 where
+  pub below : AreBelow folders known base state.files
+  pub each : LoadsEach state.files base (begun false) (top_names (names_of state.files)) state.kept text
+
+-- where a session stands that has read no line
+abbrev pub at_first_line : Option (List ℕ) → Option (List ℕ) → State → Standing
+at_first_line left written state = record { left = left; waits = []; written = written; state = state }
+
+-- A session over a folder was had: it was loaded, what is told of that was written, and then the lines of the input were answered to the session's end.
+pub record IsSession (folders : ToldFolders) (known : Known) (base prompt : List ℕ) (left before after : Option (List ℕ)) : Type 0 where
+  pub state : State
+  pub text : List ℕ
+  pub loaded : IsLoaded folders known base state text
+  pub written : Option (List ℕ)
+  pub told : Appends before written text
+  pub last : Standing
+  pub run : IsRun folders known base prompt (at_first_line left written state) last
+  pub ended : last.written ≡ after

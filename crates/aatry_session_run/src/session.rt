@@ -1,0 +1,405 @@
+//! A session over a folder of policy: lines of an input, answered as they come.
+
+ghost use Rattle.std.specs.Prelude.{◌≡◌, ◌≤◌, ◌+◌, ◌*◌, ◌^◌, ◌++◌, ℕ, List, [], true, false, IfErr, IfOk, IsErrOf, OnErr, OnOk, map, string_bytes};
+ghost use Rattle.std.specs.Io.KnownBytes.{Appends};
+ghost use Rattle.aa_set_commands.specs.Question.{IsWellFormed, seen_question};
+ghost use Rattle.aa_set_lines.specs.Streams.{AppendsFront};
+ghost use Rattle.aatry_why.specs.Why.{answered_text};
+ghost use Rattle.aatry_why.specs.Sources.{seen_sources};
+ghost use Rattle.aatry_folder.specs.Unread.{IsOfFolder};
+ghost use Rattle.aatry_session_run.specs.Ends.{IsEndOfSession};
+ghost use Rattle.aatry_folder.specs.declared.fault.Fault.TheVariants as fault;
+ghost use Rattle.aatry_session_run.specs.Broken.{IsBrokenRun, IsBrokenSession, IsBrokenStep};
+ghost use Rattle.aatry_session_run.specs.Inputs.{GivesLine, most_reads};
+ghost use Rattle.aatry_session_run.specs.Session.{goes_on, left_out_line, loading_text, sources_of};
+ghost use Rattle.aatry_session_run.specs.Session.{IsLastStep, IsLoaded, IsReadAnew, IsRun, IsSession, IsStep, IsTold, IsTurn, LoadsEach, LoadsOne};
+ghost use Rattle.aatry_session_run.specs.code.Sessions.{seen_table, standing};
+ghost use Rattle.aatry_report.specs.declared.form.Form.TheVariants as form;
+ghost use Rattle.aatry_session.specs.SeenTurns.{IsAskable, seen_turn};
+ghost use Rattle.aatry_session.specs.Turns.{Told};
+
+use crate::faults::push_told;
+use crate::input::LineInput;
+use aa_profile_access::cut_full_name;
+use aa_set_commands::Question;
+use aa_set_lines::{LineBuffer, Sink, Source, write_all};
+use aa_text_files::Files;
+use aaset_start::FileSystem;
+use aatry_folder::{Fault, Folders, PolicyFiles, PolicyFolder, policy_below};
+use aatry_report::{Form, Teller, push_shown};
+use aatry_requests::who_asks;
+use aatry_session::{Session, Turn};
+use aatry_why::{Sources, push_answer};
+use std::alloc::{AllocError, Global};
+
+// How many lines are answered at most.
+const MOST_LINES: u32 = 1_073_741_824;
+
+// What is told of a file that is taken, as it is loaded.
+const TAKEN: &[u8] = b"ok\n";
+
+// What stays the same through a session: its folder of policy on disk, and what is written before a line is read.
+#[derive(Drop)]
+struct Setting<'a, F, D> {
+    folders: &'a F,
+    disk: &'a D,
+    base: &'a str,
+    prompt: &'a [u8],
+}
+
+// A session over a folder, and all that lies below that, as it was read last.
+#[derive(Drop)]
+struct Table {
+    files: Files,
+    session: Session,
+}
+
+// The lines of an input: what was read of it and not given yet, and the line that was given last.
+#[derive(Drop)]
+struct Lines {
+    input: LineInput,
+    line: LineBuffer,
+}
+
+// Appends the line of a file that is left out to a text.
+fn push_left_out(name: &str, out: &mut Vec<u8>) -> Result<(), AllocError>
+    ensures { OnOk result (out.new.items ≡ out.old.items ++ left_out_line name.now) }
+{
+    out.extend_from_slice(b"left out: ")?;
+    push_shown(out, name.as_bytes())?;
+    out.push(b'\n')?;
+    Ok(())
+}
+
+// Appends what is told of a file to a text, as it is loaded: that it is left out, and why; and nothing of one that is taken.
+fn push_loading(name: &str, turn: &Turn<'_>, out: &mut Vec<u8>) -> Result<(), AllocError>
+    ensures { OnOk result (out.new.items ≡ out.old.items ++ loading_text name.now (seen_turn turn.now)) }
+{
+    match turn {
+        Turn::Told(text) if text.as_slice() != TAKEN => {
+            push_left_out(name, out)?;
+            out.extend_from_slice(text.as_slice())
+        }
+        _ => Ok(()),
+    }
+}
+
+// Adds the profiles of a file, as a line of the session would, and appends why it is left out, if it is.
+fn load_file(
+    alloc: Global,
+    files: &Files,
+    base: &str,
+    session: &mut Session,
+    name: &str,
+    out: &mut Vec<u8>,
+) -> Result<(), AllocError>
+    ensures { OnOk result ((text : List ℕ) × (out.new.items ≡ out.old.items ++ text)
+        × LoadsOne files.now base.now session.old name.now session.new text) }
+{
+    let turn = session.add(alloc, files, base, name.as_bytes())?;
+    push_loading(name, &turn, out)
+}
+
+// The same of each file of these names.
+fn load_each(
+    alloc: Global,
+    files: &Files,
+    base: &str,
+    session: &mut Session,
+    names: &[String],
+    out: &mut Vec<u8>,
+) -> Result<(), AllocError>
+    ensures { OnOk result ((text : List ℕ) × (out.new.items ≡ out.old.items ++ text)
+        × LoadsEach files.now base.now session.old (map string_bytes names.now) session.new text) }
+{
+    for name in names {
+        load_file(alloc, files, base, session, name.as_str(), out)?;
+    }
+    Ok(())
+}
+
+// Reads all below the folder again, and appends that it is so: where in the files the loaded profiles have what they have isn't known any more then.
+// Where something can't be read, that is told, and what was read before stays.
+fn reload<F: Folders, D: FileSystem>(
+    alloc: Global,
+    setting: &Setting<'_, F, D>,
+    table: &mut Table,
+    out: &mut Vec<u8>,
+) -> Result<(), AllocError>
+    ensures { OnOk result ((text : List ℕ) × (out.new.items ≡ out.old.items ++ text)
+        × IsReadAnew (F.told setting.now.folders.now) (D.known setting.now.disk.now) setting.now.base.now
+        (seen_table table.old) (seen_table table.new) text) }
+{
+    match policy_below(alloc, setting.folders, setting.disk, setting.base) {
+        Ok(read) => {
+            table.files = read.files;
+            table.session.forget_places();
+            out.extend_from_slice(TAKEN)
+        }
+        Err(fault) => push_told(&fault, out),
+    }
+}
+
+// Where the rules of who asks are written, as far as the session knows.
+fn sources_of<'a>(base: &'a str, table: &'a Table, question: &Question<'_>) -> Sources<'a>
+    ensures { seen_sources result ≡ sources_of base.now (seen_table table.now) (seen_question question.entry.now) }
+{
+    let (profile, _) = cut_full_name(who_asks(question));
+    Sources {
+        below: PolicyFiles {
+            files: &table.files,
+            base: base.as_bytes(),
+        },
+        origin: table.session.origin(profile),
+    }
+}
+
+// Appends what the policy set of a session answers to a question, with the rules of the loaded profile behind the answer.
+fn answer_question(
+    alloc: Global,
+    base: &str,
+    table: &Table,
+    question: &Question<'_>,
+    out: &mut Vec<u8>,
+) -> Result<(), AllocError>
+    requires { IsWellFormed question.now }
+    ensures { OnOk result (out.new.items ≡ out.old.items ++ answered_text form.Lines
+        (sources_of base.now (seen_table table.now) (seen_question question.entry.now)) table.now.session.managed.machine.now
+        (seen_question question.entry.now)) }
+{
+    let sources = sources_of(base, table, question);
+    let teller = Teller {
+        alloc,
+        form: Form::Lines,
+    };
+    push_answer(teller, &sources, table.session.manager(), question, out)?;
+    Ok(())
+}
+
+// Appends what is told of an answer, and says whether the session goes on. What is to be read again is read.
+fn tell<F: Folders, D: FileSystem>(
+    alloc: Global,
+    setting: &Setting<'_, F, D>,
+    table: &mut Table,
+    turn: Turn<'_>,
+    out: &mut Vec<u8>,
+) -> Result<bool, AllocError>
+    requires { IsAskable turn }
+    ensures told { IfOk result (λ _. (text : List ℕ) × (out.new.items ≡ out.old.items ++ text)
+        × IsTold (F.told setting.now.folders.now) (D.known setting.now.disk.now) setting.now.base.now
+        (seen_table table.old) (seen_turn turn.entry) (seen_table table.new) text) }
+    ensures goes { IfOk result (λ goes. goes ≡ goes_on (seen_turn turn.entry)) }
+{
+    match turn {
+        Turn::Told(text) => {
+            out.extend_from_slice(text.as_slice())?;
+            Ok(true)
+        }
+        Turn::Quit => Ok(false),
+        Turn::Reload => {
+            reload(alloc, setting, table, out)?;
+            Ok(true)
+        }
+        Turn::Why(question) => {
+            table.session.remember(&question);
+            answer_question(alloc, setting.base, table, &question, out)?;
+            Ok(true)
+        }
+    }
+}
+
+// Answers a line of the session: appends what is told of it, and says whether the session goes on.
+fn answer_line<F: Folders, D: FileSystem>(
+    alloc: Global,
+    setting: &Setting<'_, F, D>,
+    table: &mut Table,
+    line: &[u8],
+    out: &mut Vec<u8>,
+) -> Result<bool, AllocError>
+    ensures turn { IfOk result (λ goes. (text : List ℕ) × (out.new.items ≡ out.old.items ++ text)
+        × IsTurn (F.told setting.now.folders.now) (D.known setting.now.disk.now) setting.now.base.now
+        (seen_table table.old) line.now (seen_table table.new) text goes) }
+{
+    let turn = table
+        .session
+        .answer(alloc, &table.files, setting.base, line)?;
+    tell(alloc, setting, table, turn, out)
+}
+
+// Writes a text.
+fn show<W: Sink>(writer: &mut W, text: &[u8]) -> Result<(), Fault>
+    ensures ok { OnOk result (Appends (W.written writer.old) (W.written writer.new) text.now) }
+    ensures err { OnErr result (AppendsFront (W.written writer.old) (W.written writer.new) text.now) }
+    ensures fault { IfErr result (λ told. told ≡ fault.Write) }
+    ensures failed { OnErr result (W.failed writer.new ≡ true) }
+{
+    match write_all(writer, text) {
+        Ok(()) => Ok(()),
+        Err(_) => Err(Fault::Write),
+    }
+}
+
+// Reads the next line, and says whether there is one.
+fn next_line<S: Source>(reader: &mut S, lines: &mut Lines) -> Result<bool, Fault>
+    requires { S.reads reader.old ≤ 2 ^ 63 }
+    ensures given { IfOk result (GivesLine (S.left reader.old) (S.left reader.new) lines.old.input lines.new.input lines.new.line) }
+    ensures fault { IfErr result (λ told. told ≡ fault.Read) }
+    ensures bound { S.reads reader.new ≤ S.reads reader.old + most_reads }
+{
+    match lines.input.next(reader, &mut lines.line) {
+        Ok(is_line) => Ok(is_line),
+        Err(_) => Err(Fault::Read),
+    }
+}
+
+// Prompts, answers the next line and writes what is told of it, and says whether the session goes on.
+fn step<F: Folders, D: FileSystem, S: Source, W: Sink>(
+    alloc: Global,
+    setting: &Setting<'_, F, D>,
+    table: &mut Table,
+    reader: &mut S,
+    lines: &mut Lines,
+    writer: &mut W,
+) -> Result<bool, Fault>
+    requires { S.reads reader.old ≤ 2 ^ 63 }
+    ensures on { IfOk result (λ goes. goes ≡ true → (taken : List ℕ)
+        × IsStep (F.told setting.now.folders.now) (D.known setting.now.disk.now) setting.now.base.now setting.now.prompt.now
+        (standing (S.left reader.old) lines.old.input (W.written writer.old) table.old) taken
+        (standing (S.left reader.new) lines.new.input (W.written writer.new) table.new) true) }
+    ensures off { IfOk result (λ goes. goes ≡ false
+        → IsLastStep (F.told setting.now.folders.now) (D.known setting.now.disk.now) setting.now.base.now setting.now.prompt.now
+        (standing (S.left reader.old) lines.old.input (W.written writer.old) table.old)
+        (standing (S.left reader.new) lines.new.input (W.written writer.new) table.new)) }
+    ensures broken { IfErr result (IsBrokenStep (F.told setting.now.folders.now) (D.known setting.now.disk.now) setting.now.base.now setting.now.prompt.now
+        (standing (S.left reader.old) lines.old.input (W.written writer.old) table.old) (W.written writer.new)) }
+    ensures failed { IsErrOf result Fault.Write → W.failed writer.new ≡ true }
+    ensures bound { S.reads reader.new ≤ S.reads reader.old + most_reads }
+{
+    show(writer, setting.prompt)?;
+    if !next_line(reader, lines)? {
+        return Ok(false);
+    }
+    let mut text = Vec::new(alloc);
+    let goes = answer_line(alloc, setting, table, lines.line.as_slice(), &mut text)?;
+    show(writer, &text)?;
+    Ok(goes)
+}
+
+// Answers the lines of an input one behind the other, to the session's end.
+fn run<F: Folders, D: FileSystem, S: Source, W: Sink>(
+    alloc: Global,
+    setting: &Setting<'_, F, D>,
+    table: &mut Table,
+    reader: &mut S,
+    lines: &mut Lines,
+    writer: &mut W,
+) -> Result<(), Fault>
+    requires { S.reads reader.old ≤ 2 ^ 62 }
+    ensures ran { OnOk result (IsRun (F.told setting.now.folders.now) (D.known setting.now.disk.now) setting.now.base.now setting.now.prompt.now
+        (standing (S.left reader.old) lines.old.input (W.written writer.old) table.old)
+        (standing (S.left reader.new) lines.new.input (W.written writer.new) table.new)) }
+    ensures broken { IfErr result (IsBrokenRun (F.told setting.now.folders.now) (D.known setting.now.disk.now) setting.now.base.now setting.now.prompt.now
+        (standing (S.left reader.old) lines.old.input (W.written writer.old) table.old) (W.written writer.new)) }
+    ensures failed { IsErrOf result Fault.Write → W.failed writer.new ≡ true }
+{
+    for _count in 0..MOST_LINES {
+        let goes = step(alloc, setting, table, reader, lines, writer)?;
+        if !goes {
+            return Ok(());
+        }
+    }
+    Err(Fault::Read)
+}
+
+// Begins a session over a folder: the files at its top are added, each in its turn, and what is told of those that are refused is appended to a text.
+fn begin<F: Folders, D: FileSystem>(
+    alloc: Global,
+    setting: &Setting<'_, F, D>,
+    out: &mut Vec<u8>,
+) -> Result<Table, Fault>
+    ensures loaded { IfOk result (λ table. (text : List ℕ) × (out.new.items ≡ out.old.items ++ text)
+        × IsLoaded (F.told setting.now.folders.now) (D.known setting.now.disk.now) setting.now.base.now
+        (seen_table table) text) }
+    ensures fault { IfErr result (IsOfFolder (F.told setting.now.folders.now) (D.known setting.now.disk.now) setting.now.base.now) }
+{
+    let PolicyFolder { files, top, .. } = policy_below(
+        alloc,
+        setting.folders,
+        setting.disk,
+        setting.base,
+    )?;
+    let mut session = Session::new(alloc, false);
+    load_each(alloc, &files, setting.base, &mut session, &top, out)?;
+    Ok(Table { files, session })
+}
+
+// The lines of an input of which nothing was read.
+fn all_lines(alloc: Global) -> Result<Lines, AllocError>
+    ensures { IfOk result (λ lines. lines.input ≡ []) }
+{
+    let input = LineInput::new(alloc)?;
+    let line = LineBuffer::new(alloc)?;
+    Ok(Lines { input, line })
+}
+
+// Has a session: begins it, tells of that, and answers the lines of the input to its end.
+fn have_session<F: Folders, D: FileSystem, S: Source, W: Sink>(
+    alloc: Global,
+    setting: &Setting<'_, F, D>,
+    reader: &mut S,
+    writer: &mut W,
+) -> Result<(), Fault>
+    requires { S.reads reader.old ≤ 2 ^ 62 }
+    ensures had { OnOk result (IsSession (F.told setting.now.folders.now) (D.known setting.now.disk.now) setting.now.base.now setting.now.prompt.now
+        (S.left reader.old) (W.written writer.old) (W.written writer.new)) }
+    ensures broken { IfErr result (IsBrokenSession (F.told setting.now.folders.now) (D.known setting.now.disk.now) setting.now.base.now setting.now.prompt.now
+        (S.left reader.old) (W.written writer.old) (W.written writer.new)) }
+    ensures fault { IfErr result (IsEndOfSession (F.told setting.now.folders.now) (D.known setting.now.disk.now) setting.now.base.now) }
+    ensures failed { IsErrOf result Fault.Write → W.failed writer.new ≡ true }
+{
+    let mut text = Vec::new(alloc);
+    let mut table = begin(alloc, setting, &mut text)?;
+    let mut lines = all_lines(alloc)?;
+    show(writer, &text)?;
+    run(alloc, setting, &mut table, reader, &mut lines, writer)
+}
+
+/// Has a session over the folder of policy that is asked for: reads it as `aatry_folder::policy_below` does, adds the profiles of those at its top, each
+/// file in its turn, and tells those that are refused. Then each line of the input is answered as `aatry_session::Session::answer` answers it, until a
+/// line ends the session, or the input does. `prompt` is written before each line is read. `reload` reads all below the folder again: the policy set and
+/// its history stay, and where in the files the loaded profiles have their rules isn't known any more. `why` is answered with the rules of the loaded
+/// profile, each with the place where it was read, while that is known.
+///
+/// # Errors
+///
+/// - `Unreadable` with the first folder or file that can't be read, `TooMany` where there are more than 65,536: nothing was written then.
+/// - `Read` where a read of the input failed, a line took more than 2,147,483,648 reads, or 1,073,741,824 lines didn't end the session. What is told of
+///   the lines so far is written then, and the prompt behind it, but where there were so many lines.
+/// - `Write` where a write failed: a front of what a session writes is written then.
+/// - `NoMemory` where memory ran out: nothing is written then, or what is told of the lines so far, and the prompt behind it.
+pub fn session_folder<F: Folders, D: FileSystem, S: Source, W: Sink>(
+    alloc: Global,
+    folders: &F,
+    disk: &D,
+    asked: aatry_arguments::Session,
+    prompt: &[u8],
+    reader: &mut S,
+    writer: &mut W,
+) -> Result<(), Fault>
+    requires { S.reads reader.old ≤ 2 ^ 62 }
+    ensures had { OnOk result (IsSession (F.told folders.now) (D.known disk.now) (string_bytes asked.base) prompt.now
+        (S.left reader.old) (W.written writer.old) (W.written writer.new)) }
+    ensures broken { IfErr result (IsBrokenSession (F.told folders.now) (D.known disk.now) (string_bytes asked.base) prompt.now
+        (S.left reader.old) (W.written writer.old) (W.written writer.new)) }
+    ensures fault { IfErr result (IsEndOfSession (F.told folders.now) (D.known disk.now) (string_bytes asked.base)) }
+    ensures failed { IsErrOf result Fault.Write → W.failed writer.new ≡ true }
+{
+    let aatry_arguments::Session { base } = asked;
+    let setting = Setting {
+        folders,
+        disk,
+        base: base.as_str(),
+        prompt,
+    };
+    have_session(alloc, &setting, reader, writer)
+}

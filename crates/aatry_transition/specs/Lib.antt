@@ -1,3 +1,0 @@
-pub mod AttachmentLines
-pub mod How
-pub mod Transitions

@@ -1,0 +1,78 @@
+-- What is told of how the answer to the start of a program came about, behind the rules that decide.
+use Rattle.std.specs.Prelude.{ℕ, Bool, if◌then◌else◌, List, [], ◌∷◌, ◌++◌, codes, Option, None, Some}
+use Rattle.serde_json.specs.Data.{Members}
+use Rattle.aa_bytes.specs.Bytes.{line_feed}
+use Rattle.aa_bytes.specs.Texts.{is_empty}
+use Rattle.aa_decide.specs.Exec.{Asker}
+use Rattle.aa_decide_slots.specs.Confinement.{By, Confinement, Unconfined, in_state}
+use Rattle.aa_decide_slots.specs.Entries.{Loaded}
+use Rattle.aa_profile_access.specs.ExecWords.{row}
+use Rattle.aa_profile_access.specs.declared.exec_word.Destination.{Destination}
+use Rattle.aa_profile_access.specs.declared.exec_word.Destination.TheVariants as to
+use Rattle.aa_set_answers.specs.Askers.{asker}
+use Rattle.aatry_why.specs.AttachmentLines.{attachment_lines}
+use Rattle.aa_explain.specs.Candidates.{Candidate, child_candidates, profile_candidates}
+use Rattle.aa_explain.specs.Leads.{Lead, lead_of}
+use Rattle.aatry_report.specs.Headings.{heading_line}
+use Rattle.aatry_report.specs.Records.{record_line, record_of, with_text}
+use Rattle.aatry_report.specs.declared.form.Form.{Form}
+use Rattle.aatry_report.specs.declared.form.Form.TheVariants.{Lines, Records}
+use Rattle.aatry_why.specs.Transitions.{transition_lines}
+
+-- the children and hats of who asks; a child or a hat has none
+abbrev pub own_children : Asker → List Candidate
+own_children asker = elim asker.child [ None ↦ child_candidates asker.entry | Some place ↦ [] ]
+
+-- those among which the path's attachment decides where a destination leads: without a target, the profiles, or the children of who asks
+abbrev pub asked_candidates : Option (List ℕ) → List Loaded → Asker → Destination → List Candidate
+asked_candidates (Some name) entries asker destination = []
+asked_candidates None entries asker to.Profile = profile_candidates entries
+asked_candidates None entries asker to.Child = own_children asker
+asked_candidates None entries asker to.Inherit = []
+asked_candidates None entries asker to.Unconfined = []
+
+-- the lines of where the rules lead, if they lead somewhere, and of the attachment, where it decides where that is
+abbrev pub led_lines : Form → List ℕ → List Loaded → Asker → Option Lead → List ℕ
+led_lines form path entries asker None = []
+led_lines form path entries asker (Some lead) =
+    transition_lines form lead
+    ++ attachment_lines form path (asked_candidates lead.transition.target entries asker (row lead.transition.word).destination)
+
+-- a record of an attachment that there isn't
+abbrev pub none_record : Members
+none_record = with_text (codes "standing") (codes "none") (record_of (codes "attachment"))
+
+-- the line of one
+abbrev pub none_line : List ℕ
+none_line = codes "  none: no profile in force has a pattern that matches the path" ++ line_feed ∷ []
+
+-- what is told where no profile in force has a pattern that matches the path
+abbrev pub none_attached : Form → List ℕ
+none_attached Lines = heading_line Lines (codes "attachment") ++ none_line
+none_attached Records = record_line none_record
+
+-- these lines, or that there is none to be attached to
+abbrev pub lines_or_none : Form → List ℕ → List ℕ
+lines_or_none form lines = if is_empty lines then none_attached form else lines
+
+-- where nothing confines who asks, the profiles that the path may be attached to
+abbrev pub profile_lines : Form → List ℕ → List Loaded → List ℕ
+profile_lines form path entries = lines_or_none form (attachment_lines form path (profile_candidates entries))
+
+-- by what confines who asks: where nothing does, the path's attachment decides alone, and else what the rules say together
+abbrev pub confined_lines : Form → Bool → List ℕ → List Loaded → Asker → Confinement → List ℕ
+confined_lines form owned path entries asker Unconfined = profile_lines form path entries
+confined_lines form owned path entries asker (By section mode) = led_lines form path entries asker (lead_of owned path entries asker)
+
+-- what confines who asks
+abbrev pub confinement_of : Asker → Confinement
+confinement_of asker = in_state asker.entry.profile asker.entry.state asker.child
+
+-- by who asks
+abbrev pub asked_lines : Form → List Loaded → Option Asker → Bool → List ℕ → List ℕ
+asked_lines form entries None owned path = profile_lines form path entries
+asked_lines form entries (Some asker) owned path = confined_lines form owned path entries asker (confinement_of asker)
+
+-- the lines of how the answer came about to who asks by this full name, or as the word `unconfined`; of one that isn't there, nothing
+abbrev pub how_lines : Form → List Loaded → List ℕ → Bool → List ℕ → List ℕ
+how_lines form entries who owned path = elim (asker entries who) [ None ↦ [] | Some asker ↦ asked_lines form entries asker owned path ]

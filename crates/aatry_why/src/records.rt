@@ -1,0 +1,81 @@
+//! The records of transitions.
+
+ghost use Rattle.std.specs.Prelude.{◌≡◌, IfOk, OnOk, Some, codes};
+ghost use Rattle.std.specs.Option.{option_copied};
+ghost use Rattle.aa_set_answers.specs.RuleLines.{exec_text};
+ghost use Rattle.aatry_report.specs.Records.{with_text};
+ghost use Rattle.aatry_report.specs.SeenRecord.{seen_record};
+ghost use Rattle.aatry_why.specs.Transitions.{lack_of, transition_record, with_fallback, with_lead};
+
+use crate::transition::push_lack;
+use aa_profile_data::Transition;
+use aa_set_answers::push_exec_transition;
+use aatry_report::Record;
+use std::alloc::{AllocError, Global};
+
+// Adds to a record where a fallback leads, if it leads somewhere.
+fn put_fallback(alloc: Global, fallback: Option<&[u8]>, into: &mut Record) -> Result<(), AllocError>
+    ensures { OnOk result (seen_record into.new ≡ with_fallback (option_copied fallback.entry) (seen_record into.old)) }
+{
+    match fallback {
+        None => Ok(()),
+        Some(to) => into.put_text(alloc, "falls_back_to", to),
+    }
+}
+
+// Adds to a record what isn't there that a transition's word leads to.
+fn put_lack(alloc: Global, transition: &Transition, into: &mut Record) -> Result<(), AllocError>
+    ensures { OnOk result (seen_record into.new ≡ with_text (codes "lacks") (lack_of transition.now) (seen_record into.old)) }
+{
+    let mut lack = Vec::new(alloc);
+    push_lack(&transition.target, transition.word.destination(), &mut lack)?;
+    into.put_text(alloc, "lacks", &lack)
+}
+
+// Adds to a record where a transition leads.
+fn put_lead(
+    alloc: Global,
+    transition: &Transition,
+    to: Option<&[u8]>,
+    fallback: Option<&[u8]>,
+    into: &mut Record,
+) -> Result<(), AllocError>
+    ensures { OnOk result (seen_record into.new
+        ≡ with_lead (lack_of transition.now) (option_copied to.entry) (option_copied fallback.entry) (seen_record into.old)) }
+{
+    match to {
+        None => {
+            put_lack(alloc, transition, into)?;
+            put_fallback(alloc, fallback, into)
+        }
+        Some(to) => into.put_text(alloc, "leads_to", to),
+    }
+}
+
+// Adds to a record a transition as a rule writes it.
+fn put_exec(alloc: Global, transition: &Transition, into: &mut Record) -> Result<(), AllocError>
+    ensures { OnOk result (seen_record into.new ≡ with_text (codes "rule") (exec_text (Some transition.now)) (seen_record into.old)) }
+{
+    let mut rule = Vec::new(alloc);
+    push_exec_transition(&mut rule, transition)?;
+    into.put_text(alloc, "rule", &rule)
+}
+
+/// The record of a transition, by where its word and its fallback lead.
+///
+/// # Errors
+///
+/// Where memory runs out.
+pub fn transition_record(
+    alloc: Global,
+    transition: &Transition,
+    to: Option<&[u8]>,
+    fallback: Option<&[u8]>,
+) -> Result<Record, AllocError>
+    ensures { IfOk result (λ made. seen_record made ≡ transition_record transition.now (option_copied to.entry) (option_copied fallback.entry)) }
+{
+    let mut made = Record::new(alloc, "transition")?;
+    put_exec(alloc, transition, &mut made)?;
+    put_lead(alloc, transition, to, fallback, &mut made)?;
+    Ok(made)
+}

@@ -1,0 +1,162 @@
+//! What is told of where a transition leads.
+
+ghost use Rattle.std.specs.Prelude.{◌≡◌, ◌++◌, IfOk, OnOk, Some};
+ghost use Rattle.std.specs.Option.{option_copied};
+ghost use Rattle.aa_explain.specs.Leads.{seen_lead};
+ghost use Rattle.aa_profile_access.specs.declared.exec_word.Destination.TheVariants as to;
+ghost use Rattle.aatry_report.specs.declared.form.Form.TheVariants.{Lines};
+ghost use Rattle.aatry_why.specs.Transitions.{fallback_text, lack_of, lack_text, lead_text, line_of, transition_lines};
+
+use crate::destinations::destination_text;
+use crate::records::transition_record;
+use aa_bytes::{SharedBytes, push_text};
+use aa_decide::IndexedSlots;
+use aa_explain::Lead;
+use aa_profile_access::Destination;
+use aa_profile_data::Transition;
+use aa_set_answers::push_exec_transition;
+use aatry_report::{Form, Teller, push_heading};
+use std::alloc::{AllocError, Global};
+
+// Appends which profile isn't there.
+fn push_profile_lack(target: &Option<SharedBytes>, out: &mut Vec<u8>) -> Result<(), AllocError>
+    ensures { OnOk result (out.new.items ≡ out.old.items ++ lack_text target.now to.Profile) }
+{
+    match target {
+        None => out.extend_from_slice(b"no profile in force is attached"),
+        Some(name) => {
+            push_text(out, name.as_slice())?;
+            out.extend_from_slice(b" isn't in force")
+        }
+    }
+}
+
+// Appends which child isn't there.
+fn push_child_lack(target: &Option<SharedBytes>, out: &mut Vec<u8>) -> Result<(), AllocError>
+    ensures { OnOk result (out.new.items ≡ out.old.items ++ lack_text target.now to.Child) }
+{
+    match target {
+        None => out.extend_from_slice(b"no child is attached"),
+        Some(name) => {
+            push_text(out, name.as_slice())?;
+            out.extend_from_slice(b" is no child or hat of who asks")
+        }
+    }
+}
+
+// Appends what isn't there, where a destination leads nowhere.
+pub fn push_lack(
+    target: &Option<SharedBytes>,
+    destination: Destination,
+    out: &mut Vec<u8>,
+) -> Result<(), AllocError>
+    ensures { OnOk result (out.new.items ≡ out.old.items ++ lack_text target.now destination) }
+{
+    match destination {
+        Destination::Profile => push_profile_lack(target, out),
+        Destination::Child => push_child_lack(target, out),
+        Destination::Inherit => Ok(()),
+        Destination::Unconfined => Ok(()),
+    }
+}
+
+// Appends where a fallback leads.
+fn push_fallback(fallback: Option<&[u8]>, out: &mut Vec<u8>) -> Result<(), AllocError>
+    ensures { OnOk result (out.new.items ≡ out.old.items ++ fallback_text (option_copied fallback.entry)) }
+{
+    match fallback {
+        None => out.extend_from_slice(b", so it leads nowhere"),
+        Some(to) => {
+            out.extend_from_slice(b", so it falls back to ")?;
+            out.extend_from_slice(to)?;
+            Ok(())
+        }
+    }
+}
+
+// Appends where a transition leads.
+fn push_lead(
+    transition: &Transition,
+    to: Option<&[u8]>,
+    fallback: Option<&[u8]>,
+    out: &mut Vec<u8>,
+) -> Result<(), AllocError>
+    ensures { OnOk result (out.new.items
+        ≡ out.old.items ++ lead_text (lack_of transition.now) (option_copied to.entry) (option_copied fallback.entry)) }
+{
+    match to {
+        None => {
+            push_lack(&transition.target, transition.word.destination(), out)?;
+            push_fallback(fallback, out)
+        }
+        Some(to) => {
+            out.extend_from_slice(b"leads to ")?;
+            out.extend_from_slice(to)
+        }
+    }
+}
+
+// Appends the line of a transition for people.
+fn push_words(
+    transition: &Transition,
+    to: Option<&[u8]>,
+    fallback: Option<&[u8]>,
+    out: &mut Vec<u8>,
+) -> Result<(), AllocError>
+    ensures { OnOk result (out.new.items
+        ≡ out.old.items ++ line_of Lines transition.now (option_copied to.entry) (option_copied fallback.entry)) }
+{
+    out.extend_from_slice(b"  ")?;
+    push_exec_transition(out, transition)?;
+    out.extend_from_slice(b": ")?;
+    push_lead(transition, to, fallback, out)?;
+    out.push(b'\n')?;
+    Ok(())
+}
+
+// Appends the line of a transition.
+fn push_line(
+    teller: Teller,
+    transition: &Transition,
+    to: Option<&[u8]>,
+    fallback: Option<&[u8]>,
+    out: &mut Vec<u8>,
+) -> Result<(), AllocError>
+    ensures { OnOk result (out.new.items
+        ≡ out.old.items ++ line_of teller.form transition.now (option_copied to.entry) (option_copied fallback.entry)) }
+{
+    match teller.form {
+        Form::Lines => push_words(transition, to, fallback, out),
+        Form::Records => transition_record(teller.alloc, transition, to, fallback)?.push(
+            teller.alloc,
+            out,
+        ),
+    }
+}
+
+/// Appends a line that tells where the rules lead who asks to start the program of a path, below the word `transition`: by its word;
+/// or what isn't there that this would lead to, and where its fallback leads. As a record, of the kind `transition`, this is the transition as a rule
+/// writes it, `rule`, and the full name `leads_to`; or `lacks`, and the full name `falls_back_to`, if the fallback leads somewhere.
+///
+/// # Errors
+///
+/// Where memory runs out. A beginning may have been appended then.
+pub fn push_transition(
+    teller: Teller,
+    slots: &IndexedSlots<'_>,
+    lead: Lead<'_>,
+    out: &mut Vec<u8>,
+) -> Result<(), AllocError>
+    ensures { OnOk result (out.new.items ≡ out.old.items ++ transition_lines teller.form (seen_lead slots.now lead.entry)) }
+{
+    let to = destination_text(teller, slots, lead.to)?;
+    let fallback = destination_text(teller, slots, lead.fallback)?;
+    push_heading(teller.form, "transition", out)?;
+    push_line(
+        teller,
+        lead.transition,
+        to.as_deref(),
+        fallback.as_deref(),
+        out,
+    )
+}
