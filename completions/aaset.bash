@@ -13,26 +13,32 @@ _aaset() {
     if [ "$word" = = ]; then word=; fi
 
     # The words before, from the left: behind `--` each one is a NAME, the last -b counts, and its folder stands in its word or is the
-    # next one. Bash takes a `=` for a word of its own.
+    # next one, as that of --language does. Bash takes a `=` for a word of its own.
     for ((at = 1; at < COMP_CWORD; at++)); do
         before=${COMP_WORDS[at]}
         if [ -n "$awaited" ]; then
-            if [ "$before" != = ]; then base=$(_aaset_bare "$before") awaited=; fi
+            if [ "$before" != = ]; then
+                if [ "$awaited" = folder ]; then base=$(_aaset_bare "$before"); fi
+                awaited=
+            fi
         elif [ -n "$options" ]; then
             case $before in
             --) options= ;;
-            -b | -Cb) awaited=yes ;;
+            -b | -Cb) awaited=folder ;;
+            --language) awaited=language ;;
             -b=* | -Cb=*) base=$(_aaset_bare "${before#*=}") ;;
             -b* | -Cb*) base=$(_aaset_bare "${before#*b}") ;;
             esac
         fi
     done
 
-    if [ -n "$awaited" ]; then
+    if [ "$awaited" = language ]; then
+        mapfile -t COMPREPLY < <(compgen -W '3 4' -- "$word")
+    elif [ -n "$awaited" ]; then
         # The folder of -b.
         mapfile -t COMPREPLY < <(compgen -d -- "$word")
     elif [ -n "$options" ] && [[ $word == -* ]]; then
-        mapfile -t COMPREPLY < <(compgen -W '-C -b -h --help -V --version --' -- "$word")
+        mapfile -t COMPREPLY < <(compgen -W '-C -b --language -h --help -V --version --' -- "$word")
     elif [[ $word == /* ]]; then
         mapfile -t COMPREPLY < <(compgen -f -- "$word")
     else

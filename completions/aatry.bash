@@ -21,9 +21,10 @@ _aatry() {
         # A folder, or the file of an option.
         case ${COMP_WORDS[COMP_CWORD - 1]} in
         --log | --questions) mapfile -t COMPREPLY < <(compgen -f -- "$word") ;;
+        --language) mapfile -t COMPREPLY < <(compgen -W '3 4' -- "$word") ;;
         *)
             if [[ $word == -* ]]; then
-                mapfile -t COMPREPLY < <(compgen -W '--log --questions --json -h --help --' -- "$word")
+                mapfile -t COMPREPLY < <(compgen -W '--log --questions --json --language -h --help --' -- "$word")
             else
                 mapfile -t COMPREPLY < <(compgen -d -- "$word")
             fi
@@ -35,28 +36,34 @@ _aatry() {
     esac
 
     # The words before, from the left: behind `--` each one is a NAME or a FILE, the last -b counts, and its folder stands in its word or is the
-    # next one. Bash takes a `=` for a word of its own.
+    # next one, as that of --language does. Bash takes a `=` for a word of its own.
     for ((at = 2; at < COMP_CWORD; at++)); do
         before=${COMP_WORDS[at]}
         if [ -n "$awaited" ]; then
-            if [ "$before" != = ]; then base=$(_aatry_bare "$before") awaited=; fi
+            if [ "$before" != = ]; then
+                if [ "$awaited" = yes ]; then base=$(_aatry_bare "$before"); fi
+                awaited=
+            fi
         elif [ -n "$options" ]; then
             case $before in
             --) options= ;;
             -b) awaited=yes ;;
+            --language) awaited=language ;;
             -b=*) base=$(_aatry_bare "${before#*=}") ;;
             -b*) base=$(_aatry_bare "${before#-b}") ;;
             esac
         fi
     done
 
-    if [ -n "$awaited" ]; then
+    if [ "$awaited" = language ]; then
+        mapfile -t COMPREPLY < <(compgen -W '3 4' -- "$word")
+    elif [ -n "$awaited" ]; then
         # The folder of -b.
         mapfile -t COMPREPLY < <(compgen -d -- "$word")
     elif [ -n "$options" ] && [[ $word == -* ]]; then
         case ${COMP_WORDS[1]} in
-        check | why | who) mapfile -t COMPREPLY < <(compgen -W '-b --json -h --help --' -- "$word") ;;
-        *) mapfile -t COMPREPLY < <(compgen -W '-b -h --help --' -- "$word") ;;
+        check | why | who) mapfile -t COMPREPLY < <(compgen -W '-b --json --language -h --help --' -- "$word") ;;
+        *) mapfile -t COMPREPLY < <(compgen -W '-b --language -h --help --' -- "$word") ;;
         esac
     elif [ "${COMP_WORDS[1]}" = who ] || [ "${COMP_WORDS[1]}" = why ]; then
         # Words of a question: its first ones, and behind them paths.

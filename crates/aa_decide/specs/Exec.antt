@@ -1,24 +1,27 @@
 -- Under what a program runs that is started (apparmor.d(5), "Execute Rules"; docs/policy.md, "Exec and attachment").
-use Rattle.std.specs.Prelude.{ℕ, Bool, false, ◌&&◌, if◌then◌else◌, List, find, Option, None, Some, option_and_then}
+use Rattle.std.specs.Prelude.{ℕ, Bool, false, ◌&&◌, if◌then◌else◌, List, find, Option, None, Some, is_some, option_and_then}
+use Rattle.std.specs.List.{list_all}
 use Rattle.std.specs.Option.{option_map}
 use Rattle.std.specs.Str.{bytes_eq}
 use Rattle.aa_profile_access.specs.Access.{EXEC}
 use Rattle.aa_profile_access.specs.ExecWords.{row}
+use Rattle.aa_profile_access.specs.Stacks.{Stack, stack_of}
 use Rattle.aa_profile_access.specs.declared.exec_word.Destination.{Destination}
 use Rattle.aa_profile_access.specs.declared.exec_word.Destination.TheVariants as to
+use Rattle.aa_profile_access.specs.declared.exec_word.ExecWord.{ExecWord}
 use Rattle.aa_decide_exec_rules.specs.Choices.{Choice, Denied as DeniedByRule, Leads, Missing, choice}
 use Rattle.aa_profile_access.specs.FullNames.{FullName, full_name}
 use Rattle.aa_profile_data.specs.Profile.{child_place}
-use Rattle.aa_profile_data.specs.declared.profile.Mode.{Mode}
-use Rattle.aa_profile_data.specs.declared.profile.Mode.TheVariants.{Complain, Enforce}
 use Rattle.aa_profile_data.specs.declared.profile.Profile.{Profile}
 use Rattle.aa_profile_data.specs.declared.profile.Transition.{Transition}
 use Rattle.aa_decide.specs.Attachment.{attached, attached_child}
-use Rattle.aa_decide_slots.specs.Confinement.{By, Confinement, Unconfined as NotConfined, in_state}
+use Rattle.aa_decide_rules.specs.declared.verdict.Mediation.{Mediation}
+use Rattle.aa_decide_rules.specs.declared.verdict.Mediation.TheVariants.{Complaining, Enforcing}
+use Rattle.aa_decide_slots.specs.Confinement.{By, ByName, Confinement, Unconfined as NotConfined, in_state}
 use Rattle.aa_decide_slots.specs.Entries.{Loaded, is_in_force}
 use Rattle.aa_decide_slots.specs.Named.{entry_named}
 use Rattle.aa_decide_audit.specs.declared.verdict.Answer.{Answer}
-use Rattle.aa_decide_audit.specs.declared.verdict.Answer.TheVariants.{Allow, Deny, Refuse, Complain as Complained}
+use Rattle.aa_decide_audit.specs.declared.verdict.Answer.TheVariants.{Allow, Complain, Deny, Refuse}
 use Rattle.aa_decide_audit.specs.declared.verdict.Tag.{Tag}
 use Rattle.aa_decide_audit.specs.declared.verdict.Tag.TheVariants.{Allowed, Audit, Denied}
 use Rattle.aa_decide_audit.specs.declared.verdict.Verdict.{Verdict}
@@ -37,11 +40,17 @@ entry_asker (Some name) entry = option_map (λ place. record { entry = entry; ch
 abbrev pub named_asker : List Loaded → FullName → Option Asker
 named_asker entries name = option_and_then (entry_asker name.child) (entry_named name.profile entries)
 
--- Under what the program runs: a profile in force, or its child or hat at a place; no profile; or it is let through in complain mode alone; or it
--- isn't started.
+-- What a stack is on: a profile in force, or its child or hat at a place; or no profile.
+pub data Base : Type 0 where
+  OnProfile : (entry : Loaded) (child : Option ℕ) → Base
+  OnUnconfined : Base
+
+-- Under what the program runs: a profile in force, or its child or hat at a place; no profile; a stack of those in force of some full names, on a
+-- base, if it is on one; or it is let through in complain mode alone; or it isn't started.
 pub data Started : Type 0 where
   Under : (entry : Loaded) (child : Option ℕ) → Started
   Unconfined : Started
+  Stacked : (base : Option Base) (members : List (List ℕ)) → Started
   Null : Started
   Nowhere : Started
 
@@ -72,9 +81,9 @@ abbrev pub denied : Bool → ExecAnswer
 denied audited = stopped Deny (tag_if audited Denied)
 
 -- no rule says where to go
-abbrev pub missing : Mode → ExecAnswer
-missing Enforce = stopped Refuse (Some Denied)
-missing Complain = record { verdict = exec_verdict Complained (Some Allowed); to = Null; scrub = false }
+abbrev pub missing : Mediation → ExecAnswer
+missing Enforcing = stopped Refuse (Some Denied)
+missing Complaining = record { verdict = exec_verdict Complain (Some Allowed); to = Null; scrub = false }
 
 -- the program runs
 abbrev pub started : Bool → Started → Bool → ExecAnswer
@@ -116,25 +125,77 @@ led path target entries asker to.Child = to_child path target asker
 led path target entries asker to.Inherit = Some (under asker)
 led path target entries asker to.Unconfined = Some Unconfined
 
+-- each full name is that of a profile, child or hat in force
+abbrev pub are_in_force : List (List ℕ) → List Loaded → Bool
+are_in_force names entries = list_all (λ name. is_some (by_full_name name entries)) names
+
+-- what a stack is on where no profile is attached to the path: what the fallback of a word leads to that leads to a profile
+abbrev pub fallback_base : Asker → Destination → Option Base
+fallback_base asker to.Inherit = Some (OnProfile asker.entry asker.child)
+fallback_base asker to.Unconfined = Some OnUnconfined
+fallback_base asker to.Profile = None
+fallback_base asker to.Child = None
+
+-- what a stack is on behind a word that leads to a profile: the profile that the path is attached to, or else what the fallback leads to
+abbrev pub profile_base : List ℕ → List Loaded → Asker → Option Destination → Option Base
+profile_base path entries asker fallback = elim (attached path entries) [
+  | Some entry ↦ Some (OnProfile entry None)
+  | None ↦ option_and_then (fallback_base asker) fallback
+]
+
+-- what it is on behind a word that leads to a child: the profile that asks; where a child or a hat asks, there is nothing
+abbrev pub asking_base : Asker → Option Base
+asking_base asker = elim asker.child [
+  | Some place ↦ None
+  | None ↦ Some (OnProfile asker.entry None)
+]
+
+-- what a stack is on behind a word, if there is something
+abbrev pub base_of : List ℕ → List Loaded → Asker → Destination → Option Destination → Option Base
+base_of path entries asker to.Profile fallback = profile_base path entries asker fallback
+base_of path entries asker to.Child fallback = asking_base asker
+base_of path entries asker to.Inherit fallback = None
+base_of path entries asker to.Unconfined fallback = None
+
+-- where a stack leads whose members are in force: to these on its base, where it is on one, and nowhere where there is none; else to these alone
+abbrev pub stacked_on : Stack → Option Base → Option Started
+stacked_on stack base = if stack.on_base then option_map (λ base. Stacked (Some base) stack.members) base else Some (Stacked None stack.members)
+
+-- where a stack leads behind a word: nowhere where some member isn't in force
+abbrev pub to_stack : List ℕ → List Loaded → Asker → ExecWord → Stack → Option Started
+to_stack path entries asker word stack =
+    if are_in_force stack.members entries then stacked_on stack (base_of path entries asker (row word).destination (row word).fallback) else None
+
+-- the stack that a transition names, if it names one
+abbrev pub named_stack : Transition → Option Stack
+named_stack transition = option_and_then stack_of transition.target
+
+-- where the word of a transition leads: to the stack that it names, or else where its destination does
+abbrev pub led_by_word : List ℕ → List Loaded → Asker → Transition → Option Started
+led_by_word path entries asker transition = elim (named_stack transition) [
+  | Some stack ↦ to_stack path entries asker transition.word stack
+  | None ↦ led path transition.target entries asker (row transition.word).destination
+]
+
 -- where a transition leads: where its word does, or else where its fallback does
 abbrev pub led_by : List ℕ → List Loaded → Asker → Transition → Option Started
-led_by path entries asker transition = elim (led path transition.target entries asker (row transition.word).destination) [
+led_by path entries asker transition = elim (led_by_word path entries asker transition) [
   | Some to ↦ Some to
   | None ↦ option_and_then (led path transition.target entries asker) (row transition.word).fallback
 ]
 
 -- a transition that is carried out; where it leads nowhere, that is answered as if no rule had said where to go
-abbrev pub carried_out : List ℕ → List Loaded → Asker → Mode → Transition → Bool → ExecAnswer
-carried_out path entries asker mode transition audited = elim (led_by path entries asker transition) [
-  | None ↦ missing mode
+abbrev pub carried_out : List ℕ → List Loaded → Asker → Mediation → Transition → Bool → ExecAnswer
+carried_out path entries asker mediation transition audited = elim (led_by path entries asker transition) [
+  | None ↦ missing mediation
   | Some to ↦ started audited to (row transition.word).scrubs
 ]
 
 -- by what the rules say together: a deny rule first, and then whether some rule says where to go
-abbrev pub by_choice : List ℕ → List Loaded → Asker → Mode → Choice → ExecAnswer
-by_choice path entries asker mode (DeniedByRule audited) = denied audited
-by_choice path entries asker mode Missing = missing mode
-by_choice path entries asker mode (Leads transition audited) = carried_out path entries asker mode transition audited
+abbrev pub by_choice : List ℕ → List Loaded → Asker → Mediation → Choice → ExecAnswer
+by_choice path entries asker mediation (DeniedByRule audited) = denied audited
+by_choice path entries asker mediation Missing = missing mediation
+by_choice path entries asker mediation (Leads transition audited) = carried_out path entries asker mediation transition audited
 
 -- who asks is confined by nothing: the program runs under the profile that its path is attached to, or else under none
 abbrev pub unconfined_start : List ℕ → List Loaded → ExecAnswer
@@ -143,10 +204,18 @@ unconfined_start path entries = elim (attached path entries) [
   | Some entry ↦ started false (Under entry None) false
 ]
 
+-- who asks gives its name alone: the program runs under the profile that its path is attached to, or else under who asks
+abbrev pub own_start : List ℕ → List Loaded → Asker → ExecAnswer
+own_start path entries asker = elim (attached path entries) [
+  | None ↦ started false (under asker) false
+  | Some entry ↦ started false (Under entry None) false
+]
+
 -- by what confines who asks
 abbrev pub confined_start : Bool → List ℕ → List Loaded → Asker → Confinement → ExecAnswer
 confined_start owned path entries asker NotConfined = unconfined_start path entries
-confined_start owned path entries asker (By section mode) = by_choice path entries asker mode (choice section.audit owned path section.rules)
+confined_start owned path entries asker ByName = own_start path entries asker
+confined_start owned path entries asker (By section mediation) = by_choice path entries asker mediation (choice section.audit owned path section.rules)
 
 -- Under what the program of a path runs that is started, by the entries and by who asks; no one in particular is confined by nothing.
 abbrev pub exec_answer : List Loaded → Option Asker → Bool → List ℕ → ExecAnswer

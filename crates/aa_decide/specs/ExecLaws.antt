@@ -6,7 +6,8 @@ use Rattle.aa_decide_exec_rules.specs.ExecRules.{Denying, said_of}
 use Rattle.aa_profile_data.specs.declared.profile.Rule.{Rule}
 use Rattle.aa_decide.specs.Attachment.{entry_rank}
 use Rattle.aa_decide_slots.specs.Named.{have_distinct_names}
-use Rattle.aa_decide_slots.specs.Entries.{Loaded}
+use Rattle.aa_decide.specs.Exec.{Base, OnProfile, OnUnconfined}
+use Rattle.aa_decide_slots.specs.Entries.{Loaded, is_in_force}
 use Rattle.aa_decide_ready.specs.Sections.{Section}
 
 -- no two entries have one name
@@ -35,3 +36,8 @@ FitsBest path entries entry = Contains entries entry × (0 < entry_rank path ent
 abbrev pub SomeRuleDenies : Bool → List ℕ → Section → Type 0
 SomeRuleDenies owned path section =
     (rule : Rule) × (audited : Bool) × Contains section.rules rule × (said_of section.audit owned path rule ≡ Some (Denying audited))
+
+-- what a stack is on is in force: a profile that isn't disabled, or no profile
+abbrev pub IsBaseInForce : Base → Type 0
+IsBaseInForce (OnProfile entry child) = is_in_force entry.state ≡ true
+IsBaseInForce OnUnconfined = Unit {0}

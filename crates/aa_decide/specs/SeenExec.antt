@@ -1,12 +1,15 @@
 -- Who asks to start a program, and what is answered, as the definitions see it: slots stand for the entries in them.
-use Rattle.std.specs.Prelude.{◌≡◌, List, Option, None, Some}
+use Rattle.std.specs.Prelude.{◌≡◌, ℕ, List, Option, None, Some}
 use Rattle.std.specs.Option.{option_map}
 use Rattle.aa_decide_slots.specs.Entries.{Loaded}
-use Rattle.aa_decide.specs.Exec.{Asker, ExecAnswer, Nowhere, Null, Started, Unconfined, Under}
+use Rattle.aa_decide.specs.Exec.{Asker, Base, ExecAnswer, Nowhere, Null, OnProfile, OnUnconfined, Stacked, Started, Unconfined, Under}
 use Rattle.aa_decide_slots.specs.Slots.{entry_at}
 use Rattle.aa_decide_audit.specs.declared.exec_verdict.ExecTo.{ExecTo}
 use Rattle.aa_decide_audit.specs.declared.exec_verdict.ExecTo.TheVariants as to
 use Rattle.aa_decide_audit.specs.declared.exec_verdict.ExecVerdict.{ExecVerdict}
+use Rattle.aa_decide_audit.specs.declared.exec_verdict.StackBase.{StackBase}
+use Rattle.aa_decide_audit.specs.declared.exec_verdict.StackBase.TheVariants as base
+use Rattle.aa_profile_access.specs.Stacks.{parts_of}
 use Rattle.aa_decide.specs.declared.asker.Asker.{Asker as FoundAsker}
 use Rattle.aa_decide.specs.declared.asker.Who.{Who}
 use Rattle.aa_decide.specs.declared.asker.Who.TheVariants as who
@@ -24,12 +27,27 @@ abbrev pub asker_in : List (Option Loaded) → Who → Option Asker
 asker_in slots who.Unconfined = None
 asker_in slots (who.Entry slot child) = option_map (λ entry. record { entry = entry; child = child }) (entry_at slots slot)
 
+-- what a stack is on, if the slot is filled
+abbrev pub seen_base : List (Option Loaded) → StackBase → Option Base
+seen_base slots (base.Profile slot child) = option_map (λ entry. OnProfile entry child) (entry_at slots slot)
+seen_base slots base.Unconfined = Some OnUnconfined
+
+-- a stack of these members, if the slot of what it is on is filled
+abbrev pub seen_stacked : List (Option Loaded) → List (List ℕ) → Option StackBase → Option Started
+seen_stacked slots members None = Some (Stacked None members)
+seen_stacked slots members (Some base) = option_map (λ base. Stacked (Some base) members) (seen_base slots base)
+
 -- under what the program runs, if the slot is filled
 abbrev pub seen_to : List (Option Loaded) → ExecTo → Option Started
 seen_to slots (to.Profile slot child) = option_map (λ entry. Under entry child) (entry_at slots slot)
 seen_to slots to.Unconfined = Some Unconfined
+seen_to slots (to.Stack base members) = seen_stacked slots (parts_of members.now) base
 seen_to slots to.Null = Some Null
 seen_to slots to.Nowhere = Some Nowhere
+
+-- what the code found a stack to be on is what the definitions say, if there is something, and then in a filled slot
+abbrev pub IsBase : List (Option Loaded) → Option StackBase → Option Base → Type 0
+IsBase slots found base = option_map (seen_base slots) found ≡ option_map (λ base. Some base) base
 
 -- what the code found is where the definitions lead, if they lead somewhere, and then in a filled slot
 abbrev pub IsDestination : List (Option Loaded) → Option ExecTo → Option Started → Type 0

@@ -1,12 +1,14 @@
 //! Who asks to start a program: with the loaded profile that confines the task, by a full name, or by its slot.
 
-ghost use Rattle.std.specs.Prelude.{◌≡◌, IfSome};
+ghost use Rattle.std.specs.Prelude.{◌≡◌, IfSome, List, Option, Some};
 ghost use Rattle.std.specs.Option.{option_copied, option_map};
-ghost use Rattle.aa_decide.specs.Exec.{entry_asker, named_asker};
-ghost use Rattle.aa_decide.specs.SeenExec.{IsIn, asker_in, seen_asker};
+ghost use Rattle.aa_decide.specs.Exec.{entry_asker, named_asker, under};
+ghost use Rattle.aa_decide.specs.SeenExec.{IsIn, asker_in, seen_asker, seen_to};
+ghost use Rattle.aa_decide_slots.specs.Entries.{Loaded};
 ghost use Rattle.aa_decide_slots.specs.Slots.{filled};
 ghost use Rattle.aa_profile_access.specs.FullNames.{full_name};
 
+use aa_decide_audit::ExecTo;
 use aa_decide_slots::{Entry, IndexedSlots, entry_at, find_named};
 use aa_profile_access::cut_full_name;
 use aa_profile_data::child_place;
@@ -71,4 +73,14 @@ pub fn find_loaded<'a>(slots: &IndexedSlots<'a>, name: &[u8]) -> Option<Asker<'a
     let (profile, child) = cut_full_name(name);
     let (slot, entry) = find_named(slots, profile)?;
     named_in(slot, entry, child)
+}
+
+// A program runs under who asks.
+pub fn under<'a>(asker: Asker<'_>) -> ExecTo<'a>
+    ensures { (slots : List (Option Loaded)) → IsIn slots asker.entry → seen_to slots result ≡ Some (under (seen_asker asker.entry)) }
+{
+    ExecTo::Profile {
+        slot: asker.slot,
+        child: asker.child,
+    }
 }

@@ -2,8 +2,8 @@
 
 ghost use Rattle.std.specs.Prelude.{◌≡◌, IfOk, IfSome, List, None, Option, Some};
 ghost use Rattle.std.specs.Option.{option_map};
-ghost use Rattle.aa_decide.specs.Exec.{by_choice, by_full_name, carried_out, exec_answer, exec_verdict, led, led_by, missing};
-ghost use Rattle.aa_decide.specs.Exec.{place_of_child, stopped, tag_if, to_child, to_profile, unconfined_start, under};
+ghost use Rattle.aa_decide.specs.Exec.{by_choice, carried_out, exec_answer, exec_verdict, led, led_by, led_by_word, missing, own_start};
+ghost use Rattle.aa_decide.specs.Exec.{place_of_child, stopped, tag_if, to_child, to_profile, unconfined_start};
 ghost use Rattle.aa_decide_slots.specs.Entries.{Loaded};
 ghost use Rattle.aa_decide_slots.specs.Slots.{filled};
 ghost use Rattle.aa_decide.specs.code.SeenExec.{IsAnswerAnywhere, IsDestinationOf};
@@ -13,15 +13,17 @@ ghost use Rattle.aa_decide_audit.specs.declared.verdict.Tag.TheVariants.{Audit};
 ghost use Rattle.aa_decide_exec_rules.specs.Choices.{choice};
 ghost use Rattle.aa_decide_exec_rules.specs.SeenChoices.{seen_choice};
 
-use crate::asker::{Asker, Who, asker_in, named_in};
+use crate::asker::{Asker, Who, asker_in, under};
 use crate::attachment::{attach, attached_child};
-use crate::slots::find_in_force;
+use crate::slots::by_full_name;
+use crate::stacks::{named_stack, to_stack};
 use aa_bytes::SharedBytes;
 use aa_decide_audit::{Answer, ExecTo, ExecVerdict, Tag, Verdict};
 use aa_decide_exec_rules::{ExecChoice, exec_choice};
+use aa_decide_rules::Mediation;
 use aa_decide_slots::{Confinement, IndexedSlots, Ready, ReadySection, Steps};
-use aa_profile_access::{Destination, Perms, cut_full_name};
-use aa_profile_data::{Mode, Transition, child_place};
+use aa_profile_access::{Destination, Perms};
+use aa_profile_data::{Transition, child_place};
 use std::alloc::{AllocError, Global};
 
 // A verdict on the start of a program.
@@ -43,7 +45,7 @@ fn tag_if(audited: bool, tag: Tag) -> Option<Tag>
 }
 
 // A program isn't started.
-fn stopped(answer: Answer, tag: Option<Tag>) -> ExecVerdict
+fn stopped<'a>(answer: Answer, tag: Option<Tag>) -> ExecVerdict<'a>
     ensures { IsAnswerAnywhere result (stopped answer tag) }
 {
     ExecVerdict {
@@ -54,12 +56,12 @@ fn stopped(answer: Answer, tag: Option<Tag>) -> ExecVerdict
 }
 
 // No rule says where to go.
-fn missing(mode: Mode) -> ExecVerdict
-    ensures { IsAnswerAnywhere result (missing mode) }
+fn missing<'a>(mediation: Mediation) -> ExecVerdict<'a>
+    ensures { IsAnswerAnywhere result (missing mediation) }
 {
-    match mode {
-        Mode::Enforce => stopped(Answer::Refuse, Some(Tag::Denied)),
-        Mode::Complain => ExecVerdict {
+    match mediation {
+        Mediation::Enforcing => stopped(Answer::Refuse, Some(Tag::Denied)),
+        Mediation::Complaining => ExecVerdict {
             verdict: exec_verdict(Answer::Complain, Some(Tag::Allowed)),
             to: ExecTo::Null,
             scrub: false,
@@ -68,9 +70,9 @@ fn missing(mode: Mode) -> ExecVerdict
 }
 
 // The program runs.
-fn started(audited: bool, to: ExecTo, scrub: bool) -> ExecVerdict
+fn started<'a>(audited: bool, to: ExecTo<'a>, scrub: bool) -> ExecVerdict<'a>
     ensures verdict { result.verdict ≡ exec_verdict Allow (tag_if audited Audit) }
-    ensures to { result.to ≡ to }
+    ensures to { result.to ≡ to.entry }
     ensures scrub { result.scrub ≡ scrub }
 {
     ExecVerdict {
@@ -80,31 +82,12 @@ fn started(audited: bool, to: ExecTo, scrub: bool) -> ExecVerdict
     }
 }
 
-// Under who asks.
-fn under(asker: Asker<'_>) -> ExecTo
-    ensures { (slots : List (Option Loaded)) → IsIn slots asker.entry → seen_to slots result ≡ Some (under (seen_asker asker.entry)) }
-{
-    ExecTo::Profile {
-        slot: asker.slot,
-        child: asker.child,
-    }
-}
-
-// The profile, child or hat in force of a full name.
-fn by_full_name(slots: &IndexedSlots<'_>, name: &[u8]) -> Option<ExecTo>
-    ensures { IsDestination slots.now result (by_full_name name.now (filled slots.now)) }
-{
-    let (profile, child) = cut_full_name(name);
-    let (slot, entry) = find_in_force(slots, profile)?;
-    Some(under(named_in(slot, entry, child)?))
-}
-
 // The profile that a path is attached to.
-fn to_attached(
+fn to_attached<'a>(
     alloc: Global,
     slots: &IndexedSlots<'_>,
     path: &[u8],
-) -> Result<Option<ExecTo>, AllocError>
+) -> Result<Option<ExecTo<'a>>, AllocError>
     ensures { IfOk result (λ to. IsDestination slots.now to (to_profile path.now None (filled slots.now))) }
 {
     match attach(alloc, slots, path)? {
@@ -114,12 +97,12 @@ fn to_attached(
 }
 
 // A profile in force: the one that is named, or else the one that the path is attached to.
-fn to_profile(
+fn to_profile<'a>(
     alloc: Global,
     slots: &IndexedSlots<'_>,
     path: &[u8],
     target: &Option<SharedBytes>,
-) -> Result<Option<ExecTo>, AllocError>
+) -> Result<Option<ExecTo<'a>>, AllocError>
     ensures { IfOk result (λ to. IsDestination slots.now to (to_profile path.now target.now (filled slots.now))) }
 {
     match target {
@@ -144,12 +127,12 @@ fn place_of_child(
 }
 
 // A child or hat of the profile that asks.
-fn to_child(
+fn to_child<'a>(
     alloc: Global,
     asker: Asker<'_>,
     path: &[u8],
     target: &Option<SharedBytes>,
-) -> Result<Option<ExecTo>, AllocError>
+) -> Result<Option<ExecTo<'a>>, AllocError>
     ensures { IfOk result (λ to. IsDestinationOf asker.entry to (to_child path.now target.now (seen_asker asker.entry))) }
 {
     if asker.child.is_some() {
@@ -172,14 +155,14 @@ fn to_child(
 /// # Errors
 ///
 /// Where memory runs out.
-pub fn led(
+pub fn led<'a>(
     alloc: Global,
     slots: &IndexedSlots<'_>,
     asker: Asker<'_>,
     path: &[u8],
     target: &Option<SharedBytes>,
     destination: Destination,
-) -> Result<Option<ExecTo>, AllocError>
+) -> Result<Option<ExecTo<'a>>, AllocError>
     requires { IsIn slots.now asker }
     ensures { IfOk result (λ to.
         IsDestination slots.now to (led path.now target.now (filled slots.now) (seen_asker asker.entry) destination)) }
@@ -192,84 +175,126 @@ pub fn led(
     }
 }
 
-// Where a transition leads: where its word does, or else where its fallback does.
-fn led_by(
+/// Where the word of a transition leads who asks to start the program of a path, if that is there (docs/policy.md, "Exec and attachment"): where the
+/// transition names a stack, to that, and else where the word's destination leads ([`led`]). A stack is there where each of its members is in force, and
+/// one that is on a base where there is one: behind a word that leads to a profile the profile in force that the path is attached to, or else what the
+/// word's fallback leads to; behind one that leads to a child the profile that asks, and nothing where a child or hat asks.
+///
+/// # Errors
+///
+/// Where memory runs out.
+pub fn led_by_word<'a>(
     alloc: Global,
     slots: &IndexedSlots<'_>,
     asker: Asker<'_>,
     path: &[u8],
-    transition: &Transition,
-) -> Result<Option<ExecTo>, AllocError>
+    transition: &'a Transition,
+) -> Result<Option<ExecTo<'a>>, AllocError>
+    requires { IsIn slots.now asker }
+    ensures { IfOk result (λ to.
+        IsDestination slots.now to (led_by_word path.now (filled slots.now) (seen_asker asker.entry) transition.now)) }
+{
+    let word = transition.word;
+    let destination = word.destination();
+    match named_stack(transition) {
+        Some(stack) => to_stack(alloc, slots, asker, path, word, stack),
+        None => led(alloc, slots, asker, path, &transition.target, destination),
+    }
+}
+
+// Where a transition leads: where its word does, or else where its fallback does.
+fn led_by<'a>(
+    alloc: Global,
+    slots: &IndexedSlots<'_>,
+    asker: Asker<'_>,
+    path: &[u8],
+    transition: &'a Transition,
+) -> Result<Option<ExecTo<'a>>, AllocError>
     requires { IsIn slots.now asker }
     ensures { IfOk result (λ to.
         IsDestination slots.now to (led_by path.now (filled slots.now) (seen_asker asker.entry) transition.now)) }
 {
-    let target = &transition.target;
-    let destination = transition.word.destination();
-    match led(alloc, slots, asker, path, target, destination)? {
+    match led_by_word(alloc, slots, asker, path, transition)? {
         Some(to) => Ok(Some(to)),
         None => match transition.word.fallback() {
             None => Ok(None),
-            Some(fallback) => led(alloc, slots, asker, path, target, fallback),
+            Some(fallback) => led(alloc, slots, asker, path, &transition.target, fallback),
         },
     }
 }
 
 // A transition that is carried out.
-fn carried_out(
+fn carried_out<'a>(
     alloc: Global,
     slots: &IndexedSlots<'_>,
     asker: Asker<'_>,
-    mode: Mode,
+    mediation: Mediation,
     path: &[u8],
-    transition: &Transition,
+    transition: &'a Transition,
     audited: bool,
-) -> Result<ExecVerdict, AllocError>
+) -> Result<ExecVerdict<'a>, AllocError>
     requires { IsIn slots.now asker }
     ensures { IfOk result (λ found.
         IsAnswer slots.now found
-        (carried_out path.now (filled slots.now) (seen_asker asker.entry) mode transition.now audited)) }
+        (carried_out path.now (filled slots.now) (seen_asker asker.entry) mediation transition.now audited)) }
 {
     match led_by(alloc, slots, asker, path, transition)? {
-        None => Ok(missing(mode)),
+        None => Ok(missing(mediation)),
         Some(to) => Ok(started(audited, to, transition.word.scrubs())),
     }
 }
 
 // The answer by what the rules say together.
-fn by_choice(
+fn by_choice<'a>(
     alloc: Global,
     slots: &IndexedSlots<'_>,
     asker: Asker<'_>,
-    mode: Mode,
+    mediation: Mediation,
     path: &[u8],
-    choice: ExecChoice<'_>,
-) -> Result<ExecVerdict, AllocError>
+    choice: ExecChoice<'a>,
+) -> Result<ExecVerdict<'a>, AllocError>
     requires { IsIn slots.now asker }
     ensures { IfOk result (λ found.
         IsAnswer slots.now found
-        (by_choice path.now (filled slots.now) (seen_asker asker.entry) mode (seen_choice choice.entry))) }
+        (by_choice path.now (filled slots.now) (seen_asker asker.entry) mediation (seen_choice choice.entry))) }
 {
     match choice {
         ExecChoice::Denied { audited } => Ok(stopped(Answer::Deny, tag_if(audited, Tag::Denied))),
-        ExecChoice::Missing => Ok(missing(mode)),
+        ExecChoice::Missing => Ok(missing(mediation)),
         ExecChoice::Leading {
             transition,
             audited,
-        } => carried_out(alloc, slots, asker, mode, path, transition, audited),
+        } => carried_out(alloc, slots, asker, mediation, path, transition, audited),
     }
 }
 
 // The answer to who is confined by nothing.
-fn unconfined_start(
+fn unconfined_start<'a>(
     alloc: Global,
     slots: &IndexedSlots<'_>,
     path: &[u8],
-) -> Result<ExecVerdict, AllocError>
+) -> Result<ExecVerdict<'a>, AllocError>
     ensures { IfOk result (λ found. IsAnswer slots.now found (unconfined_start path.now (filled slots.now))) }
 {
     match to_attached(alloc, slots, path)? {
         None => Ok(started(false, ExecTo::Unconfined, false)),
+        Some(to) => Ok(started(false, to, false)),
+    }
+}
+
+// The answer to who is confined by its name alone.
+fn own_start<'a>(
+    alloc: Global,
+    slots: &IndexedSlots<'_>,
+    asker: Asker<'_>,
+    path: &[u8],
+) -> Result<ExecVerdict<'a>, AllocError>
+    requires { IsIn slots.now asker }
+    ensures { IfOk result (λ found.
+        IsAnswer slots.now found (own_start path.now (filled slots.now) (seen_asker asker.entry))) }
+{
+    match to_attached(alloc, slots, path)? {
+        None => Ok(started(false, under(asker), false)),
         Some(to) => Ok(started(false, to, false)),
     }
 }
@@ -300,46 +325,49 @@ pub fn choice_of<'a>(
 }
 
 // The answer to who asks by a loaded profile.
-fn asked_by(
+fn asked_by<'a>(
     alloc: Global,
     slots: &IndexedSlots<'_>,
-    asker: Asker<'_>,
+    asker: Asker<'a>,
     owned: bool,
     path: &[u8],
-) -> Result<ExecVerdict, AllocError>
+) -> Result<ExecVerdict<'a>, AllocError>
     requires { IsIn slots.now asker }
     ensures { IfOk result (λ found.
         IsAnswer slots.now found (exec_answer (filled slots.now) (Some (seen_asker asker.entry)) owned path.now)) }
 {
     match asker.entry.confinement(asker.child) {
         Confinement::Unconfined => unconfined_start(alloc, slots, path),
-        Confinement::By { section, mode } => {
+        Confinement::ByName => own_start(alloc, slots, asker, path),
+        Confinement::By { section, mediation } => {
             let choice = choice_of(alloc, section, owned, path)?;
-            by_choice(alloc, slots, asker, mode, path, choice)
+            by_choice(alloc, slots, asker, mediation, path, choice)
         }
     }
 }
 
 /// Under what the program of a path runs that is started, and how that is logged (docs/policy.md, "Exec and
 /// attachment"). Asked by no one in particular, as a task is that nothing confines, and by a disabled profile: under
-/// the profile in force that the path is attached to, or else under none. Asked by a profile in force, by its own
-/// rules, or those of its child or hat: `Deny` where a deny rule with `x` applies; what its mode says, `Refuse` or
-/// `Complain`, where no allow rule with an exec word does; else where the first of those leads that dominate. The rules
-/// of a profile that was made ready agree ([`ReadySection::rules_agree`]), and of such rules all that dominate have one
-/// transition (`where_agreeing_rules_lead` of `aa_decide_exec_rules`). A disabled profile is never gone to. `owned`
-/// says whether the task's user owns the file. What it answers is said of the filled slots in their order, and a
-/// profile that it tells is in a filled one.
+/// the profile in force that the path is attached to, or else under none. Asked by a profile, child or hat in mode
+/// unconfined, whose rules aren't asked: under that profile, or else under who asks. Asked by another profile in force,
+/// by its own rules, or those of its child or hat: `Deny` where a deny rule with `x` applies; what its mode says,
+/// `Refuse` or `Complain`, where no allow rule with an exec word does; else where the first of those leads that
+/// dominate, or else where its fallback does. A rule may lead under several profiles at once, a stack ([`led_by_word`]),
+/// of which each is in force. The rules of a profile that was made ready agree ([`ReadySection::rules_agree`]), and of such rules all
+/// that dominate have one transition (`where_agreeing_rules_lead` of `aa_decide_exec_rules`). A disabled profile is
+/// never gone to. `owned` says whether the task's user owns the file. What it answers is said of the filled slots in
+/// their order, and a profile that it tells is in a filled one.
 ///
 /// # Errors
 ///
 /// Where memory runs out.
-pub fn exec_by(
+pub fn exec_by<'a>(
     alloc: Global,
     slots: &IndexedSlots<'_>,
-    asker: Option<Asker<'_>>,
+    asker: Option<Asker<'a>>,
     owned: bool,
     path: &[u8],
-) -> Result<ExecVerdict, AllocError>
+) -> Result<ExecVerdict<'a>, AllocError>
     requires { IfSome asker (IsIn slots.now) }
     ensures { IfOk result (λ found.
         IsAnswer slots.now found (exec_answer (filled slots.now) (option_map seen_asker asker.entry) owned path.now)) }
@@ -355,13 +383,13 @@ pub fn exec_by(
 /// # Errors
 ///
 /// Where memory runs out.
-pub fn exec(
+pub fn exec<'a>(
     alloc: Global,
-    slots: &IndexedSlots<'_>,
+    slots: &IndexedSlots<'a>,
     who: Who,
     owned: bool,
     path: &[u8],
-) -> Result<ExecVerdict, AllocError>
+) -> Result<ExecVerdict<'a>, AllocError>
     ensures { IfOk result (λ found.
         IsAnswer slots.now found (exec_answer (filled slots.now) (asker_in slots.now who) owned path.now)) }
 {

@@ -1,30 +1,35 @@
 //! What holds of attachment and of the start of programs, as laws over the definitions that `attach` and `exec` are proved to follow.
 
-ghost use Rattle.std.specs.Prelude.{◌≡◌, ◌<◌, ◌^◌, ◌↔◌, ℕ, Bool, List, Option, Some, true};
+ghost use Rattle.std.specs.Prelude.{◌≡◌, ◌<◌, ◌^◌, ◌↔◌, ℕ, Bool, IfSome, List, Option, Some, true};
 ghost use Rattle.std.specs.List.{All};
 ghost use Rattle.aa_profile_access.specs.Access.{EXEC};
 ghost use Rattle.aa_decide.specs.Attachment.{attached};
 ghost use Rattle.aa_decide_slots.specs.Confinement.{By, in_state};
 ghost use Rattle.aa_decide_slots.specs.Entries.{Loaded, is_in_force};
-ghost use Rattle.aa_decide.specs.Exec.{Asker, Under, exec_answer};
-ghost use Rattle.aa_decide.specs.ExecLaws.{DifferInOrder, FitsBest, HaveDistinctNames, SomeRuleDenies};
+ghost use Rattle.aa_decide.specs.Exec.{Asker, Base, Stacked, Under, are_in_force, exec_answer};
+ghost use Rattle.aa_decide.specs.ExecLaws.{DifferInOrder, FitsBest, HaveDistinctNames, IsBaseInForce, SomeRuleDenies};
 ghost use Rattle.aa_decide_exec_rules.specs.Laws.{RulesLeadOneWay};
 ghost use Rattle.aa_decide_ready.specs.Sections.{Section};
+ghost use Rattle.aa_decide_rules.specs.declared.verdict.Mediation.{Mediation};
 ghost use Rattle.aa_decide_audit.specs.declared.verdict.Answer.TheVariants.{Deny};
-ghost use Rattle.aa_profile_data.specs.declared.profile.Mode.{Mode};
 
 use aa_decide_attachment::which_rank_stands_out;
 use aa_decide_exec_rules::where_agreeing_rules_lead;
 use aa_decide_slots::ReadySection;
 
-/// A program never runs under a disabled profile, nor under a child or hat of one. Of profiles of different names a path is attached to one exactly
-/// where this has an attachment that matches and ranks above all others. The order of the profiles changes neither that nor any answer. A
-/// deny rule that covers the start of the program wins over all other rules. The mask of each answer is `x`.
+/// A program never runs under a disabled profile, nor under a child or hat of one, and what a stack is on and all others in it are in force. Of
+/// profiles of different names a path is attached to one exactly where this has an attachment that matches and ranks above all others. The order of
+/// the profiles changes neither that nor any answer. A deny rule that covers the start of the program wins over all other rules. The mask of each answer
+/// is `x`.
 pub fn where_programs_run()
     ensures none_runs_under_a_disabled_profile { (entries : List Loaded) (asker : Option Asker) (owned : Bool) (path : List ℕ)
         → (entry : Loaded) (child : Option ℕ)
         → (exec_answer entries asker owned path).to ≡ Under entry child
         → is_in_force entry.state ≡ true }
+    ensures all_of_a_stack_are_in_force { (entries : List Loaded) (asker : Option Asker) (owned : Bool) (path : List ℕ)
+        → (base : Option Base) (members : List (List ℕ))
+        → (exec_answer entries asker owned path).to ≡ Stacked base members
+        → IfSome base IsBaseInForce × (are_in_force members entries ≡ true) }
     ensures best_fit_is_attached { (path : List ℕ) (entries : List Loaded) (entry : Loaded)
         → HaveDistinctNames entries
         → (attached path entries ≡ Some entry) ↔ FitsBest path entries entry }
@@ -35,8 +40,8 @@ pub fn where_programs_run()
         → DifferInOrder entries others
         → exec_answer entries asker owned path ≡ exec_answer others asker owned path }
     ensures deny_rule_wins { (entries : List Loaded) (asker : Asker) (owned : Bool) (path : List ℕ)
-        → (section : Section) (mode : Mode)
-        → in_state asker.entry.profile asker.entry.state asker.child ≡ By section mode
+        → (section : Section) (mediation : Mediation)
+        → in_state asker.entry.profile asker.entry.state asker.child ≡ By section mediation
         → SomeRuleDenies owned path section
         → (exec_answer entries (Some asker) owned path).verdict.answer ≡ Deny }
     ensures mask_is_exec { (entries : List Loaded) (asker : Option Asker) (owned : Bool) (path : List ℕ)

@@ -2,10 +2,14 @@
 
 ghost use Rattle.std.specs.Prelude.{◌≡◌, IfSome, Some};
 ghost use Rattle.std.specs.Option.{option_map};
-ghost use Rattle.aa_decide.specs.Exec.{is_named_in_force, named_in_force};
+ghost use Rattle.aa_decide.specs.Exec.{by_full_name, is_named_in_force, named_in_force};
+ghost use Rattle.aa_decide.specs.SeenExec.{IsDestination};
 ghost use Rattle.aa_decide_slots.specs.Slots.{entry_at, filled};
 
+use crate::asker::{named_in, under};
+use aa_decide_audit::ExecTo;
 use aa_decide_slots::{Entry, IndexedSlots, find_named};
+use aa_profile_access::cut_full_name;
 
 // Whether a profile is in force and has this name.
 fn is_named_in_force(entry: &Entry, name: &[u8]) -> bool
@@ -44,4 +48,13 @@ pub fn find_in_force<'a>(slots: &IndexedSlots<'a>, name: &[u8]) -> Option<(usize
             }
         }
     }
+}
+
+// The profile, child or hat in force of a full name.
+pub fn by_full_name<'a>(slots: &IndexedSlots<'_>, name: &[u8]) -> Option<ExecTo<'a>>
+    ensures { IsDestination slots.now result (by_full_name name.now (filled slots.now)) }
+{
+    let (profile, child) = cut_full_name(name);
+    let (slot, entry) = find_in_force(slots, profile)?;
+    Some(under(named_in(slot, entry, child)?))
 }

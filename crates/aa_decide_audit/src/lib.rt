@@ -5,6 +5,6 @@ mod exec_verdict;
 mod log;
 mod verdict;
 
-pub use exec_verdict::{ExecTo, ExecVerdict};
+pub use exec_verdict::{ExecTo, ExecVerdict, StackBase};
 pub use log::{exec_line, log_line};
 pub use verdict::{Answer, Tag, Verdict};

@@ -209,7 +209,7 @@ pub fn exec_line(
     alloc: Global,
     name: &[u8],
     path: &[u8],
-    verdict: &ExecVerdict,
+    verdict: &ExecVerdict<'_>,
 ) -> Result<Vec<u8>, AllocError>
     ensures line { IfOk result (λ line. line.items ≡ exec_line name.now path.now verdict.now.verdict) }
     ensures memory { OnErr result (IsSome verdict.now.verdict.tag) }

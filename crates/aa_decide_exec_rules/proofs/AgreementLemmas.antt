@@ -7,20 +7,23 @@ use Rattle.std.proofs.lemmas.Bool.{and_parts}
 use Rattle.std.proofs.lemmas.List.Elements.{All-head, All-tail}
 use Rattle.std.proofs.lemmas.Slice.Eq.{bytes_eq-Decides}
 use Rattle.aa_decide_exec_rules.proofs.SaidLemmas.{exec-before, said-before}
-use Rattle.aa_decide_exec_rules.specs.Choices.{dominates, first_lead, is_exact_lead}
+use Rattle.aa_decide_exec_rules.specs.Choices.{first_lead, highest}
 use Rattle.aa_decide_exec_rules.specs.ExecRules.{Denying, ExecRule, Leading, applies_to, covers_exec, exec_rules, said_by, said_of}
 use Rattle.aa_decide_exec_rules.specs.Laws.{AgreeingRulesLeadOneWay, LeadOneWay}
 use Rattle.aa_glob_pattern.specs.Laws.{OverlapsAreTested}
 use Rattle.aa_glob_pattern.specs.Shared.{overlaps}
-use Rattle.aa_glob_syntax.specs.Exactness.{is_exact}
 use Rattle.aa_glob_syntax.specs.Matching.{matches}
 use Rattle.aa_glob_syntax.specs.Reading.{items_of, reading}
 use Rattle.aa_profile_access.specs.ExecWords.{exec_word, row, same_word}
 use Rattle.aa_profile_access.specs.declared.exec_word.ExecWord.{ExecWord}
 use Rattle.aa_profile_access.specs.declared.exec_word.ExecWord.TheVariants as word
+use Rattle.aa_profile_data.proofs.RankLemmas.{same-ranks}
 use Rattle.aa_profile_data.specs.ConflictLaws.{HasReadPattern}
 use Rattle.aa_profile_data.specs.Conflicts.{Lead, agree, conflict, first_conflict, lead_of, same_target, same_transition}
 use Rattle.aa_profile_data.specs.declared.profile.FileRule.{FileRule}
+use Rattle.aa_profile_data.specs.Ranks.{same_rank}
+use Rattle.aa_profile_data.specs.declared.profile.Rank.{Rank}
+use Rattle.aa_profile_data.specs.declared.profile.Rank.TheVariants.{Last, Loose, Plain}
 use Rattle.aa_profile_data.specs.declared.profile.Rule.{Rule}
 use Rattle.aa_profile_data.specs.declared.profile.Rule.TheVariants.{Cap, File, Net, Other}
 use Rattle.aa_profile_data.specs.declared.profile.Transition.{Transition}
@@ -95,50 +98,50 @@ agree-parts rule rules e =
     (none.0, ap is_none none.1)
 
 -- What it takes that a rule leads somewhere: its lead, and that its pattern reads and matches the path.
-record LeadsSo (path : List ℕ) (rule : Rule) (transition : Transition) (exact : Bool) : Type 0 where
+record LeadsSo (path : List ℕ) (rule : Rule) (transition : Transition) (rank : Rank) : Type 0 where
   pattern : List ℕ
-  lead : lead_of rule ≡ Some (record { pattern = pattern; exact = exact; transition = transition })
+  lead : lead_of rule ≡ Some (record { pattern = pattern; rank = rank; transition = transition })
   reads : HasReadPattern rule → reading pattern ≡ Ok (items_of pattern)
   matched : matches (items_of pattern) path ≡ true
 
 abbrev IsOneLead : Option Lead → Option Lead → Type 0
 IsOneLead one other = one ≡ other
 
-one-lead : (pattern : List ℕ) (exact other_exact : Bool) (transition other : Transition) → exact ≡ other_exact → transition ≡ other
-    → IsOneLead (Some (record { pattern = pattern; exact = exact; transition = transition })) (Some (record { pattern = pattern; exact = other_exact; transition = other }))
-one-lead pattern exact other_exact transition other so to = cc
+one-lead : (pattern : List ℕ) (rank other_rank : Rank) (transition other : Transition) → rank ≡ other_rank → transition ≡ other
+    → IsOneLead (Some (record { pattern = pattern; rank = rank; transition = transition })) (Some (record { pattern = pattern; rank = other_rank; transition = other }))
+one-lead pattern rank other_rank transition other so to = cc
 
-file-leads : (flag owned : Bool) (path : List ℕ) (rule : FileRule) (transition : Transition) (exact audited : Bool)
-    → said_of flag owned path (File rule) ≡ Some (Leading transition exact audited) → LeadsSo path (File rule) transition exact
-file-leads flag owned path rule transition exact audited e = by (applies_to owned path rule) rule.deny rule.exec refl refl refl e
+file-leads : (flag owned : Bool) (path : List ℕ) (rule : FileRule) (transition : Transition) (rank : Rank) (audited : Bool)
+    → said_of flag owned path (File rule) ≡ Some (Leading transition rank audited) → LeadsSo path (File rule) transition rank
+file-leads flag owned path rule transition rank audited e = by (applies_to owned path rule) rule.deny rule.exec refl refl refl e
   where
     by : (applies deny : Bool) (exec : Option Transition) → applies_to owned path rule ≡ applies → rule.deny ≡ deny → rule.exec ≡ exec
-        → (if applies then said_by flag rule else None) ≡ Some (Leading transition exact audited)
-        → LeadsSo path (File rule) transition exact
+        → (if applies then said_by flag rule else None) ≡ Some (Leading transition rank audited)
+        → LeadsSo path (File rule) transition rank
     by false deny exec a d x e = absurd (cc)
     by true true exec a d x e = absurd (denies (covers_exec rule) (rw (said_by, d) at e))
       where
-        denies : (covers : Bool) → (if covers then Some (Denying (flag || rule.audit)) else None) ≡ Some (Leading transition exact audited) → ⊥
+        denies : (covers : Bool) → (if covers then Some (Denying (flag || rule.audit)) else None) ≡ Some (Leading transition rank audited) → ⊥
         denies true e = cc
         denies false e = cc
     by true false None a d x e = absurd (let h = rw (said_by, d, x) at e in cc)
     by true false (Some to) a d x e =
         let h = rw (said_by, d, x) at e in
         let is_to : to ≡ transition = cc in
-        let is_so : is_exact (items_of rule.pattern) ≡ exact = cc in
+        let is_so : rule.rank ≡ rank = cc in
         record {
           pattern = rule.pattern;
-          lead = rw (lead_of, d, x) (one-lead rule.pattern (is_exact (items_of rule.pattern)) exact to transition is_so is_to);
+          lead = rw (lead_of, d, x) (one-lead rule.pattern rule.rank rank to transition is_so is_to);
           reads = λ reads. reads;
           matched = (and_parts (matches (items_of rule.pattern) path) (not rule.owner || owned) a).0;
         }
 
-rule-leads : (flag owned : Bool) (path : List ℕ) (rule : Rule) (transition : Transition) (exact audited : Bool)
-    → said_of flag owned path rule ≡ Some (Leading transition exact audited) → LeadsSo path rule transition exact
-rule-leads flag owned path (File rule) transition exact audited e = file-leads flag owned path rule transition exact audited e
-rule-leads flag owned path (Cap rule) transition exact audited e = absurd (cc)
-rule-leads flag owned path (Net rule) transition exact audited e = absurd (cc)
-rule-leads flag owned path (Other rule) transition exact audited e = absurd (cc)
+rule-leads : (flag owned : Bool) (path : List ℕ) (rule : Rule) (transition : Transition) (rank : Rank) (audited : Bool)
+    → said_of flag owned path rule ≡ Some (Leading transition rank audited) → LeadsSo path rule transition rank
+rule-leads flag owned path (File rule) transition rank audited e = file-leads flag owned path rule transition rank audited e
+rule-leads flag owned path (Cap rule) transition rank audited e = absurd (cc)
+rule-leads flag owned path (Net rule) transition rank audited e = absurd (cc)
+rule-leads flag owned path (Other rule) transition rank audited e = absurd (cc)
 
 -- what a list with a first item contains is that or stands behind it
 pub contains-split : {X : Type 0} (x : X) (xs : List X) (y : X) → Contains (x ∷ xs) y → (x ≡ y) ⊎ Contains xs y
@@ -148,119 +151,88 @@ contains-split x xs y (suc i, within, is) = inr (i, omega (arith, within), is)
 pub contains-behind : {X : Type 0} (x : X) (xs : List X) (y : X) → Contains xs y → Contains (x ∷ xs) y
 contains-behind x xs y (i, within, is) = (suc i, omega (arith, within), is)
 
-same-else : (exact same overlap : Bool) → ((if exact then exact else not exact) && (not same && overlap)) ≡ false → overlap ≡ true → same ≡ true
-same-else exact true overlap e o = refl
-same-else true false overlap e o = absurd (cc)
-same-else false false overlap e o = absurd (cc)
+same-else : (rank : Rank) (same overlap : Bool) → (same_rank rank rank && (not same && overlap)) ≡ false → overlap ≡ true → same ≡ true
+same-else rank true overlap e o = refl
+same-else Last false overlap e o = absurd (cc)
+same-else Loose false overlap e o = absurd (cc)
+same-else Plain false overlap e o = absurd (cc)
 
 or-none : (one other : Bool) → (one || other) ≡ false → (one ≡ false) × (other ≡ false)
 or-none false false e = (refl, refl)
 or-none false true e = absurd (cc)
 or-none true other e = absurd (cc)
 
--- all that dominate are exact, or none is
-abbrev IsAlike : Bool → List ExecRule → Type 0
-IsAlike some_exact rules = (transition : Transition) (exact audited : Bool)
-    → Contains rules (Leading transition exact audited) → dominates some_exact (Leading transition exact audited) ≡ true
-    → exact ≡ some_exact
-
-none-exact : (rules : List ExecRule) → list_any is_exact_lead rules ≡ false → (transition : Transition) (exact audited : Bool) → Contains rules (Leading transition exact audited) → exact ≡ false
-none-exact [] none transition exact audited (i, within, is) = absurd (omega (arith, within))
-none-exact (rule ∷ rules) none transition exact audited c =
-    let parts = or-none (is_exact_lead rule) (list_any is_exact_lead rules) none in
-    by (contains-split rule rules (Leading transition exact audited) c) parts.0 (none-exact rules parts.1 transition exact audited)
-  where
-    by : (rule ≡ Leading transition exact audited) ⊎ Contains rules (Leading transition exact audited) → is_exact_lead rule ≡ false
-        → (Contains rules (Leading transition exact audited) → exact ≡ false) → exact ≡ false
-    by (inl is) none rest = sym (ap is_exact_lead is) ∙ none
-    by (inr c) none rest = rest c
-
-dominate-alike : (rules : List ExecRule) → IsAlike (list_any is_exact_lead rules) rules
-dominate-alike rules = by (list_any is_exact_lead rules) refl
-  where
-    by : (some_exact : Bool) → list_any is_exact_lead rules ≡ some_exact → IsAlike some_exact rules
-    by true e transition true audited c d = refl
-    by true e transition false audited c d = absurd (cc)
-    by false e transition exact audited c d = none-exact rules e transition exact audited c
-
 module _ (law : OverlapsAreTested) where
   -- two rules that match a path lead under one transition, where the one doesn't conflict with the other
-  lead-alike : (path : List ℕ) (one other : Rule) (here there : Transition) (exact : Bool) → All (λ b. b < 2 ^ 8) path
-      → HasReadPattern one → HasReadPattern other → LeadsSo path one here exact → LeadsSo path other there exact
+  lead-alike : (path : List ℕ) (one other : Rule) (here there : Transition) (rank : Rank) → All (λ b. b < 2 ^ 8) path
+      → HasReadPattern one → HasReadPattern other → LeadsSo path one here rank → LeadsSo path other there rank
       → conflict one other ≡ false → here ≡ there
-  lead-alike path one other here there exact bytes reads_one reads_other leads_one leads_other none =
+  lead-alike path one other here there rank bytes reads_one reads_other leads_one leads_other none =
       let overlap = (law leads_one.pattern leads_other.pattern (leads_one.reads reads_one) (leads_other.reads reads_other)).1 (path, bytes, leads_one.matched, leads_other.matched) in
       let apart = rw (conflict, leads_one.lead, leads_other.lead) at none in
-      same_transition-is here there (same-else exact (same_transition here there) (overlaps leads_one.pattern leads_other.pattern) apart overlap)
+      same_transition-is here there (same-else rank (same_transition here there) (overlaps leads_one.pattern leads_other.pattern) apart overlap)
 
-  -- a rule that none of some later ones conflicts with leads where each of these does that leads by a pattern of its kind
-  later-alike : (flag owned : Bool) (path : List ℕ) (one : Rule) (here : Transition) (exact : Bool) → All (λ b. b < 2 ^ 8) path
-      → HasReadPattern one → LeadsSo path one here exact
+  -- a rule that none of some later ones conflicts with leads where each of these does that leads with its rank
+  later-alike : (flag owned : Bool) (path : List ℕ) (one : Rule) (here : Transition) (rank : Rank) → All (λ b. b < 2 ^ 8) path
+      → HasReadPattern one → LeadsSo path one here rank
       → (rules : List Rule) → All HasReadPattern rules → list_any (λ later. conflict later one) rules ≡ false
-      → (there : Transition) (audited : Bool) → Contains (exec_rules flag owned path rules) (Leading there exact audited) → there ≡ here
-  later-alike flag owned path one here exact bytes reads leads [] read none there audited (i, within, is) = absurd (omega (arith, within))
-  later-alike flag owned path one here exact bytes reads leads (rule ∷ rules) read none there audited c =
+      → (there : Transition) (audited : Bool) → Contains (exec_rules flag owned path rules) (Leading there rank audited) → there ≡ here
+  later-alike flag owned path one here rank bytes reads leads [] read none there audited (i, within, is) = absurd (omega (arith, within))
+  later-alike flag owned path one here rank bytes reads leads (rule ∷ rules) read none there audited c =
       let parts = or-none (conflict rule one) (list_any (λ later. conflict later one) rules) none in
       by (said_of flag owned path rule) refl parts.0
-      (later-alike flag owned path one here exact bytes reads leads rules (All-tail HasReadPattern rule rules read) parts.1 there audited)
-      (subst (λ said. Contains said (Leading there exact audited)) (sym (exec-before flag owned path rule rules)) c)
+      (later-alike flag owned path one here rank bytes reads leads rules (All-tail HasReadPattern rule rules read) parts.1 there audited)
+      (subst (λ said. Contains said (Leading there rank audited)) (sym (exec-before flag owned path rule rules)) c)
     where
       by : (said : Option ExecRule) → said_of flag owned path rule ≡ said → conflict rule one ≡ false
-          → (Contains (exec_rules flag owned path rules) (Leading there exact audited) → there ≡ here)
-          → Contains (said-before said (exec_rules flag owned path rules)) (Leading there exact audited)
+          → (Contains (exec_rules flag owned path rules) (Leading there rank audited) → there ≡ here)
+          → Contains (said-before said (exec_rules flag owned path rules)) (Leading there rank audited)
           → there ≡ here
       by None e none rest c = rest c
-      by (Some said) e none rest c = or (contains-split said (exec_rules flag owned path rules) (Leading there exact audited) c)
+      by (Some said) e none rest c = or (contains-split said (exec_rules flag owned path rules) (Leading there rank audited) c)
         where
-          or : (said ≡ Leading there exact audited) ⊎ Contains (exec_rules flag owned path rules) (Leading there exact audited) → there ≡ here
+          or : (said ≡ Leading there rank audited) ⊎ Contains (exec_rules flag owned path rules) (Leading there rank audited) → there ≡ here
           or (inl is) =
-              lead-alike path rule one there here exact bytes (All-head HasReadPattern rule rules read) reads
-              (rule-leads flag owned path rule there exact audited (e ∙ ap Some is)) leads none
+              lead-alike path rule one there here rank bytes (All-head HasReadPattern rule rules read) reads
+              (rule-leads flag owned path rule there rank audited (e ∙ ap Some is)) leads none
           or (inr c) = rest c
 
-  one_way : (flag owned : Bool) (path : List ℕ) (some_exact : Bool) → All (λ b. b < 2 ^ 8) path
-      → (rules : List Rule) → agree rules ≡ true → All HasReadPattern rules
-      → IsAlike some_exact (exec_rules flag owned path rules) → LeadOneWay some_exact (exec_rules flag owned path rules)
-  one_way flag owned path some_exact bytes [] agrees read alike = λ first transition exact audited holds c d. absurd (omega (arith, c.1))
-  one_way flag owned path some_exact bytes (rule ∷ rules) agrees read alike =
+  one_way : (flag owned : Bool) (path : List ℕ) (rank : Rank) → All (λ b. b < 2 ^ 8) path
+      → (rules : List Rule) → agree rules ≡ true → All HasReadPattern rules → LeadOneWay rank (exec_rules flag owned path rules)
+  one_way flag owned path rank bytes [] agrees read = λ first transition own audited holds c d. absurd (omega (arith, c.1))
+  one_way flag owned path rank bytes (rule ∷ rules) agrees read =
       let parts = agree-parts rule rules agrees in
-      subst (LeadOneWay some_exact) (exec-before flag owned path rule rules)
-      (by (said_of flag owned path rule) refl parts.0
-      (one_way flag owned path some_exact bytes rules parts.1 (All-tail HasReadPattern rule rules read))
-      (subst (IsAlike some_exact) (sym (exec-before flag owned path rule rules)) alike))
+      subst (LeadOneWay rank) (exec-before flag owned path rule rules)
+      (by (said_of flag owned path rule) refl parts.0 (one_way flag owned path rank bytes rules parts.1 (All-tail HasReadPattern rule rules read)))
     where
       said-rest : List ExecRule
       said-rest = exec_rules flag owned path rules
 
       by : (said : Option ExecRule) → said_of flag owned path rule ≡ said → list_any (λ later. conflict later rule) rules ≡ false
-          → (IsAlike some_exact said-rest → LeadOneWay some_exact said-rest)
-          → IsAlike some_exact (said-before said said-rest) → LeadOneWay some_exact (said-before said said-rest)
-      by None e none rest alike first transition exact audited holds c d = rest alike first transition exact audited holds c d
-      by (Some (Denying loud)) e none rest alike first transition exact audited holds c d = or (contains-split (Denying loud) said-rest (Leading transition exact audited) c)
+          → LeadOneWay rank said-rest → LeadOneWay rank (said-before said said-rest)
+      by None e none rest first transition own audited holds c d = rest first transition own audited holds c d
+      by (Some (Denying loud)) e none rest first transition own audited holds c d = or (contains-split (Denying loud) said-rest (Leading transition own audited) c)
         where
-          or : (Denying loud ≡ Leading transition exact audited) ⊎ Contains said-rest (Leading transition exact audited) → transition ≡ first
+          or : (Denying loud ≡ Leading transition own audited) ⊎ Contains said-rest (Leading transition own audited) → transition ≡ first
           or (inl is) = absurd (cc)
-          or (inr c) = rest (λ t x a c. alike t x a (contains-behind (Denying loud) said-rest (Leading t x a) c)) first transition exact audited holds c d
-      by (Some (Leading here own loud)) e none rest alike first transition exact audited holds c d =
-          or (own || not some_exact) refl holds (contains-split (Leading here own loud) said-rest (Leading transition exact audited) c)
+          or (inr c) = rest first transition own audited holds c d
+      by (Some (Leading here kind loud)) e none rest first transition own audited holds c d =
+          or (same_rank kind rank) refl holds (contains-split (Leading here kind loud) said-rest (Leading transition own audited) c)
         where
-          or : (leads : Bool) → (own || not some_exact) ≡ leads
-              → (if leads then Some here else first_lead some_exact said-rest) ≡ Some first
-              → (Leading here own loud ≡ Leading transition exact audited) ⊎ Contains said-rest (Leading transition exact audited)
+          or : (leads : Bool) → same_rank kind rank ≡ leads
+              → (if leads then Some here else first_lead rank said-rest) ≡ Some first
+              → (Leading here kind loud ≡ Leading transition own audited) ⊎ Contains said-rest (Leading transition own audited)
               → transition ≡ first
           or true v holds (inl is) = cc
           or true v holds (inr c) =
-              let behind = alike transition exact audited (contains-behind (Leading here own loud) said-rest (Leading transition exact audited) c) d in
-              let ahead = alike here own loud (0, omega arith, refl) v in
-              later-alike flag owned path rule here own bytes (All-head HasReadPattern rule rules read)
-              (rule-leads flag owned path rule here own loud e) rules (All-tail HasReadPattern rule rules read) none transition audited
-              (subst (λ exact. Contains said-rest (Leading transition exact audited)) (behind ∙ sym ahead) c)
+              let alike : own ≡ kind = same-ranks own rank d ∙ sym (same-ranks kind rank v) in
+              later-alike flag owned path rule here kind bytes (All-head HasReadPattern rule rules read)
+              (rule-leads flag owned path rule here kind loud e) rules (All-tail HasReadPattern rule rules read) none transition audited
+              (subst (λ rank. Contains said-rest (Leading transition rank audited)) alike c)
               ∙ some-same here first holds
           or false v holds (inl is) = absurd (cc)
-          or false v holds (inr c) =
-              rest (λ t x a c. alike t x a (contains-behind (Leading here own loud) said-rest (Leading t x a) c)) first transition exact audited holds c d
+          or false v holds (inr c) = rest first transition own audited holds c d
 
   -- of rules that agree, those that dominate lead one way
   pub lead-one_way : AgreeingRulesLeadOneWay
-  lead-one_way rules agrees read flag owned path bytes =
-      one_way flag owned path (list_any is_exact_lead (exec_rules flag owned path rules)) bytes rules agrees read (dominate-alike (exec_rules flag owned path rules))
+  lead-one_way rules agrees read flag owned path bytes = one_way flag owned path (highest (exec_rules flag owned path rules)) bytes rules agrees read

@@ -1,14 +1,17 @@
 -- Rules that lead one way say the same together in whatever order.
-use Rattle.std.proofs.Common.{◌≡◌, ℕ, Bool, true, false, ◌||◌, not, cond, List, [], ◌∷◌, Option, None, Some, arith, inl, inr, refl, sym, ap, subst, ◌∙◌}
+use Rattle.std.proofs.Common.{◌≡◌, ℕ, Bool, true, false, ◌||◌, cond, List, [], ◌∷◌, Option, None, Some, arith, inl, inr, refl, sym, ap, subst, ◌∙◌}
 use Rattle.std.specs.Prelude.{Contains, ◌⊎◌}
 use Rattle.std.specs.Cmp.{both_ways}
 use Rattle.std.specs.List.{list_any}
 use Rattle.aa_decide_exec_rules.proofs.AgreementLemmas.{contains-behind, contains-split}
 use Rattle.aa_decide_exec_rules.proofs.SaidLemmas.{exec-before, said-before}
-use Rattle.aa_decide_exec_rules.specs.Choices.{Denied, Leads, Missing, choice, choice_of, chosen, denies, denies_aloud, dominates, first_lead, is_exact_lead, leads_aloud}
+use Rattle.aa_decide_exec_rules.specs.Choices.{Denied, Leads, Missing, choice, choice_of, chosen, denies, denies_aloud, dominates, first_lead, highest, leads_aloud}
 use Rattle.aa_decide_exec_rules.specs.ExecRules.{Denying, ExecRule, Leading, exec_rules, said_of}
 use Rattle.aa_decide_exec_rules.specs.Laws.{LeadOneWay, RulesLeadOneWay}
 use Rattle.aa_profile_data.specs.SameRules.{HaveSameRules}
+use Rattle.aa_profile_data.specs.Ranks.{same_rank}
+use Rattle.aa_profile_data.specs.declared.profile.Rank.{Rank}
+use Rattle.aa_profile_data.specs.declared.profile.Rank.TheVariants.{Last, Loose, Plain}
 use Rattle.aa_profile_data.specs.declared.profile.Rule.{Rule}
 use Rattle.aa_profile_data.specs.declared.profile.Transition.{Transition}
 
@@ -90,81 +93,85 @@ module _ (flag owned : Bool) (path : List ℕ) where
       said-in others rule said (among rule there) says
 
 -- where some rule leads first, one that dominates leads there
-first-there : (some_exact : Bool) (rules : List ExecRule) (first : Transition) → first_lead some_exact rules ≡ Some first
-    → (exact audited : Bool) × Contains rules (Leading first exact audited) × (dominates some_exact (Leading first exact audited) ≡ true)
-first-there some_exact [] first leads = absurd (cc)
-first-there some_exact (Denying loud ∷ rules) first leads =
-    let (exact, audited, there, holds) = first-there some_exact rules first leads in
-    (exact, audited, contains-behind (Denying loud) rules (Leading first exact audited) there, holds)
-first-there some_exact (Leading here own loud ∷ rules) first leads = by (own || not some_exact) refl leads (first-there some_exact rules first)
+first-there : (rank : Rank) (rules : List ExecRule) (first : Transition) → first_lead rank rules ≡ Some first
+    → (own : Rank) × (audited : Bool) × Contains rules (Leading first own audited) × (dominates rank (Leading first own audited) ≡ true)
+first-there rank [] first leads = absurd (cc)
+first-there rank (Denying loud ∷ rules) first leads =
+    let (own, audited, there, holds) = first-there rank rules first leads in
+    (own, audited, contains-behind (Denying loud) rules (Leading first own audited) there, holds)
+first-there rank (Leading here kind loud ∷ rules) first leads = by (same_rank kind rank) refl leads (first-there rank rules first)
   where
     Found : List ExecRule → Type 0
-    Found rules = (exact audited : Bool) × Contains rules (Leading first exact audited) × (dominates some_exact (Leading first exact audited) ≡ true)
+    Found rules = (own : Rank) × (audited : Bool) × Contains rules (Leading first own audited) × (dominates rank (Leading first own audited) ≡ true)
 
-    by : (b : Bool) → (own || not some_exact) ≡ b → cond b (Some here) (first_lead some_exact rules) ≡ Some first
-        → (first_lead some_exact rules ≡ Some first → Found rules) → Found (Leading here own loud ∷ rules)
+    by : (b : Bool) → (same_rank kind rank) ≡ b → cond b (Some here) (first_lead rank rules) ≡ Some first
+        → (first_lead rank rules ≡ Some first → Found rules) → Found (Leading here kind loud ∷ rules)
     by true e leads rest =
         let same : here ≡ first = cc in
-        (own, loud, (0, omega arith, ap (λ (t : Transition). Leading t own loud) same), e)
+        (kind, loud, (0, omega arith, ap (λ (t : Transition). Leading t kind loud) same), e)
     by false e leads rest =
-        let (exact, audited, there, holds) = rest leads in
-        (exact, audited, contains-behind (Leading here own loud) rules (Leading first exact audited) there, holds)
+        let (own, audited, there, holds) = rest leads in
+        (own, audited, contains-behind (Leading here kind loud) rules (Leading first own audited) there, holds)
 
 -- where one that dominates is there, some rule leads first
-some-first : (some_exact : Bool) (rules : List ExecRule) (transition : Transition) (exact audited : Bool)
-    → Contains rules (Leading transition exact audited) → dominates some_exact (Leading transition exact audited) ≡ true
-    → (first : Transition) × (first_lead some_exact rules ≡ Some first)
-some-first some_exact [] transition exact audited c holds = absurd (omega (arith, c.1))
-some-first some_exact (Denying loud ∷ rules) transition exact audited c holds =
-    by (contains-split (Denying loud) rules (Leading transition exact audited) c) (λ c. some-first some_exact rules transition exact audited c holds)
+some-first : (rank : Rank) (rules : List ExecRule) (transition : Transition) (own : Rank) (audited : Bool)
+    → Contains rules (Leading transition own audited) → dominates rank (Leading transition own audited) ≡ true
+    → (first : Transition) × (first_lead rank rules ≡ Some first)
+some-first rank [] transition own audited c holds = absurd (omega (arith, c.1))
+some-first rank (Denying loud ∷ rules) transition own audited c holds =
+    by (contains-split (Denying loud) rules (Leading transition own audited) c) (λ c. some-first rank rules transition own audited c holds)
   where
-    by : (Denying loud ≡ Leading transition exact audited) ⊎ Contains rules (Leading transition exact audited)
-        → (Contains rules (Leading transition exact audited) → (first : Transition) × (first_lead some_exact rules ≡ Some first))
-        → (first : Transition) × (first_lead some_exact rules ≡ Some first)
+    by : (Denying loud ≡ Leading transition own audited) ⊎ Contains rules (Leading transition own audited)
+        → (Contains rules (Leading transition own audited) → (first : Transition) × (first_lead rank rules ≡ Some first))
+        → (first : Transition) × (first_lead rank rules ≡ Some first)
     by (inl is) rest = absurd (cc)
     by (inr c) rest = rest c
-some-first some_exact (Leading here own loud ∷ rules) transition exact audited c holds =
-    by (own || not some_exact) refl (contains-split (Leading here own loud) rules (Leading transition exact audited) c)
-    (λ c. some-first some_exact rules transition exact audited c holds)
+some-first rank (Leading here kind loud ∷ rules) transition own audited c holds =
+    by (same_rank kind rank) refl (contains-split (Leading here kind loud) rules (Leading transition own audited) c)
+    (λ c. some-first rank rules transition own audited c holds)
   where
-    by : (b : Bool) → (own || not some_exact) ≡ b → (Leading here own loud ≡ Leading transition exact audited) ⊎ Contains rules (Leading transition exact audited)
-        → (Contains rules (Leading transition exact audited) → (first : Transition) × (first_lead some_exact rules ≡ Some first))
-        → (first : Transition) × (cond b (Some here) (first_lead some_exact rules) ≡ Some first)
+    by : (b : Bool) → (same_rank kind rank) ≡ b → (Leading here kind loud ≡ Leading transition own audited) ⊎ Contains rules (Leading transition own audited)
+        → (Contains rules (Leading transition own audited) → (first : Transition) × (first_lead rank rules ≡ Some first))
+        → (first : Transition) × (cond b (Some here) (first_lead rank rules) ≡ Some first)
     by true e c rest = (here, refl)
     by false e (inl is) rest = absurd (cc)
     by false e (inr c) rest = rest c
 
 -- rules that lead one way have the same first lead as others that say the same
-first-same : (some_exact : Bool) (rules others : List ExecRule) → LeadOneWay some_exact rules → AreAmong rules others → AreAmong others rules
-    → first_lead some_exact rules ≡ first_lead some_exact others
-first-same some_exact rules others one_way there back = by (first_lead some_exact rules) (first_lead some_exact others) refl refl
+first-same : (rank : Rank) (rules others : List ExecRule) → LeadOneWay rank rules → AreAmong rules others → AreAmong others rules
+    → first_lead rank rules ≡ first_lead rank others
+first-same rank rules others one_way there back = by (first_lead rank rules) (first_lead rank others) refl refl
   where
-    by : (one other : Option Transition) → first_lead some_exact rules ≡ one → first_lead some_exact others ≡ other → one ≡ other
+    by : (one other : Option Transition) → first_lead rank rules ≡ one → first_lead rank others ≡ other → one ≡ other
     by None None e d = refl
     by (Some first) None e d =
-        let (exact, audited, c, holds) = first-there some_exact rules first e in
-        let (other, leads) = some-first some_exact others first exact audited (there (Leading first exact audited) c) holds in
+        let (own, audited, c, holds) = first-there rank rules first e in
+        let (other, leads) = some-first rank others first own audited (there (Leading first own audited) c) holds in
         absurd (cc)
     by None (Some other) e d =
-        let (exact, audited, c, holds) = first-there some_exact others other d in
-        let (first, leads) = some-first some_exact rules other exact audited (back (Leading other exact audited) c) holds in
+        let (own, audited, c, holds) = first-there rank others other d in
+        let (first, leads) = some-first rank rules other own audited (back (Leading other own audited) c) holds in
         absurd (cc)
     by (Some first) (Some other) e d =
-        let (exact, audited, c, holds) = first-there some_exact others other d in
-        ap Some (sym (one_way first other exact audited e (back (Leading other exact audited) c) holds))
+        let (own, audited, c, holds) = first-there rank others other d in
+        ap Some (sym (one_way first other own audited e (back (Leading other own audited) c) holds))
+
+-- their highest rank is the same
+highest-same : (rules others : List ExecRule) → AreAmong rules others → AreAmong others rules → highest rules ≡ highest others
+highest-same rules others there back =
+    λ i. cond (any-same (dominates Plain) rules others there back i) Plain (cond (any-same (dominates Loose) rules others there back i) Loose Last)
 
 -- so they choose the same
-choose-same : (rules others : List ExecRule) → LeadOneWay (list_any is_exact_lead rules) rules → AreAmong rules others → AreAmong others rules
-    → choice_of rules ≡ choice_of others
+choose-same : (rules others : List ExecRule) → LeadOneWay (highest rules) rules → AreAmong rules others → AreAmong others rules → choice_of rules ≡ choice_of others
 choose-same rules others one_way there back =
-    let exact = any-same is_exact_lead rules others there back in
-    let some_exact = list_any is_exact_lead rules in
-    let first = first-same some_exact rules others one_way there back in
-    let loud = any-same (leads_aloud some_exact) rules others there back in
-    let chosen-same : chosen some_exact rules ≡ chosen some_exact others =
+    let rank = highest rules in
+    let same = highest-same rules others there back in
+    let first = first-same rank rules others one_way there back in
+    let loud = any-same (leads_aloud rank) rules others there back in
+    let chosen-same : chosen rank rules ≡ chosen rank others =
     λ i. elim (first i) [ None ↦ Missing | Some lead ↦ Leads lead (loud i) ] in
     λ i. cond (any-same denies rules others there back i) (Denied (any-same denies_aloud rules others there back i))
-    ((chosen-same ∙ ap (λ (some : Bool). chosen some others) exact) i)
+    ((chosen-same ∙ ap (λ (highest : Rank). chosen highest others) same) i)
 
 pub same-choice : (flag owned : Bool) (path : List ℕ) (rules others : List Rule) → HaveSameRules rules others → RulesLeadOneWay flag owned path rules
     → choice flag owned path rules ≡ choice flag owned path others

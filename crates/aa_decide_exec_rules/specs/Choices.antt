@@ -1,7 +1,10 @@
 -- What rules say together of a program that is started (docs/policy.md, "Exec and attachment").
-use Rattle.std.specs.Prelude.{◌≡◌, ℕ, Bool, true, false, not, ◌&&◌, ◌||◌, if◌then◌else◌, List, [], ◌∷◌, Option, None, Some}
+use Rattle.std.specs.Prelude.{◌≡◌, ℕ, Bool, true, false, ◌&&◌, if◌then◌else◌, List, [], ◌∷◌, Option, None, Some}
 use Rattle.std.specs.List.{list_any}
 use Rattle.std.specs.List.Sorted.{IsStrictlyIncreasing}
+use Rattle.aa_profile_data.specs.Ranks.{same_rank}
+use Rattle.aa_profile_data.specs.declared.profile.Rank.{Rank}
+use Rattle.aa_profile_data.specs.declared.profile.Rank.TheVariants.{Last, Loose, Plain}
 use Rattle.aa_profile_data.specs.declared.profile.Rule.{Rule}
 use Rattle.aa_profile_data.specs.declared.profile.Transition.{Transition}
 use Rattle.aa_profile_data.specs.Matching.{AreMatchingRules}
@@ -15,42 +18,41 @@ pub data Choice : Type 0 where
 
 abbrev pub denies : ExecRule → Bool
 denies (Denying audited) = true
-denies (Leading transition exact audited) = false
+denies (Leading transition rank audited) = false
 
 abbrev pub denies_aloud : ExecRule → Bool
 denies_aloud (Denying audited) = audited
-denies_aloud (Leading transition exact audited) = false
+denies_aloud (Leading transition rank audited) = false
 
--- a rule leads somewhere by an exact pattern
-abbrev pub is_exact_lead : ExecRule → Bool
-is_exact_lead (Denying audited) = false
-is_exact_lead (Leading transition exact audited) = exact
+-- A rule leads somewhere with this rank. Those that do so with the highest one decide where to go.
+abbrev pub dominates : Rank → ExecRule → Bool
+dominates rank (Denying audited) = false
+dominates rank (Leading transition own audited) = same_rank own rank
 
--- The rules that decide where to go: those with an exact pattern, where there are some, and else all that lead somewhere.
-abbrev pub dominates : Bool → ExecRule → Bool
-dominates some_exact (Denying audited) = false
-dominates some_exact (Leading transition exact audited) = exact || not some_exact
+-- the highest rank with which some rule leads somewhere, and the last where none does
+abbrev pub highest : List ExecRule → Rank
+highest rules = if list_any (dominates Plain) rules then Plain else if list_any (dominates Loose) rules then Loose else Last
 
-abbrev pub leads_aloud : Bool → ExecRule → Bool
-leads_aloud some_exact (Denying audited) = false
-leads_aloud some_exact (Leading transition exact audited) = audited && (exact || not some_exact)
+abbrev pub leads_aloud : Rank → ExecRule → Bool
+leads_aloud rank (Denying audited) = false
+leads_aloud rank (Leading transition own audited) = audited && same_rank own rank
 
--- where the first rule that dominates leads
-abbrev pub first_lead : Bool → List ExecRule → Option Transition
-first_lead some_exact [] = None
-first_lead some_exact (Denying audited ∷ rules) = first_lead some_exact rules
-first_lead some_exact (Leading transition exact audited ∷ rules) = if exact || not some_exact then Some transition else first_lead some_exact rules
+-- where the first rule that leads with this rank does
+abbrev pub first_lead : Rank → List ExecRule → Option Transition
+first_lead rank [] = None
+first_lead rank (Denying audited ∷ rules) = first_lead rank rules
+first_lead rank (Leading transition own audited ∷ rules) = if same_rank own rank then Some transition else first_lead rank rules
 
 -- Where rules lead of which none denies: where the first rule that dominates does. In rules that agree all of these lead to one place (LeadOneWay).
-abbrev pub chosen : Bool → List ExecRule → Choice
-chosen some_exact rules = elim (first_lead some_exact rules) [
+abbrev pub chosen : Rank → List ExecRule → Choice
+chosen rank rules = elim (first_lead rank rules) [
   | None ↦ Missing
-  | Some first ↦ Leads first (list_any (leads_aloud some_exact) rules)
+  | Some first ↦ Leads first (list_any (leads_aloud rank) rules)
 ]
 
 -- A rule that denies decides before all others.
 abbrev pub choice_of : List ExecRule → Choice
-choice_of rules = if list_any denies rules then Denied (list_any denies_aloud rules) else chosen (list_any is_exact_lead rules) rules
+choice_of rules = if list_any denies rules then Denied (list_any denies_aloud rules) else chosen (highest rules) rules
 
 -- what the rules of a profile say together of the start of the program of a path
 abbrev pub choice : Bool → Bool → List ℕ → List Rule → Choice

@@ -1,18 +1,18 @@
 -- What rules say of a program that is started (apparmor.d(5), "Execute Rules"; docs/policy.md, "Exec and attachment").
 use Rattle.std.specs.Prelude.{ℕ, Bool, not, ◌&&◌, ◌||◌, if◌then◌else◌, List, [], ◌∷◌, Option, None, Some, is_some}
 use Rattle.aa_profile_access.specs.Access.{EXEC, has}
-use Rattle.aa_glob_syntax.specs.Exactness.{is_exact}
 use Rattle.aa_glob_syntax.specs.Matching.{matches}
 use Rattle.aa_glob_syntax.specs.Reading.{items_of}
 use Rattle.aa_profile_data.specs.declared.profile.FileRule.{FileRule}
+use Rattle.aa_profile_data.specs.declared.profile.Rank.{Rank}
 use Rattle.aa_profile_data.specs.declared.profile.Rule.{Rule}
 use Rattle.aa_profile_data.specs.declared.profile.Rule.TheVariants.{File}
 use Rattle.aa_profile_data.specs.declared.profile.Transition.{Transition}
 
--- What a rule says of a program that is started: that it may not be, or where it leads; by an exact pattern or another; and each is logged or not.
+-- What a rule says of a program that is started: that it may not be, or where it leads and with which rank; and each is logged or not.
 pub data ExecRule : Type 0 where
   Denying : (audited : Bool) → ExecRule
-  Leading : (transition : Transition) (exact audited : Bool) → ExecRule
+  Leading : (transition : Transition) (rank : Rank) (audited : Bool) → ExecRule
 
 -- A rule applies to a path where its pattern matches it and, if it is an owner's rule, the file is owned.
 abbrev pub applies_to : Bool → List ℕ → FileRule → Bool
@@ -28,7 +28,7 @@ abbrev pub said_by : Bool → FileRule → Option ExecRule
 said_by flag rule =
     if rule.deny
     then (if covers_exec rule then Some (Denying (flag || rule.audit)) else None)
-    else elim rule.exec [ None ↦ None | Some transition ↦ Some (Leading transition (is_exact (items_of rule.pattern)) (flag || rule.audit)) ]
+    else elim rule.exec [ None ↦ None | Some transition ↦ Some (Leading transition rule.rank (flag || rule.audit)) ]
 
 -- what a rule says of the start of the program of a path
 abbrev pub said_of : Bool → Bool → List ℕ → Rule → Option ExecRule

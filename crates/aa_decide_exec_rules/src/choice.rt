@@ -4,12 +4,12 @@ ghost use Rattle.std.specs.Prelude.{◌≡◌, IfOk};
 ghost use Rattle.std.specs.List.{list_any};
 ghost use Rattle.std.specs.Option.{option_map};
 ghost use Rattle.aa_decide_exec_rules.specs.Choices.{IsChoiceFor, chosen, choice_of, denies, denies_aloud, dominates};
-ghost use Rattle.aa_decide_exec_rules.specs.Choices.{first_lead, is_exact_lead, leads_aloud};
+ghost use Rattle.aa_decide_exec_rules.specs.Choices.{first_lead, highest, leads_aloud};
 ghost use Rattle.aa_decide_exec_rules.specs.SeenChoices.{seen_choice};
 ghost use Rattle.aa_decide_exec_rules.specs.code.SeenRules.{seen_rule, seen_rules};
 
 use crate::exec_rules::{ExecRule, exec_rules};
-use aa_profile_data::{Rule, Transition, which_rules_match};
+use aa_profile_data::{Rank, Rule, Transition, which_rules_match};
 use std::alloc::{AllocError, Global};
 
 /// What rules say together of a program that is started.
@@ -50,31 +50,22 @@ impl ExecRule<'_> {
         }
     }
 
-    fn is_exact_lead(self) -> bool
-        ensures { result ≡ is_exact_lead (seen_rule self.entry) }
+    // Whether a rule leads somewhere with this rank. Those that do so with the highest one decide where to go.
+    fn dominates(self, rank: Rank) -> bool
+        ensures { result ≡ dominates rank (seen_rule self.entry) }
     {
         match self {
             ExecRule::Denying { .. } => false,
-            ExecRule::Leading { exact, .. } => exact,
+            ExecRule::Leading { rank: own, .. } => own.is_same(rank),
         }
     }
 
-    // Whether a rule is one of those that decide where to go.
-    fn dominates(self, some_exact: bool) -> bool
-        ensures { result ≡ dominates some_exact (seen_rule self.entry) }
+    fn leads_aloud(self, rank: Rank) -> bool
+        ensures { result ≡ leads_aloud rank (seen_rule self.entry) }
     {
         match self {
             ExecRule::Denying { .. } => false,
-            ExecRule::Leading { exact, .. } => exact || !some_exact,
-        }
-    }
-
-    fn leads_aloud(self, some_exact: bool) -> bool
-        ensures { result ≡ leads_aloud some_exact (seen_rule self.entry) }
-    {
-        match self {
-            ExecRule::Denying { .. } => false,
-            ExecRule::Leading { audited, .. } => audited && self.dominates(some_exact),
+            ExecRule::Leading { audited, .. } => audited && self.dominates(rank),
         }
     }
 }
@@ -106,12 +97,13 @@ fn some_denies_aloud(rules: &[ExecRule<'_>]) -> bool
     false
 }
 
-fn some_is_exact(rules: &[ExecRule<'_>]) -> bool
-    ensures { result ≡ list_any is_exact_lead (seen_rules rules.now) }
+// Whether some rule leads somewhere with this rank.
+fn some_dominates(rank: Rank, rules: &[ExecRule<'_>]) -> bool
+    ensures { result ≡ list_any (dominates rank) (seen_rules rules.now) }
 {
     let mut rest = rules;
     while let [rule, behind @ ..] = rest {
-        if rule.is_exact_lead() {
+        if rule.dominates(rank) {
             return true;
         }
         rest = behind;
@@ -119,12 +111,25 @@ fn some_is_exact(rules: &[ExecRule<'_>]) -> bool
     false
 }
 
-fn some_leads_aloud(some_exact: bool, rules: &[ExecRule<'_>]) -> bool
-    ensures { result ≡ list_any (leads_aloud some_exact) (seen_rules rules.now) }
+// The highest rank with which some rule leads somewhere, and the last where none does.
+fn highest(rules: &[ExecRule<'_>]) -> Rank
+    ensures { result ≡ highest (seen_rules rules.now) }
+{
+    if some_dominates(Rank::Plain, rules) {
+        Rank::Plain
+    } else if some_dominates(Rank::Loose, rules) {
+        Rank::Loose
+    } else {
+        Rank::Last
+    }
+}
+
+fn some_leads_aloud(rank: Rank, rules: &[ExecRule<'_>]) -> bool
+    ensures { result ≡ list_any (leads_aloud rank) (seen_rules rules.now) }
 {
     let mut rest = rules;
     while let [rule, behind @ ..] = rest {
-        if rule.leads_aloud(some_exact) {
+        if rule.leads_aloud(rank) {
             return true;
         }
         rest = behind;
@@ -132,14 +137,14 @@ fn some_leads_aloud(some_exact: bool, rules: &[ExecRule<'_>]) -> bool
     false
 }
 
-// Where the first rule that dominates leads.
-fn first_lead<'a>(some_exact: bool, rules: &[ExecRule<'a>]) -> Option<&'a Transition>
-    ensures { option_map (λ transition. transition.now) result ≡ first_lead some_exact (seen_rules rules.now) }
+// Where the first rule that leads with this rank does.
+fn first_lead<'a>(rank: Rank, rules: &[ExecRule<'a>]) -> Option<&'a Transition>
+    ensures { option_map (λ transition. transition.now) result ≡ first_lead rank (seen_rules rules.now) }
 {
     let mut rest = rules;
     while let [rule, behind @ ..] = rest {
         if let ExecRule::Leading { transition, .. } = rule {
-            if rule.dominates(some_exact) {
+            if rule.dominates(rank) {
                 return Some(*transition);
             }
         }
@@ -149,15 +154,15 @@ fn first_lead<'a>(some_exact: bool, rules: &[ExecRule<'a>]) -> Option<&'a Transi
 }
 
 // Where rules lead of which none denies.
-fn chosen<'a>(some_exact: bool, rules: &[ExecRule<'a>]) -> ExecChoice<'a>
-    ensures { seen_choice result ≡ chosen some_exact (seen_rules rules.now) }
+fn chosen<'a>(rank: Rank, rules: &[ExecRule<'a>]) -> ExecChoice<'a>
+    ensures { seen_choice result ≡ chosen rank (seen_rules rules.now) }
 {
-    let Some(transition) = first_lead(some_exact, rules) else {
+    let Some(transition) = first_lead(rank, rules) else {
         return ExecChoice::Missing;
     };
     ExecChoice::Leading {
         transition,
-        audited: some_leads_aloud(some_exact, rules),
+        audited: some_leads_aloud(rank, rules),
     }
 }
 
@@ -170,13 +175,13 @@ fn choice_of<'a>(rules: &[ExecRule<'a>]) -> ExecChoice<'a>
             audited: some_denies_aloud(rules),
         }
     } else {
-        chosen(some_is_exact(rules), rules)
+        chosen(highest(rules), rules)
     }
 }
 
 /// What rules say together of the start of the program of a path (docs/policy.md, "Exec and attachment"): that it is
 /// denied, as soon as one deny rule with `x` applies; that no rule speaks of it; or where it leads. Of the rules that
-/// lead somewhere those with an exact pattern dominate the others, and it leads where the first that dominates does; in
+/// lead somewhere those of the highest rank dominate the others, and it leads where the first that dominates does; in
 /// rules that agree all of them have one transition ([`where_agreeing_rules_lead`](crate::where_agreeing_rules_lead)).
 /// `flag` says whether each of the rules is audited, whatever its own words are: that is the flag of their profile.
 /// `owned` says whether the task's user owns the file. `places` are the places of the rules on files whose pattern

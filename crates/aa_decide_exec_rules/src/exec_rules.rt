@@ -7,7 +7,7 @@ ghost use Rattle.aa_decide_exec_rules.specs.code.OwnedRules.{said_at, said_by_pi
 ghost use Rattle.aa_decide_exec_rules.specs.code.SeenRules.{seen_rule, seen_rules};
 
 use aa_profile_access::Perms;
-use aa_profile_data::{FileRule, Rule, Transition};
+use aa_profile_data::{FileRule, Rank, Rule, Transition};
 use bitflags::Flags;
 use std::alloc::{AllocFailed, Global};
 
@@ -23,8 +23,8 @@ pub enum ExecRule<'a> {
     Leading {
         /// Where it leads.
         transition: &'a Transition,
-        /// Whether the rule's pattern is exact.
-        exact: bool,
+        /// Before which others that decides.
+        rank: Rank,
         /// Whether it is logged.
         audited: bool,
     },
@@ -53,7 +53,7 @@ fn said_by(rule: &FileRule, flag: bool) -> Option<ExecRule<'_>>
         None => None,
         Some(transition) => Some(ExecRule::Leading {
             transition,
-            exact: rule.pattern.is_exact(),
+            rank: rule.rank,
             audited,
         }),
     }

@@ -2,10 +2,10 @@
 use Rattle.std.specs.Prelude.{ℕ, Bool, false, List, [], Option, None, Some, slice_get}
 use Rattle.aa_profile_access.specs.Request.{Request}
 use Rattle.aa_profile_data.specs.declared.profile.Child.{Child}
-use Rattle.aa_profile_data.specs.declared.profile.Mode.{Mode}
 use Rattle.aa_profile_data.specs.declared.profile.Profile.{Profile}
 use Rattle.aa_profile_data.specs.declared.profile.Rule.{Rule}
 use Rattle.aa_decide_rules.specs.Verdict.{verdict}
+use Rattle.aa_decide_rules.specs.declared.verdict.Mediation.{Mediation}
 use Rattle.aa_decide_audit.specs.declared.verdict.Verdict.{Verdict}
 
 -- the rules of a child or a hat; one that isn't there has none
@@ -29,5 +29,5 @@ audits profile None = profile.audit
 audits profile (Some place) = child_audits (slice_get profile.children place)
 
 -- what a profile says, by its own rules, or its child or hat at a place
-abbrev pub decided : Profile → Option ℕ → Mode → Request → Verdict
-decided profile child mode request = verdict mode (audits profile child) (rules_at profile child) request
+abbrev pub decided : Profile → Option ℕ → Mediation → Request → Verdict
+decided profile child mediation request = verdict mediation (audits profile child) (rules_at profile child) request

@@ -1,10 +1,10 @@
 -- A profile, or a child or hat of it, by what it decides.
 use Rattle.std.specs.Prelude.{ℕ, Bool, List, Option}
 use Rattle.aa_profile_access.specs.Request.{Request}
-use Rattle.aa_profile_data.specs.declared.profile.Mode.{Mode}
 use Rattle.aa_profile_data.specs.declared.profile.Profile.{Profile}
 use Rattle.aa_profile_data.specs.declared.profile.Rule.{Rule}
 use Rattle.aa_decide_rules.specs.Verdict.{verdict}
+use Rattle.aa_decide_rules.specs.declared.verdict.Mediation.{Mediation}
 use Rattle.aa_decide_audit.specs.declared.verdict.Verdict.{Verdict}
 use Rattle.aa_decide_ready.specs.Ready.{audits, rules_at}
 use Rattle.aa_decide_ready.specs.Visits.{attachments_at}
@@ -23,6 +23,6 @@ section_at profile child = record {
   attachments = attachments_at profile child;
 }
 
--- what it says of a request in a mode, by its own rules
-abbrev pub decided_by : Section → Mode → Request → Verdict
-decided_by section mode request = verdict mode section.audit section.rules request
+-- what it says of a request, by its own rules
+abbrev pub decided_by : Section → Mediation → Request → Verdict
+decided_by section mediation request = verdict mediation section.audit section.rules request

@@ -16,11 +16,11 @@ ghost use Rattle.aa_profile_access.specs.SeenRequests.{request_of};
 
 use crate::ready::Ready;
 use aa_decide_audit::Verdict;
-use aa_decide_rules::{found_verdict, rules_verdict, what_matching_rules_decide};
+use aa_decide_rules::{Mediation, found_verdict, rules_verdict, what_matching_rules_decide};
 use aa_glob_front::Steps;
 use aa_glob_pattern::{Pattern, how_many_states_there_are};
 use aa_profile_access::Request;
-use aa_profile_data::{Mode, Rule, which_rules_match};
+use aa_profile_data::{Rule, which_rules_match};
 use std::alloc::{AllocError, Global};
 
 /// A profile that was made ready, or a child or hat of it: what it decides by, lent. One that isn't there has no rules and no attachments.
@@ -171,7 +171,7 @@ impl<'a> ReadySection<'a> {
         }
     }
 
-    /// What is said of a request in a mode: by the rules of the profile, child or hat itself, whatever those of the others say (apparmor.d(5);
+    /// What is said of a request: by the rules of the profile, child or hat itself, whatever those of the others say (apparmor.d(5);
     /// docs/policy.md, "Decisions"). One that isn't there allows nothing. A request for a file is asked of one automaton, whose visits are counted;
     /// any other goes over the rules, and takes neither visits nor memory.
     ///
@@ -181,11 +181,11 @@ impl<'a> ReadySection<'a> {
     pub fn decide(
         self,
         alloc: Global,
-        mode: Mode,
+        mediation: Mediation,
         request: &Request<'_>,
         steps: &mut Steps,
     ) -> Result<Verdict, AllocError>
-        ensures verdict { IfOk result (λ verdict. verdict ≡ decided_by (seen_section self.entry) mode (request_of request.entry.now)) }
+        ensures verdict { IfOk result (λ verdict. verdict ≡ decided_by (seen_section self.entry) mediation (request_of request.entry.now)) }
         ensures steps { AreStepsOf self.entry.rules.now (request_of request.entry.now) steps.old steps.new }
         ensures all { OnOk result (AreAllStepsOf self.entry.rules.now (request_of request.entry.now) steps.old steps.new) }
         ensures memory { OnErr result (is_for_file (request_of request.entry.now) ≡ true) }
@@ -196,10 +196,10 @@ impl<'a> ReadySection<'a> {
         match request {
             Request::File { path, owned, .. } => {
                 let places = self.matching_rules(alloc, path, steps)?;
-                Ok(found_verdict(mode, audit, rules, places.as_slice(), request, *owned))
+                Ok(found_verdict(mediation, audit, rules, places.as_slice(), request, *owned))
             }
-            Request::Cap(_) => Ok(rules_verdict(mode, audit, rules, request)),
-            Request::Net { .. } => Ok(rules_verdict(mode, audit, rules, request)),
+            Request::Cap(_) => Ok(rules_verdict(mediation, audit, rules, request)),
+            Request::Net { .. } => Ok(rules_verdict(mediation, audit, rules, request)),
         }
     }
 }

@@ -2,7 +2,6 @@
 use Rattle.std.proofs.Common.{◌≡◌, ℕ, Bool, true, false, List, [], ◌∷◌, refl, sym, ap, ◌∙◌}
 use Rattle.std.specs.List.{filter}
 use Rattle.aa_profile_access.specs.Request.{ForFile}
-use Rattle.aa_profile_data.specs.declared.profile.Mode.{Mode}
 use Rattle.aa_profile_data.specs.declared.profile.Rule.{Rule}
 use Rattle.aa_profile_data.specs.declared.profile.Rule.TheVariants.{Cap, File, Net, Other}
 use Rattle.aa_decide_rules.proofs.VerdictLemmas.{verdict-matching}
@@ -10,6 +9,7 @@ use Rattle.aa_profile_data.specs.Matching.{is_matching}
 use Rattle.aa_decide_rules.specs.Verdict.{allows, allows_aloud, covers, denied, denies, denies_aloud, granted, loud, verdict, with_covered}
 use Rattle.aa_decide_rules.specs.Found.{covers_found, found_mask, found_verdict, put_if}
 use Rattle.aa_decide_rules.specs.Found.{verdict_by}
+use Rattle.aa_decide_rules.specs.declared.verdict.Mediation.{Mediation}
 use Rattle.aa_profile_data.specs.Picked.{picked}
 
 module _ (letters : ℕ) (owned : Bool) (path : List ℕ) where
@@ -37,19 +37,19 @@ module _ (letters : ℕ) (owned : Bool) (path : List ℕ) where
           ∙ others (put_if test set (covers (ForFile letters owned path) rule) rule))
 
 -- the rules that were found say what all say
-pub found-verdict : (mode : Mode) (flag : Bool) (rules : List Rule) (letters : ℕ) (owned : Bool) (path places : List ℕ)
+pub found-verdict : (mediation : Mediation) (flag : Bool) (rules : List Rule) (letters : ℕ) (owned : Bool) (path places : List ℕ)
     → picked rules places ≡ filter (is_matching path) rules
-    → found_verdict mode flag owned (ForFile letters owned path) (picked rules places) ≡ verdict mode flag rules (ForFile letters owned path)
-found-verdict mode flag rules letters owned path places found =
-    ap (found_verdict mode flag owned (ForFile letters owned path)) found
-    ∙ ap (λ d. verdict_by mode (ForFile letters owned path) d (mask_of (denies_aloud flag)) (mask_of allows) (mask_of (allows_aloud flag))) (same denies)
-    ∙ ap (λ l. verdict_by mode (ForFile letters owned path) (denied (ForFile letters owned path) passing) l (mask_of allows) (mask_of (allows_aloud flag))) (same (denies_aloud flag))
-    ∙ ap (λ g. verdict_by mode (ForFile letters owned path) (denied (ForFile letters owned path) passing) (loud flag (ForFile letters owned path) passing) g (mask_of (allows_aloud flag))) (same allows)
+    → found_verdict mediation flag owned (ForFile letters owned path) (picked rules places) ≡ verdict mediation flag rules (ForFile letters owned path)
+found-verdict mediation flag rules letters owned path places found =
+    ap (found_verdict mediation flag owned (ForFile letters owned path)) found
+    ∙ ap (λ d. verdict_by mediation (ForFile letters owned path) d (mask_of (denies_aloud flag)) (mask_of allows) (mask_of (allows_aloud flag))) (same denies)
+    ∙ ap (λ l. verdict_by mediation (ForFile letters owned path) (denied (ForFile letters owned path) passing) l (mask_of allows) (mask_of (allows_aloud flag))) (same (denies_aloud flag))
+    ∙ ap (λ g. verdict_by mediation (ForFile letters owned path) (denied (ForFile letters owned path) passing) (loud flag (ForFile letters owned path) passing) g (mask_of (allows_aloud flag))) (same allows)
     ∙ ap
-    (verdict_by mode (ForFile letters owned path) (denied (ForFile letters owned path) passing) (loud flag (ForFile letters owned path) passing) (granted (ForFile letters owned path) passing))
+    (verdict_by mediation (ForFile letters owned path) (denied (ForFile letters owned path) passing) (loud flag (ForFile letters owned path) passing) (granted (ForFile letters owned path) passing))
     (same (allows_aloud flag))
-    ∙ ap (λ rules. verdict mode flag rules (ForFile letters owned path)) (sym found)
-    ∙ verdict-matching mode flag rules letters owned path places found
+    ∙ ap (λ rules. verdict mediation flag rules (ForFile letters owned path)) (sym found)
+    ∙ verdict-matching mediation flag rules letters owned path places found
   where
     passing : List Rule
     passing = filter (is_matching path) rules

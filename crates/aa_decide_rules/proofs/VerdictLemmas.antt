@@ -10,8 +10,6 @@ use Rattle.std.proofs.lemmas.Nat.{and_le_r, le_or_r}
 use Rattle.std.proofs.lemmas.Nat.Bits.{bit_at-zero, bit_at_above, bit_at_and, bit_at_not, bit_at_ones, bit_at_or, same_from_bits}
 use Rattle.aa_profile_access.specs.Access.{union, without}
 use Rattle.aa_profile_access.specs.Request.{Request, ForFile}
-use Rattle.aa_profile_data.specs.declared.profile.Mode.{Mode}
-use Rattle.aa_profile_data.specs.declared.profile.Mode.TheVariants.{Complain, Enforce}
 use Rattle.aa_profile_data.specs.declared.profile.Rule.{Rule}
 use Rattle.aa_profile_data.specs.declared.profile.Rule.TheVariants.{Cap, File, Net, Other}
 use Rattle.aa_profile_data.specs.Matching.{is_matching}
@@ -19,8 +17,10 @@ use Rattle.aa_decide_rules.specs.Verdict.{allows, allows_aloud, applies, audited
 use Rattle.aa_decide_rules.specs.Found.{verdict_by}
 use Rattle.aa_profile_data.specs.Picked.{picked}
 use Rattle.aa_decide_rules.specs.VerdictLaws.{in_complain}
+use Rattle.aa_decide_rules.specs.declared.verdict.Mediation.{Mediation}
+use Rattle.aa_decide_rules.specs.declared.verdict.Mediation.TheVariants.{Complaining, Enforcing}
 use Rattle.aa_profile_data.specs.SameRules.{HaveSameRules}
-use Rattle.aa_decide_audit.specs.declared.verdict.Answer.TheVariants.{Allow, Complain as Complained, Deny, Refuse}
+use Rattle.aa_decide_audit.specs.declared.verdict.Answer.TheVariants.{Allow, Complain, Deny, Refuse}
 use Rattle.aa_decide_audit.specs.declared.verdict.Tag.TheVariants.{Allowed, Denied}
 use Rattle.std.proofs.lemmas.List.{drop_more}
 
@@ -95,18 +95,18 @@ mask-step request test set next rules at rule within is n =
     ∙ sym (ap (with_covered request test set) (drop_more rules at rule within ∙ ap (λ rule. rule ∷ drop (at + 1) rules) (sym is)))
 
 -- the same masks make the same verdict
-verdict-masks : (mode : Mode) (flag : Bool) (rules others : List Rule) (request : Request) → ((test : Rule → Bool) → mask request test rules ≡ mask request test others)
-    → verdict mode flag rules request ≡ verdict mode flag others request
-verdict-masks mode flag rules others request same =
-    ap (λ d. verdict_by mode request d (loud flag request rules) (granted request rules) (audited flag request rules)) (same denies)
-    ∙ ap (λ l. verdict_by mode request (denied request others) l (granted request rules) (audited flag request rules)) (same (denies_aloud flag))
-    ∙ ap (λ g. verdict_by mode request (denied request others) (loud flag request others) g (audited flag request rules)) (same allows)
-    ∙ ap (verdict_by mode request (denied request others) (loud flag request others) (granted request others)) (same (allows_aloud flag))
+verdict-masks : (mediation : Mediation) (flag : Bool) (rules others : List Rule) (request : Request) → ((test : Rule → Bool) → mask request test rules ≡ mask request test others)
+    → verdict mediation flag rules request ≡ verdict mediation flag others request
+verdict-masks mediation flag rules others request same =
+    ap (λ d. verdict_by mediation request d (loud flag request rules) (granted request rules) (audited flag request rules)) (same denies)
+    ∙ ap (λ l. verdict_by mediation request (denied request others) l (granted request rules) (audited flag request rules)) (same (denies_aloud flag))
+    ∙ ap (λ g. verdict_by mediation request (denied request others) (loud flag request others) g (audited flag request rules)) (same allows)
+    ∙ ap (verdict_by mediation request (denied request others) (loud flag request others) (granted request others)) (same (allows_aloud flag))
 
 -- the order of the rules changes no verdict, nor does a rule that stands twice
-pub verdict-order : (mode : Mode) (flag : Bool) (rules others : List Rule) (request : Request) → HaveSameRules rules others
-    → verdict mode flag rules request ≡ verdict mode flag others request
-verdict-order mode flag rules others request same = verdict-masks mode flag rules others request (λ test. mask-same request test rules others same)
+pub verdict-order : (mediation : Mediation) (flag : Bool) (rules others : List Rule) (request : Request) → HaveSameRules rules others
+    → verdict mediation flag rules request ≡ verdict mediation flag others request
+verdict-order mediation flag rules others request same = verdict-masks mediation flag rules others request (λ test. mask-same request test rules others same)
 
 -- a rule that doesn't apply covers nothing
 with-unmatched : (letters : ℕ) (owned : Bool) (path : List ℕ) (test : Rule → Bool) (set : ℕ) (rule : Rule) → is_matching path rule ≡ false
@@ -139,23 +139,23 @@ with-matching letters owned path test set (rule ∷ rules) = by (is_matching pat
     by false e rest = rw e (rest set ∙ ap (λ set. with_covered request test set rules) (sym (with-unmatched letters owned path test set rule e)))
 
 -- what the rules at the places of those that match a path say is what all say
-pub verdict-matching : (mode : Mode) (flag : Bool) (rules : List Rule) (letters : ℕ) (owned : Bool) (path places : List ℕ)
+pub verdict-matching : (mediation : Mediation) (flag : Bool) (rules : List Rule) (letters : ℕ) (owned : Bool) (path places : List ℕ)
     → picked rules places ≡ filter (is_matching path) rules
-    → verdict mode flag (picked rules places) (ForFile letters owned path) ≡ verdict mode flag rules (ForFile letters owned path)
-verdict-matching mode flag rules letters owned path places found =
-    ap (λ rules. verdict mode flag rules (ForFile letters owned path)) found
-    ∙ verdict-masks mode flag (filter (is_matching path) rules) rules (ForFile letters owned path) (λ test. with-matching letters owned path test 0 rules)
+    → verdict mediation flag (picked rules places) (ForFile letters owned path) ≡ verdict mediation flag rules (ForFile letters owned path)
+verdict-matching mediation flag rules letters owned path places found =
+    ap (λ rules. verdict mediation flag rules (ForFile letters owned path)) found
+    ∙ verdict-masks mediation flag (filter (is_matching path) rules) rules (ForFile letters owned path) (λ test. with-matching letters owned path test 0 rules)
 
 -- complain mode changes what is refused alone
-pub verdict-complain : (flag : Bool) (rules : List Rule) (request : Request) → verdict Complain flag rules request ≡ in_complain (verdict Enforce flag rules request)
+pub verdict-complain : (flag : Bool) (rules : List Rule) (request : Request) → verdict Complaining flag rules request ≡ in_complain (verdict Enforcing flag rules request)
 verdict-complain flag rules request = by (denied request rules == 0) refl (missing request rules == 0) refl
   where
-    by : (d : Bool) → (denied request rules == 0) ≡ d → (m : Bool) → (missing request rules == 0) ≡ m → verdict Complain flag rules request ≡ in_complain (verdict Enforce flag rules request)
+    by : (d : Bool) → (denied request rules == 0) ≡ d → (m : Bool) → (missing request rules == 0) ≡ m → verdict Complaining flag rules request ≡ in_complain (verdict Enforcing flag rules request)
     by false d m e = rw (verdict, d) refl
     by true d true e = rw (verdict, d, e) refl
     by true d false e =
-        let enforce : verdict Enforce flag rules request ≡ record { answer = Refuse; tag = Some Denied; mask = record { 0 = letters_among (missing request rules) } } = rw (verdict, d, e) refl in
-        let complain : verdict Complain flag rules request ≡ record { answer = Complained; tag = Some Allowed; mask = record { 0 = letters_among (missing request rules) } } = rw (verdict, d, e) refl in
+        let enforce : verdict Enforcing flag rules request ≡ record { answer = Refuse; tag = Some Denied; mask = record { 0 = letters_among (missing request rules) } } = rw (verdict, d, e) refl in
+        let complain : verdict Complaining flag rules request ≡ record { answer = Complain; tag = Some Allowed; mask = record { 0 = letters_among (missing request rules) } } = rw (verdict, d, e) refl in
         complain ∙ sym (ap in_complain enforce)
 
 -- what isn't there is nothing
@@ -212,21 +212,21 @@ part-none : (request : Request) (test : Rule → Bool) (rule : Rule) → test ru
 part-none request test rule h = rw (part, h) refl
 
 -- what is allowed has no need that is denied, and none that is missing
-allow-parts : (mode : Mode) (flag : Bool) (rules : List Rule) (request : Request) → (verdict mode flag rules request).answer ≡ Allow
+allow-parts : (mediation : Mediation) (flag : Bool) (rules : List Rule) (request : Request) → (verdict mediation flag rules request).answer ≡ Allow
     → (denied request rules ≡ 0) × (missing request rules ≡ 0)
-allow-parts mode flag rules request h = by mode (denied request rules == 0) refl (missing request rules == 0) refl h
+allow-parts mediation flag rules request h = by mediation (denied request rules == 0) refl (missing request rules == 0) refl h
   where
-    by : (mode : Mode) (d : Bool) → (denied request rules == 0) ≡ d → (m : Bool) → (missing request rules == 0) ≡ m → (verdict mode flag rules request).answer ≡ Allow
+    by : (mediation : Mediation) (d : Bool) → (denied request rules == 0) ≡ d → (m : Bool) → (missing request rules == 0) ≡ m → (verdict mediation flag rules request).answer ≡ Allow
         → (denied request rules ≡ 0) × (missing request rules ≡ 0)
-    by mode false d m e h = let wrong : Deny ≡ Allow = rw (verdict, d) at h in absurd (cc)
-    by Enforce true d false e h = let wrong : Refuse ≡ Allow = rw (verdict, d, e) at h in absurd (cc)
-    by Complain true d false e h = let wrong : Complained ≡ Allow = rw (verdict, d, e) at h in absurd (cc)
-    by mode true d true e h = (from-none (denied request rules) d, from-none (missing request rules) e)
+    by mediation false d m e h = let wrong : Deny ≡ Allow = rw (verdict, d) at h in absurd (cc)
+    by Enforcing true d false e h = let wrong : Refuse ≡ Allow = rw (verdict, d, e) at h in absurd (cc)
+    by Complaining true d false e h = let wrong : Complain ≡ Allow = rw (verdict, d, e) at h in absurd (cc)
+    by mediation true d true e h = (from-none (denied request rules) d, from-none (missing request rules) e)
 
 -- and such needs are allowed
-allow-from : (mode : Mode) (flag : Bool) (rules : List Rule) (request : Request) → denied request rules ≡ 0 → missing request rules ≡ 0
-    → (verdict mode flag rules request).answer ≡ Allow
-allow-from mode flag rules request d m =
+allow-from : (mediation : Mediation) (flag : Bool) (rules : List Rule) (request : Request) → denied request rules ≡ 0 → missing request rules ≡ 0
+    → (verdict mediation flag rules request).answer ≡ Allow
+allow-from mediation flag rules request d m =
     let none : (denied request rules == 0) ≡ true = ap (λ n. n == 0) d in
     let few : (missing request rules == 0) ≡ true = ap (λ n. n == 0) m in
     rw (verdict, none, few) refl
@@ -245,26 +245,26 @@ mask-else request test rule rules h =
     mask-more request test rule rules ∙ ap (λ n. union n (mask request test rules)) (part-none request test rule h) ∙ or_zero_l (mask request test rules)
 
 -- one allow rule more leaves what is allowed
-pub verdict-allow : (mode : Mode) (flag : Bool) (rule : Rule) (rules : List Rule) (request : Request) → denies rule ≡ false → (verdict mode flag rules request).answer ≡ Allow
-    → (verdict mode flag (rule ∷ rules) request).answer ≡ Allow
-verdict-allow mode flag rule rules request h before =
-    let parts = allow-parts mode flag rules request before in
+pub verdict-allow : (mediation : Mediation) (flag : Bool) (rule : Rule) (rules : List Rule) (request : Request) → denies rule ≡ false → (verdict mediation flag rules request).answer ≡ Allow
+    → (verdict mediation flag (rule ∷ rules) request).answer ≡ Allow
+verdict-allow mediation flag rule rules request h before =
+    let parts = allow-parts mediation flag rules request before in
     let none : denied request (rule ∷ rules) ≡ 0 = mask-else request denies rule rules h ∙ parts.0 in
     let few : lacking (needs request) (granted request rules) ≡ 0 = sym (missing-of request rules parts.0) ∙ parts.1 in
-    allow-from mode flag (rule ∷ rules) request none
+    allow-from mediation flag (rule ∷ rules) request none
     (missing-of request (rule ∷ rules) none ∙ ap (λ set. lacking (needs request) set) (mask-more request allows rule rules)
     ∙ none-lacking (needs request) (granted request rules) (part request allows rule) few)
 
 -- one deny rule more allows nothing that wasn't
-pub verdict-deny : (mode : Mode) (flag : Bool) (rule : Rule) (rules : List Rule) (request : Request) → denies rule ≡ true → (verdict mode flag (rule ∷ rules) request).answer ≡ Allow
-    → (verdict mode flag rules request).answer ≡ Allow
-verdict-deny mode flag rule rules request h before =
-    let parts = allow-parts mode flag (rule ∷ rules) request before in
+pub verdict-deny : (mediation : Mediation) (flag : Bool) (rule : Rule) (rules : List Rule) (request : Request) → denies rule ≡ true → (verdict mediation flag (rule ∷ rules) request).answer ≡ Allow
+    → (verdict mediation flag rules request).answer ≡ Allow
+verdict-deny mediation flag rule rules request h before =
+    let parts = allow-parts mediation flag (rule ∷ rules) request before in
     let most = le_or_r (part request denies rule) (denied request rules) in
     let all : union (part request denies rule) (denied request rules) ≡ 0 = sym (mask-more request denies rule rules) ∙ parts.0 in
     let none : denied request rules ≡ 0 = omega arith in
     let same : granted request (rule ∷ rules) ≡ granted request rules = mask-else request allows rule rules (ap not h) in
-    allow-from mode flag rules request none
+    allow-from mediation flag rules request none
     (missing-of request rules none ∙ ap (λ set. lacking (needs request) set) (sym same) ∙ sym (missing-of request (rule ∷ rules) parts.0) ∙ parts.1)
 
 -- a rule more, before others whose mask is known

@@ -2,20 +2,20 @@
 use Rattle.std.specs.Prelude.{ℕ, Bool, not, ◌||◌, ◌==◌, if◌then◌else◌, List, fold}
 use Rattle.aa_profile_access.specs.Access.{common, union, without}
 use Rattle.aa_profile_access.specs.Request.{Request}
-use Rattle.aa_profile_data.specs.declared.profile.Mode.{Mode}
 use Rattle.aa_profile_data.specs.declared.profile.Rule.{Rule}
 use Rattle.aa_profile_data.specs.declared.profile.Rule.TheVariants.{Cap, File, Net, Other}
 use Rattle.aa_decide_rules.specs.Verdict.{allows, allows_aloud, covered_by_file, denies, denies_aloud, logged, needs, when_missing}
 use Rattle.aa_decide_audit.specs.declared.verdict.Answer.TheVariants.{Allow, Deny}
 use Rattle.aa_decide_audit.specs.declared.verdict.Tag.TheVariants.{Audit, Denied}
 use Rattle.aa_decide_audit.specs.declared.verdict.Verdict.{Verdict}
+use Rattle.aa_decide_rules.specs.declared.verdict.Mediation.{Mediation}
 
 -- the verdict where deny rules cover these needs, audited ones those, and allow rules and audited ones these
-abbrev pub verdict_by : Mode → Request → ℕ → ℕ → ℕ → ℕ → Verdict
-verdict_by mode request denied loud granted audited =
+abbrev pub verdict_by : Mediation → Request → ℕ → ℕ → ℕ → ℕ → Verdict
+verdict_by mediation request denied loud granted audited =
     let missing = without (needs request) (union denied (without granted denied)) in
     if not (denied == 0) then logged Deny Denied (union loud missing) else
-    if not (missing == 0) then when_missing mode missing else
+    if not (missing == 0) then when_missing mediation missing else
     logged Allow Audit audited
 
 -- a set, and these needs, if a rule passes a test
@@ -34,8 +34,8 @@ abbrev pub found_mask : ℕ → Bool → (Rule → Bool) → ℕ → List Rule �
 found_mask letters owned test set rules = fold (λ set rule. put_if test set (covers_found letters owned rule) rule) set rules
 
 -- what such rules say
-abbrev pub found_verdict : Mode → Bool → Bool → Request → List Rule → Verdict
-found_verdict mode flag owned request rules =
-    verdict_by mode request
+abbrev pub found_verdict : Mediation → Bool → Bool → Request → List Rule → Verdict
+found_verdict mediation flag owned request rules =
+    verdict_by mediation request
     (found_mask (needs request) owned denies 0 rules) (found_mask (needs request) owned (denies_aloud flag) 0 rules)
     (found_mask (needs request) owned allows 0 rules) (found_mask (needs request) owned (allows_aloud flag) 0 rules)

@@ -7,15 +7,15 @@ use Rattle.aa_glob_syntax.specs.Reading.{items_of}
 use Rattle.aa_profile_access.specs.Access.{EXEC, all_letters, common, union, without, covered}
 use Rattle.aa_profile_data.specs.Cover.{covers_capability, covers_socket}
 use Rattle.aa_profile_data.specs.declared.profile.FileRule.{FileRule}
-use Rattle.aa_profile_data.specs.declared.profile.Mode.{Mode}
-use Rattle.aa_profile_data.specs.declared.profile.Mode.TheVariants.{Enforce, Complain}
 use Rattle.aa_profile_data.specs.declared.profile.Rule.{Rule}
 use Rattle.aa_profile_data.specs.declared.profile.Rule.TheVariants.{Cap, File, Net, Other}
 use Rattle.aa_decide_audit.specs.declared.verdict.Answer.{Answer}
-use Rattle.aa_decide_audit.specs.declared.verdict.Answer.TheVariants.{Allow, Deny, Refuse, Complain as Complained}
+use Rattle.aa_decide_audit.specs.declared.verdict.Answer.TheVariants.{Allow, Complain, Deny, Refuse}
 use Rattle.aa_decide_audit.specs.declared.verdict.Tag.{Tag}
 use Rattle.aa_decide_audit.specs.declared.verdict.Tag.TheVariants.{Allowed, Audit, Denied}
 use Rattle.aa_decide_audit.specs.declared.verdict.Verdict.{Verdict}
+use Rattle.aa_decide_rules.specs.declared.verdict.Mediation.{Mediation}
+use Rattle.aa_decide_rules.specs.declared.verdict.Mediation.TheVariants.{Complaining, Enforcing}
 
 -- The need of a request that isn't for a file: there is one, and it is no letter.
 abbrev pub the_need : ℕ
@@ -122,14 +122,14 @@ letters_among mask = common mask (all_letters - 1)
 abbrev pub logged : Answer → Tag → ℕ → Verdict
 logged answer tag mask = record { answer = answer; tag = if mask == 0 then None else Some tag; mask = record { 0 = letters_among mask } }
 
--- what is not allowed is refused in enforce mode, and let through in complain mode
-abbrev pub when_missing : Mode → ℕ → Verdict
-when_missing Enforce mask = logged Refuse Denied mask
-when_missing Complain mask = logged Complained Allowed mask
+-- what is not allowed is refused, or let through and logged
+abbrev pub when_missing : Mediation → ℕ → Verdict
+when_missing Enforcing mask = logged Refuse Denied mask
+when_missing Complaining mask = logged Complain Allowed mask
 
--- A denied need decides first, in both modes; then a missing one. The flag says whether each rule of the profile is audited.
-abbrev pub verdict : Mode → Bool → List Rule → Request → Verdict
-verdict mode flag rules request =
+-- A denied need decides first, whatever the mediation; then a missing one. The flag says whether each rule of the profile is audited.
+abbrev pub verdict : Mediation → Bool → List Rule → Request → Verdict
+verdict mediation flag rules request =
     if not (denied request rules == 0) then logged Deny Denied (union (loud flag request rules) (missing request rules)) else
-    if not (missing request rules == 0) then when_missing mode (missing request rules) else
+    if not (missing request rules == 0) then when_missing mediation (missing request rules) else
     logged Allow Audit (audited flag request rules)

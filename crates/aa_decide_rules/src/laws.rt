@@ -6,13 +6,13 @@ ghost use Rattle.aa_profile_access.specs.Request.{ForFile, Request};
 ghost use Rattle.aa_profile_data.specs.Matching.{AreMatchingRules};
 ghost use Rattle.aa_profile_data.specs.Picked.{picked};
 ghost use Rattle.aa_profile_data.specs.SameRules.{HaveSameRules};
-ghost use Rattle.aa_profile_data.specs.declared.profile.Mode.{Mode};
-ghost use Rattle.aa_profile_data.specs.declared.profile.Mode.TheVariants.{Complain, Enforce};
 ghost use Rattle.aa_profile_data.specs.declared.profile.Rule.{Rule};
 ghost use Rattle.aa_decide_audit.specs.LogLines.{log_line};
 ghost use Rattle.aa_decide_rules.specs.Found.{found_verdict};
 ghost use Rattle.aa_decide_rules.specs.Verdict.{denies, verdict};
 ghost use Rattle.aa_decide_rules.specs.VerdictLaws.{in_complain};
+ghost use Rattle.aa_decide_rules.specs.declared.verdict.Mediation.{Mediation};
+ghost use Rattle.aa_decide_rules.specs.declared.verdict.Mediation.TheVariants.{Complaining, Enforcing};
 ghost use Rattle.aa_decide_audit.specs.declared.verdict.Answer.TheVariants.{Allow};
 
 use aa_profile_data::which_rules_match;
@@ -20,10 +20,10 @@ use aa_profile_data::which_rules_match;
 /// A verdict on a file goes by the rules whose pattern matches its path, and by nothing else of the path: these say by themselves, without a pattern that
 /// is tried, what all rules say.
 pub fn what_matching_rules_decide()
-    ensures { (mode : Mode) (audit : Bool) (rules : List Rule) (letters : ℕ) (owned : Bool) (path places : List ℕ)
+    ensures { (mediation : Mediation) (audit : Bool) (rules : List Rule) (letters : ℕ) (owned : Bool) (path places : List ℕ)
         → AreMatchingRules rules path places
         → IsStrictlyIncreasing places
-        → found_verdict mode audit owned (ForFile letters owned path) (picked rules places) ≡ verdict mode audit rules (ForFile letters owned path) }
+        → found_verdict mediation audit owned (ForFile letters owned path) (picked rules places) ≡ verdict mediation audit rules (ForFile letters owned path) }
 {
     which_rules_match();
 }
@@ -34,19 +34,19 @@ pub fn what_matching_rules_decide()
 /// wasn't.
 pub fn what_rules_decide()
     ensures complain_mode_lets_through_and_logs { (audit : Bool) (rules : List Rule) (request : Request)
-        → verdict Complain audit rules request ≡ in_complain (verdict Enforce audit rules request) }
-    ensures order_changes_no_verdict { (mode : Mode) (audit : Bool) (rules others : List Rule) (request : Request)
+        → verdict Complaining audit rules request ≡ in_complain (verdict Enforcing audit rules request) }
+    ensures order_changes_no_verdict { (mediation : Mediation) (audit : Bool) (rules others : List Rule) (request : Request)
         → HaveSameRules rules others
-        → verdict mode audit rules request ≡ verdict mode audit others request }
-    ensures order_changes_no_line { (asker : List ℕ) (mode : Mode) (audit : Bool) (rules others : List Rule) (request : Request)
+        → verdict mediation audit rules request ≡ verdict mediation audit others request }
+    ensures order_changes_no_line { (asker : List ℕ) (mediation : Mediation) (audit : Bool) (rules others : List Rule) (request : Request)
         → HaveSameRules rules others
-        → log_line asker request (verdict mode audit rules request) ≡ log_line asker request (verdict mode audit others request) }
-    ensures allow_rule_leaves_what_is_allowed { (mode : Mode) (audit : Bool) (rule : Rule) (rules : List Rule) (request : Request)
+        → log_line asker request (verdict mediation audit rules request) ≡ log_line asker request (verdict mediation audit others request) }
+    ensures allow_rule_leaves_what_is_allowed { (mediation : Mediation) (audit : Bool) (rule : Rule) (rules : List Rule) (request : Request)
         → denies rule ≡ false
-        → (verdict mode audit rules request).answer ≡ Allow
-        → (verdict mode audit (rule ∷ rules) request).answer ≡ Allow }
-    ensures deny_rule_allows_nothing_new { (mode : Mode) (audit : Bool) (rule : Rule) (rules : List Rule) (request : Request)
+        → (verdict mediation audit rules request).answer ≡ Allow
+        → (verdict mediation audit (rule ∷ rules) request).answer ≡ Allow }
+    ensures deny_rule_allows_nothing_new { (mediation : Mediation) (audit : Bool) (rule : Rule) (rules : List Rule) (request : Request)
         → denies rule ≡ true
-        → (verdict mode audit (rule ∷ rules) request).answer ≡ Allow
-        → (verdict mode audit rules request).answer ≡ Allow }
+        → (verdict mediation audit (rule ∷ rules) request).answer ≡ Allow
+        → (verdict mediation audit rules request).answer ≡ Allow }
 {}

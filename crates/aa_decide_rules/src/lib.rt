@@ -7,4 +7,4 @@ mod verdict;
 
 pub use cover::{applies, covers, denies, is_audited, needs};
 pub use laws::{what_matching_rules_decide, what_rules_decide};
-pub use verdict::{found_verdict, rules_verdict};
+pub use verdict::{Mediation, found_verdict, rules_verdict};

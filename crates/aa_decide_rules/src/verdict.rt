@@ -10,8 +10,17 @@ ghost use Rattle.aa_profile_access.specs.SeenRequests.{request_of};
 use crate::cover::{covered_by_file, covers, denies, is_audited, needs};
 use aa_decide_audit::{Answer, Tag, Verdict};
 use aa_profile_access::{Perms, Request};
-use aa_profile_data::{Mode, Rule};
+use aa_profile_data::Rule;
 use bitflags::Flags;
+
+/// What becomes of what the rules don't allow, where none denies it.
+#[derive(Clone, Copy, Debug, PartialEq, Eq)]
+pub enum Mediation {
+    /// It is refused.
+    Enforcing,
+    /// It is let through and logged.
+    Complaining,
+}
 
 // The needs that rules cover.
 #[derive(Clone, Copy)]
@@ -42,9 +51,9 @@ fn logged(answer: Answer, tag: Tag, mask: Perms) -> Verdict
     }
 }
 
-// What is said of a request in a mode by the needs that rules cover.
-fn verdict_by(mode: Mode, masks: Masks, request: &Request<'_>) -> Verdict
-    ensures { result ≡ verdict_by mode (request_of request.entry.now) masks.denied.0 masks.loud.0 masks.granted.0 masks.audited.0 }
+// What is said of a request by the needs that rules cover.
+fn verdict_by(mediation: Mediation, masks: Masks, request: &Request<'_>) -> Verdict
+    ensures { result ≡ verdict_by mediation (request_of request.entry.now) masks.denied.0 masks.loud.0 masks.granted.0 masks.audited.0 }
 {
     let allowed = masks.granted.difference(masks.denied);
     let missing = needs(request).difference(masks.denied.union(allowed));
@@ -54,34 +63,39 @@ fn verdict_by(mode: Mode, masks: Masks, request: &Request<'_>) -> Verdict
     if missing.is_empty() {
         return logged(Answer::Allow, Tag::Audit, masks.audited);
     }
-    match mode {
-        Mode::Enforce => logged(Answer::Refuse, Tag::Denied, missing),
-        Mode::Complain => logged(Answer::Complain, Tag::Allowed, missing),
+    match mediation {
+        Mediation::Enforcing => logged(Answer::Refuse, Tag::Denied, missing),
+        Mediation::Complaining => logged(Answer::Complain, Tag::Allowed, missing),
     }
 }
 
-/// What rules say of a request, in a mode. `audit` says whether each of the rules is audited, whatever its own words are: that is the flag of their
+/// What rules say of a request. `audit` says whether each of the rules is audited, whatever its own words are: that is the flag of their
 /// profile. It goes over the rules once, tries the pattern of each on files where the request is for one, and takes no memory.
-pub fn rules_verdict(mode: Mode, audit: bool, rules: &[Rule], request: &Request<'_>) -> Verdict
-    ensures { result ≡ verdict mode audit rules.now (request_of request.entry.now) }
+pub fn rules_verdict(
+    mediation: Mediation,
+    audit: bool,
+    rules: &[Rule],
+    request: &Request<'_>,
+) -> Verdict
+    ensures { result ≡ verdict mediation audit rules.now (request_of request.entry.now) }
 {
-    verdict_by(mode, masks_of(audit, rules, request), request)
+    verdict_by(mediation, masks_of(audit, rules, request), request)
 }
 
 /// What the rules at some places say of a request for a file, where it is known that their pattern matches the file's path and that of no other rule
 /// does: no pattern is tried, and the path isn't looked at (`what_matching_rules_decide`). It takes no memory.
 pub fn found_verdict(
-    mode: Mode,
+    mediation: Mediation,
     audit: bool,
     rules: &[Rule],
     places: &[usize],
     request: &Request<'_>,
     owned: bool,
 ) -> Verdict
-    ensures { result ≡ found_verdict mode audit owned (request_of request.entry.now) (picked rules.now places.now) }
+    ensures { result ≡ found_verdict mediation audit owned (request_of request.entry.now) (picked rules.now places.now) }
 {
     let masks = found_masks(audit, rules, places, needs(request), owned);
-    verdict_by(mode, masks, request)
+    verdict_by(mediation, masks, request)
 }
 
 // No needs.

@@ -1,10 +1,12 @@
 //! What confines a task by a loaded profile.
 
 ghost use Rattle.std.specs.Prelude.{◌≡◌};
-ghost use Rattle.aa_decide_slots.specs.Confinement.{found, in_state, mode_at};
+ghost use Rattle.aa_decide_slots.specs.Confinement.{confined, found, in_state, mode_at};
+ghost use Rattle.aa_decide_ready.specs.SeenSections.{seen_section};
 
 use crate::entry::{Entry, State};
 use aa_decide_ready::ReadySection;
+use aa_decide_rules::Mediation;
 use aa_profile_data::Mode;
 
 /// What confines a task.
@@ -12,12 +14,14 @@ use aa_profile_data::Mode;
 pub enum Confinement<'a> {
     /// Nothing.
     Unconfined,
-    /// A profile, or a child or hat of it.
+    /// A profile, or a child or hat of it, in mode unconfined: it gives its name, and none of its rules is asked.
+    ByName,
+    /// A profile, or a child or hat of it, whose rules are asked.
     By {
         /// What decides of it.
         section: ReadySection<'a>,
-        /// The mode.
-        mode: Mode,
+        /// What becomes of what its rules don't allow.
+        mediation: Mediation,
     },
 }
 
@@ -37,17 +41,35 @@ fn mode_at(modes: &[Mode], child: Option<usize>) -> Mode
     }
 }
 
+// What confines a task by a profile, child or hat in force in a mode.
+fn confined<'a>(section: ReadySection<'a>, mode: Mode) -> Confinement<'a>
+    ensures { found result ≡ confined (seen_section section.entry) mode }
+{
+    match mode {
+        Mode::Enforce => Confinement::By {
+            section,
+            mediation: Mediation::Enforcing,
+        },
+        Mode::Complain => Confinement::By {
+            section,
+            mediation: Mediation::Complaining,
+        },
+        Mode::Unconfined => Confinement::ByName,
+    }
+}
+
 impl Entry {
-    /// What confines a task by this profile, or by its child or hat at a place: nothing, where the profile is disabled. It takes no memory.
+    /// What confines a task by this profile, or by its child or hat at a place: nothing, where the profile is disabled, and its name alone, where it
+    /// is in mode unconfined. It takes no memory.
     pub fn confinement(&self, child: Option<usize>) -> Confinement<'_>
         ensures { found result ≡ in_state self.now.profile self.now.state child }
     {
         match self.state() {
             State::Disabled => Confinement::Unconfined,
-            State::Modes(modes) => Confinement::By {
-                section: self.ready().section(child),
-                mode: mode_at(modes.as_slice(), child),
-            },
+            State::Modes(modes) => {
+                let mode = mode_at(modes.as_slice(), child);
+                confined(self.ready().section(child), mode)
+            }
         }
     }
 }

@@ -1,19 +1,22 @@
 -- Policy sets that are alike lead programs under who has one full name.
-use Rattle.std.proofs.Common.{◌≡◌, ℕ, Bool, true, false, List, Option, None, Some, refl, sym, ap, subst, ◌∙◌}
-use Rattle.std.specs.Prelude.{if◌then◌else◌, option_and_then}
+use Rattle.std.proofs.Common.{◌≡◌, ℕ, Bool, true, false, List, [], ◌∷◌, Option, None, Some, refl, sym, ap, subst, ◌∙◌}
+use Rattle.std.specs.Prelude.{◌&&◌, if◌then◌else◌, is_some, option_and_then}
 use Rattle.std.specs.Option.{option_map}
 use Rattle.aa_decide.specs.Attachment.{attached, attached_child}
-use Rattle.aa_decide.specs.Exec.{Asker, Started, Under, by_full_name, entry_asker, led, led_by, place_of_child, to_child, to_profile, under}
+use Rattle.aa_decide.specs.Exec.{Asker, Base, OnProfile, Stacked, Started, Under, are_in_force, base_of, by_full_name, entry_asker, fallback_base, led, led_by}
+use Rattle.aa_decide.specs.Exec.{led_by_word, named_stack, place_of_child, stacked_on, to_child, to_profile, to_stack, under}
 use Rattle.aa_decide_slots.specs.Entries.{Loaded, is_in_force}
 use Rattle.aa_decide_slots.specs.Named.{entry_named}
 use Rattle.aa_explain.proofs.AttachedAlikeLemmas.{FitLaw, RankLaw, attached-twin, child-twin}
 use Rattle.aa_explain.proofs.NamedLemmas.{asker-named, force-named, if_in_force, named-is}
 use Rattle.aa_explain.proofs.TwinLemmas.{child_at, children-named, entries-named, itself, policies-back, same-force, twin-child, twin-entry}
-use Rattle.aa_explain.specs.AlikePolicies.{AreAlikePolicies, AreThereAlike, HaveOneName, RunAlike}
+use Rattle.aa_explain.specs.AlikePolicies.{AreAlikePolicies, AreThereAlike, HaveOneName, RunAlike, StandAlike}
 use Rattle.aa_profile_access.specs.ExecWords.{row}
 use Rattle.aa_profile_access.specs.FullNames.{full_name}
+use Rattle.aa_profile_access.specs.Stacks.{Stack}
 use Rattle.aa_profile_access.specs.declared.exec_word.Destination.{Destination}
 use Rattle.aa_profile_access.specs.declared.exec_word.Destination.TheVariants as to
+use Rattle.aa_profile_access.specs.declared.exec_word.ExecWord.{ExecWord}
 use Rattle.aa_profile_data.specs.Profile.{are_distinct_children, child_place}
 use Rattle.aa_profile_data.specs.declared.profile.Transition.{Transition}
 
@@ -173,9 +176,12 @@ module _ (fit : FitLaw) (rank : RankLaw) where
       | None ↦ child_of target who.entry
     ]
 
-    to-child-alike : (target : Option (List ℕ)) (one other : Asker) → HaveOneName entries others one other
-        → LeadAlike entries others (to_child path target one) (to_child path target other)
-    to-child-alike target one other same = by same.name.child here.1 there.1
+    -- what holds of two profiles, and of any child or hat and another, holds of two that have one full name
+    by-standing : (Holds : Option ℕ → Option ℕ → Type 0) (one other : Asker) → (same : HaveOneName entries others one other)
+        → (entry_named same.name.profile entries ≡ Some one.entry → entry_named same.name.profile others ≡ Some other.entry → Holds None None)
+        → ((place spot : ℕ) → Holds (Some place) (Some spot))
+        → Holds one.child other.child
+    by-standing Holds one other same profiles children = by same.name.child here.1 there.1
       where
         here : (entry_named same.name.profile entries ≡ Some one.entry) × (entry_asker same.name.child one.entry ≡ Some one)
         here = asker-named same.name entries one same.here
@@ -183,30 +189,29 @@ module _ (fit : FitLaw) (rank : RankLaw) where
         there : (entry_named same.name.profile others ≡ Some other.entry) × (entry_asker same.name.child other.entry ≡ Some other)
         there = asker-named same.name others other same.there
 
-        joined : (child place : Option ℕ) → child ≡ one.child → place ≡ other.child
-            → LeadAlike entries others (own_child target one child) (own_child target other place)
-            → LeadAlike entries others (to_child path target one) (to_child path target other)
-        joined child place e f lead =
-            subst (λ child. LeadAlike entries others (own_child target one child) (to_child path target other)) e
-            (subst (λ place. LeadAlike entries others (own_child target one child) (own_child target other place)) f lead)
+        joined : (child place : Option ℕ) → child ≡ one.child → place ≡ other.child → Holds child place → Holds one.child other.child
+        joined child place e f holds = subst (λ child. Holds child other.child) e (subst (λ place. Holds child place) f holds)
 
         child-is : (who asks : Asker) → Some who ≡ Some asks → who.child ≡ asks.child
         child-is who asks e = ap (λ (o : Option Asker). elim o [ None ↦ who.child | Some a ↦ a.child ]) e
 
-        at : (name : List ℕ) (place spot : Option ℕ) → option_map (child_at one.entry) place ≡ Some one
-            → option_map (child_at other.entry) spot ≡ Some other
-            → LeadAlike entries others (to_child path target one) (to_child path target other)
-        at name None spot e f = absurd (cc)
-        at name (Some place) None e f = absurd (cc)
-        at name (Some place) (Some spot) e f =
-            joined (Some place) (Some spot) (child-is (child_at one.entry place) one e) (child-is (child_at other.entry spot) other f) tt
+        at : (place spot : Option ℕ) → option_map (child_at one.entry) place ≡ Some one → option_map (child_at other.entry) spot ≡ Some other
+            → Holds one.child other.child
+        at None spot e f = absurd (cc)
+        at (Some place) None e f = absurd (cc)
+        at (Some place) (Some spot) e f =
+            joined (Some place) (Some spot) (child-is (child_at one.entry place) one e) (child-is (child_at other.entry spot) other f) (children place spot)
 
-        by : (child : Option (List ℕ)) → entry_asker child one.entry ≡ Some one → entry_asker child other.entry ≡ Some other
-            → LeadAlike entries others (to_child path target one) (to_child path target other)
-        by None e f =
-            joined None None (child-is (itself one.entry) one e) (child-is (itself other.entry) other f)
-            (child-alike same.name.profile one.entry other.entry here.0 there.0 target)
-        by (Some name) e f = at name (child_place name one.entry.profile.children) (child_place name other.entry.profile.children) e f
+        by : (child : Option (List ℕ)) → entry_asker child one.entry ≡ Some one → entry_asker child other.entry ≡ Some other → Holds one.child other.child
+        by None e f = joined None None (child-is (itself one.entry) one e) (child-is (itself other.entry) other f) (profiles here.0 there.0)
+        by (Some name) e f = at (child_place name one.entry.profile.children) (child_place name other.entry.profile.children) e f
+
+    to-child-alike : (target : Option (List ℕ)) (one other : Asker) → HaveOneName entries others one other
+        → LeadAlike entries others (to_child path target one) (to_child path target other)
+    to-child-alike target one other same =
+        by-standing (λ child place. LeadAlike entries others (own_child target one child) (own_child target other place)) one other same
+        (λ here there. child-alike same.name.profile one.entry other.entry here there target)
+        (λ place spot. tt)
 
     -- a destination, and a transition
     led-alike : (target : Option (List ℕ)) (one other : Asker) → HaveOneName entries others one other → (destination : Destination)
@@ -216,12 +221,94 @@ module _ (fit : FitLaw) (rank : RankLaw) where
     led-alike target one other same to.Inherit = same
     led-alike target one other same to.Unconfined = tt
 
+    -- full names are in force in both, or in neither
+    there-alike : (one other : Option Started) → LeadAlike entries others one other → is_some one ≡ is_some other
+    there-alike None None lead = refl
+    there-alike (Some one) (Some other) lead = refl
+    there-alike None (Some other) lead = absurd lead
+    there-alike (Some one) None lead = absurd lead
+
+    force-alike : (names : List (List ℕ)) → are_in_force names entries ≡ are_in_force names others
+    force-alike [] = refl
+    force-alike (name ∷ names) =
+        ap (λ here. here && are_in_force names entries) (there-alike (by_full_name name entries) (by_full_name name others) (full-alike name))
+        ∙ ap (λ rest. is_some (by_full_name name others) && rest) (force-alike names)
+
+    -- what a stack is on
+    fallback-stands : (one other : Asker) → HaveOneName entries others one other → (fallback : Option Destination)
+        → StandAlike entries others (option_and_then (fallback_base one) fallback) (option_and_then (fallback_base other) fallback)
+    fallback-stands one other same None = tt
+    fallback-stands one other same (Some to.Inherit) = same
+    fallback-stands one other same (Some to.Unconfined) = tt
+    fallback-stands one other same (Some to.Profile) = tt
+    fallback-stands one other same (Some to.Child) = tt
+
+    -- by the profile that is attached
+    abbrev pub attached_base : Asker → Option Destination → Option Loaded → Option Base
+    attached_base who fallback None = option_and_then (fallback_base who) fallback
+    attached_base who fallback (Some entry) = Some (OnProfile entry None)
+
+    -- and by the profile that asks
+    abbrev pub own_base : Asker → Option ℕ → Option Base
+    own_base who None = Some (OnProfile who.entry None)
+    own_base who (Some place) = None
+
+    base-alike : (one other : Asker) → HaveOneName entries others one other → (destination : Destination) (fallback : Option Destination)
+        → StandAlike entries others (base_of path entries one destination fallback) (base_of path others other destination fallback)
+    base-alike one other same to.Profile fallback = by (attached path entries) (attached path others) attached-alike
+      where
+        by : (here there : Option Loaded) → LeadAlike entries others (option_map under_it here) (option_map under_it there)
+            → StandAlike entries others (attached_base one fallback here) (attached_base other fallback there)
+        by None None lead = fallback-stands one other same fallback
+        by (Some here) (Some there) lead = lead
+        by None (Some there) lead = absurd lead
+        by (Some here) None lead = absurd lead
+    base-alike one other same to.Child fallback =
+        by-standing (λ child place. StandAlike entries others (own_base one child) (own_base other place)) one other same
+        (λ here there. entries-named entries others alike same.name.profile one.entry other.entry here there)
+        (λ place spot. tt)
+    base-alike one other same to.Inherit fallback = tt
+    base-alike one other same to.Unconfined fallback = tt
+
+    -- a stack
+    stack-alike : (one other : Asker) → HaveOneName entries others one other → (word : ExecWord) (stack : Stack)
+        → LeadAlike entries others (to_stack path entries one word stack) (to_stack path others other word stack)
+    stack-alike one other same word stack =
+        let base = base_of path others other (row word).destination (row word).fallback in
+        subst (λ force. LeadAlike entries others (to_stack path entries one word stack) (if force then stacked_on stack base else None)) (force-alike stack.members)
+        (by (are_in_force stack.members entries) stack.on_base (base_of path entries one (row word).destination (row word).fallback) base
+        (base-alike one other same (row word).destination (row word).fallback))
+      where
+        stacked : Bool → Option Base → Option Started
+        stacked on base = if on then option_map (λ base. Stacked (Some base) stack.members) base else Some (Stacked None stack.members)
+
+        by : (force on : Bool) (here there : Option Base) → StandAlike entries others here there
+            → LeadAlike entries others (if force then stacked on here else None) (if force then stacked on there else None)
+        by false on here there stand = tt
+        by true false here there stand = (tt, refl)
+        by true true None None stand = tt
+        by true true (Some here) (Some there) stand = (stand, refl)
+        by true true None (Some there) stand = absurd stand
+        by true true (Some here) None stand = absurd stand
+
+    -- the word of a transition
+    abbrev pub by_stack : List Loaded → Asker → Transition → Option Stack → Option Started
+    by_stack set who transition None = led path transition.target set who (row transition.word).destination
+    by_stack set who transition (Some stack) = to_stack path set who transition.word stack
+
+    word-alike : (one other : Asker) → HaveOneName entries others one other → (transition : Transition)
+        → LeadAlike entries others (led_by_word path entries one transition) (led_by_word path others other transition)
+    word-alike one other same transition = by (named_stack transition)
+      where
+        by : (stack : Option Stack) → LeadAlike entries others (by_stack entries one transition stack) (by_stack others other transition stack)
+        by None = led-alike transition.target one other same (row transition.word).destination
+        by (Some stack) = stack-alike one other same transition.word stack
+
     pub transition-alike : (one other : Asker) → HaveOneName entries others one other → (transition : Transition)
         → LeadAlike entries others (led_by path entries one transition) (led_by path others other transition)
     transition-alike one other same transition =
-        by (led path transition.target entries one (row transition.word).destination)
-        (led path transition.target others other (row transition.word).destination)
-        (led-alike transition.target one other same (row transition.word).destination) (row transition.word).fallback
+        by (led_by_word path entries one transition) (led_by_word path others other transition)
+        (word-alike one other same transition) (row transition.word).fallback
       where
         by : (here there : Option Started) → LeadAlike entries others here there → (fallback : Option Destination)
             → LeadAlike entries others (elim here [ Some to ↦ Some to | None ↦ option_and_then (led path transition.target entries one) fallback ])

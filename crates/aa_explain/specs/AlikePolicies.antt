@@ -1,7 +1,7 @@
 -- Policy sets that are alike: who has a full name is confined alike in both, and attached to the same patterns.
 use Rattle.std.specs.Prelude.{◌≡◌, ℕ, true, List, Option, None, Some}
 use Rattle.std.specs.List.{All, Contains}
-use Rattle.aa_decide.specs.Exec.{Asker, ExecAnswer, Nowhere, Null, Started, Unconfined, Under, named_asker}
+use Rattle.aa_decide.specs.Exec.{Asker, Base, ExecAnswer, Nowhere, Null, OnProfile, OnUnconfined, Stacked, Started, Unconfined, Under, named_asker}
 use Rattle.aa_decide.specs.ExecLaws.{HaveDistinctNames}
 use Rattle.aa_decide_slots.specs.Confinement.{mode_at}
 use Rattle.aa_decide_slots.specs.Entries.{Loaded}
@@ -66,11 +66,28 @@ AskAlike entries others (Some one) (Some other) = HaveOneName entries others one
 AskAlike entries others None (Some other) = ⊥
 AskAlike entries others (Some one) None = ⊥
 
--- a program runs under those that have one full name, or under no profile in both, or isn't started in either
+-- two stacks are on those that have one full name, or both on no profile
+abbrev pub AreBasesAlike : List Loaded → List Loaded → Base → Base → Type 0
+AreBasesAlike entries others (OnProfile entry child) (OnProfile other place) =
+    HaveOneName entries others (record { entry = entry; child = child }) (record { entry = other; child = place })
+AreBasesAlike entries others OnUnconfined OnUnconfined = Unit {0}
+AreBasesAlike entries others (OnProfile entry child) OnUnconfined = ⊥
+AreBasesAlike entries others OnUnconfined (OnProfile other place) = ⊥
+
+-- or neither is on anything
+abbrev pub StandAlike : List Loaded → List Loaded → Option Base → Option Base → Type 0
+StandAlike entries others None None = Unit {0}
+StandAlike entries others (Some base) (Some other) = AreBasesAlike entries others base other
+StandAlike entries others None (Some other) = ⊥
+StandAlike entries others (Some base) None = ⊥
+
+-- a program runs under those that have one full name, or under no profile in both, or under stacks that stand alike and whose other members have the same
+-- full names, or isn't started in either
 abbrev pub RunAlike : List Loaded → List Loaded → Started → Started → Type 0
 RunAlike entries others (Under entry child) (Under other place) =
     HaveOneName entries others (record { entry = entry; child = child }) (record { entry = other; child = place })
 RunAlike entries others Unconfined Unconfined = Unit {0}
+RunAlike entries others (Stacked base members) (Stacked other names) = StandAlike entries others base other × (members ≡ names)
 RunAlike entries others Null Null = Unit {0}
 RunAlike entries others Nowhere Nowhere = Unit {0}
 RunAlike entries others _ _ = ⊥

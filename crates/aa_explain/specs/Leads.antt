@@ -1,11 +1,11 @@
 -- Where the rules of who asks lead the program of a path (docs/policy.md, "Exec and attachment").
 use Rattle.std.specs.Prelude.{ℕ, Bool, List, Option, None, option_and_then}
 use Rattle.std.specs.Option.{option_map}
-use Rattle.aa_decide.specs.Exec.{Asker, Started, led}
+use Rattle.aa_decide.specs.Exec.{Asker, Started, led, led_by_word}
 use Rattle.aa_decide.specs.SeenExec.{IsDestination, seen_to}
 use Rattle.aa_decide_audit.specs.declared.exec_verdict.ExecTo.{ExecTo}
 use Rattle.aa_decide_exec_rules.specs.Choices.{choice}
-use Rattle.aa_decide_slots.specs.Confinement.{By, Confinement, Unconfined, in_state}
+use Rattle.aa_decide_slots.specs.Confinement.{By, ByName, Confinement, Unconfined, in_state}
 use Rattle.aa_decide_slots.specs.Entries.{Loaded}
 use Rattle.aa_profile_access.specs.ExecWords.{row}
 use Rattle.aa_profile_data.specs.declared.profile.Transition.{Transition}
@@ -22,14 +22,15 @@ pub record Lead : Type 0 where
 abbrev pub lead_by : List ℕ → List Loaded → Asker → Transition → Lead
 lead_by path entries asker transition = record {
   transition = transition;
-  to = led path transition.target entries asker (row transition.word).destination;
+  to = led_by_word path entries asker transition;
   fallback = option_and_then (led path transition.target entries asker) (row transition.word).fallback;
 }
 
--- by what confines who asks: where the transition leads that the rules say together; where nothing confines it, no rule leads
+-- by what confines who asks: where the transition leads that the rules say together; where nothing confines it, or a name alone, no rule leads
 abbrev pub confined_lead : Bool → List ℕ → List Loaded → Asker → Confinement → Option Lead
 confined_lead owned path entries asker Unconfined = None
-confined_lead owned path entries asker (By section mode) =
+confined_lead owned path entries asker ByName = None
+confined_lead owned path entries asker (By section mediation) =
     option_map (lead_by path entries asker) (chosen_transition (choice section.audit owned path section.rules))
 
 -- where the rules of who asks lead, if they lead somewhere

@@ -3,3 +3,4 @@ pub mod Candidates
 pub mod Leads
 pub mod NamedAskers
 pub mod Standings
+pub mod StartLaws

@@ -5,11 +5,11 @@ ghost use Rattle.std.specs.List.{All};
 ghost use Rattle.aa_decide.specs.Exec.{Asker, exec_answer, named_asker};
 ghost use Rattle.aa_decide_slots.specs.Entries.{Loaded};
 ghost use Rattle.aa_decide_ready.specs.Ready.{decided};
+ghost use Rattle.aa_decide_rules.specs.declared.verdict.Mediation.{Mediation};
 ghost use Rattle.aa_explain.specs.AlikePolicies.{AreAlikePolicies, AreConfinedAlike, AskAlike, HaveReadRules, StartAlike};
 ghost use Rattle.aa_explain.specs.NamedAskers.{IsNamed};
 ghost use Rattle.aa_profile_access.specs.FullNames.{FullName};
 ghost use Rattle.aa_profile_access.specs.Request.{Request};
-ghost use Rattle.aa_profile_data.specs.declared.profile.Mode.{Mode};
 
 use aa_decide::{what_rules_decide, where_programs_run};
 use aa_decide_attachment::which_rank_stands_out;
@@ -23,12 +23,12 @@ pub fn who_has_a_full_name()
 
 /// Two policy sets that are alike, by each full name, decide alike. Two that are confined alike say the same of each request. And who asks by one
 /// full name to start a program, or no one in particular, is answered the same: the verdict with its tag, whether the environment is scrubbed, and
-/// where the program runs, which is under the profile, child or hat of one full name in both, or under no profile. The rules of one set agree and
-/// their patterns read, as those of files that were read do, and the path is a list of bytes.
+/// where the program runs, which is under the profile, child or hat of one full name in both, under no profile, or under a stack of the same full names.
+/// The rules of one set agree and their patterns read, as those of files that were read do, and the path is a list of bytes.
 pub fn policies_alike_decide_alike()
-    ensures same_verdict { (one other : Asker) (mode : Mode) (request : Request)
+    ensures same_verdict { (one other : Asker) (mediation : Mediation) (request : Request)
         → AreConfinedAlike one other
-        → decided one.entry.profile one.child mode request ≡ decided other.entry.profile other.child mode request }
+        → decided one.entry.profile one.child mediation request ≡ decided other.entry.profile other.child mediation request }
     ensures same_start { (entries others : List Loaded) (who other : Option Asker) (owned : Bool) (path : List ℕ)
         → AreAlikePolicies entries others
         → HaveReadRules entries

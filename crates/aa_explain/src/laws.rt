@@ -11,10 +11,11 @@ ghost use Rattle.aa_decide.specs.Attachment.{attached, attached_child};
 ghost use Rattle.aa_decide.specs.Exec.{Asker, Under, exec_answer};
 ghost use Rattle.aa_decide_attachment.specs.StandingOut.{standing_out};
 ghost use Rattle.aa_decide_audit.specs.declared.verdict.Answer.TheVariants.{Allow};
-ghost use Rattle.aa_decide_slots.specs.Entries.{Loaded, is_in_force};
+ghost use Rattle.aa_decide_slots.specs.Entries.{Loaded};
 ghost use Rattle.aa_decide_ready.specs.Ready.{rules_at};
 ghost use Rattle.aa_explain.specs.Candidates.{child_candidates, profile_candidates, rank_of};
 ghost use Rattle.aa_explain.specs.Standings.{standing_of};
+ghost use Rattle.aa_explain.specs.StartLaws.{AsksRules};
 ghost use Rattle.aa_explain.specs.declared.standing.Standing.TheVariants.{Attached};
 ghost use Rattle.aa_explain_rules.specs.Missing.{lacked, missing_rule};
 ghost use Rattle.aa_explain_rules.specs.Narrower.{but_letter};
@@ -22,8 +23,8 @@ ghost use Rattle.aa_explain_rules.specs.Narrower.{but_letter};
 use aa_explain_rules::where_a_missing_rule_leads;
 
 /// Where a request lacks `x`, the rule that it lacks lets the program of its path be started: who asks by a profile, or by a child or hat of it, whose
-/// rules have it behind the others is let, and in force it runs the program under what it runs under itself. With that rule without its exec word it
-/// isn't let.
+/// rules have it behind the others is let, and where its rules are asked it runs the program under what it runs under itself. With that rule without its
+/// exec word it isn't let then.
 pub fn what_starts_with_a_missing_rule()
     ensures it_is_let { (letters : ℕ) (owned : Bool) (path : List ℕ) (rules : List Rule) (rule : Rule) (entries : List Loaded) (who : Asker)
         → missing_rule (ForFile letters owned path) rules ≡ Some rule
@@ -34,14 +35,14 @@ pub fn what_starts_with_a_missing_rule()
         → missing_rule (ForFile letters owned path) rules ≡ Some rule
         → has (lacked (ForFile letters owned path) rules) EXEC ≡ true
         → rules_at who.entry.profile who.child ≡ rules ++ rule ∷ []
-        → is_in_force who.entry.state ≡ true
+        → AsksRules who
         → (exec_answer entries (Some who) owned path).to ≡ Under who.entry who.child }
     ensures not_without_its_exec_word { (letters : ℕ) (owned : Bool) (path : List ℕ) (rules : List Rule) (rule : FileRule) (entries : List Loaded)
         (who : Asker)
         → missing_rule (ForFile letters owned path) rules ≡ Some (File rule)
         → has (lacked (ForFile letters owned path) rules) EXEC ≡ true
         → rules_at who.entry.profile who.child ≡ rules ++ File (but_letter EXEC rule) ∷ []
-        → is_in_force who.entry.state ≡ true
+        → AsksRules who
         → (exec_answer entries (Some who) owned path).verdict.answer ≢ Allow }
 {
     where_a_missing_rule_leads();

@@ -2,7 +2,7 @@
 
 ghost use Rattle.std.specs.Prelude.{◌≡◌, IfOk, IfSome, option_and_then};
 ghost use Rattle.std.specs.Option.{option_map};
-ghost use Rattle.aa_decide.specs.Exec.{led};
+ghost use Rattle.aa_decide.specs.Exec.{led, led_by_word};
 ghost use Rattle.aa_decide.specs.SeenExec.{IsIn, seen_asker};
 ghost use Rattle.aa_decide_exec_rules.specs.SeenChoices.{seen_choice};
 ghost use Rattle.aa_decide_slots.specs.Slots.{filled};
@@ -11,7 +11,9 @@ ghost use Rattle.aa_explain.specs.Leads.{IsThere, LeadsThere, lead_by, lead_of, 
 ghost use Rattle.aa_explain_rules.specs.Leading.{chosen_transition};
 
 use aa_bytes::SharedBytes;
-use aa_decide::{Asker, Confinement, ExecChoice, ExecTo, IndexedSlots, choice_of, led};
+use aa_decide::{
+    Asker, Confinement, ExecChoice, ExecTo, IndexedSlots, choice_of, led, led_by_word,
+};
 use aa_profile_access::Destination;
 use aa_profile_data::Transition;
 use std::alloc::{AllocError, Global};
@@ -22,9 +24,9 @@ pub struct Lead<'a> {
     /// The transition that the rules say together.
     pub transition: &'a Transition,
     /// Where its word leads; none where that isn't there.
-    pub to: Option<ExecTo>,
+    pub to: Option<ExecTo<'a>>,
     /// Where its fallback leads, which is gone to where its word leads nowhere; none where it has none, or where that isn't there either.
-    pub fallback: Option<ExecTo>,
+    pub fallback: Option<ExecTo<'a>>,
 }
 
 // Where a choice leads, if it leads somewhere.
@@ -38,15 +40,31 @@ fn chosen_transition<'a>(choice: ExecChoice<'a>) -> Option<&'a Transition>
     }
 }
 
+// Where the word of a transition leads who asks, if that is there.
+fn word_of<'a>(
+    alloc: Global,
+    slots: &IndexedSlots<'_>,
+    asker: Asker<'_>,
+    path: &[u8],
+    transition: &'a Transition,
+) -> Result<Option<ExecTo<'a>>, AllocError>
+    requires { IsIn slots.now asker }
+    ensures to { IfOk result (λ to.
+        seen_destination slots.now to ≡ led_by_word path.now (filled slots.now) (seen_asker asker.entry) transition.now) }
+    ensures there { IfOk result (IsThere slots.now) }
+{
+    led_by_word(alloc, slots, asker, path, transition)
+}
+
 // Where a destination leads who asks, if that is there.
-fn destination_of(
+fn destination_of<'a>(
     alloc: Global,
     slots: &IndexedSlots<'_>,
     asker: Asker<'_>,
     path: &[u8],
     target: &Option<SharedBytes>,
     destination: Destination,
-) -> Result<Option<ExecTo>, AllocError>
+) -> Result<Option<ExecTo<'a>>, AllocError>
     requires { IsIn slots.now asker }
     ensures to { IfOk result (λ to.
         seen_destination slots.now to ≡ led path.now target.now (filled slots.now) (seen_asker asker.entry) destination) }
@@ -56,13 +74,13 @@ fn destination_of(
 }
 
 // Where the fallback of a transition leads, if it has one.
-fn fallback_of(
+fn fallback_of<'a>(
     alloc: Global,
     slots: &IndexedSlots<'_>,
     asker: Asker<'_>,
     path: &[u8],
     transition: &Transition,
-) -> Result<Option<ExecTo>, AllocError>
+) -> Result<Option<ExecTo<'a>>, AllocError>
     requires { IsIn slots.now asker }
     ensures to { IfOk result (λ to.
         seen_destination slots.now to
@@ -87,8 +105,7 @@ fn lead_by<'a>(
     ensures lead { IfOk result (λ found. seen_lead slots.now found ≡ lead_by path.now (filled slots.now) (seen_asker asker.entry) transition.now) }
     ensures there { IfOk result (LeadsThere slots.now) }
 {
-    let destination = transition.word.destination();
-    let to = destination_of(alloc, slots, asker, path, &transition.target, destination)?;
+    let to = word_of(alloc, slots, asker, path, transition)?;
     let fallback = fallback_of(alloc, slots, asker, path, transition)?;
     Ok(Lead {
         transition,
@@ -119,8 +136,8 @@ fn led_by<'a>(
 
 /// Where the rules of who asks lead the program of a path that is started (docs/policy.md, "The start of a program"): the transition that they say
 /// together, where its word leads, and where its fallback does, as `aa_decide::exec_by` goes by them. None where a deny rule with `x` applies, where no
-/// rule says where to go, and where nothing confines who asks. `owned` says whether the task's user owns the file. What it tells is said of the filled
-/// slots in their order, and a profile that it tells is in a filled one.
+/// rule says where to go, and where no rule is asked: where nothing confines who asks, and in mode unconfined. `owned` says whether the task's user owns
+/// the file. What it tells is said of the filled slots in their order, and a profile that it tells is in a filled one.
 ///
 /// # Errors
 ///
@@ -139,6 +156,7 @@ pub fn lead_of<'a>(
 {
     match asker.entry.confinement(asker.child) {
         Confinement::Unconfined => Ok(None),
+        Confinement::ByName => Ok(None),
         Confinement::By { section, .. } => {
             let choice = choice_of(alloc, section, owned, path)?;
             led_by(alloc, slots, asker, path, chosen_transition(choice))

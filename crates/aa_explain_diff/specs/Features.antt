@@ -5,7 +5,7 @@ use Rattle.std.specs.Str.{bytes_eq}
 use Rattle.aa_bytes.specs.Texts.{is_empty}
 use Rattle.aa_profile_data.specs.SameRules.{same_rule}
 use Rattle.aa_profile_data.specs.declared.profile.Mode.{Mode}
-use Rattle.aa_profile_data.specs.declared.profile.Mode.TheVariants.{Complain, Enforce}
+use Rattle.aa_profile_data.specs.declared.profile.Mode.TheVariants.{Complain, Enforce, Unconfined}
 use Rattle.aa_profile_data.specs.declared.profile.Rule.{Rule}
 use Rattle.aa_explain_diff.specs.Sections.{Section}
 use Rattle.aa_explain_diff.specs.declared.features.Feature.{Feature as CodeFeature}
@@ -48,8 +48,8 @@ features_of section =
 abbrev pub same_mode : Mode → Mode → Bool
 same_mode Enforce Enforce = true
 same_mode Complain Complain = true
-same_mode Enforce Complain = false
-same_mode Complain Enforce = false
+same_mode Unconfined Unconfined = true
+same_mode _ _ = false
 
 -- two sections have the same thing, wherever a rule stands among the others
 abbrev pub same_feature : Feature → Feature → Bool

@@ -4,6 +4,7 @@ ghost use Rattle.std.specs.Prelude.{◌≡◌, ◌<◌, ◌^◌, ℕ, Bool, List
 ghost use Rattle.std.specs.List.{All};
 ghost use Rattle.aa_decide_exec_rules.specs.Choices.{choice};
 ghost use Rattle.aa_decide_rules.specs.Verdict.{verdict};
+ghost use Rattle.aa_decide_rules.specs.declared.verdict.Mediation.{Mediation};
 ghost use Rattle.aa_explain_diff.specs.Alike.{HaveSameHead};
 ghost use Rattle.aa_explain_diff.specs.Features.{are_alike};
 ghost use Rattle.aa_explain_diff.specs.Sections.{Section};
@@ -15,15 +16,15 @@ ghost use Rattle.aa_profile_data.specs.SameRules.{HaveSameRules};
 use aa_decide_exec_rules::order_changes_no_choice;
 use aa_decide_rules::what_rules_decide;
 
-/// Two sections of which neither has something that the other lacks have one head and the same rules, and decide alike: whatever is asked, the verdict is
-/// the same, with its tag and its mask, and so is what they say together of the start of a program, where the rules of one agree (as those of a file that
-/// was read do), their patterns read, and the path is a list of bytes.
+/// Two sections of which neither has something that the other lacks have one head and the same rules, and decide alike: whatever is asked, and whatever
+/// becomes of what the rules don't allow, the verdict is the same, with its tag and its mask, and so is what they say together of the start of a program,
+/// where the rules of one agree (as those of a file that was read do), their patterns read, and the path is a list of bytes.
 pub fn sections_alike_answer_alike()
     ensures head { (one other : Section) → are_alike one other ≡ true → HaveSameHead one other }
     ensures same_rules { (one other : Section) → are_alike one other ≡ true → HaveSameRules one.rules other.rules }
-    ensures same_verdict { (one other : Section) (request : Request)
+    ensures same_verdict { (one other : Section) (mediation : Mediation) (request : Request)
         → are_alike one other ≡ true
-        → verdict one.mode one.audit one.rules request ≡ verdict other.mode other.audit other.rules request }
+        → verdict mediation one.audit one.rules request ≡ verdict mediation other.audit other.rules request }
     ensures same_choice { (one other : Section) (owned : Bool) (path : List ℕ)
         → are_alike one other ≡ true
         → agree one.rules ≡ true

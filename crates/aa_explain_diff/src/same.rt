@@ -18,7 +18,9 @@ fn same_mode(one: Mode, other: Mode) -> bool
     ensures { result ≡ same_mode one other }
 {
     match (one, other) {
-        (Mode::Enforce, Mode::Enforce) | (Mode::Complain, Mode::Complain) => true,
+        (Mode::Enforce, Mode::Enforce) => true,
+        (Mode::Complain, Mode::Complain) => true,
+        (Mode::Unconfined, Mode::Unconfined) => true,
         _ => false,
     }
 }

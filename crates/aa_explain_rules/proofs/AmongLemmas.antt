@@ -6,16 +6,17 @@ use Rattle.std.specs.List.Sorted.{IsStrictlyIncreasing}
 use Rattle.std.proofs.lemmas.Bool.{false≢true}
 use Rattle.aa_profile_access.specs.Request.{ForCapability, ForFile, ForSockets, Request}
 use Rattle.aa_profile_data.specs.Matching.{AreMatchingRules, is_matching}
+use Rattle.aa_profile_data.specs.declared.profile.Rank.{Rank}
 use Rattle.aa_profile_data.specs.declared.profile.Rule.{Rule}
 use Rattle.aa_profile_data.specs.declared.profile.Rule.TheVariants.{Cap, File, Net, Other}
-use Rattle.aa_decide_exec_rules.specs.Choices.{denies, dominates, is_exact_lead}
+use Rattle.aa_decide_exec_rules.specs.Choices.{denies, dominates}
 use Rattle.aa_decide_exec_rules.specs.ExecRules.{ExecRule}
 use Rattle.aa_decide_rules.specs.Verdict.{allowed, allows, applies, denied, denies as denies_rule, granted, missing, with_covered, with_rule}
 use Rattle.aa_profile_data.specs.Picked.{picked}
 use Rattle.aa_explain_rules.specs.Missing.{lacked, missing_rule, rule_for}
 use Rattle.aa_explain_rules.proofs.DecidingLemmas.{unapplied}
 use Rattle.aa_explain_rules.specs.Asked.{concerned, concerns}
-use Rattle.aa_explain_rules.specs.Leading.{leading_places, says, some_says}
+use Rattle.aa_explain_rules.specs.Leading.{highest_that, leading_places, says, some_says}
 use Rattle.aa_explain_rules.specs.Told.{is_near, lets_at, near, places_where, told, told_from, told_rule}
 use Rattle.aa_explain_rules.specs.code.Among.{among, passes_at, some_among, told_among, told_at}
 use Rattle.aa_explain_rules.specs.declared.told.ToldRule.{ToldRule}
@@ -220,18 +221,18 @@ module _ (letters : ℕ) (owned : Bool) (path : List ℕ) (rules : List Rule) wh
   pub some-among : (test : ExecRule → Bool) → some_among (says test false owned path) rules (concerned asked rules) ≡ some_says test owned path rules
   some-among test = some-from (says test false owned path) (concerns asked) (says-concerned test letters owned path) rules 0 rules (at-first rules)
 
-  pub dominating-among : (some_exact : Bool) → among (says (dominates some_exact) false owned path) rules (concerned asked rules) ≡ places_where (says (dominates some_exact) false owned path) 0 rules
-  dominating-among some_exact = among-from (says (dominates some_exact) false owned path) (concerns asked) (says-concerned (dominates some_exact) letters owned path) rules 0 rules (at-first rules)
+  pub dominating-among : (rank : Rank) → among (says (dominates rank) false owned path) rules (concerned asked rules) ≡ places_where (says (dominates rank) false owned path) 0 rules
+  dominating-among rank = among-from (says (dominates rank) false owned path) (concerns asked) (says-concerned (dominates rank) letters owned path) rules 0 rules (at-first rules)
 
   pub none-leads : some_among (says denies false owned path) rules (concerned asked rules) ≡ true → [] ≡ leading_places owned path rules
   none-leads e = let one : some_says denies owned path rules ≡ true = sym (some-among denies) ∙ e in rw one refl
 
   pub some-lead : some_among (says denies false owned path) rules (concerned asked rules) ≡ false
-      → among (says (dominates (some_among (says is_exact_lead false owned path) rules (concerned asked rules))) false owned path) rules (concerned asked rules) ≡ leading_places owned path rules
+      → among (says (dominates (highest_that (λ rank. some_among (says (dominates rank) false owned path) rules (concerned asked rules)))) false owned path) rules (concerned asked rules) ≡ leading_places owned path rules
   some-lead e =
       let none : some_says denies owned path rules ≡ false = sym (some-among denies) ∙ e in
-      dominating-among (some_among (says is_exact_lead false owned path) rules (concerned asked rules))
-      ∙ ap (λ some_exact. places_where (says (dominates some_exact) false owned path) 0 rules) (some-among is_exact_lead)
+      dominating-among (highest_that (λ rank. some_among (says (dominates rank) false owned path) rules (concerned asked rules)))
+      ∙ ap (λ rank. places_where (says (dominates rank) false owned path) 0 rules) (λ i. highest_that (λ rank. some-among (dominates rank) i))
       ∙ rw none refl
 
 -- rules that don't concern a request cover nothing of it

@@ -6,7 +6,7 @@ use Rattle.std.proofs.lemmas.Nat.Bits.{bit_at-zero, bit_at_or, same_from_bits}
 use Rattle.aa_profile_access.specs.Access.{union}
 use Rattle.aa_profile_access.specs.Request.{Request}
 use Rattle.aa_profile_data.specs.Picked.{picked}
-use Rattle.aa_profile_data.specs.declared.profile.Mode.{Mode}
+use Rattle.aa_decide_rules.specs.declared.verdict.Mediation.{Mediation}
 use Rattle.aa_profile_data.specs.declared.profile.Rule.{Rule}
 use Rattle.aa_decide_rules.specs.Verdict.{allowed, allows, allows_aloud, applies, audited, covers, denied, denies, denies_aloud, granted, loud, mask, missing, verdict, with_covered, with_rule}
 use Rattle.aa_explain_rules.specs.Laws.{but, is_told_to_allow, is_told_to_deny, places_of}
@@ -41,20 +41,20 @@ applying-cover request test set (rule ∷ rules) = by (applies request rule) ref
         ap (with_covered request test set) gone ∙ rest set ∙ ap (λ set. with_covered request test set rules) (sym (unapplied request test set rule e))
 
 -- the verdict by masks alone
-module _ (mode : Mode) (flag : Bool) (request : Request) (rules others : List Rule) (same : (test : Rule → Bool) → mask request test rules ≡ mask request test others) where
+module _ (mediation : Mediation) (flag : Bool) (request : Request) (rules others : List Rule) (same : (test : Rule → Bool) → mask request test rules ≡ mask request test others) where
   same-missing : missing request rules ≡ missing request others
   same-missing = rw (missing, allowed, granted, denied, same allows, same denies) refl
 
-  same-verdict : verdict mode flag rules request ≡ verdict mode flag others request
+  same-verdict : verdict mediation flag rules request ≡ verdict mediation flag others request
   same-verdict = rw (verdict, same-missing, loud, audited, denied, same denies, same (denies_aloud flag), same (allows_aloud flag)) refl
 
 -- the rules that are told decide alone
-pub told-decide : (mode : Mode) (flag : Bool) (request : Request) (rules : List Rule)
-    → verdict mode flag (picked rules (places_of (told flag request rules))) request ≡ verdict mode flag rules request
-told-decide mode flag request rules =
-    ap (λ places. verdict mode flag (picked rules places) request) (told-places flag request 0 rules)
-    ∙ ap (λ rules. verdict mode flag rules request) (pick (applies request) rules)
-    ∙ same-verdict mode flag request (filter (applies request) rules) rules (λ test. applying-cover request test 0 rules)
+pub told-decide : (mediation : Mediation) (flag : Bool) (request : Request) (rules : List Rule)
+    → verdict mediation flag (picked rules (places_of (told flag request rules))) request ≡ verdict mediation flag rules request
+told-decide mediation flag request rules =
+    ap (λ places. verdict mediation flag (picked rules places) request) (told-places flag request 0 rules)
+    ∙ ap (λ rules. verdict mediation flag rules request) (pick (applies request) rules)
+    ∙ same-verdict mediation flag request (filter (applies request) rules) rules (λ test. applying-cover request test 0 rules)
 
 -- without the rules that apply and pass a test, those that pass it cover nothing
 none-left : (request : Request) (test : Rule → Bool) (rules : List Rule) → mask request test (but (λ rule. applies request rule && test rule) rules) ≡ 0

@@ -7,12 +7,12 @@ use Rattle.std.proofs.lemmas.Bool.Decides.{nat_tests}
 use Rattle.std.proofs.lemmas.Nat.Bits.{bit_at-zero, bit_at_or, same_from_bits}
 use Rattle.aa_profile_access.specs.Access.{union}
 use Rattle.aa_profile_access.specs.Request.{Request}
-use Rattle.aa_profile_data.specs.declared.profile.Mode.{Mode}
-use Rattle.aa_profile_data.specs.declared.profile.Mode.TheVariants.{Complain, Enforce}
+use Rattle.aa_decide_rules.specs.declared.verdict.Mediation.{Mediation}
+use Rattle.aa_decide_rules.specs.declared.verdict.Mediation.TheVariants.{Complaining, Enforcing}
 use Rattle.aa_profile_data.specs.declared.profile.Rule.{Rule}
 use Rattle.aa_decide_rules.specs.Verdict.{allows_aloud, applies, audited, covers, denied, denies, denies_aloud, is_audited, logged, loud, mask, missing, verdict, when_missing, with_covered, with_rule}
 use Rattle.aa_decide_audit.specs.declared.verdict.Answer.{Answer}
-use Rattle.aa_decide_audit.specs.declared.verdict.Answer.TheVariants.{Allow, Deny, Refuse, Complain as Complained}
+use Rattle.aa_decide_audit.specs.declared.verdict.Answer.TheVariants.{Allow, Complain, Deny, Refuse}
 use Rattle.aa_decide_audit.specs.declared.verdict.Tag.{Tag}
 use Rattle.aa_decide_audit.specs.declared.verdict.Tag.TheVariants.{Allowed, Audit, Denied}
 use Rattle.aa_explain_rules.specs.Logged.{does_something, is_denied, is_logged, some_is_logged}
@@ -129,9 +129,9 @@ module _ (flag : Bool) (request : Request) (rules : List Rule) where
       by true e = rw e refl
       by false e = rw e refl
 
-  tagged-missing : (mode : Mode) (mask : ℕ) → is_some (when_missing mode mask).tag ≡ not (mask == 0)
-  tagged-missing Enforce mask = tagged Refuse Denied mask
-  tagged-missing Complain mask = tagged Complained Allowed mask
+  tagged-missing : (mediation : Mediation) (mask : ℕ) → is_some (when_missing mediation mask).tag ≡ not (mask == 0)
+  tagged-missing Enforcing mask = tagged Refuse Denied mask
+  tagged-missing Complaining mask = tagged Complain Allowed mask
 
   logged-as : (b : Bool) → is_denied all ≡ b → some_is_logged all ≡ list_any (is_logged b) all
   logged-as b e = ap (λ b. list_any (is_logged b) all) e
@@ -142,24 +142,24 @@ module _ (flag : Bool) (request : Request) (rules : List Rule) where
   turned-over false true = refl
   turned-over false false = refl
 
-  pub is-logged : (mode : Mode) → is_some (verdict mode flag rules request).tag ≡ (not (missing request rules == 0) || some_is_logged all)
-  is-logged mode = by (denied request rules == 0) refl (missing request rules == 0) refl
+  pub is-logged : (mediation : Mediation) → is_some (verdict mediation flag rules request).tag ≡ (not (missing request rules == 0) || some_is_logged all)
+  is-logged mediation = by (denied request rules == 0) refl (missing request rules == 0) refl
     where
       by : (d : Bool) → (denied request rules == 0) ≡ d → (m : Bool) → (missing request rules == 0) ≡ m
-          → is_some (verdict mode flag rules request).tag ≡ (not (missing request rules == 0) || some_is_logged all)
+          → is_some (verdict mediation flag rules request).tag ≡ (not (missing request rules == 0) || some_is_logged all)
       by true e true f =
-          let is : verdict mode flag rules request ≡ logged Allow Audit (audited flag request rules) = rw (verdict, e, f) refl in
+          let is : verdict mediation flag rules request ≡ logged Allow Audit (audited flag request rules) = rw (verdict, e, f) refl in
           ap (λ v. is_some v.tag) is
           ∙ tagged Allow Audit (audited flag request rules)
           ∙ sym (ap (λ m. not m || some_is_logged all) f ∙ logged-as false (some-denies ∙ ap not e) ∙ some-audited)
       by true e false f =
-          let is : verdict mode flag rules request ≡ when_missing mode (missing request rules) = rw (verdict, e, f) refl in
+          let is : verdict mediation flag rules request ≡ when_missing mediation (missing request rules) = rw (verdict, e, f) refl in
           ap (λ v. is_some v.tag) is
-          ∙ tagged-missing mode (missing request rules)
+          ∙ tagged-missing mediation (missing request rules)
           ∙ ap not f
           ∙ sym (ap (λ m. not m || some_is_logged all) f)
       by false e m f =
-          let is : verdict mode flag rules request ≡ logged Deny Denied (union (loud flag request rules) (missing request rules)) = rw (verdict, e) refl in
+          let is : verdict mediation flag rules request ≡ logged Deny Denied (union (loud flag request rules) (missing request rules)) = rw (verdict, e) refl in
           ap (λ v. is_some v.tag) is
           ∙ tagged Deny Denied (union (loud flag request rules) (missing request rules))
           ∙ ap not (union-is-empty (loud flag request rules) (missing request rules))

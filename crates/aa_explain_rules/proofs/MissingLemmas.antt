@@ -1,6 +1,6 @@
 -- A request is allowed with the rule that it lacks.
 use Rattle.std.proofs.Common.{◌≡◌, ◌≢◌, ◌∙◌, ℕ, zero, suc, ◌-◌, ◌^◌, ◌<◌, ◌≤◌, Bool, true, false, List, [], ◌∷◌, ◌++◌, None, Some, Result, Ok, Err, IsTrue, ◌↔◌, refl, sym, ap, arith, inl, inr, min, w8}
-use Rattle.std.specs.Prelude.{bit_and, ◌&&◌, ◌==◌, nat_le, nat_lt, if◌then◌else◌, is_some, length}
+use Rattle.std.specs.Prelude.{bit_and, ◌&&◌, ◌==◌, nat_le, nat_lt, if◌then◌else◌, is_ok, is_some, length}
 use Rattle.std.specs.Int.{bit_at}
 use Rattle.std.specs.Int.Bits.{or_zero_l}
 use Rattle.std.proofs.lemmas.Bool.{cases_lt, false≢true}
@@ -16,7 +16,7 @@ use Rattle.aa_glob_syntax.specs.declared.pattern_error.PatternError.{PatternErro
 use Rattle.aa_glob_syntax.specs.declared.pattern_error.PatternError.TheVariants.{NotAbsolute, TooLong, ZeroByte}
 use Rattle.aa_profile_access.specs.Access.{EXEC, common, covered, union, without}
 use Rattle.aa_profile_access.specs.Request.{ForCapability, ForFile, ForSockets, Request}
-use Rattle.aa_profile_data.specs.declared.profile.Mode.{Mode}
+use Rattle.aa_decide_rules.specs.declared.verdict.Mediation.{Mediation}
 use Rattle.aa_profile_data.specs.declared.profile.Rule.{Rule}
 use Rattle.aa_profile_data.specs.declared.profile.Rule.TheVariants.{Cap, File, Net}
 use Rattle.aa_profile_tables.specs.Kinds.{is_protocol, type_of}
@@ -92,8 +92,8 @@ module _ (request : Request) (rules : List Rule) (rule : Rule) (lets : denies ru
       ∙ ap (lacking (needs request)) granted-then
       ∙ filled (needs request) (granted request rules) (covered_by rule) (λ i. let most = all i in let same : bit_at (missing request rules) i ≡ bit_at (lacking (needs request) (granted request rules)) i = ap (λ n. bit_at n i) missing-before in omega arith)
 
-  allowed-then : (mode : Mode) (flag : Bool) → (verdict mode flag (rules ++ rule ∷ []) request).answer ≡ Allow
-  allowed-then mode flag =
+  allowed-then : (mediation : Mediation) (flag : Bool) → (verdict mediation flag (rules ++ rule ∷ []) request).answer ≡ Allow
+  allowed-then mediation flag =
       let none : (denied request (rules ++ rule ∷ []) == 0) ≡ true = ap (λ n. n == 0) none-denied-then in
       let few : (missing request (rules ++ rule ∷ []) == 0) ≡ true = ap (λ n. n == 0) none-missing-then in
       rw (verdict, none, few) refl
@@ -158,7 +158,7 @@ made request rules rule h = by (denied request rules == 0) refl (lacked request 
         (none, ap (rule_for request) (sym same) ∙ own)
 
 -- a text that reads as a pattern has none of the faults that are told first
-pub reads-fine : (text : List ℕ) (items : Pattern) → reading text ≡ Ok items → HasNoFirstFault text
+reads-fine : (text : List ℕ) (items : Pattern) → reading text ≡ Ok items → HasNoFirstFault text
 reads-fine text items reads = by (nat_le (length text) longest) refl (has_zero text) refl (begins_with_slash text) refl reads
   where
     by : (l : Bool) → nat_le (length text) longest ≡ l → (z : Bool) → has_zero text ≡ z → (s : Bool) → begins_with_slash text ≡ s → reading text ≡ Ok items → HasNoFirstFault text
@@ -166,6 +166,21 @@ reads-fine text items reads = by (nat_le (length text) longest) refl (has_zero t
     by true l true hold s slash reads = let wrong : Err ZeroByte ≡ Ok items = rw (reading, l, hold) at reads in absurd (cc)
     by true l false hold false slash reads = let wrong : Err NotAbsolute ≡ Ok items = rw (reading, l, hold, slash) at reads in absurd (cc)
     by true l false hold true slash reads = let few : length text ≤ longest = grind (arith, nat_tests) in (few, hold, slash)
+
+-- the rule that some needs of a file make, and that its path can be written as a pattern
+pub file-made : (letters : ℕ) (owned : Bool) (path : List ℕ) (needs : ℕ) (rule : Rule) → rule_for (ForFile letters owned path) needs ≡ Some rule
+    → (rule ≡ File (file_rule_for owned path needs)) × HasNoFirstFault (quoted path)
+file-made letters owned path needs rule h = by (reading (quoted path)) refl
+  where
+    own : Rule
+    own = File (file_rule_for owned path needs)
+
+    by : (r : Result Pattern PatternError) → reading (quoted path) ≡ r → (rule ≡ own) × HasNoFirstFault (quoted path)
+    by (Err error) e = let wrong : None ≡ Some rule = sym (ap (λ r. if is_ok r then Some own else None) e) ∙ h in absurd (cc)
+    by (Ok items) e =
+        let same : Some own ≡ Some rule = sym (ap (λ r. if is_ok r then Some own else None) e) ∙ h in
+        let is : own ≡ rule = cc in
+        (sym is, reads-fine (quoted path) items e)
 
 abbrev pub ReadsAsItself : Type 0
 ReadsAsItself = (text : List ℕ) → HasNoFirstFault (quoted text) → reading (quoted text) ≡ Ok (bytes_pattern text)
@@ -200,27 +215,19 @@ net-applies domain kind type =
     rw (type_of, first, second, third, same, here, type) refl
 
 -- with the rule that it lacks, a request is allowed
-pub lets : MatchesItself → (mode : Mode) (flag : Bool) (request : Request) (rules : List Rule) (rule : Rule) → missing_rule request rules ≡ Some rule
-    → (verdict mode flag (rules ++ rule ∷ []) request).answer ≡ Allow
-lets matched mode flag request rules rule h = let own = made request rules rule h in by request rules own.0 own.1
+pub lets : MatchesItself → (mediation : Mediation) (flag : Bool) (request : Request) (rules : List Rule) (rule : Rule) → missing_rule request rules ≡ Some rule
+    → (verdict mediation flag (rules ++ rule ∷ []) request).answer ≡ Allow
+lets matched mediation flag request rules rule h = let own = made request rules rule h in by request rules own.0 own.1
   where
-    by : (request : Request) (rules : List Rule) → denied request rules ≡ 0 → rule_for request (missing request rules) ≡ Some rule → (verdict mode flag (rules ++ rule ∷ []) request).answer ≡ Allow
-    by (ForFile letters owned path) rules none h = of (reading (quoted path)) refl h
+    by : (request : Request) (rules : List Rule) → denied request rules ≡ 0 → rule_for request (missing request rules) ≡ Some rule → (verdict mediation flag (rules ++ rule ∷ []) request).answer ≡ Allow
+    by (ForFile letters owned path) rules none h =
+        let (is, fine) = file-made letters owned path (missing asked rules) rule h in
+        ap (λ rule. (verdict mediation flag (rules ++ rule ∷ []) asked).answer) is
+        ∙ allowed-then asked rules (File (file_rule_for owned path (missing asked rules))) refl (file-applies matched letters owned path (missing asked rules) fine) none
+        (λ i. covers-for (missing asked rules) i (missing-small asked rules)) mediation flag
       where
         asked : Request
         asked = ForFile letters owned path
-
-        own : Rule
-        own = File (file_rule_for owned path (missing asked rules))
-
-        of : (r : Result Pattern PatternError) → reading (quoted path) ≡ r → rule_for asked (missing asked rules) ≡ Some rule → (verdict mode flag (rules ++ rule ∷ []) asked).answer ≡ Allow
-        of (Err error) e h = let wrong : None ≡ Some rule = rw e at h in absurd (cc)
-        of (Ok items) e h =
-            let same : Some own ≡ Some rule = rw e at h in
-            let is : own ≡ rule = cc in
-            ap (λ rule. (verdict mode flag (rules ++ rule ∷ []) asked).answer) (sym is)
-            ∙ allowed-then asked rules own refl (file-applies matched letters owned path (missing asked rules) (reads-fine (quoted path) items e)) none
-            (λ i. covers-for (missing asked rules) i (missing-small asked rules)) mode flag
     by (ForCapability number) rules none h = of (nat_lt number 64) refl h
       where
         asked : Request
@@ -229,13 +236,13 @@ lets matched mode flag request rules rule h = let own = made request rules rule 
         own : Rule
         own = Cap (cap_rule_for number)
 
-        of : (b : Bool) → nat_lt number 64 ≡ b → rule_for asked (missing asked rules) ≡ Some rule → (verdict mode flag (rules ++ rule ∷ []) asked).answer ≡ Allow
+        of : (b : Bool) → nat_lt number 64 ≡ b → rule_for asked (missing asked rules) ≡ Some rule → (verdict mediation flag (rules ++ rule ∷ []) asked).answer ≡ Allow
         of false e h = let wrong : None ≡ Some rule = rw e at h in absurd (cc)
         of true e h =
             let same : Some own ≡ Some rule = rw e at h in
             let is : own ≡ rule = cc in
-            ap (λ rule. (verdict mode flag (rules ++ rule ∷ []) asked).answer) (sym is)
-            ∙ allowed-then asked rules own refl (cap-applies number) none (missing-needed asked rules) mode flag
+            ap (λ rule. (verdict mediation flag (rules ++ rule ∷ []) asked).answer) (sym is)
+            ∙ allowed-then asked rules own refl (cap-applies number) none (missing-needed asked rules) mediation flag
     by (ForSockets domain kind) rules none h = of (is_protocol kind) refl h
       where
         asked : Request
@@ -244,13 +251,13 @@ lets matched mode flag request rules rule h = let own = made request rules rule 
         own : Rule
         own = Net (net_rule_for domain kind)
 
-        of : (b : Bool) → is_protocol kind ≡ b → rule_for asked (missing asked rules) ≡ Some rule → (verdict mode flag (rules ++ rule ∷ []) asked).answer ≡ Allow
+        of : (b : Bool) → is_protocol kind ≡ b → rule_for asked (missing asked rules) ≡ Some rule → (verdict mediation flag (rules ++ rule ∷ []) asked).answer ≡ Allow
         of true e h = let wrong : None ≡ Some rule = rw e at h in absurd (cc)
         of false e h =
             let same : Some own ≡ Some rule = rw e at h in
             let is : own ≡ rule = cc in
-            ap (λ rule. (verdict mode flag (rules ++ rule ∷ []) asked).answer) (sym is)
-            ∙ allowed-then asked rules own refl (net-applies domain kind e) none (missing-needed asked rules) mode flag
+            ap (λ rule. (verdict mediation flag (rules ++ rule ∷ []) asked).answer) (sym is)
+            ∙ allowed-then asked rules own refl (net-applies domain kind e) none (missing-needed asked rules) mediation flag
 
 -- where something is lacked that a rule can be written for, that is missing
 there : (request : Request) (rules : List Rule) (rule : Rule) → lacked request rules ≢ 0 → rule_for request (lacked request rules) ≡ Some rule → missing_rule request rules ≡ Some rule

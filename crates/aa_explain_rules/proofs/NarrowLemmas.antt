@@ -1,39 +1,35 @@
 -- Nothing less than all that a request lacks lets it.
-use Rattle.std.proofs.Common.{◌≡◌, ◌≢◌, ◌∙◌, ℕ, zero, suc, ◌<◌, ◌≤◌, Bool, true, false, not, ◌||◌, List, [], ◌∷◌, ◌++◌, None, Some, Result, Ok, Err, refl, sym, ap, arith, inl, inr}
+use Rattle.std.proofs.Common.{◌≡◌, ◌≢◌, ◌∙◌, ℕ, zero, suc, ◌<◌, ◌≤◌, Bool, true, false, not, ◌||◌, List, [], ◌∷◌, ◌++◌, None, Some, refl, sym, ap, arith, inl, inr}
 use Rattle.std.specs.Prelude.{◌&&◌, ◌==◌, if◌then◌else◌, is_some}
 use Rattle.std.specs.Int.{bit_at}
 use Rattle.std.proofs.lemmas.Bool.{cases_lt, false≢true}
 use Rattle.std.proofs.lemmas.Bool.Decides.{nat_tests}
 use Rattle.std.proofs.lemmas.Nat.Bits.{bit_at-zero, bit_at_and, bit_at_or, same_from_bits}
-use Rattle.aa_glob_syntax.specs.Items.{Pattern}
-use Rattle.aa_glob_syntax.specs.Reading.{reading}
-use Rattle.aa_glob_syntax.specs.declared.pattern_error.PatternError.{PatternError}
-use Rattle.aa_glob.specs.Laws.{quoted}
 use Rattle.aa_profile_access.specs.Access.{EXEC, bit_in, common, covered, exec_letter, has, letters as all_of_letters, told_bit, union, without}
 use Rattle.aa_profile_access.specs.Request.{ForFile, Request}
 use Rattle.aa_profile_data.specs.declared.profile.FileRule.{FileRule}
-use Rattle.aa_profile_data.specs.declared.profile.Mode.{Mode}
-use Rattle.aa_profile_data.specs.declared.profile.Mode.TheVariants.{Complain, Enforce}
+use Rattle.aa_decide_rules.specs.declared.verdict.Mediation.{Mediation}
+use Rattle.aa_decide_rules.specs.declared.verdict.Mediation.TheVariants.{Complaining, Enforcing}
 use Rattle.aa_profile_data.specs.declared.profile.Rule.{Rule}
 use Rattle.aa_profile_data.specs.declared.profile.Rule.TheVariants.{File}
 use Rattle.aa_decide_audit.specs.declared.verdict.Answer.TheVariants.{Allow}
 use Rattle.aa_decide_rules.specs.Verdict.{allows, applies, covered_by_file, covers, denied, denies, granted, missing, needs, verdict, with_rule}
 use Rattle.aa_explain_rules.specs.Missing.{file_rule_for, lacked, letters_for, missing_rule, rule_for, transition_for}
 use Rattle.aa_explain_rules.specs.Narrower.{but_letter, has_letter}
-use Rattle.aa_explain_rules.proofs.MissingLemmas.{lacking, lacking-high, lacking-low, made, mask-behind, missing-small}
+use Rattle.aa_explain_rules.proofs.MissingLemmas.{file-made, lacking, lacking-high, lacking-low, made, mask-behind, missing-small}
 
 -- what is allowed lacks nothing, and nothing of it is denied
 abbrev pub IsWhole : Request → List Rule → Type 0
 IsWhole request rules = (denied request rules ≡ 0) × (missing request rules ≡ 0)
 
-pub allowed-whole : (mode : Mode) (flag : Bool) (request : Request) (rules : List Rule) → (verdict mode flag rules request).answer ≡ Allow → IsWhole request rules
-allowed-whole mode flag request rules h = by (denied request rules == 0) refl (missing request rules == 0) refl mode h
+pub allowed-whole : (mediation : Mediation) (flag : Bool) (request : Request) (rules : List Rule) → (verdict mediation flag rules request).answer ≡ Allow → IsWhole request rules
+allowed-whole mediation flag request rules h = by (denied request rules == 0) refl (missing request rules == 0) refl mediation h
   where
-    by : (d : Bool) → (denied request rules == 0) ≡ d → (m : Bool) → (missing request rules == 0) ≡ m → (mode : Mode) → (verdict mode flag rules request).answer ≡ Allow → IsWhole request rules
-    by true e true f mode h = let none : denied request rules ≡ 0 = grind (arith, nat_tests) in let few : missing request rules ≡ 0 = grind (arith, nat_tests) in (none, few)
-    by true e false f Enforce h = let wrong = rw (verdict, e, f) at h in absurd (cc)
-    by true e false f Complain h = let wrong = rw (verdict, e, f) at h in absurd (cc)
-    by false e m f mode h = let wrong = rw (verdict, e) at h in absurd (cc)
+    by : (d : Bool) → (denied request rules == 0) ≡ d → (m : Bool) → (missing request rules == 0) ≡ m → (mediation : Mediation) → (verdict mediation flag rules request).answer ≡ Allow → IsWhole request rules
+    by true e true f mediation h = let none : denied request rules ≡ 0 = grind (arith, nat_tests) in let few : missing request rules ≡ 0 = grind (arith, nat_tests) in (none, few)
+    by true e false f Enforcing h = let wrong = rw (verdict, e, f) at h in absurd (cc)
+    by true e false f Complaining h = let wrong = rw (verdict, e, f) at h in absurd (cc)
+    by false e m f mediation h = let wrong = rw (verdict, e) at h in absurd (cc)
 
 -- what a request lacks is something that is missing, where a rule is made for it
 pub lacks-something : (request : Request) (rules : List Rule) (rule : Rule) → missing_rule request rules ≡ Some rule → lacked request rules ≢ 0
@@ -46,9 +42,9 @@ pub lacked-missing : (request : Request) (rules : List Rule) → denied request 
 lacked-missing request rules none = let e : (denied request rules == 0) ≡ true = ap (λ n. n == 0) none in rw (lacked, e) refl
 
 -- as the rules are, the request isn't allowed
-pub not-allowed-now : (mode : Mode) (flag : Bool) (request : Request) (rules : List Rule) (rule : Rule) → missing_rule request rules ≡ Some rule → (verdict mode flag rules request).answer ≢ Allow
-not-allowed-now mode flag request rules rule h allowed =
-    let whole = allowed-whole mode flag request rules allowed in
+pub not-allowed-now : (mediation : Mediation) (flag : Bool) (request : Request) (rules : List Rule) (rule : Rule) → missing_rule request rules ≡ Some rule → (verdict mediation flag rules request).answer ≢ Allow
+not-allowed-now mediation flag request rules rule h allowed =
+    let whole = allowed-whole mediation flag request rules allowed in
     lacks-something request rules rule h (lacked-missing request rules whole.0 ∙ whole.1)
 
 -- needs that are all there with some more are among these
@@ -72,12 +68,12 @@ common-none : (more : ℕ) → common 0 more ≡ 0
 common-none more = same_from_bits (common 0 more) 0 (λ i. let own = bit_at_and 0 more i in let zero = bit_at-zero i in omega arith)
 
 -- a rule with which a request is allowed covers all that it lacks
-pub covers-all : (mode : Mode) (flag : Bool) (request : Request) (rules : List Rule) (other : Rule) → (verdict mode flag (rules ++ other ∷ []) request).answer ≡ Allow
+pub covers-all : (mediation : Mediation) (flag : Bool) (request : Request) (rules : List Rule) (other : Rule) → (verdict mediation flag (rules ++ other ∷ []) request).answer ≡ Allow
     → common (lacked request rules) (covers request other) ≡ lacked request rules
-covers-all mode flag request rules other h = by (denied request rules == 0) refl (denies other) refl
+covers-all mediation flag request rules other h = by (denied request rules == 0) refl (denies other) refl
   where
     whole : IsWhole request (rules ++ other ∷ [])
-    whole = allowed-whole mode flag request (rules ++ other ∷ []) h
+    whole = allowed-whole mediation flag request (rules ++ other ∷ []) h
 
     then_missing : ℕ → ℕ → ℕ
     then_missing d g = without (needs request) (union d (without g d))
@@ -180,26 +176,22 @@ among-asked needs asked more same = same_from_bits (common needs more) needs (λ
     omega arith)
 
 -- without one of its letters the missing rule doesn't let the request
-pub narrower : (mode : Mode) (flag : Bool) (letters : ℕ) (owned : Bool) (path : List ℕ) (rules : List Rule) (rule : FileRule) (code letter : ℕ)
+pub narrower : (mediation : Mediation) (flag : Bool) (letters : ℕ) (owned : Bool) (path : List ℕ) (rules : List Rule) (rule : FileRule) (code letter : ℕ)
     → missing_rule (ForFile letters owned path) rules ≡ Some (File rule) → told_bit code ≡ Some letter → has_letter letter rule ≡ true
-    → (verdict mode flag (rules ++ File (but_letter letter rule) ∷ []) (ForFile letters owned path)).answer ≢ Allow
-narrower mode flag letters owned path rules rule code letter h told has allowed =
+    → (verdict mediation flag (rules ++ File (but_letter letter rule) ∷ []) (ForFile letters owned path)).answer ≢ Allow
+narrower mediation flag letters owned path rules rule code letter h told has allowed =
     let own = made asked rules (File rule) h in
     let is = made-file (missing asked rules) own.1 in
     let lacks : lacked asked rules ≡ missing asked rules = lacked-missing asked rules own.0 in
     let all : common (missing asked rules) (covers asked (File (but_letter letter rule))) ≡ missing asked rules =
-    ap (λ n. common n (covers asked (File (but_letter letter rule)))) (sym lacks) ∙ covers-all mode flag asked rules (File (but_letter letter rule)) allowed ∙ lacks in
+    ap (λ n. common n (covers asked (File (but_letter letter rule)))) (sym lacks) ∙ covers-all mediation flag asked rules (File (but_letter letter rule)) allowed ∙ lacks in
     ends (missing asked rules) is (λ none. lacks-something asked rules (File rule) h (lacks ∙ none)) (one-loses letter 256 (missing asked rules) (told-loses code letter told) (missing-small asked rules)) all
   where
     asked : Request
     asked = ForFile letters owned path
 
     made-file : (needs : ℕ) → rule_for asked needs ≡ Some (File rule) → rule ≡ file_rule_for owned path needs
-    made-file needs h = by (reading (quoted path)) refl h
-      where
-        by : (r : Result Pattern PatternError) → reading (quoted path) ≡ r → rule_for asked needs ≡ Some (File rule) → rule ≡ file_rule_for owned path needs
-        by (Err error) e h = let wrong : None ≡ Some (File rule) = rw e at h in absurd (cc)
-        by (Ok items) e h = let same : Some (File (file_rule_for owned path needs)) ≡ Some (File rule) = rw e at h in let is : File (file_rule_for owned path needs) ≡ File rule = cc in cc
+    made-file needs h = let is : File rule ≡ File (file_rule_for owned path needs) = (file-made letters owned path needs (File rule) h).0 in cc
 
     ends : (needs : ℕ) → rule ≡ file_rule_for owned path needs → needs ≢ 0 → loses letter needs ≡ true
         → common needs (covers asked (File (but_letter letter rule))) ≡ needs → ⊥

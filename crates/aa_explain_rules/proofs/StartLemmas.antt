@@ -1,5 +1,5 @@
 -- Where the rule leads that a request for the start of a program lacks.
-use Rattle.std.proofs.Common.{◌≡◌, ◌∙◌, ℕ, ◌-◌, ◌^◌, ◌≤◌, Bool, true, false, not, ◌||◌, List, [], ◌∷◌, ◌++◌, Option, None, Some, Result, Ok, Err, refl, sym, ap, arith}
+use Rattle.std.proofs.Common.{◌≡◌, ◌∙◌, ℕ, ◌-◌, ◌^◌, ◌≤◌, Bool, true, false, not, ◌||◌, List, [], ◌∷◌, ◌++◌, Option, None, Some, refl, sym, ap, arith}
 use Rattle.std.specs.Prelude.{bit_and, is_some}
 use Rattle.std.specs.Int.{bit_at}
 use Rattle.std.specs.List.{list_any}
@@ -7,22 +7,21 @@ use Rattle.std.proofs.lemmas.Bool.{false≢true}
 use Rattle.std.proofs.lemmas.Bool.Decides.{nat_tests}
 use Rattle.std.proofs.lemmas.Nat.Bits.{bit_at-zero, bit_at_and, bit_at_or}
 use Rattle.aa_glob.specs.Laws.{quoted}
-use Rattle.aa_glob_syntax.specs.Exactness.{is_exact}
-use Rattle.aa_glob_syntax.specs.Items.{Pattern}
-use Rattle.aa_glob_syntax.specs.Reading.{HasNoFirstFault, items_of, reading}
-use Rattle.aa_glob_syntax.specs.declared.pattern_error.PatternError.{PatternError}
+use Rattle.aa_glob_syntax.specs.Reading.{HasNoFirstFault}
 use Rattle.aa_profile_access.specs.Access.{APPEND, EXEC, WRITE, common, covered, has, union, without}
 use Rattle.aa_profile_access.specs.Request.{ForFile, Request}
 use Rattle.aa_profile_data.specs.declared.profile.FileRule.{FileRule}
+use Rattle.aa_profile_data.specs.declared.profile.Rank.{Rank}
+use Rattle.aa_profile_data.specs.declared.profile.Rank.TheVariants.{Last, Loose, Plain}
 use Rattle.aa_profile_data.specs.declared.profile.Rule.{Rule}
 use Rattle.aa_profile_data.specs.declared.profile.Rule.TheVariants.{Cap, File, Net, Other}
 use Rattle.aa_profile_data.specs.declared.profile.Transition.{Transition}
 use Rattle.aa_decide_exec_rules.specs.Choices.{Leads, Missing, choice, choice_of, leads_aloud}
 use Rattle.aa_decide_exec_rules.specs.ExecRules.{ExecRule, Leading, applies_to, covers_exec, exec_rules, said_by, said_of}
-use Rattle.aa_decide_rules.specs.Verdict.{allows, applies, covered_by_file, covers, denied, denies, granted, missing, needs, with_covered, with_rule}
-use Rattle.aa_explain_rules.specs.Missing.{file_rule_for, inherit, lacked, letters_for, missing_rule, rule_for, transition_for}
+use Rattle.aa_decide_rules.specs.Verdict.{allows, applies, covered_by_file, covers, denied, denies, granted, missing, with_covered, with_rule}
+use Rattle.aa_explain_rules.specs.Missing.{file_rule_for, inherit, lacked, letters_for, missing_rule, transition_for}
 use Rattle.aa_explain_rules.specs.Narrower.{but_letter}
-use Rattle.aa_explain_rules.proofs.MissingLemmas.{MatchesItself, file-applies, lacking, lacking-low, made, reads-fine}
+use Rattle.aa_explain_rules.proofs.MissingLemmas.{MatchesItself, file-applies, file-made, lacking, lacking-low, made}
 use Rattle.aa_explain_rules.proofs.NarrowLemmas.{lacked-missing}
 
 -- the bit of `x`
@@ -136,9 +135,10 @@ exec-append flag owned path (rule ∷ rules) others =
     by None = refl
     by (Some said) = refl
 
-one-leads : (exact audited : Bool) → (logged : Bool) × (choice_of (Leading inherit exact audited ∷ []) ≡ Leads inherit logged)
-one-leads true audited = (list_any (leads_aloud true) (Leading inherit true audited ∷ []), refl)
-one-leads false audited = (list_any (leads_aloud false) (Leading inherit false audited ∷ []), refl)
+one-leads : (rank : Rank) (audited : Bool) → (logged : Bool) × (choice_of (Leading inherit rank audited ∷ []) ≡ Leads inherit logged)
+one-leads Last audited = (list_any (leads_aloud Last) (Leading inherit Last audited ∷ []), refl)
+one-leads Loose audited = (list_any (leads_aloud Loose) (Leading inherit Loose audited ∷ []), refl)
+one-leads Plain audited = (list_any (leads_aloud Plain) (Leading inherit Plain audited ∷ []), refl)
 
 -- What a request lacks has `x`: then it asks for it, and no rule covers it.
 module _ (letters : ℕ) (owned : Bool) (path : List ℕ) (rules : List Rule) (none : denied (ForFile letters owned path) rules ≡ 0) (lacks : has (missing (ForFile letters owned path) rules) EXEC ≡ true) where
@@ -165,10 +165,10 @@ module _ (letters : ℕ) (owned : Bool) (path : List ℕ) (rules : List Rule) (n
       let own = file_rule_for owned path (missing start rules) in
       let there : applies_to owned path own ≡ true = file-applies matched letters owned path (missing start rules) fine in
       let word : own.exec ≡ Some inherit = rw (transition_for, lacks) refl in
-      let said : said_of flag owned path (File own) ≡ Some (Leading inherit (is_exact (items_of own.pattern)) (flag || false)) = rw (said_of, there, said_by, word) refl in
-      let list : exec_rules flag owned path (File own ∷ []) ≡ Leading inherit (is_exact (items_of own.pattern)) (flag || false) ∷ [] =
+      let said : said_of flag owned path (File own) ≡ Some (Leading inherit own.rank (flag || false)) = rw (said_of, there, said_by, word) refl in
+      let list : exec_rules flag owned path (File own ∷ []) ≡ Leading inherit own.rank (flag || false) ∷ [] =
       ap (λ said. elim said [ None ↦ [] | Some said ↦ said ∷ [] ]) said in
-      let (logged, is) = one-leads (is_exact (items_of own.pattern)) (flag || false) in
+      let (logged, is) = one-leads own.rank (flag || false) in
       (logged, ap choice_of (behind flag (File own) ∙ list) ∙ is)
 
   pub missing-behind : (flag : Bool) → has (without (letters_for (missing start rules)) EXEC) EXEC ≡ false
@@ -184,13 +184,6 @@ module _ (letters : ℕ) (owned : Bool) (path : List ℕ) (rules : List Rule) wh
   abbrev question : Request
   question = ForFile letters owned path
 
-  pub made-fine : (needs : ℕ) (rule : Rule) → rule_for question needs ≡ Some rule → (rule ≡ File (file_rule_for owned path needs)) × HasNoFirstFault (quoted path)
-  made-fine needs rule h = by (reading (quoted path)) refl h
-    where
-      by : (r : Result Pattern PatternError) → reading (quoted path) ≡ r → rule_for question needs ≡ Some rule → (rule ≡ File (file_rule_for owned path needs)) × HasNoFirstFault (quoted path)
-      by (Err error) e h = let wrong : None ≡ Some rule = rw e at h in absurd (cc)
-      by (Ok items) e h = let same : Some (File (file_rule_for owned path needs)) ≡ Some rule = rw e at h in let is : File (file_rule_for owned path needs) ≡ rule = cc in (sym is, reads-fine (quoted path) items e)
-
   lacks-exec : denied question rules ≡ 0 → has (lacked question rules) EXEC ≡ true → has (missing question rules) EXEC ≡ true
   lacks-exec none h = ap (λ n. has n EXEC) (sym (lacked-missing question rules none)) ∙ h
 
@@ -198,7 +191,7 @@ module _ (letters : ℕ) (owned : Bool) (path : List ℕ) (rules : List Rule) wh
       → (flag : Bool) → (logged : Bool) × (choice flag owned path (rules ++ rule ∷ []) ≡ Leads inherit logged)
   missing-leads matched rule h lacks flag =
       let own = made question rules rule h in
-      let (is, fine) = made-fine (missing question rules) rule own.1 in
+      let (is, fine) = file-made letters owned path (missing question rules) rule own.1 in
       let (logged, leads) = leads-behind letters owned path rules own.0 (lacks-exec own.0 lacks) matched fine flag in
       (logged, ap (λ rule. choice flag owned path (rules ++ rule ∷ [])) is ∙ leads)
 
@@ -207,7 +200,7 @@ module _ (letters : ℕ) (owned : Bool) (path : List ℕ) (rules : List Rule) wh
   missing-leads-not rule h lacks flag =
       let own = made question rules (File rule) h in
       let needs = missing question rules in
-      let made_for : File rule ≡ File (file_rule_for owned path needs) = (made-fine needs (File rule) own.1).0 in
+      let made_for : File rule ≡ File (file_rule_for owned path needs) = (file-made letters owned path needs (File rule) own.1).0 in
       let is : rule ≡ file_rule_for owned path needs = cc in
       let gone : bit_at (2 ^ 8 - 1 - EXEC) 6 ≡ 0 = refl in
       let both = bit_at_and (letters_for needs) (2 ^ 8 - 1 - EXEC) 6 in

@@ -1,8 +1,10 @@
 -- Which rules decide where a program runs that is started (docs/policy.md, "The start of a program").
 use Rattle.std.specs.Prelude.{ℕ, Bool, false, if◌then◌else◌, List, [], ◌∷◌, Option, None, Some, slice_get}
 use Rattle.std.specs.List.{list_any}
-use Rattle.aa_decide_exec_rules.specs.Choices.{Choice, Denied, Leads, Missing, denies, dominates, is_exact_lead}
+use Rattle.aa_decide_exec_rules.specs.Choices.{Choice, Denied, Leads, Missing, denies, dominates}
 use Rattle.aa_decide_exec_rules.specs.ExecRules.{ExecRule, said_of}
+use Rattle.aa_profile_data.specs.declared.profile.Rank.{Rank}
+use Rattle.aa_profile_data.specs.declared.profile.Rank.TheVariants.{Last, Loose, Plain}
 use Rattle.aa_profile_data.specs.declared.profile.Rule.{Rule}
 use Rattle.aa_profile_data.specs.declared.profile.Rule.TheVariants.{File}
 use Rattle.aa_profile_data.specs.declared.profile.Transition.{Transition}
@@ -16,12 +18,16 @@ says test flag owned path rule = elim (said_of flag owned path rule) [ None ↦ 
 abbrev pub some_says : (ExecRule → Bool) → Bool → List ℕ → List Rule → Bool
 some_says test owned path rules = list_any (says test false owned path) rules
 
--- The places of the rules that decide where the program runs: of those that dominate, in their order. Where a rule denies, there are none.
+-- the highest rank that passes a test, and the last where no higher one does
+abbrev pub highest_that : (Rank → Bool) → Rank
+highest_that test = if test Plain then Plain else if test Loose then Loose else Last
+
+-- The places of the rules that decide where the program runs: of those that lead with the highest rank, in their order. Where a rule denies, there are none.
 abbrev pub leading_places : Bool → List ℕ → List Rule → List ℕ
 leading_places owned path rules =
     if some_says denies owned path rules
     then []
-    else places_where (says (dominates (some_says is_exact_lead owned path rules)) false owned path) 0 rules
+    else places_where (says (dominates (highest_that (λ rank. some_says (dominates rank) owned path rules))) false owned path) 0 rules
 
 -- the transition of a rule, if it has one
 abbrev pub transition_of : Rule → Option Transition

@@ -1,13 +1,16 @@
 -- The rule that a request lacks: the narrowest that lets what no rule allows of it.
-use Rattle.std.specs.Prelude.{ℕ, ◌^◌, Bool, false, ◌==◌, nat_lt, if◌then◌else◌, List, Option, None, Some, is_ok}
+use Rattle.std.specs.Prelude.{ℕ, ◌^◌, Bool, false, ◌&&◌, ◌==◌, nat_lt, if◌then◌else◌, List, Option, None, Some, is_ok}
 use Rattle.aa_glob.specs.Laws.{quoted}
-use Rattle.aa_glob_syntax.specs.Reading.{reading}
+use Rattle.aa_glob_syntax.specs.Exactness.{is_exact}
+use Rattle.aa_glob_syntax.specs.Reading.{items_of, reading}
 use Rattle.aa_profile_access.specs.Access.{APPEND, EXEC, WRITE, has, without}
 use Rattle.aa_profile_access.specs.Request.{ForCapability, ForFile, ForSockets, Request}
 use Rattle.aa_profile_access.specs.declared.exec_word.ExecWord.TheVariants.{Inherit}
 use Rattle.aa_profile_data.specs.declared.profile.CapRule.{CapRule}
 use Rattle.aa_profile_data.specs.declared.profile.FileRule.{FileRule}
 use Rattle.aa_profile_data.specs.declared.profile.NetRule.{NetRule}
+use Rattle.aa_profile_data.specs.declared.profile.Rank.{Rank}
+use Rattle.aa_profile_data.specs.declared.profile.Rank.TheVariants.{Loose, Plain}
 use Rattle.aa_profile_data.specs.declared.profile.Rule.{Rule}
 use Rattle.aa_profile_data.specs.declared.profile.Rule.TheVariants.{Cap, File, Net}
 use Rattle.aa_profile_data.specs.declared.profile.Transition.{Transition}
@@ -26,12 +29,17 @@ inherit = record { word = Inherit; target = None }
 abbrev pub transition_for : ℕ → Option Transition
 transition_for needs = if has needs EXEC then Some inherit else None
 
+-- its rank: plain, where it has an exec word and its pattern is exact
+abbrev pub rank_for : List ℕ → ℕ → Rank
+rank_for pattern needs = if has needs EXEC && is_exact (items_of pattern) then Plain else Loose
+
 -- a rule that lets some needs of a file, whose path alone is its pattern: for the owner alone where the file is owned
 abbrev pub file_rule_for : Bool → List ℕ → ℕ → FileRule
 file_rule_for owned path needs = record {
   pattern = quoted path;
   access = record { 0 = letters_for needs };
   exec = transition_for needs;
+  rank = rank_for (quoted path) needs;
   link = None;
   owner = owned;
   deny = false;

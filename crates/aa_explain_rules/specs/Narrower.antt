@@ -13,6 +13,7 @@ but_letter letter rule = record {
   pattern = rule.pattern;
   access = record { 0 = without rule.access.0 letter };
   exec = if letter == EXEC then None else rule.exec;
+  rank = rule.rank;
   link = rule.link;
   owner = rule.owner;
   deny = rule.deny;

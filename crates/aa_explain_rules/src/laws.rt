@@ -10,14 +10,14 @@ ghost use Rattle.aa_profile_access.specs.Access.{EXEC, common, has, told_bit};
 ghost use Rattle.aa_profile_access.specs.Request.{ForCapability, ForFile, ForSockets, Request};
 ghost use Rattle.aa_profile_data.specs.Picked.{picked};
 ghost use Rattle.aa_profile_data.specs.declared.profile.FileRule.{FileRule};
-ghost use Rattle.aa_profile_data.specs.declared.profile.Mode.{Mode};
 ghost use Rattle.aa_profile_data.specs.declared.profile.Rule.{Rule};
 ghost use Rattle.aa_profile_data.specs.declared.profile.Rule.TheVariants.{File};
 ghost use Rattle.aa_profile_tables.specs.Kinds.{is_protocol};
 ghost use Rattle.aa_decide_audit.specs.declared.verdict.Answer.TheVariants.{Allow};
-ghost use Rattle.aa_decide_exec_rules.specs.Choices.{Leads, Missing, choice, denies, dominates, is_exact_lead};
+ghost use Rattle.aa_decide_exec_rules.specs.Choices.{Leads, Missing, choice, denies, dominates, highest};
 ghost use Rattle.aa_decide_exec_rules.specs.ExecRules.{exec_rules};
 ghost use Rattle.aa_decide_rules.specs.Verdict.{allowed, applies, covers, denied, missing, verdict};
+ghost use Rattle.aa_decide_rules.specs.declared.verdict.Mediation.{Mediation};
 ghost use Rattle.aa_explain_rules.specs.Laws.{AreAllWith, but, is_told_to_allow, is_told_to_deny, places_of};
 ghost use Rattle.aa_explain_rules.specs.Leading.{chosen_transition, first_transition, leading_places, says};
 ghost use Rattle.aa_explain_rules.specs.Logged.{some_is_logged};
@@ -39,8 +39,8 @@ pub fn what_is_told()
 /// The rules that are told decide alone: by them the verdict is the same. Without those that are told to deny nothing is denied, and without those
 /// that are told to allow nothing is allowed.
 pub fn what_told_rules_decide()
-    ensures told_rules_decide_alone { (mode : Mode) (flag : Bool) (request : Request) (rules : List Rule)
-        → verdict mode flag (picked rules (places_of (told flag request rules))) request ≡ verdict mode flag rules request }
+    ensures told_rules_decide_alone { (mediation : Mediation) (flag : Bool) (request : Request) (rules : List Rule)
+        → verdict mediation flag (picked rules (places_of (told flag request rules))) request ≡ verdict mediation flag rules request }
     ensures nothing_is_denied_without_those_that_deny { (request : Request) (rules : List Rule)
         → denied request (but (is_told_to_deny request) rules) ≡ 0 }
     ensures nothing_is_allowed_without_those_that_allow { (request : Request) (rules : List Rule)
@@ -50,9 +50,9 @@ pub fn what_told_rules_decide()
 /// The rule that a request lacks lets it: with that rule behind the others, it is allowed. There is one wherever a request lacks something: for each
 /// path whose pattern isn't too long, each capability and each kind of sockets that can be asked for.
 pub fn what_a_missing_rule_lets()
-    ensures it_lets_the_request { (mode : Mode) (flag : Bool) (request : Request) (rules : List Rule) (rule : Rule)
+    ensures it_lets_the_request { (mediation : Mediation) (flag : Bool) (request : Request) (rules : List Rule) (rule : Rule)
         → missing_rule request rules ≡ Some rule
-        → (verdict mode flag (rules ++ rule ∷ []) request).answer ≡ Allow }
+        → (verdict mediation flag (rules ++ rule ∷ []) request).answer ≡ Allow }
     ensures of_each_path { (letters : ℕ) (owned : Bool) (path : List ℕ) (rules : List Rule)
         → lacked (ForFile letters owned path) rules ≢ 0 → HasNoFirstFault (quoted path)
         → (rule : Rule) × (missing_rule (ForFile letters owned path) rules ≡ Some rule) }
@@ -84,24 +84,24 @@ pub fn where_a_missing_rule_leads()
 /// it lacks; and the missing rule on a file doesn't without any one of its letters, of which `x` is its exec word. A rule on a capability or on sockets
 /// has one need alone, without which it says nothing.
 pub fn how_narrow_a_missing_rule_is()
-    ensures not_allowed_without_it { (mode : Mode) (flag : Bool) (request : Request) (rules : List Rule) (rule : Rule)
+    ensures not_allowed_without_it { (mediation : Mediation) (flag : Bool) (request : Request) (rules : List Rule) (rule : Rule)
         → missing_rule request rules ≡ Some rule
-        → (verdict mode flag rules request).answer ≢ Allow }
-    ensures only_what_covers_all_lets { (mode : Mode) (flag : Bool) (request : Request) (rules : List Rule) (other : Rule)
-        → (verdict mode flag (rules ++ other ∷ []) request).answer ≡ Allow
+        → (verdict mediation flag rules request).answer ≢ Allow }
+    ensures only_what_covers_all_lets { (mediation : Mediation) (flag : Bool) (request : Request) (rules : List Rule) (other : Rule)
+        → (verdict mediation flag (rules ++ other ∷ []) request).answer ≡ Allow
         → common (lacked request rules) (covers request other) ≡ lacked request rules }
-    ensures no_letter_can_go { (mode : Mode) (flag : Bool) (letters : ℕ) (owned : Bool) (path : List ℕ) (rules : List Rule) (rule : FileRule)
+    ensures no_letter_can_go { (mediation : Mediation) (flag : Bool) (letters : ℕ) (owned : Bool) (path : List ℕ) (rules : List Rule) (rule : FileRule)
         (code letter : ℕ)
         → missing_rule (ForFile letters owned path) rules ≡ Some (File rule)
         → told_bit code ≡ Some letter → has_letter letter rule ≡ true
-        → (verdict mode flag (rules ++ File (but_letter letter rule) ∷ []) (ForFile letters owned path)).answer ≢ Allow }
+        → (verdict mediation flag (rules ++ File (but_letter letter rule) ∷ []) (ForFile letters owned path)).answer ≢ Allow }
 {}
 
 /// An answer is logged exactly where something of the request is missing, or a rule that is told as audited covers something of it: one that denies,
 /// where something is denied, and else one that allows.
 pub fn what_is_logged()
-    ensures { (mode : Mode) (flag : Bool) (request : Request) (rules : List Rule)
-        → is_some (verdict mode flag rules request).tag ≡ (not (missing request rules == 0) || some_is_logged (told flag request rules)) }
+    ensures { (mediation : Mediation) (flag : Bool) (request : Request) (rules : List Rule)
+        → is_some (verdict mediation flag rules request).tag ≡ (not (missing request rules == 0) || some_is_logged (told flag request rules)) }
 {}
 
 /// The places of those of some rules that pass a test are exactly the places of the rules that do, in rising order.
@@ -115,7 +115,7 @@ pub fn where_rules_stand()
 pub fn which_rules_lead()
     ensures leading_are_those_that_dominate { (flag owned : Bool) (path : List ℕ) (rules : List Rule)
         → list_any denies (exec_rules flag owned path rules) ≡ false
-        → AreAllWith (says (dominates (list_any is_exact_lead (exec_rules flag owned path rules))) flag owned path) rules
+        → AreAllWith (says (dominates (highest (exec_rules flag owned path rules))) flag owned path) rules
         (leading_places owned path rules) }
     ensures none_leads_where_one_denies { (flag owned : Bool) (path : List ℕ) (rules : List Rule)
         → list_any denies (exec_rules flag owned path rules) ≡ true

@@ -1,15 +1,15 @@
 //! The rules that decide where a program runs that is started.
 
 ghost use Rattle.std.specs.Prelude.{◌≡◌, IfOk, false};
-ghost use Rattle.aa_decide_exec_rules.specs.Choices.{denies, dominates, is_exact_lead};
+ghost use Rattle.aa_decide_exec_rules.specs.Choices.{denies, dominates};
 ghost use Rattle.aa_decide_exec_rules.specs.ExecRules.{applies_to, covers_exec};
 ghost use Rattle.aa_explain_rules.specs.Asked.{rules_of};
-ghost use Rattle.aa_explain_rules.specs.Leading.{leading_places, says};
+ghost use Rattle.aa_explain_rules.specs.Leading.{highest_that, leading_places, says};
 ghost use Rattle.aa_explain_rules.specs.code.Among.{among, passes_at, some_among};
 
 use crate::asked::AskedRules;
 use aa_profile_access::{Perms, Request};
-use aa_profile_data::{FileRule, Rule};
+use aa_profile_data::{FileRule, Rank, Rule};
 use bitflags::Flags;
 use std::alloc::{AllocError, Global};
 
@@ -37,31 +37,16 @@ fn denies(owned: bool, path: &[u8], rule: &Rule) -> bool
     }
 }
 
-// Whether a rule leads it somewhere by an exact pattern.
-fn is_exact_lead(owned: bool, path: &[u8], rule: &Rule) -> bool
-    ensures { result ≡ says is_exact_lead false owned path.now rule.now }
+// Whether a rule leads it somewhere with this rank. Those that do so with the highest one decide where to go.
+fn dominates(rank: Rank, owned: bool, path: &[u8], rule: &Rule) -> bool
+    ensures { result ≡ says (dominates rank) false owned path.now rule.now }
 {
     match rule {
         Rule::File(rule) => {
             applies_to(owned, path, rule)
                 && !rule.deny
                 && rule.exec.is_some()
-                && rule.pattern.is_exact()
-        }
-        _ => false,
-    }
-}
-
-// Whether a rule leads it somewhere, and is one of those that decide where to go.
-fn dominates(some_exact: bool, owned: bool, path: &[u8], rule: &Rule) -> bool
-    ensures { result ≡ says (dominates some_exact) false owned path.now rule.now }
-{
-    match rule {
-        Rule::File(rule) => {
-            applies_to(owned, path, rule)
-                && !rule.deny
-                && rule.exec.is_some()
-                && (rule.pattern.is_exact() || !some_exact)
+                && rule.rank.is_same(rank)
         }
         _ => false,
     }
@@ -77,23 +62,13 @@ fn denies_at(owned: bool, path: &[u8], rules: &[Rule], place: usize) -> bool
     }
 }
 
-// Whether the rule at a place leads it somewhere by an exact pattern.
-fn is_exact_at(owned: bool, path: &[u8], rules: &[Rule], place: usize) -> bool
-    ensures { result ≡ passes_at (says is_exact_lead false owned path.now) rules.now place }
+// Whether the rule at a place leads it somewhere with this rank.
+fn dominates_at(rank: Rank, owned: bool, path: &[u8], rules: &[Rule], place: usize) -> bool
+    ensures { result ≡ passes_at (says (dominates rank) false owned path.now) rules.now place }
 {
     match rules.get(place) {
         None => false,
-        Some(rule) => is_exact_lead(owned, path, rule),
-    }
-}
-
-// Whether the rule at a place leads it somewhere, and is one of those that decide where to go.
-fn dominates_at(some_exact: bool, owned: bool, path: &[u8], rules: &[Rule], place: usize) -> bool
-    ensures { result ≡ passes_at (says (dominates some_exact) false owned path.now) rules.now place }
-{
-    match rules.get(place) {
-        None => false,
-        Some(rule) => dominates(some_exact, owned, path, rule),
+        Some(rule) => dominates(rank, owned, path, rule),
     }
 }
 
@@ -111,13 +86,13 @@ fn some_denies(owned: bool, path: &[u8], rules: &[Rule], places: &[usize]) -> bo
     false
 }
 
-// Whether a rule at some places leads it somewhere by an exact pattern.
-fn some_is_exact(owned: bool, path: &[u8], rules: &[Rule], places: &[usize]) -> bool
-    ensures { result ≡ some_among (says is_exact_lead false owned path.now) rules.now places.now }
+// Whether a rule at some places leads it somewhere with this rank.
+fn some_dominates(rank: Rank, owned: bool, path: &[u8], rules: &[Rule], places: &[usize]) -> bool
+    ensures { result ≡ some_among (says (dominates rank) false owned path.now) rules.now places.now }
 {
     let mut rest = places;
     while let [place, behind @ ..] = rest {
-        if is_exact_at(owned, path, rules, *place) {
+        if dominates_at(rank, owned, path, rules, *place) {
             return true;
         }
         rest = behind;
@@ -125,21 +100,34 @@ fn some_is_exact(owned: bool, path: &[u8], rules: &[Rule], places: &[usize]) -> 
     false
 }
 
-// Those of some places whose rules dominate.
+// The highest rank with which a rule at some places leads it somewhere, and the last where none does.
+fn highest(owned: bool, path: &[u8], rules: &[Rule], places: &[usize]) -> Rank
+    ensures { result ≡ highest_that (λ rank. some_among (says (dominates rank) false owned path.now) rules.now places.now) }
+{
+    if some_dominates(Rank::Plain, owned, path, rules, places) {
+        Rank::Plain
+    } else if some_dominates(Rank::Loose, owned, path, rules, places) {
+        Rank::Loose
+    } else {
+        Rank::Last
+    }
+}
+
+// Those of some places whose rules lead it somewhere with this rank.
 fn dominating(
     alloc: Global,
-    some_exact: bool,
+    rank: Rank,
     owned: bool,
     path: &[u8],
     rules: &[Rule],
     places: &[usize],
 ) -> Result<Vec<usize>, AllocError>
-    ensures { IfOk result (λ found. found.items ≡ among (says (dominates some_exact) false owned path.now) rules.now places.now) }
+    ensures { IfOk result (λ found. found.items ≡ among (says (dominates rank) false owned path.now) rules.now places.now) }
 {
     let mut found = Vec::new(alloc);
     let mut rest = places;
     while let [place, behind @ ..] = rest {
-        if dominates_at(some_exact, owned, path, rules, *place) {
+        if dominates_at(rank, owned, path, rules, *place) {
             found.push(*place)?;
         }
         rest = behind;
@@ -148,8 +136,8 @@ fn dominating(
 }
 
 /// The places of the rules that decide where the program of a path runs that is started (docs/policy.md, "The start of a program"), in their order:
-/// of those with an exec word that apply, the ones with an exact pattern, where there are some, and else all. None where a deny rule with `x`
-/// applies. `owned` says whether the task's user owns the file.
+/// of those with an exec word that apply, the ones of the highest rank. None where a deny rule with `x` applies. `owned` says whether the task's user
+/// owns the file.
 ///
 /// # Errors
 ///
@@ -168,6 +156,6 @@ pub fn leading_rules(
     if some_denies(owned, path, rules, &places) {
         return Ok(Vec::new(alloc));
     }
-    let some_exact = some_is_exact(owned, path, rules, &places);
-    dominating(alloc, some_exact, owned, path, rules, &places)
+    let rank = highest(owned, path, rules, &places);
+    dominating(alloc, rank, owned, path, rules, &places)
 }

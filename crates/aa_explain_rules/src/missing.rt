@@ -7,13 +7,13 @@ ghost use Rattle.aa_profile_access.specs.SeenRequests.{request_of};
 ghost use Rattle.aa_profile_data.specs.declared.profile.Rule.TheVariants.{File as ForFiles};
 ghost use Rattle.aa_profile_data.specs.Picked.{picked};
 ghost use Rattle.aa_explain_rules.specs.Asked.{rules_of};
-ghost use Rattle.aa_explain_rules.specs.Missing.{file_rule_for, lacked, letters_for, missing_rule, rule_for, transition_for};
+ghost use Rattle.aa_explain_rules.specs.Missing.{file_rule_for, lacked, letters_for, missing_rule, rank_for, rule_for, transition_for};
 
 use crate::asked::AskedRules;
 use aa_decide_rules::{covers, denies, needs};
 use aa_glob_pattern::Pattern;
 use aa_profile_access::{ExecWord, Perms, Request};
-use aa_profile_data::{CapRule, FileRule, NetRule, Rule, Transition};
+use aa_profile_data::{CapRule, FileRule, NetRule, Rank, Rule, Transition};
 use aa_profile_tables::is_protocol;
 use bitflags::Flags;
 use std::alloc::{AllocError, Global};
@@ -67,14 +67,27 @@ fn transition_for(needs: Perms) -> Option<Transition>
     }
 }
 
+// The rank of such a rule.
+fn rank_for(pattern: &Pattern, needs: Perms) -> Rank
+    ensures { result ≡ rank_for pattern.now needs.0 }
+{
+    if needs.contains(Perms::EXEC) && pattern.is_exact() {
+        Rank::Plain
+    } else {
+        Rank::Loose
+    }
+}
+
 // A rule that lets some needs of a file, of which this is the pattern.
 fn file_rule_for(pattern: Pattern, owned: bool, needs: Perms) -> Rule
     ensures { (path : List ℕ) → pattern ≡ quoted path → result ≡ ForFiles (file_rule_for owned path needs.0) }
 {
+    let rank = rank_for(&pattern, needs);
     Rule::File(FileRule {
         pattern,
         access: letters_for(needs),
         exec: transition_for(needs),
+        rank,
         link: None,
         owner: owned,
         deny: false,

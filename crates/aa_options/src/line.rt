@@ -38,12 +38,15 @@ pub fn value<'a>(alloc: Global, id: &'a str, letter: char, help: &'a str) -> Arg
         .help(help)
 }
 
-/// An option that takes a value, by its name.
-pub fn named_value<'a>(alloc: Global, id: &'a str, name: &'a str) -> Arg<'a>
+/// An option that takes a value, by its name, and what help says of it.
+pub fn named_value<'a>(alloc: Global, id: &'a str, name: &'a str, help: &'a str) -> Arg<'a>
     ensures rule { rule_of result ≡ named_value_rule id.entry.now name.entry.now }
     ensures local { result.global ≡ false }
 {
-    Arg::new(alloc, id).long(name).action(ArgAction::Set)
+    Arg::new(alloc, id)
+        .long(name)
+        .action(ArgAction::Set)
+        .help(help)
 }
 
 /// The words that are no options, whether there has to be one, and what help says of them.

@@ -12,6 +12,7 @@ use Rattle.aa_profile_data.specs.declared.profile.Child.{Child}
 use Rattle.aa_profile_data.specs.declared.profile.Profile.{Profile}
 use Rattle.aa_profile_data.specs.declared.profile.Rule.{Rule}
 use Rattle.aa_profile_grammar.specs.Blocks.{OfChild, OfRule, Member, Profile as WrittenProfile}
+use Rattle.aa_profile_parsing.specs.declared.language.Language.{Language}
 use Rattle.aa_profile_parsing.specs.Tokens.{place_of}
 use Rattle.aa_profile_rules.specs.Rules.{Rule as WrittenRule}
 use Rattle.aa_profile.specs.Conflicts.{conflict_in_members, conflict_in_profiles, conflict_in_rules, refusal_of_conflicts}
@@ -19,7 +20,7 @@ use Rattle.aa_profile.specs.FileReading.{refusal_of_patterns}
 use Rattle.aa_profile.specs.Laws.{ChildHasNoConflict, HasNoConflict}
 use Rattle.aa_profile_patterns.specs.PatternTokens.{of_profiles}
 use Rattle.aa_profile_patterns.specs.Patterns.{first_bad, over_limit}
-use Rattle.aa_profile.specs.Profiles.{children_of, profile_of, rules_of, rules_of_members, rules_of_rule}
+use Rattle.aa_profile_making.specs.Profiles.{children_of, profile_of, rules_of, rules_of_members, rules_of_rule}
 use Rattle.aa_profile_errors.specs.ProfileError.{placed}
 use Rattle.aa_profile_errors.specs.declared.profile_error.ProfileError.{ProfileError}
 use Rattle.aa_profile_errors.specs.declared.profile_error.ProfileRefusal.TheVariants.{ExecConflict}
@@ -41,23 +42,23 @@ rest-none before rules rest h = by (first_conflict (before ++ rules) rest) (sym 
     by None e = refl
     by (Some k) e = absurd (cc)
 
-rules-none : (variables : List Variable) (before : List Rule) (written : List WrittenRule) → first_conflict before (rules_of variables written) ≡ None → conflict_in_rules variables before written ≡ None
-rules-none variables before [] h = refl
-rules-none variables before (rule ∷ written) h =
-    let here = rule-none variables before rule (first-none before (rules_of_rule variables rule) (rules_of variables written) h) in
-    rw (conflict_in_rules, here) (rules-none variables (before ++ rules_of_rule variables rule) written (rest-none before (rules_of_rule variables rule) (rules_of variables written) h))
+rules-none : (language : Language) (variables : List Variable) (before : List Rule) (written : List WrittenRule) → first_conflict before (rules_of language variables written) ≡ None → conflict_in_rules language variables before written ≡ None
+rules-none language variables before [] h = refl
+rules-none language variables before (rule ∷ written) h =
+    let here = rule-none language variables before rule (first-none before (rules_of_rule language variables rule) (rules_of language variables written) h) in
+    rw (conflict_in_rules, here) (rules-none language variables (before ++ rules_of_rule language variables rule) written (rest-none before (rules_of_rule language variables rule) (rules_of language variables written) h))
 
-members-none : (variables : List Variable) (before : List Rule) (members : List Member) → first_conflict before (rules_of_members variables members) ≡ None
-    → list_all child_agrees (children_of variables members) ≡ true → conflict_in_members variables before members ≡ None
-members-none variables before [] h agreed = refl
-members-none variables before (OfRule rule ∷ members) h agreed =
-    let here = rule-none variables before rule (first-none before (rules_of_rule variables rule) (rules_of_members variables members) h) in
+members-none : (language : Language) (variables : List Variable) (before : List Rule) (members : List Member) → first_conflict before (rules_of_members language variables members) ≡ None
+    → list_all child_agrees (children_of language variables members) ≡ true → conflict_in_members language variables before members ≡ None
+members-none language variables before [] h agreed = refl
+members-none language variables before (OfRule rule ∷ members) h agreed =
+    let here = rule-none language variables before rule (first-none before (rules_of_rule language variables rule) (rules_of_members language variables members) h) in
     rw (conflict_in_members, here)
-    (members-none variables (before ++ rules_of_rule variables rule) members (rest-none before (rules_of_rule variables rule) (rules_of_members variables members) h) agreed)
-members-none variables before (OfChild child ∷ members) h agreed =
-    let parts = and_parts (agree (rules_of variables child.rules)) (list_all child_agrees (children_of variables members)) agreed in
-    let own = rules-none variables [] child.rules (none-of (first_conflict [] (rules_of variables child.rules)) parts.0) in
-    rw (conflict_in_members, own) (members-none variables before members h parts.1)
+    (members-none language variables (before ++ rules_of_rule language variables rule) members (rest-none before (rules_of_rule language variables rule) (rules_of_members language variables members) h) agreed)
+members-none language variables before (OfChild child ∷ members) h agreed =
+    let parts = and_parts (agree (rules_of language variables child.rules)) (list_all child_agrees (children_of language variables members)) agreed in
+    let own = rules-none language variables [] child.rules (none-of (first_conflict [] (rules_of language variables child.rules)) parts.0) in
+    rw (conflict_in_members, own) (members-none language variables before members h parts.1)
   where
     none-of : (found : Option ℕ) → is_none found ≡ true → found ≡ None
     none-of None e = refl
@@ -102,33 +103,33 @@ module _ (tested : (rules : List Rule) → All HasReadPattern rules → (agree r
   children-so (child ∷ children) read =
       children-step child children (tested child.rules (All-head ChildIsRead child children read)) (children-so children (All-tail ChildIsRead child children read))
 
-  profiles-so : (variables : List Variable) (profiles : List WrittenProfile) → first_bad variables (of_profiles profiles) ≡ None
-      → (list_all profile_agrees (map (profile_of variables) profiles) ≡ true ↔ All HasNoConflict (map (profile_of variables) profiles))
-  profiles-so variables [] fine = (λ agreed. All-nil HasNoConflict, λ none. refl)
-  profiles-so variables (profile ∷ profiles) fine =
-      let parts = members-fine variables profile profiles fine in
-      profiles-step (profile_of variables profile) (map (profile_of variables) profiles)
-      (tested (rules_of_members variables profile.members) (members-read variables profile.members parts.0))
-      (children-so (children_of variables profile.members) (children-read variables profile.members parts.0))
-      (profiles-so variables profiles parts.1)
+  profiles-so : (language : Language) (variables : List Variable) (profiles : List WrittenProfile) → first_bad variables (of_profiles profiles) ≡ None
+      → (list_all profile_agrees (map (profile_of language variables) profiles) ≡ true ↔ All HasNoConflict (map (profile_of language variables) profiles))
+  profiles-so language variables [] fine = (λ agreed. All-nil HasNoConflict, λ none. refl)
+  profiles-so language variables (profile ∷ profiles) fine =
+      let parts = members-fine language variables profile profiles fine in
+      profiles-step (profile_of language variables profile) (map (profile_of language variables) profiles)
+      (tested (rules_of_members language variables profile.members) (members-read language variables profile.members parts.0))
+      (children-so (children_of language variables profile.members) (children-read language variables profile.members parts.0))
+      (profiles-so language variables profiles parts.1)
 
   -- no conflict is told of profiles exactly where they agree
-  profiles-none : (variables : List Variable) (profiles : List WrittenProfile) → list_all profile_agrees (map (profile_of variables) profiles) ≡ true → conflict_in_profiles variables profiles ≡ None
-  profiles-none variables [] agreed = refl
-  profiles-none variables (profile ∷ profiles) agreed =
-      let both = and_parts (profile_agrees (profile_of variables profile)) (list_all profile_agrees (map (profile_of variables) profiles)) agreed in
-      let mine = and_parts (agree (rules_of_members variables profile.members)) (list_all child_agrees (children_of variables profile.members)) both.0 in
-      let own = members-none variables [] profile.members (none-of (first_conflict [] (rules_of_members variables profile.members)) mine.0) mine.1 in
-      rw (conflict_in_profiles, own) (profiles-none variables profiles both.1)
+  profiles-none : (language : Language) (variables : List Variable) (profiles : List WrittenProfile) → list_all profile_agrees (map (profile_of language variables) profiles) ≡ true → conflict_in_profiles language variables profiles ≡ None
+  profiles-none language variables [] agreed = refl
+  profiles-none language variables (profile ∷ profiles) agreed =
+      let both = and_parts (profile_agrees (profile_of language variables profile)) (list_all profile_agrees (map (profile_of language variables) profiles)) agreed in
+      let mine = and_parts (agree (rules_of_members language variables profile.members)) (list_all child_agrees (children_of language variables profile.members)) both.0 in
+      let own = members-none language variables [] profile.members (none-of (first_conflict [] (rules_of_members language variables profile.members)) mine.0) mine.1 in
+      rw (conflict_in_profiles, own) (profiles-none language variables profiles both.1)
     where
       none-of : (found : Option ℕ) → is_none found ≡ true → found ≡ None
       none-of None e = refl
       none-of (Some k) e = absurd (cc)
 
   -- so a file is refused for a conflict exactly where it has one
-  pub conflicts-refused : (variables : List Variable) (profiles : List WrittenProfile) → refusal_of_patterns variables (of_profiles profiles) ≡ None
-      → (refusal_of_conflicts variables profiles ≡ None ↔ All HasNoConflict (map (profile_of variables) profiles))
-  conflicts-refused variables profiles fine = (to, from)
+  pub conflicts-refused : (language : Language) (variables : List Variable) (profiles : List WrittenProfile) → refusal_of_patterns variables (of_profiles profiles) ≡ None
+      → (refusal_of_conflicts language variables profiles ≡ None ↔ All HasNoConflict (map (profile_of language variables) profiles))
+  conflicts-refused language variables profiles fine = (to, from)
     where
       good : first_bad variables (of_profiles profiles) ≡ None
       good = by (over_limit variables (of_profiles profiles)) refl
@@ -137,18 +138,18 @@ module _ (tested : (rules : List Rule) → All HasReadPattern rules → (agree r
           by None e = rw (refusal_of_patterns, e) at fine
           by (Some error) e = let wrong : Some error ≡ None = rw (refusal_of_patterns, e) at fine in absurd (cc)
 
-      so : list_all profile_agrees (map (profile_of variables) profiles) ≡ true ↔ All HasNoConflict (map (profile_of variables) profiles)
-      so = profiles-so variables profiles good
+      so : list_all profile_agrees (map (profile_of language variables) profiles) ≡ true ↔ All HasNoConflict (map (profile_of language variables) profiles)
+      so = profiles-so language variables profiles good
 
-      none : refusal_of_conflicts variables profiles ≡ None → conflict_in_profiles variables profiles ≡ None
-      none h = by (conflict_in_profiles variables profiles) refl
+      none : refusal_of_conflicts language variables profiles ≡ None → conflict_in_profiles language variables profiles ≡ None
+      none h = by (conflict_in_profiles language variables profiles) refl
         where
-          by : (found : Option Placed) → conflict_in_profiles variables profiles ≡ found → conflict_in_profiles variables profiles ≡ None
+          by : (found : Option Placed) → conflict_in_profiles language variables profiles ≡ found → conflict_in_profiles language variables profiles ≡ None
           by None e = e
           by (Some pattern) e = let wrong : Some (placed ExecConflict (place_of pattern)) ≡ None = rw (refusal_of_conflicts, e) at h in absurd (cc)
 
-      to : refusal_of_conflicts variables profiles ≡ None → All HasNoConflict (map (profile_of variables) profiles)
-      to h = so.0 (profiles-free variables profiles (none h))
+      to : refusal_of_conflicts language variables profiles ≡ None → All HasNoConflict (map (profile_of language variables) profiles)
+      to h = so.0 (profiles-free language variables profiles (none h))
 
-      from : All HasNoConflict (map (profile_of variables) profiles) → refusal_of_conflicts variables profiles ≡ None
-      from no_conflict = rw (refusal_of_conflicts, profiles-none variables profiles (so.1 no_conflict)) refl
+      from : All HasNoConflict (map (profile_of language variables) profiles) → refusal_of_conflicts language variables profiles ≡ None
+      from no_conflict = rw (refusal_of_conflicts, profiles-none language variables profiles (so.1 no_conflict)) refl

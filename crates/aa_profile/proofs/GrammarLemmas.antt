@@ -9,6 +9,7 @@ use Rattle.aa_profile_grammar.specs.Blocks.{Profile as WrittenProfile, next_prof
 use Rattle.aa_profile_grammar.specs.Files.{File, file}
 use Rattle.aa_profile_grammar.specs.Preamble.{Assignment, assignment, behind_version, is_value, next_assignment, preamble, value_count}
 use Rattle.aa_profile_parsing.specs.GrammarError.{told}
+use Rattle.aa_profile_parsing.specs.declared.language.Language.{Language}
 use Rattle.aa_profile_parsing.specs.declared.grammar_error.GrammarError.{GrammarError}
 use Rattle.aa_profile.specs.code.FileReadingProgress.{has_no_value}
 use Rattle.aa_text_tokens.specs.declared.cut.TokenKind.{TokenKind}
@@ -107,8 +108,8 @@ any-push p [] x none h = rw h refl
 any-push p (y ∷ xs) x none h = let parts = or_parts (p y) (list_any p xs) none in rw (parts.0, any-push p xs x parts.1 h) refl
 
 -- the assignments of a file have values
-pub assignments-valued : (tokens : List Placed) (read : File) → file tokens ≡ Ok read → list_any has_no_value read.assignments ≡ false
-assignments-valued tokens read h = by (preamble tokens) refl
+pub assignments-valued : (language : Language) (tokens : List Placed) (read : File) → file language tokens ≡ Ok read → list_any has_no_value read.assignments ≡ false
+assignments-valued language tokens read h = by (preamble tokens) refl
   where
     told_file : List Assignment → Part (List WrittenProfile) → Result File GrammarError
     told_file assignments profiles = elim profiles [
@@ -128,13 +129,13 @@ assignments-valued tokens read h = by (preamble tokens) refl
         let all = row-keeps (λ read. next_assignment) (λ read. list_any has_no_value read ≡ false)
         (λ read tokens more item none found. any-push has_no_value read item none (next-valued tokens more item found))
         (suc (length tokens)) [] assignments tokens rest refl e in
-        ap (list_any has_no_value) (sym (same assignments (rows next_profile rest) (rw (file, e) at h))) ∙ all
+        ap (list_any has_no_value) (sym (same assignments (rows (next_profile language) rest) (rw (file, e) at h))) ∙ all
 
 -- what each further profile keeps true, the profiles of a file keep true
-pub profiles-keep : (P : List WrittenProfile → Type 0) → P []
-    → ((read : List WrittenProfile) (tokens more : List Placed) (item : WrittenProfile) → P read → next_profile read tokens ≡ Ok (Item item, more) → P (read ++ item ∷ []))
-    → (tokens : List Placed) (read : File) → file tokens ≡ Ok read → P read.profiles
-profiles-keep P none step tokens read h = by (preamble tokens) refl
+pub profiles-keep : (language : Language) (P : List WrittenProfile → Type 0) → P []
+    → ((read : List WrittenProfile) (tokens more : List Placed) (item : WrittenProfile) → P read → next_profile language read tokens ≡ Ok (Item item, more) → P (read ++ item ∷ []))
+    → (tokens : List Placed) (read : File) → file language tokens ≡ Ok read → P read.profiles
+profiles-keep language P none step tokens read h = by (preamble tokens) refl
   where
     told_file : List Assignment → Part (List WrittenProfile) → Result File GrammarError
     told_file assignments profiles = elim profiles [
@@ -142,13 +143,13 @@ profiles-keep P none step tokens read h = by (preamble tokens) refl
       | Ok read ↦ if is_empty read.0 then Err (record { refusal = NoProfile; place = None }) else Ok (record { assignments = assignments; profiles = read.0 })
     ]
 
-    kept : (tokens : List Placed) (assignments : List Assignment) (profiles : Part (List WrittenProfile)) → rows next_profile tokens ≡ profiles → told_file assignments profiles ≡ Ok read → P read.profiles
+    kept : (tokens : List Placed) (assignments : List Assignment) (profiles : Part (List WrittenProfile)) → rows (next_profile language) tokens ≡ profiles → told_file assignments profiles ≡ Ok read → P read.profiles
     kept tokens assignments (Err fault) e h = absurd (cc)
     kept tokens assignments (Ok ([], rest)) e h = absurd (cc)
     kept tokens assignments (Ok (profile ∷ profiles, rest)) e h =
         let whole : record { assignments = assignments; profiles = profile ∷ profiles } ≡ read = cc in
-        subst P (ap (λ file. file.profiles) whole) (row-keeps next_profile P step (suc (length tokens)) [] (profile ∷ profiles) tokens rest none e)
+        subst P (ap (λ file. file.profiles) whole) (row-keeps (next_profile language) P step (suc (length tokens)) [] (profile ∷ profiles) tokens rest none e)
 
     by : (opening : Part (List Assignment)) → preamble tokens ≡ opening → P read.profiles
     by (Err fault) e = let wrong : Err (told fault) ≡ Ok read = rw (file, e) at h in absurd (cc)
-    by (Ok (assignments, rest)) e = kept rest assignments (rows next_profile rest) refl (rw (file, e) at h)
+    by (Ok (assignments, rest)) e = kept rest assignments (rows (next_profile language) rest) refl (rw (file, e) at h)

@@ -1,11 +1,12 @@
 pub mod AgreeLemmas
 pub mod AssignmentLemmas
+pub mod BlockLemmas
 pub mod ConflictLemmas
 pub mod GrammarLemmas
 pub mod NameLemmas
+pub mod NarrowLemmas
 pub mod NumberLemmas
 pub mod PlaceLemmas
-pub mod ProfileLemmas
 pub mod ReadLemmas
 pub mod ReadPatternLemmas
 pub mod ReadingLemmas

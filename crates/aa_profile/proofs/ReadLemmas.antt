@@ -10,20 +10,23 @@ use Rattle.aa_profile_data.specs.ConflictLaws.{HasReadPattern}
 use Rattle.aa_profile_data.specs.declared.profile.Child.{Child}
 use Rattle.aa_profile_data.specs.declared.profile.Rule.{Rule}
 use Rattle.aa_profile_grammar.specs.Blocks.{OfChild, OfRule, Member, Profile as WrittenProfile}
+use Rattle.aa_profile_parsing.specs.declared.language.Language.{Language}
 use Rattle.aa_profile_parsing.specs.Tokens.{place_of, text_of}
-use Rattle.aa_profile_rules.specs.Rules.{Kept, OnCapabilities, OnFile, OnNetwork, Rule as WrittenRule}
+use Rattle.aa_profile_rules.specs.Rules.{All as LetsAll, Kept, OnCapabilities, OnFile, OnNetwork, Rule as WrittenRule}
 use Rattle.aa_text_splicing.specs.Splicing.{Placed}
 use Rattle.aa_text_variables.specs.Expansions.{expansions}
 use Rattle.aa_text_variables.specs.Variables.{Variable}
 use Rattle.aa_profile_patterns.specs.PatternTokens.{of_child, of_head, of_members, of_profile, of_profiles, of_rule, of_rules}
-use Rattle.aa_profile_patterns.specs.Patterns.{collapsed, first_bad, refusal_of_expansion, refusal_of_expansions, refusal_of_token}
-use Rattle.aa_profile.specs.Profiles.{children_of, file_rule, rules_of, rules_of_members, rules_of_rule}
+use Rattle.aa_profile_patterns.specs.Patterns.{collapsed, first_bad, patterns_at, refusal_of_expansion, refusal_of_expansions, refusal_of_token}
+use Rattle.aa_profile_rules.specs.Capabilities.{all_capabilities}
+use Rattle.aa_profile_rules.specs.Networks.{all_sockets}
+use Rattle.aa_profile_making.specs.Profiles.{cap_rule, children_of, exec_of_all, file_rule, kept_of_all, letters_of_all, net_rule, rules_of, rules_of_members, rules_of_rule, token_rank}
 use Rattle.aa_profile_errors.specs.ProfileError.{placed, refusal_of_pattern}
 use Rattle.aa_profile_errors.specs.declared.profile_error.ProfileError.{ProfileError}
 use Rattle.aa_profile_errors.specs.declared.profile_error.ProfileRefusal.{ProfileRefusal}
 use Rattle.aa_glob_syntax.specs.declared.pattern_error.PatternError.TheVariants.{TooLong}
 use Rattle.aa_profile_errors.specs.declared.profile_error.ProfileRefusal.TheVariants.{Pattern as OfPattern}
-use Rattle.aa_profile.proofs.ProfileLemmas.{first_bad_behind, first_bad_front}
+use Rattle.aa_profile_making.proofs.ProfileLemmas.{first_bad_behind, first_bad_front}
 
 -- an expansion that isn't refused reads as a pattern
 expansion-read : (text : List ℕ) → refusal_of_expansion text ≡ None → reading (collapsed text) ≡ Ok (items_of (collapsed text))
@@ -54,7 +57,7 @@ expansions-read make made (text ∷ texts) fine = by (refusal_of_expansion text)
 abbrev pub ChildIsRead : Child → Type 0
 ChildIsRead child = All HasReadPattern child.rules
 
-module _ (variables : List Variable) where
+module _ (language : Language) (variables : List Variable) where
   token-fine : (token : Placed) → refusal_of_token variables token ≡ None → refusal_of_expansions (expansions variables (text_of token)) ≡ None
   token-fine token fine = by (refusal_of_expansions (expansions variables (text_of token))) refl
     where
@@ -83,32 +86,41 @@ module _ (variables : List Variable) where
   one-read : (rule : Rule) → HasReadPattern rule → All HasReadPattern (rule ∷ [])
   one-read rule read = All-cons HasReadPattern rule [] read (All-nil HasReadPattern)
 
-  rule-read : (rule : WrittenRule) → first_bad variables (of_rule rule) ≡ None → All HasReadPattern (rules_of_rule variables rule)
+  rule-read : (rule : WrittenRule) → first_bad variables (of_rule rule) ≡ None → All HasReadPattern (rules_of_rule language variables rule)
   rule-read (OnFile qualifiers pattern access target) fine =
-      expansions-read (file_rule qualifiers access target) (λ pattern read. read) (expansions variables (text_of pattern)) (token-fine pattern (first-fine pattern [] fine))
+      expansions-read (file_rule qualifiers access target (token_rank language (patterns_at variables pattern))) (λ pattern read. read) (expansions variables (text_of pattern)) (token-fine pattern (first-fine pattern [] fine))
   rule-read (OnCapabilities qualifiers word capabilities) fine = one-read _ tt
   rule-read (OnNetwork qualifiers word sockets) fine = one-read _ tt
   rule-read (Kept qualifiers tokens) fine = one-read _ tt
+  rule-read (LetsAll qualifiers word) fine =
+      let cap = cap_rule qualifiers all_capabilities in
+      let net = net_rule qualifiers all_sockets in
+      let letters = letters_of_all qualifiers in
+      let exec = exec_of_all qualifiers in
+      All-cons HasReadPattern (kept_of_all qualifiers word) (letters ∷ exec ∷ cap ∷ net ∷ []) tt
+      (All-cons HasReadPattern letters (exec ∷ cap ∷ net ∷ []) refl
+      (All-cons HasReadPattern exec (cap ∷ net ∷ []) refl
+      (All-cons HasReadPattern cap (net ∷ []) tt (one-read net tt))))
 
-  rules-read : (rules : List WrittenRule) → first_bad variables (of_rules rules) ≡ None → All HasReadPattern (rules_of variables rules)
+  rules-read : (rules : List WrittenRule) → first_bad variables (of_rules rules) ≡ None → All HasReadPattern (rules_of language variables rules)
   rules-read [] fine = All-nil HasReadPattern
   rules-read (rule ∷ rules) fine =
-      All-append HasReadPattern (rules_of_rule variables rule) (rules_of variables rules) (rule-read rule (front-fine (of_rule rule) (of_rules rules) fine))
+      All-append HasReadPattern (rules_of_rule language variables rule) (rules_of language variables rules) (rule-read rule (front-fine (of_rule rule) (of_rules rules) fine))
       (rules-read rules (rest-fine (of_rule rule) (of_rules rules) fine))
 
-  pub members-read : (members : List Member) → first_bad variables (of_members members) ≡ None → All HasReadPattern (rules_of_members variables members)
+  pub members-read : (members : List Member) → first_bad variables (of_members members) ≡ None → All HasReadPattern (rules_of_members language variables members)
   members-read [] fine = All-nil HasReadPattern
   members-read (OfRule rule ∷ members) fine =
-      All-append HasReadPattern (rules_of_rule variables rule) (rules_of_members variables members) (rule-read rule (front-fine (of_rule rule) (of_members members) fine))
+      All-append HasReadPattern (rules_of_rule language variables rule) (rules_of_members language variables members) (rule-read rule (front-fine (of_rule rule) (of_members members) fine))
       (members-read members (rest-fine (of_rule rule) (of_members members) fine))
   members-read (OfChild child ∷ members) fine = members-read members (rest-fine (of_child child) (of_members members) fine)
 
   -- those of each child and hat, too
-  pub children-read : (members : List Member) → first_bad variables (of_members members) ≡ None → All ChildIsRead (children_of variables members)
+  pub children-read : (members : List Member) → first_bad variables (of_members members) ≡ None → All ChildIsRead (children_of language variables members)
   children-read [] fine = All-nil ChildIsRead
   children-read (OfRule rule ∷ members) fine = children-read members (rest-fine (of_rule rule) (of_members members) fine)
   children-read (OfChild child ∷ members) fine =
-      All-cons ChildIsRead _ (children_of variables members)
+      All-cons ChildIsRead _ (children_of language variables members)
       (rules-read child.rules (rest-fine (of_head child.head) (of_rules child.rules) (front-fine (of_child child) (of_members members) fine)))
       (children-read members (rest-fine (of_child child) (of_members members) fine))
 

@@ -7,9 +7,10 @@ use Rattle.aa_text_variables.specs.Variables.{Variable}
 use Rattle.aa_profile_data.specs.Conflicts.{first_conflict}
 use Rattle.aa_profile_data.specs.declared.profile.Rule.{Rule}
 use Rattle.aa_profile_grammar.specs.Blocks.{OfChild, OfRule, Member, Profile}
+use Rattle.aa_profile_parsing.specs.declared.language.Language.{Language}
 use Rattle.aa_profile_parsing.specs.Tokens.{place_of}
-use Rattle.aa_profile_rules.specs.Rules.{Kept, OnCapabilities, OnFile, OnNetwork, Rule as WrittenRule}
-use Rattle.aa_profile.specs.Profiles.{rules_of_rule}
+use Rattle.aa_profile_rules.specs.Rules.{All, Kept, OnCapabilities, OnFile, OnNetwork, Rule as WrittenRule, all_files}
+use Rattle.aa_profile_making.specs.Profiles.{rules_of_rule}
 use Rattle.aa_profile_errors.specs.ProfileError.{placed}
 use Rattle.aa_profile_errors.specs.declared.profile_error.ProfileError.{ProfileError}
 use Rattle.aa_profile_errors.specs.declared.profile_error.ProfileRefusal.TheVariants.{ExecConflict}
@@ -20,39 +21,40 @@ pattern_of (OnFile qualifiers pattern access target) = Some pattern
 pattern_of (OnCapabilities qualifiers word capabilities) = None
 pattern_of (OnNetwork qualifiers word sockets) = None
 pattern_of (Kept qualifiers tokens) = None
+pattern_of (All qualifiers word) = Some (all_files word)
 
 -- The pattern of a written rule, where a rule that it makes conflicts with one before that. Others come before all that it makes.
-abbrev pub conflict_in_rule : List Variable → List Rule → WrittenRule → Option Placed
-conflict_in_rule variables before rule = if is_some (first_conflict before (rules_of_rule variables rule)) then pattern_of rule else None
+abbrev pub conflict_in_rule : Language → List Variable → List Rule → WrittenRule → Option Placed
+conflict_in_rule language variables before rule = if is_some (first_conflict before (rules_of_rule language variables rule)) then pattern_of rule else None
 
 -- the first such pattern of written rules
-abbrev pub conflict_in_rules : List Variable → List Rule → List WrittenRule → Option Placed
-conflict_in_rules variables before [] = None
-conflict_in_rules variables before (rule ∷ rules) = elim (conflict_in_rule variables before rule) [
+abbrev pub conflict_in_rules : Language → List Variable → List Rule → List WrittenRule → Option Placed
+conflict_in_rules language variables before [] = None
+conflict_in_rules language variables before (rule ∷ rules) = elim (conflict_in_rule language variables before rule) [
   | Some pattern ↦ Some pattern
-  | None ↦ conflict_in_rules variables (before ++ rules_of_rule variables rule) rules
+  | None ↦ conflict_in_rules language variables (before ++ rules_of_rule language variables rule) rules
 ]
 
 -- The first such pattern of the members of a block. The rules of a child or hat aren't those of its profile.
-abbrev pub conflict_in_members : List Variable → List Rule → List Member → Option Placed
-conflict_in_members variables before [] = None
-conflict_in_members variables before (OfRule rule ∷ members) = elim (conflict_in_rule variables before rule) [
+abbrev pub conflict_in_members : Language → List Variable → List Rule → List Member → Option Placed
+conflict_in_members language variables before [] = None
+conflict_in_members language variables before (OfRule rule ∷ members) = elim (conflict_in_rule language variables before rule) [
   | Some pattern ↦ Some pattern
-  | None ↦ conflict_in_members variables (before ++ rules_of_rule variables rule) members
+  | None ↦ conflict_in_members language variables (before ++ rules_of_rule language variables rule) members
 ]
-conflict_in_members variables before (OfChild child ∷ members) = elim (conflict_in_rules variables [] child.rules) [
+conflict_in_members language variables before (OfChild child ∷ members) = elim (conflict_in_rules language variables [] child.rules) [
   | Some pattern ↦ Some pattern
-  | None ↦ conflict_in_members variables before members
+  | None ↦ conflict_in_members language variables before members
 ]
 
 -- the first such pattern of profiles
-abbrev pub conflict_in_profiles : List Variable → List Profile → Option Placed
-conflict_in_profiles variables [] = None
-conflict_in_profiles variables (profile ∷ profiles) = elim (conflict_in_members variables [] profile.members) [
+abbrev pub conflict_in_profiles : Language → List Variable → List Profile → Option Placed
+conflict_in_profiles language variables [] = None
+conflict_in_profiles language variables (profile ∷ profiles) = elim (conflict_in_members language variables [] profile.members) [
   | Some pattern ↦ Some pattern
-  | None ↦ conflict_in_profiles variables profiles
+  | None ↦ conflict_in_profiles language variables profiles
 ]
 
 -- its refusal, at this pattern
-abbrev pub refusal_of_conflicts : List Variable → List Profile → Option ProfileError
-refusal_of_conflicts variables profiles = option_map (λ pattern. placed ExecConflict (place_of pattern)) (conflict_in_profiles variables profiles)
+abbrev pub refusal_of_conflicts : Language → List Variable → List Profile → Option ProfileError
+refusal_of_conflicts language variables profiles = option_map (λ pattern. placed ExecConflict (place_of pattern)) (conflict_in_profiles language variables profiles)

@@ -4,6 +4,8 @@ use Rattle.std.specs.Prelude.{ℕ, List, map, Option, None, Some, Result, Ok, Er
 use Rattle.aa_text_files.specs.Files.{File as HandedIn}
 use Rattle.aa_profile_grammar.specs.Blocks.{Profile as WrittenProfile}
 use Rattle.aa_profile_grammar.specs.Files.{File, file}
+use Rattle.aa_profile_parsing.specs.declared.language.Language.TheVariants.{Three}
+use Rattle.aa_profile_parsing.specs.declared.language.Language.{Language}
 use Rattle.aa_text_splicing.specs.Splicing.{Placed, spliced}
 use Rattle.aa_text_variables.specs.Variables.{Variable}
 use Rattle.aa_profile_data.specs.declared.profile.Profile.{Profile}
@@ -12,7 +14,7 @@ use Rattle.aa_profile.specs.Conflicts.{refusal_of_conflicts}
 use Rattle.aa_profile_patterns.specs.PatternTokens.{of_profiles}
 use Rattle.aa_profile_patterns.specs.Patterns.{first_bad, over_limit}
 use Rattle.aa_profile_errors.specs.ProfileError.{error_of_grammar, refusal_of_text}
-use Rattle.aa_profile.specs.Profiles.{profile_of}
+use Rattle.aa_profile_making.specs.Profiles.{profile_of}
 use Rattle.aa_profile_errors.specs.declared.profile_error.ProfileError.{ProfileError}
 
 -- the refusal of patterns: there are too many, or some are none
@@ -20,30 +22,34 @@ abbrev pub refusal_of_patterns : List Variable → List Placed → Option Profil
 refusal_of_patterns variables patterns = elim (over_limit variables patterns) [ Some refusal ↦ Some refusal | None ↦ first_bad variables patterns ]
 
 -- the refusal of a file's rules: some of its patterns can't be, or make rules that conflict
-abbrev pub refusal_of_rules : List Variable → List WrittenProfile → Option ProfileError
-refusal_of_rules variables profiles = elim (refusal_of_patterns variables (of_profiles profiles)) [
+abbrev pub refusal_of_rules : Language → List Variable → List WrittenProfile → Option ProfileError
+refusal_of_rules language variables profiles = elim (refusal_of_patterns variables (of_profiles profiles)) [
   | Some refusal ↦ Some refusal
-  | None ↦ refusal_of_conflicts variables profiles
+  | None ↦ refusal_of_conflicts language variables profiles
 ]
 
 -- the profiles of a file, with its variables
-abbrev pub profiles_with : List Variable → File → Result (List Profile) ProfileError
-profiles_with variables file = elim (refusal_of_rules variables file.profiles) [
+abbrev pub profiles_with : Language → List Variable → File → Result (List Profile) ProfileError
+profiles_with language variables file = elim (refusal_of_rules language variables file.profiles) [
   | Some refusal ↦ Err refusal
-  | None ↦ Ok (map (profile_of variables) file.profiles)
+  | None ↦ Ok (map (profile_of language variables) file.profiles)
 ]
 
 -- the profiles of a file
-abbrev pub profiles_in : File → Result (List Profile) ProfileError
-profiles_in file = elim (variables_of file.assignments (of_profiles file.profiles)) [ Err refusal ↦ Err refusal | Ok variables ↦ profiles_with variables file ]
+abbrev pub profiles_in : Language → File → Result (List Profile) ProfileError
+profiles_in language file = elim (variables_of file.assignments (of_profiles file.profiles)) [ Err refusal ↦ Err refusal | Ok variables ↦ profiles_with language variables file ]
 
 -- the profiles of tokens
-abbrev pub profiles_of : List Placed → Result (List Profile) ProfileError
-profiles_of tokens = elim (file tokens) [ Err error ↦ Err (error_of_grammar error) | Ok file ↦ profiles_in file ]
+abbrev pub profiles_of : Language → List Placed → Result (List Profile) ProfileError
+profiles_of language tokens = elim (file language tokens) [ Err error ↦ Err (error_of_grammar error) | Ok file ↦ profiles_in language file ]
 
--- the profiles that a file of the handed-in ones spells, in its order
-abbrev pub file_profiles : List HandedIn → List ℕ → Result (List Profile) ProfileError
-file_profiles files name = elim (spliced files name) [
+-- the profiles that a file of the handed-in ones spells, read by a language, in its order
+abbrev pub file_profiles_in : Language → List HandedIn → List ℕ → Result (List Profile) ProfileError
+file_profiles_in language files name = elim (spliced files name) [
   | Err fault ↦ Err (record { refusal = refusal_of_text fault.0; place = fault.1 })
-  | Ok tokens ↦ profiles_of tokens
+  | Ok tokens ↦ profiles_of language tokens
 ]
+
+-- those that it spells by language 3
+abbrev pub file_profiles : List HandedIn → List ℕ → Result (List Profile) ProfileError
+file_profiles files name = file_profiles_in Three files name

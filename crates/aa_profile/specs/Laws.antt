@@ -5,11 +5,12 @@ use Rattle.aa_profile_data.specs.ConflictLaws.{NoneConflict}
 use Rattle.aa_profile_data.specs.declared.profile.Child.{Child}
 use Rattle.aa_profile_data.specs.declared.profile.Profile.{Profile}
 use Rattle.aa_profile_grammar.specs.Blocks.{Profile as WrittenProfile}
+use Rattle.aa_profile_parsing.specs.declared.language.Language.{Language}
 use Rattle.aa_text_variables.specs.Variables.{Variable}
 use Rattle.aa_profile.specs.Conflicts.{refusal_of_conflicts}
 use Rattle.aa_profile.specs.FileReading.{refusal_of_patterns}
 use Rattle.aa_profile_patterns.specs.PatternTokens.{of_profiles}
-use Rattle.aa_profile.specs.Profiles.{profile_of}
+use Rattle.aa_profile_making.specs.Profiles.{profile_of}
 
 -- no rule of a child or a hat conflicts with an earlier one
 abbrev pub ChildHasNoConflict : Child → Type 0
@@ -23,6 +24,6 @@ HasNoConflict profile = NoneConflict profile.rules × All ChildHasNoConflict pro
 -- earlier one.
 abbrev pub ConflictsAreRefused : Type 0
 ConflictsAreRefused =
-    (variables : List Variable) (profiles : List WrittenProfile)
+    (language : Language) (variables : List Variable) (profiles : List WrittenProfile)
     → refusal_of_patterns variables (of_profiles profiles) ≡ None
-    → (refusal_of_conflicts variables profiles ≡ None ↔ All HasNoConflict (map (profile_of variables) profiles))
+    → (refusal_of_conflicts language variables profiles ≡ None ↔ All HasNoConflict (map (profile_of language variables) profiles))

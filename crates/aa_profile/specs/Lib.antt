@@ -3,8 +3,8 @@ pub mod Conflicts
 pub mod FilePlaces
 pub mod FileReading
 pub mod Laws
+pub mod NarrowProfiles
 pub mod PlaceLaws
 pub mod ProfileNames
-pub mod Profiles
 pub mod ReadPatterns
 pub mod code

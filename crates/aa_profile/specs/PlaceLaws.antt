@@ -10,39 +10,40 @@ use Rattle.aa_profile_data.specs.declared.profile.Profile.{Profile}
 use Rattle.aa_profile_data.specs.declared.profile.Rule.{Rule}
 use Rattle.aa_profile_grammar.specs.Blocks.{OfChild, OfRule, Child as WrittenChild, Member, Profile as WrittenProfile}
 use Rattle.aa_profile_grammar.specs.Files.{File, file}
+use Rattle.aa_profile_parsing.specs.declared.language.Language.{Language}
 use Rattle.aa_profile_patterns.specs.PatternTokens.{of_profiles}
 use Rattle.aa_profile_patterns.specs.Places.{place_of_attachment, place_of_rule}
 use Rattle.aa_profile_patterns.specs.declared.places.ProfilePlaces.{ProfilePlaces}
 use Rattle.aa_profile_patterns.specs.declared.places.SectionPlaces.{SectionPlaces}
 use Rattle.aa_profile_rules.specs.Rules.{Rule as WrittenRule}
 use Rattle.aa_profile.specs.Assignments.{variables_of}
-use Rattle.aa_profile.specs.Profiles.{rules_of_rule}
+use Rattle.aa_profile_making.specs.Profiles.{rules_of_rule}
 
 -- One of some written rules makes this rule, with these variables, and is written at this place.
-pub record IsMadeAt (variables : List Variable) (written : List WrittenRule) (rule : Rule) (place : Option Place) : Type 0 where
+pub record IsMadeAt (language : Language) (variables : List Variable) (written : List WrittenRule) (rule : Rule) (place : Option Place) : Type 0 where
   pub source : WrittenRule
   pub among : Contains written source
-  pub makes : Contains (rules_of_rule variables source) rule
+  pub makes : Contains (rules_of_rule language variables source) rule
   pub stands : place ≡ place_of_rule source
 
 -- there are as many places as rules, and each rule is made of the written ones at the place that stands for it
-abbrev pub AreMadeAt : List Variable → List WrittenRule → List Rule → List (Option Place) → Type 0
-AreMadeAt variables written [] [] = Unit
-AreMadeAt variables written [] (place ∷ places) = ⊥
-AreMadeAt variables written (rule ∷ rules) [] = ⊥
-AreMadeAt variables written (rule ∷ rules) (place ∷ places) = IsMadeAt variables written rule place × AreMadeAt variables written rules places
+abbrev pub AreMadeAt : Language → List Variable → List WrittenRule → List Rule → List (Option Place) → Type 0
+AreMadeAt language variables written [] [] = Unit
+AreMadeAt language variables written [] (place ∷ places) = ⊥
+AreMadeAt language variables written (rule ∷ rules) [] = ⊥
+AreMadeAt language variables written (rule ∷ rules) (place ∷ places) = IsMadeAt language variables written rule place × AreMadeAt language variables written rules places
 
 -- So are those of a child or a hat of its own written ones, and its attachment stands where it is written.
-abbrev pub IsChildMadeAt : List Variable → WrittenChild → Child → SectionPlaces → Type 0
-IsChildMadeAt variables written child places =
-    AreMadeAt variables written.rules child.rules places.rules × (places.attachment ≡ place_of_attachment written.head)
+abbrev pub IsChildMadeAt : Language → List Variable → WrittenChild → Child → SectionPlaces → Type 0
+IsChildMadeAt language variables written child places =
+    AreMadeAt language variables written.rules child.rules places.rules × (places.attachment ≡ place_of_attachment written.head)
 
 -- So are those of each of some children and hats: as many of them are written as there are, and there are as many places.
-abbrev pub AreChildrenMadeAt : List Variable → List WrittenChild → List Child → List SectionPlaces → Type 0
-AreChildrenMadeAt variables [] [] [] = Unit
-AreChildrenMadeAt variables (source ∷ written) (child ∷ children) (own ∷ places) =
-    IsChildMadeAt variables source child own × AreChildrenMadeAt variables written children places
-AreChildrenMadeAt variables _ _ _ = ⊥
+abbrev pub AreChildrenMadeAt : Language → List Variable → List WrittenChild → List Child → List SectionPlaces → Type 0
+AreChildrenMadeAt language variables [] [] [] = Unit
+AreChildrenMadeAt language variables (source ∷ written) (child ∷ children) (own ∷ places) =
+    IsChildMadeAt language variables source child own × AreChildrenMadeAt language variables written children places
+AreChildrenMadeAt language variables _ _ _ = ⊥
 
 -- the rules among the members of a block
 abbrev pub rule_in : Member → List WrittenRule
@@ -61,23 +62,23 @@ abbrev pub children_in : List Member → List WrittenChild
 children_in members = flat_map child_in members
 
 -- So are those of a profile, of the rules of its own block, and those of its children and hats.
-abbrev pub IsProfileMadeAt : List Variable → WrittenProfile → Profile → ProfilePlaces → Type 0
-IsProfileMadeAt variables written profile places =
-    AreMadeAt variables (rules_in written.members) profile.rules places.own.rules
+abbrev pub IsProfileMadeAt : Language → List Variable → WrittenProfile → Profile → ProfilePlaces → Type 0
+IsProfileMadeAt language variables written profile places =
+    AreMadeAt language variables (rules_in written.members) profile.rules places.own.rules
     × (places.own.attachment ≡ place_of_attachment written.head)
-    × AreChildrenMadeAt variables (children_in written.members) profile.children places.children
+    × AreChildrenMadeAt language variables (children_in written.members) profile.children places.children
 
 -- So are those of each of some profiles.
-abbrev pub AreProfilesMadeAt : List Variable → List WrittenProfile → List Profile → List ProfilePlaces → Type 0
-AreProfilesMadeAt variables [] [] [] = Unit
-AreProfilesMadeAt variables (source ∷ written) (profile ∷ profiles) (own ∷ places) =
-    IsProfileMadeAt variables source profile own × AreProfilesMadeAt variables written profiles places
-AreProfilesMadeAt variables _ _ _ = ⊥
+abbrev pub AreProfilesMadeAt : Language → List Variable → List WrittenProfile → List Profile → List ProfilePlaces → Type 0
+AreProfilesMadeAt language variables [] [] [] = Unit
+AreProfilesMadeAt language variables (source ∷ written) (profile ∷ profiles) (own ∷ places) =
+    IsProfileMadeAt language variables source profile own × AreProfilesMadeAt language variables written profiles places
+AreProfilesMadeAt language variables _ _ _ = ⊥
 
 -- So are those of the profiles of a file: what is written is what its tokens make by the grammar, and the variables are its own.
-abbrev pub AreFileMadeAt : List HandedIn → List ℕ → List Profile → List ProfilePlaces → Type 0
-AreFileMadeAt files name profiles places =
+abbrev pub AreFileMadeAt : Language → List HandedIn → List ℕ → List Profile → List ProfilePlaces → Type 0
+AreFileMadeAt language files name profiles places =
     (tokens : List Placed) × (written : File) × (variables : List Variable)
-    × (spliced files name ≡ Ok tokens) × (file tokens ≡ Ok written)
+    × (spliced files name ≡ Ok tokens) × (file language tokens ≡ Ok written)
     × (variables_of written.assignments (of_profiles written.profiles) ≡ Ok variables)
-    × AreProfilesMadeAt variables written.profiles profiles places
+    × AreProfilesMadeAt language variables written.profiles profiles places

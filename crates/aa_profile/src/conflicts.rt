@@ -11,14 +11,14 @@ ghost use Rattle.aa_profile.specs.Conflicts.{conflict_in_members, conflict_in_pr
 ghost use Rattle.aa_profile_patterns.specs.PatternTokens.{of_members, of_profiles, of_rule, of_rules};
 ghost use Rattle.aa_profile_patterns.specs.Patterns.{are_counted};
 ghost use Rattle.aa_profile_patterns.specs.Refusals.{IsRefusal};
-ghost use Rattle.aa_profile.specs.Profiles.{children_of, profile_of, rules_of, rules_of_members};
+ghost use Rattle.aa_profile_making.specs.Profiles.{children_of, profile_of, rules_of, rules_of_members};
 ghost use Rattle.aa_profile.specs.code.ConflictProgress.{Passes};
 
 use aa_profile_conflicts::first_conflict;
 use aa_profile_data::{Child, Profile, Rule};
 use aa_profile_errors::{ProfileError, ProfileRefusal, placed};
 use aa_profile_grammar::{Member, Profile as WrittenProfile, Rule as WrittenRule};
-use aa_profile_parsing::place_of;
+use aa_profile_parsing::{Language, place_of};
 use aa_profile_patterns::rule_count;
 use aa_text_files::Place;
 use aa_text_variables::ExpansionTable;
@@ -30,6 +30,7 @@ fn pattern_of(rule: &WrittenRule<'_>) -> Option<Place>
 {
     match rule {
         WrittenRule::OnFile { pattern, .. } => Some(place_of(*pattern)),
+        WrittenRule::All { word, .. } => Some(place_of(*word)),
         WrittenRule::OnCapabilities { .. }
         | WrittenRule::OnNetwork { .. }
         | WrittenRule::Kept { .. } => None,
@@ -39,12 +40,13 @@ fn pattern_of(rule: &WrittenRule<'_>) -> Option<Place>
 // Goes over a written rule on the way to the first conflict, which stands `on` rules on, if there is one. Tells the place of its pattern where the
 // conflict stands in it.
 fn pass(
+    language: Language,
     table: &mut ExpansionTable<'_>,
     rule: &WrittenRule<'_>,
     on: &mut Option<usize>,
 ) -> Result<Option<Place>, ProfileError>
     requires { are_counted table.old (of_rule (seen_rule rule.now)) ≡ true }
-    ensures passes { IfOk result (λ found. Passes table.old (seen_rule rule.now) on.old on.new found) }
+    ensures passes { IfOk result (λ found. Passes language table.old (seen_rule rule.now) on.old on.new found) }
     ensures memory { IfErr result (λ error. error ≡ plain Memory) }
     ensures same { table.new ≡ table.old }
 {
@@ -62,20 +64,21 @@ fn pass(
 // The place of the first pattern of written rules that makes one which conflicts with one before it. `rules` are those that they make.
 fn conflict_in_rules(
     alloc: Global,
+    language: Language,
     table: &mut ExpansionTable<'_>,
     written: &[WrittenRule<'_>],
     rules: &[Rule],
 ) -> Result<Option<Place>, ProfileError>
     requires counted { are_counted table.old (of_rules (map seen_rule written.now)) ≡ true }
-    requires made { rules.now ≡ rules_of table.old (map seen_rule written.now) }
-    ensures found { IfOk result (λ found. found ≡ option_map place_of (conflict_in_rules table.old [] (map seen_rule written.now))) }
+    requires made { rules.now ≡ rules_of language table.old (map seen_rule written.now) }
+    ensures found { IfOk result (λ found. found ≡ option_map place_of (conflict_in_rules language table.old [] (map seen_rule written.now))) }
     ensures memory { IfErr result (λ error. error ≡ plain Memory) }
     ensures same { table.new ≡ table.old }
 {
     let mut on = first_conflict(alloc, rules)?;
     let mut rest = written;
     while let [rule, behind @ ..] = rest {
-        if let Some(place) = pass(table, rule, &mut on)? {
+        if let Some(place) = pass(language, table, rule, &mut on)? {
             return Ok(Some(place));
         }
         rest = behind;
@@ -86,15 +89,16 @@ fn conflict_in_rules(
 // The same of the members of a block. `rules` and `children` are those that they make.
 fn conflict_in_members(
     alloc: Global,
+    language: Language,
     table: &mut ExpansionTable<'_>,
     members: &[Member<'_>],
     rules: &[Rule],
     children: &[Child],
 ) -> Result<Option<Place>, ProfileError>
     requires counted { are_counted table.old (of_members (map seen_member members.now)) ≡ true }
-    requires rules { rules.now ≡ rules_of_members table.old (map seen_member members.now) }
-    requires children { children.now ≡ children_of table.old (map seen_member members.now) }
-    ensures found { IfOk result (λ found. found ≡ option_map place_of (conflict_in_members table.old [] (map seen_member members.now))) }
+    requires rules { rules.now ≡ rules_of_members language table.old (map seen_member members.now) }
+    requires children { children.now ≡ children_of language table.old (map seen_member members.now) }
+    ensures found { IfOk result (λ found. found ≡ option_map place_of (conflict_in_members language table.old [] (map seen_member members.now))) }
     ensures memory { IfErr result (λ error. error ≡ plain Memory) }
     ensures same { table.new ≡ table.old }
 {
@@ -104,7 +108,7 @@ fn conflict_in_members(
     while let [member, behind @ ..] = rest {
         match member {
             Member::OfRule(rule) => {
-                if let Some(place) = pass(table, rule, &mut on)? {
+                if let Some(place) = pass(language, table, rule, &mut on)? {
                     return Ok(Some(place));
                 }
             }
@@ -112,6 +116,7 @@ fn conflict_in_members(
                 if let [first, others @ ..] = made {
                     if let Some(place) = conflict_in_rules(
                         alloc,
+                        language,
                         table,
                         &child.rules,
                         first.rules.as_slice(),
@@ -130,13 +135,14 @@ fn conflict_in_members(
 // The same of profiles. `profiles` are those that they make.
 fn conflict_in_profiles(
     alloc: Global,
+    language: Language,
     table: &mut ExpansionTable<'_>,
     written: &[WrittenProfile<'_>],
     profiles: &[Profile],
 ) -> Result<Option<Place>, ProfileError>
     requires counted { are_counted table.old (of_profiles (map seen_profile written.now)) ≡ true }
-    requires made { profiles.now ≡ map (profile_of table.old) (map seen_profile written.now) }
-    ensures found { IfOk result (λ found. found ≡ option_map place_of (conflict_in_profiles table.old (map seen_profile written.now))) }
+    requires made { profiles.now ≡ map (profile_of language table.old) (map seen_profile written.now) }
+    ensures found { IfOk result (λ found. found ≡ option_map place_of (conflict_in_profiles language table.old (map seen_profile written.now))) }
     ensures memory { IfErr result (λ error. error ≡ plain Memory) }
     ensures same { table.new ≡ table.old }
 {
@@ -146,6 +152,7 @@ fn conflict_in_profiles(
         if let [first, others @ ..] = made {
             if let Some(place) = conflict_in_members(
                 alloc,
+                language,
                 table,
                 &profile.members,
                 first.rules.as_slice(),
@@ -168,17 +175,18 @@ fn conflict_in_profiles(
 /// place: memory ran out.
 pub fn check_conflicts(
     alloc: Global,
+    language: Language,
     table: &mut ExpansionTable<'_>,
     written: &[WrittenProfile<'_>],
     profiles: &[Profile],
 ) -> Result<(), ProfileError>
     requires counted { are_counted table.old (of_profiles (map seen_profile written.now)) ≡ true }
-    requires made { profiles.now ≡ map (profile_of table.old) (map seen_profile written.now) }
-    ensures ok { OnOk result (refusal_of_conflicts table.old (map seen_profile written.now) ≡ None) }
-    ensures refused { IsRefusal (refusal_of_conflicts table.old (map seen_profile written.now)) result }
+    requires made { profiles.now ≡ map (profile_of language table.old) (map seen_profile written.now) }
+    ensures ok { OnOk result (refusal_of_conflicts language table.old (map seen_profile written.now) ≡ None) }
+    ensures refused { IsRefusal (refusal_of_conflicts language table.old (map seen_profile written.now)) result }
     ensures same { table.new ≡ table.old }
 {
-    match conflict_in_profiles(alloc, table, written, profiles)? {
+    match conflict_in_profiles(alloc, language, table, written, profiles)? {
         Some(place) => Err(placed(ProfileRefusal::ExecConflict, place)),
         None => Ok(()),
     }

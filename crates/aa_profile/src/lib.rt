@@ -4,22 +4,19 @@
 mod assignments;
 mod conflicts;
 mod file_profiles;
-mod file_rules;
-mod kept_rules;
 mod laws;
-mod profiles;
 mod reading;
 
 pub use aa_profile_access::{ExecWord, Perms};
 pub use aa_profile_data::{
-    CapRule, Child, FileRule, Mode, NetRule, OtherRule, Profile, Rule, Transition,
+    CapRule, Child, FileRule, Mode, NetRule, OtherRule, Profile, Rank, Rule, Transition,
 };
 pub use aa_profile_errors::{ProfileError, ProfileRefusal};
-pub use aa_profile_parsing::GrammarRefusal;
+pub use aa_profile_parsing::{GrammarRefusal, Language};
 pub use aa_profile_patterns::{MOST_RULES, ProfilePlaces, SectionPlaces};
 pub use file_profiles::FileProfiles;
 pub use laws::{
-    how_profiles_are_named, when_conflicts_are_refused, where_rules_are_made,
-    which_numbers_rules_have, which_patterns_read, which_rules_agree,
+    how_profiles_are_named, what_language_3_has_not, when_conflicts_are_refused,
+    where_rules_are_made, which_numbers_rules_have, which_patterns_read, which_rules_agree,
 };
-pub use reading::read_file;
+pub use reading::{read_file, read_file_in};

@@ -7,8 +7,8 @@ ghost use Rattle.aa_profile_parsing.specs.SeenTokens.{seen_tokens};
 ghost use Rattle.aa_profile_data.specs.Conflicts.{profile_agrees};
 ghost use Rattle.aa_profile_data.specs.Numbers.{profile_has_known_numbers};
 ghost use Rattle.aa_profile_data.specs.Profile.{are_distinct};
-ghost use Rattle.aa_profile.specs.FilePlaces.{file_places, places_in};
-ghost use Rattle.aa_profile.specs.FileReading.{file_profiles, profiles_in, profiles_with};
+ghost use Rattle.aa_profile.specs.FilePlaces.{file_places, file_places_in, places_in};
+ghost use Rattle.aa_profile.specs.FileReading.{file_profiles, file_profiles_in, profiles_in, profiles_with};
 ghost use Rattle.aa_profile.specs.code.FileReadingProgress.{IsRefusalOf, has_no_value};
 ghost use Rattle.aa_profile_patterns.specs.PatternTokens.{of_profiles};
 ghost use Rattle.aa_profile_patterns.specs.Patterns.{have_expansions};
@@ -20,9 +20,10 @@ ghost use Rattle.aa_profile_errors.specs.declared.profile_error.ProfileRefusal.T
 use crate::assignments::read_variables;
 use crate::conflicts::check_conflicts;
 use crate::file_profiles::FileProfiles;
-use crate::profiles::read_profiles;
 use aa_profile_errors::ProfileError;
 use aa_profile_grammar::File;
+use aa_profile_making::read_profiles;
+use aa_profile_parsing::Language;
 use aa_profile_patterns::{check_limit, pattern_tokens, read_places};
 use aa_profile_rules::which_numbers_rules_have;
 use aa_text_files::Files;
@@ -33,37 +34,42 @@ use std::alloc::Global;
 // The profiles of a file as it is written, with its variables and the tokens of its patterns, and where they have what they have.
 fn read_with(
     alloc: Global,
+    language: Language,
     variables: &Variables,
     patterns: &[Spliced<'_>],
     file: &File<'_>,
 ) -> Result<FileProfiles, ProfileError>
     requires tokens { seen_tokens patterns.now ≡ of_profiles (map seen_profile file.now.profiles.items) }
     requires expand { have_expansions variables.now (seen_tokens patterns.now) ≡ true }
-    ensures ok { IfOk result (λ read. profiles_with variables.now (seen_file file.now) ≡ Ok read.profiles.items) }
-    ensures places { IfOk result (λ read. read.places.items ≡ map (places_of_profile variables.now) (map seen_profile file.now.profiles.items)) }
-    ensures refused { IsRefusalOf (profiles_with variables.now (seen_file file.now)) result }
+    ensures ok { IfOk result (λ read. profiles_with language variables.now (seen_file file.now) ≡ Ok read.profiles.items) }
+    ensures places { IfOk result (λ read. read.places.items ≡ map (places_of_profile language variables.now) (map seen_profile file.now.profiles.items)) }
+    ensures refused { IsRefusalOf (profiles_with language variables.now (seen_file file.now)) result }
 {
     let mut table = ExpansionTable::new(alloc, variables);
     check_limit(&mut table, patterns)?;
-    let profiles = read_profiles(alloc, &mut table, &file.profiles)?;
-    check_conflicts(alloc, &mut table, &file.profiles, &profiles)?;
-    let places = read_places(alloc, &mut table, &file.profiles)?;
+    let profiles = read_profiles(alloc, language, &mut table, &file.profiles)?;
+    check_conflicts(alloc, language, &mut table, &file.profiles, &profiles)?;
+    let places = read_places(alloc, language, &mut table, &file.profiles)?;
     Ok(FileProfiles { profiles, places })
 }
 
 // The profiles of a file as it is written, and where they have what they have.
-fn read_written(alloc: Global, file: &File<'_>) -> Result<FileProfiles, ProfileError>
+fn read_written(
+    alloc: Global,
+    language: Language,
+    file: &File<'_>,
+) -> Result<FileProfiles, ProfileError>
     requires { list_any has_no_value (map seen_assignment file.now.assignments.items) ≡ false }
-    ensures ok { IfOk result (λ read. profiles_in (seen_file file.now) ≡ Ok read.profiles.items) }
-    ensures places { IfOk result (λ read. places_in (seen_file file.now) ≡ Some read.places.items) }
-    ensures refused { IsRefusalOf (profiles_in (seen_file file.now)) result }
+    ensures ok { IfOk result (λ read. profiles_in language (seen_file file.now) ≡ Ok read.profiles.items) }
+    ensures places { IfOk result (λ read. places_in language (seen_file file.now) ≡ Some read.places.items) }
+    ensures refused { IsRefusalOf (profiles_in language (seen_file file.now)) result }
 {
     let patterns = pattern_tokens(alloc, &file.profiles)?;
     let variables = read_variables(alloc, &file.assignments, &patterns)?;
-    read_with(alloc, &variables, &patterns, file)
+    read_with(alloc, language, &variables, &patterns, file)
 }
 
-/// The profiles that a file of the handed-in ones spells, in its order, and where they have what they have. A file rule is one rule for each expansion of
+/// The profiles that a file of the handed-in ones spells, read by a language, in its order, and where they have what they have. A file rule is one rule for each expansion of
 /// its pattern, and these share its target and stand at one place. Variables are put into attachments and patterns alone: names, targets and rules that
 /// are kept stay as they are written. A place is a byte offset in the file, or in one that that includes. Flags that decide nothing come with the places.
 ///
@@ -79,8 +85,34 @@ fn read_written(alloc: Global, file: &File<'_>) -> Result<FileProfiles, ProfileE
 /// - As `Pattern::read` refuses the first expansion that is no pattern, once its runs of slashes are collapsed; `TooLong` goes by the
 ///   bytes before that. It is told at the attachment or pattern.
 /// - `ExecConflict`, at the first pattern that makes a rule which conflicts with one before it in its profile, child or hat: two allow rules lead
-///   a program to different places, both by exact patterns or both by others, and some path matches both.
+///   a program to different places with one rank, and some path matches both.
 /// - `Memory`, without a place: memory ran out.
+pub fn read_file_in(
+    alloc: Global,
+    language: Language,
+    files: &Files,
+    name: &[u8],
+) -> Result<FileProfiles, ProfileError>
+    ensures ok { IfOk result (λ read. file_profiles_in language files.now name.now ≡ Ok read.profiles.items) }
+    ensures places { IfOk result (λ read. file_places_in language files.now name.now ≡ Some read.places.items) }
+    ensures distinct { IfOk result (λ read. are_distinct read.profiles.items ≡ true) }
+    ensures named { IfOk result (λ read. list_all is_named_well read.profiles.items ≡ true) }
+    ensures children { IfOk result (λ read. list_all has_distinct_children read.profiles.items ≡ true) }
+    ensures numbers { IfOk result (λ read. list_all profile_has_known_numbers read.profiles.items ≡ true) }
+    ensures agree { IfOk result (λ read. list_all profile_agrees read.profiles.items ≡ true) }
+    ensures refused { IsRefusalOf (file_profiles_in language files.now name.now) result }
+{
+    which_numbers_rules_have();
+    let tokens = spliced(alloc, files, name)?;
+    let file = aa_profile_grammar::read_file(alloc, language, &tokens)?;
+    read_written(alloc, language, &file)
+}
+
+/// What `read_file_in` gives by language 3.
+///
+/// # Errors
+///
+/// As `read_file_in`.
 pub fn read_file(alloc: Global, files: &Files, name: &[u8]) -> Result<FileProfiles, ProfileError>
     ensures ok { IfOk result (λ read. file_profiles files.now name.now ≡ Ok read.profiles.items) }
     ensures places { IfOk result (λ read. file_places files.now name.now ≡ Some read.places.items) }
@@ -91,8 +123,5 @@ pub fn read_file(alloc: Global, files: &Files, name: &[u8]) -> Result<FileProfil
     ensures agree { IfOk result (λ read. list_all profile_agrees read.profiles.items ≡ true) }
     ensures refused { IsRefusalOf (file_profiles files.now name.now) result }
 {
-    which_numbers_rules_have();
-    let tokens = spliced(alloc, files, name)?;
-    let file = aa_profile_grammar::read_file(alloc, &tokens)?;
-    read_written(alloc, &file)
+    read_file_in(alloc, Language::Three, files, name)
 }

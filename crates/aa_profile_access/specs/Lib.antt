@@ -6,5 +6,7 @@ pub mod Laws
 pub mod Names
 pub mod Request
 pub mod SeenRequests
+pub mod SeenStacks
+pub mod Stacks
 pub mod WrittenAccess
 pub mod code

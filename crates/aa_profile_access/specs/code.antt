@@ -1,2 +1,3 @@
--- What is about the code: how far the text of an access is read.
+-- What is about the code: how far the text of an access, or of a stack, is read.
 pub mod Beginnings
+pub mod StackParts

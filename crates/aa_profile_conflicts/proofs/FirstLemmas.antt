@@ -7,43 +7,40 @@ use Rattle.aa_glob_pairs.proofs.LeastLemmas.{least_as}
 use Rattle.aa_glob_pairs.specs.Clashes.{IsLeast}
 use Rattle.aa_profile_conflicts.proofs.PlacedLemmas.{lead-from, lead-to, order}
 use Rattle.aa_profile_conflicts.specs.Conflicting.{ConflictBy, ConflictsAt, lesser}
-use Rattle.aa_profile_conflicts.specs.Leads.{is_alike}
-use Rattle.aa_profile_data.proofs.ConflictLemmas.{Meets, alike-same, alike-self, any-earlier, apart-from, apart-parts, conflict-apart, conflict-leads, earlier-any, meets-back, meets-first, meets-here, meets-on, true-apart}
+use Rattle.aa_profile_data.proofs.ConflictLemmas.{Meets, any-earlier, apart-from, apart-parts, conflict-apart, conflict-leads, earlier-any, meets-back, meets-first, meets-here, meets-on, true-apart}
+use Rattle.aa_profile_data.proofs.RankLemmas.{rank-self, same-ranks}
 use Rattle.aa_profile_data.specs.Conflicts.{Lead, conflict, first_conflict, lead_apart, lead_of}
+use Rattle.aa_profile_data.specs.Ranks.{same_rank}
+use Rattle.aa_profile_data.specs.declared.profile.Rank.{Rank}
+use Rattle.aa_profile_data.specs.declared.profile.Rank.TheVariants.{Last, Loose, Plain}
 use Rattle.aa_profile_data.specs.declared.profile.Rule.{Rule}
 
--- two rules conflict by exact patterns or by others
-pub conflict-join : (exact : Bool) (one other : Rule) → ConflictBy exact one other → conflict one other ≡ true
-conflict-join exact one other h =
-    let (here, same_here) = lead-from exact one h.here h.leads_here in
-    let (there, same_there) = lead-from exact other h.there h.leads_there in
-    let first : (h.here).exact ≡ exact = alike-same (h.here).exact exact same_here in
-    let second : (h.there).exact ≡ exact = alike-same (h.there).exact exact same_there in
+-- two rules that lead apart with one rank conflict
+pub conflict-join : (rank : Rank) (one other : Rule) → ConflictBy rank one other → conflict one other ≡ true
+conflict-join rank one other h =
+    let (here, same_here) = lead-from rank one h.here h.leads_here in
+    let (there, same_there) = lead-from rank other h.there h.leads_there in
+    let first : (h.here).rank ≡ rank = same-ranks (h.here).rank rank same_here in
+    let second : (h.there).rank ≡ rank = same-ranks (h.there).rank rank same_there in
     conflict-apart one other h.here h.there here there ∙ apart-from h.here h.there (first ∙ sym second) h.differ h.overlap
 
-conflict-by : (exact : Bool) (one other : Rule) (here there : Lead) → here.exact ≡ exact → lead_of one ≡ Some here → lead_of other ≡ Some there → lead_apart here there ≡ true
-    → ConflictBy exact one other
-conflict-by exact one other here there kind leads_here leads_there apart =
+conflict-by : (one other : Rule) (here there : Lead) → lead_of one ≡ Some here → lead_of other ≡ Some there → lead_apart here there ≡ true → ConflictBy here.rank one other
+conflict-by one other here there leads_here leads_there apart =
     let (alike, differ, overlap) = apart-parts here there apart in
-    let same : there.exact ≡ exact = sym alike ∙ kind in
     record {
       here = here;
       there = there;
-      leads_here = lead-to exact one here leads_here (ap (λ b. is_alike b exact) kind ∙ alike-self exact);
-      leads_there = lead-to exact other there leads_there (ap (λ b. is_alike b exact) same ∙ alike-self exact);
+      leads_here = lead-to here.rank one here leads_here (rank-self here.rank);
+      leads_there = lead-to here.rank other there leads_there (ap (λ rank. same_rank rank here.rank) (sym alike) ∙ rank-self here.rank);
       differ = differ;
       overlap = overlap;
     }
 
-pub conflict-split : (one other : Rule) → conflict one other ≡ true → ConflictBy true one other ⊎ ConflictBy false one other
+-- and two that conflict do so with some rank
+pub conflict-split : (one other : Rule) → conflict one other ≡ true → (rank : Rank) × ConflictBy rank one other
 conflict-split one other is =
     let (here, there, leads_here, leads_there, apart) = conflict-leads one other is in
-    by here there leads_here leads_there apart here.exact refl
-  where
-    by : (here there : Lead) → lead_of one ≡ Some here → lead_of other ≡ Some there → lead_apart here there ≡ true
-        → (kind : Bool) → here.exact ≡ kind → ConflictBy true one other ⊎ ConflictBy false one other
-    by here there a b apart true e = inl (conflict-by true one other here there e a b apart)
-    by here there a b apart false e = inr (conflict-by false one other here there e a b apart)
+    (here.rank, conflict-by one other here there leads_here leads_there apart)
 
 -- the first that conflicts is the least place of one that does
 pub first-least : (before rules : List Rule) → IsLeast (first_conflict before rules) (Meets before rules)
@@ -67,20 +64,30 @@ first-least before (rule ∷ rules) = by (list_any (conflict rule) before) refl 
     by true e found rest = (meets-first before rule rules e, λ k h. omega arith)
     by false e found rest = least found e rest
 
--- so the rule at a place meets an earlier one where they conflict by exact patterns or by others
-pub meets-from : (rules : List Rule) (place : ℕ) → Meets [] rules place → ConflictsAt true rules place ⊎ ConflictsAt false rules place
+-- the rule at a place conflicts with an earlier one with one of the three ranks
+abbrev pub ConflictsBySome : List Rule → ℕ → Type 0
+ConflictsBySome rules place = (ConflictsAt Plain rules place ⊎ ConflictsAt Loose rules place) ⊎ ConflictsAt Last rules place
+
+by-rank : (rank : Rank) (rules : List Rule) (place : ℕ) → ConflictsAt rank rules place → ConflictsBySome rules place
+by-rank Last rules place h = inr h
+by-rank Loose rules place h = inl (inr h)
+by-rank Plain rules place h = inl (inl h)
+
+-- so the rule at a place meets an earlier one where they conflict with one of them
+pub meets-from : (rules : List Rule) (place : ℕ) → Meets [] rules place → ConflictsBySome rules place
 meets-from rules place (other, at, meets) =
     let (before, one, earlier, there, is) = any-earlier (conflict other) rules place meets in
-    elim (conflict-split other one is) [
-      | inl by ↦ inl (record { before = before; earlier = earlier; one = one; one_there = there; other = other; other_there = at; conflict = by })
-      | inr by ↦ inr (record { before = before; earlier = earlier; one = one; one_there = there; other = other; other_there = at; conflict = by })
-    ]
+    let (rank, by) = conflict-split other one is in
+    by-rank rank rules place (record { before = before; earlier = earlier; one = one; one_there = there; other = other; other_there = at; conflict = by })
 
-meets-by : (exact : Bool) (rules : List Rule) (place : ℕ) → ConflictsAt exact rules place → Meets [] rules place
-meets-by exact rules place h = (h.other, h.other_there, earlier-any (conflict h.other) rules h.before place h.one h.earlier h.one_there (conflict-join exact h.other h.one h.conflict))
+meets-by : (rank : Rank) (rules : List Rule) (place : ℕ) → ConflictsAt rank rules place → Meets [] rules place
+meets-by rank rules place h = (h.other, h.other_there, earlier-any (conflict h.other) rules h.before place h.one h.earlier h.one_there (conflict-join rank h.other h.one h.conflict))
 
-pub meets-to : (rules : List Rule) (place : ℕ) → ConflictsAt true rules place ⊎ ConflictsAt false rules place → Meets [] rules place
-meets-to rules place h = elim h [ inl by ↦ meets-by true rules place by | inr by ↦ meets-by false rules place by ]
+pub meets-to : (rules : List Rule) (place : ℕ) → ConflictsBySome rules place → Meets [] rules place
+meets-to rules place h = elim h [
+  | inl above ↦ elim above [ inl by ↦ meets-by Plain rules place by | inr by ↦ meets-by Loose rules place by ]
+  | inr by ↦ meets-by Last rules place by
+]
 
 -- there is one least number of a kind
 pub least-one : (one other : Option ℕ) (Kind : ℕ → Type 0) → IsLeast one Kind → IsLeast other Kind → one ≡ other
@@ -105,11 +112,13 @@ lesser-least (Some i) (Some j) Kind Other a b = (there, least)
     least : (k : ℕ) → Kind k ⊎ Other k → min i j ≤ k
     least k h = elim h [ inl first ↦ let less = a.1 k first in omega arith | inr second ↦ let less = b.1 k second in omega arith ]
 
--- so it is the first that conflicts
-pub first-of-both : (rules : List Rule) (exact other : Option ℕ) → IsLeast exact (ConflictsAt true rules) → IsLeast other (ConflictsAt false rules)
-    → lesser exact other ≡ first_conflict [] rules
-first-of-both rules exact other a b =
-    least-one (lesser exact other) (first_conflict [] rules) (Meets [] rules)
-    (least_as (lesser exact other) (λ k. ConflictsAt true rules k ⊎ ConflictsAt false rules k) (Meets [] rules) (λ k. (meets-to rules k, meets-from rules k))
-    (lesser-least exact other (ConflictsAt true rules) (ConflictsAt false rules) a b))
+-- so that of the three ranks is the first that conflicts
+pub first-of-all : (rules : List Rule) (plain loose last : Option ℕ)
+    → IsLeast plain (ConflictsAt Plain rules) → IsLeast loose (ConflictsAt Loose rules) → IsLeast last (ConflictsAt Last rules)
+    → lesser (lesser plain loose) last ≡ first_conflict [] rules
+first-of-all rules plain loose last a b c =
+    let above = lesser-least plain loose (ConflictsAt Plain rules) (ConflictsAt Loose rules) a b in
+    least-one (lesser (lesser plain loose) last) (first_conflict [] rules) (Meets [] rules)
+    (least_as (lesser (lesser plain loose) last) (ConflictsBySome rules) (Meets [] rules) (λ k. (meets-to rules k, meets-from rules k))
+    (lesser-least (lesser plain loose) last (λ k. ConflictsAt Plain rules k ⊎ ConflictsAt Loose rules k) (ConflictsAt Last rules) above c))
     (first-least [] rules)

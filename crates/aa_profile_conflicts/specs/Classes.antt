@@ -4,6 +4,7 @@ use Rattle.std.specs.Borrow.{Bor}
 use Rattle.aa_profile_conflicts.specs.declared.classes.Classes.{Classes}
 use Rattle.aa_profile_conflicts.specs.Leads.{leads}
 use Rattle.aa_profile_data.specs.Conflicts.{Lead, same_transition}
+use Rattle.aa_profile_data.specs.declared.profile.Rank.{Rank}
 use Rattle.aa_profile_data.specs.declared.profile.Rule.{Rule}
 use Rattle.aa_profile_data.specs.declared.profile.Transition.{Transition}
 
@@ -47,6 +48,6 @@ abbrev pub AreClassesOfLeads : Classes → List Lead → Type 0
 AreClassesOfLeads classes leads = AreClassesBy leads (seen_transitions classes.transitions.items) classes.classes.items
 
 -- Classes of where any rules lead so have become those of where these lead and one rule more.
-abbrev pub AddsRule : Bool → Rule → Classes → Classes → Type 0
-AddsRule exact rule before after =
-    (rules : List Rule) → AreClassesOfLeads before (leads exact rules) → AreClassesOfLeads after (leads exact (rules ++ rule ∷ []))
+abbrev pub AddsRule : Rank → Rule → Classes → Classes → Type 0
+AddsRule rank rule before after =
+    (rules : List Rule) → AreClassesOfLeads before (leads rank rules) → AreClassesOfLeads after (leads rank (rules ++ rule ∷ []))

@@ -6,7 +6,7 @@ ghost use Rattle.aa_profile_conflicts.specs.Leads.{leads};
 ghost use Rattle.aa_profile_data.specs.Conflicts.{Lead};
 
 use crate::lead::lead_by;
-use aa_profile_data::{Rule, Transition};
+use aa_profile_data::{Rank, Rule, Transition};
 use std::alloc::{AllocError, Global};
 
 /// The classes of some leads.
@@ -84,31 +84,31 @@ impl<'a> Classes<'a> {
         }
     }
 
-    // Where a rule leads more, if it leads somewhere by a pattern that is exact, or by one that isn't.
-    fn add_rule(&mut self, exact: bool, rule: &'a Rule) -> Result<(), AllocError>
-        ensures { OnOk result (AddsRule exact rule.now self.old self.new) }
+    // Where a rule leads more, if it leads somewhere with this rank.
+    fn add_rule(&mut self, rank: Rank, rule: &'a Rule) -> Result<(), AllocError>
+        ensures { OnOk result (AddsRule rank rule.now self.old self.new) }
     {
-        match lead_by(exact, rule) {
+        match lead_by(rank, rule) {
             None => Ok(()),
             Some(lead) => self.add(lead.transition),
         }
     }
 }
 
-/// The classes of where some rules lead by patterns that are exact, or by others.
+/// The classes of where some rules lead with this rank.
 ///
 /// # Errors
 ///
 /// Where memory runs out.
-pub fn classes_of(alloc: Global, exact: bool, rules: &[Rule]) -> Result<Classes<'_>, AllocError>
-    ensures { IfOk result (λ classes. AreClassesOfLeads classes (leads exact rules.now)) }
+pub fn classes_of(alloc: Global, rank: Rank, rules: &[Rule]) -> Result<Classes<'_>, AllocError>
+    ensures { IfOk result (λ classes. AreClassesOfLeads classes (leads rank rules.now)) }
 {
     let mut classes = Classes {
         transitions: Vec::new(alloc),
         classes: Vec::new(alloc),
     };
     for rule in rules {
-        classes.add_rule(exact, rule)?;
+        classes.add_rule(rank, rule)?;
     }
     Ok(classes)
 }

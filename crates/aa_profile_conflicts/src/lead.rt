@@ -6,15 +6,15 @@ ghost use Rattle.aa_profile_conflicts.specs.Leads.{lead_by, seen_lead};
 ghost use Rattle.aa_profile_data.specs.Conflicts.{lead_of};
 
 use aa_glob_pattern::Pattern;
-use aa_profile_data::{Rule, Transition};
+use aa_profile_data::{Rank, Rule, Transition};
 
 /// Where a rule leads the programs whose paths its pattern matches.
 #[derive(Clone, Copy)]
 pub struct Lead<'a> {
     /// The pattern.
     pub pattern: &'a Pattern,
-    /// Whether it is exact.
-    pub exact: bool,
+    /// Before which others that decides.
+    pub rank: Rank,
     /// Under what they run then.
     pub transition: &'a Transition,
 }
@@ -33,20 +33,20 @@ fn lead_of(rule: &Rule) -> Option<Lead<'_>>
         None => None,
         Some(transition) => Some(Lead {
             pattern: &rule.pattern,
-            exact: rule.pattern.is_exact(),
+            rank: rule.rank,
             transition,
         }),
     }
 }
 
-/// Where a rule leads by a pattern that is exact, or by one that isn't.
-pub fn lead_by(exact: bool, rule: &Rule) -> Option<Lead<'_>>
-    ensures { option_map seen_lead result ≡ lead_by exact rule.now }
+/// Where a rule leads, if with this rank.
+pub fn lead_by(rank: Rank, rule: &Rule) -> Option<Lead<'_>>
+    ensures { option_map seen_lead result ≡ lead_by rank rule.now }
 {
     match lead_of(rule) {
         None => None,
         Some(lead) => {
-            if lead.exact == exact {
+            if lead.rank.is_same(rank) {
                 Some(lead)
             } else {
                 None

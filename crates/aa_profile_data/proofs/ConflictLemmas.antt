@@ -6,29 +6,16 @@ use Rattle.std.specs.Option.{option_map}
 use Rattle.std.proofs.lemmas.List.Elements.{All-contains}
 use Rattle.aa_glob_pattern.specs.Laws.{OverlapsAreTested}
 use Rattle.aa_glob_pattern.specs.Shared.{overlaps}
-use Rattle.aa_glob_syntax.specs.Exactness.{is_exact}
 use Rattle.aa_glob_syntax.specs.Reading.{items_of, reading}
 use Rattle.aa_profile_data.proofs.PlaceLemmas.{Contains-from_get}
+use Rattle.aa_profile_data.proofs.RankLemmas.{rank-self, same-ranks}
 use Rattle.aa_profile_data.proofs.TransitionLemmas.{and-both, and-first, and-second, equal-same, same-equal}
 use Rattle.aa_profile_data.specs.ConflictLaws.{HasReadPattern, NoneConflict}
 use Rattle.aa_profile_data.specs.Conflicts.{Conflict, Lead, agree, conflict, first_conflict, lead_apart, lead_of, same_transition}
+use Rattle.aa_profile_data.specs.Ranks.{same_rank}
 use Rattle.aa_profile_data.specs.declared.profile.Rule.{Rule}
 use Rattle.aa_profile_data.specs.declared.profile.Rule.TheVariants.{Cap, File, Net, Other}
 use Rattle.aa_profile_data.specs.declared.profile.Transition.{Transition}
-
--- both are exact, or neither
-abbrev pub Alike : Bool → Bool → Bool
-Alike one other = if one then other else not other
-
-pub alike-self : (exact : Bool) → Alike exact exact ≡ true
-alike-self true = refl
-alike-self false = refl
-
-pub alike-same : (one other : Bool) → Alike one other ≡ true → one ≡ other
-alike-same true true alike = refl
-alike-same true false alike = absurd (cc)
-alike-same false true alike = absurd (cc)
-alike-same false false alike = refl
 
 not-true : (b : Bool) → not b ≡ true → b ≡ false
 not-true true is = absurd (cc)
@@ -43,21 +30,21 @@ by-test false never = refl
 
 -- what two leads are that are apart
 pub apart-parts : (here there : Lead) → lead_apart here there ≡ true
-    → (here.exact ≡ there.exact) × (same_transition here.transition there.transition ≡ false) × (overlaps here.pattern there.pattern ≡ true)
+    → (here.rank ≡ there.rank) × (same_transition here.transition there.transition ≡ false) × (overlaps here.pattern there.pattern ≡ true)
 apart-parts here there apart =
     let differ = not (same_transition here.transition there.transition) in
     let overlap = overlaps here.pattern there.pattern in
-    let rest = and-second (Alike here.exact there.exact) (differ && overlap) apart in (
-      alike-same here.exact there.exact (and-first (Alike here.exact there.exact) (differ && overlap) apart),
+    let rest = and-second (same_rank here.rank there.rank) (differ && overlap) apart in (
+      same-ranks here.rank there.rank (and-first (same_rank here.rank there.rank) (differ && overlap) apart),
       not-true (same_transition here.transition there.transition) (and-first differ overlap rest),
       and-second differ overlap rest,
     )
 
-pub apart-from : (here there : Lead) → here.exact ≡ there.exact → same_transition here.transition there.transition ≡ false → overlaps here.pattern there.pattern ≡ true
+pub apart-from : (here there : Lead) → here.rank ≡ there.rank → same_transition here.transition there.transition ≡ false → overlaps here.pattern there.pattern ≡ true
     → lead_apart here there ≡ true
 apart-from here there alike differ overlap =
-    and-both (Alike here.exact there.exact) (not (same_transition here.transition there.transition) && overlaps here.pattern there.pattern)
-    (ap (λ b. Alike b there.exact) alike ∙ alike-self there.exact)
+    and-both (same_rank here.rank there.rank) (not (same_transition here.transition there.transition) && overlaps here.pattern there.pattern)
+    (ap (λ rank. same_rank rank there.rank) alike ∙ rank-self there.rank)
     (and-both (not (same_transition here.transition there.transition)) (overlaps here.pattern there.pattern) (ap not differ) overlap)
 
 -- two rules conflict where their leads are apart
@@ -83,12 +70,12 @@ lead-read (File rule) lead read is = by rule.deny rule.exec is
     by : (deny : Bool) (exec : Option Transition)
         → (if deny
         then None
-        else option_map (λ transition. record { pattern = rule.pattern; exact = is_exact (items_of rule.pattern); transition = transition }) exec) ≡ Some lead
+        else option_map (λ transition. record { pattern = rule.pattern; rank = rule.rank; transition = transition }) exec) ≡ Some lead
         → reading lead.pattern ≡ Ok (items_of lead.pattern)
     by true exec is = absurd (cc)
     by false None is = absurd (cc)
     by false (Some transition) is =
-        let own : Lead = record { pattern = rule.pattern; exact = is_exact (items_of rule.pattern); transition = transition } in
+        let own : Lead = record { pattern = rule.pattern; rank = rule.rank; transition = transition } in
         let same : own ≡ lead = cc in
         subst (λ (text : List ℕ). reading text ≡ Ok (items_of text)) (ap (λ (l : Lead). l.pattern) same) read
 lead-read (Cap rule) lead read is = absurd (cc)

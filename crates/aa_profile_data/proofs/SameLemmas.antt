@@ -3,9 +3,11 @@ use Rattle.std.proofs.Common.{◌≡◌, ℕ, Bool, true, false, ◌&&◌, ◌==
 use Rattle.std.proofs.lemmas.Bool.{eq-eqb, eqb-true}
 use Rattle.std.proofs.lemmas.Slice.Eq.{bytes_eq-Decides}
 use Rattle.std.specs.Str.{bytes_eq}
+use Rattle.aa_profile_data.proofs.RankLemmas.{rank-self, same-ranks}
 use Rattle.aa_profile_data.proofs.TransitionLemmas.{and-first, and-second, same-equal, same-refl, target-equal, target-same}
 use Rattle.aa_profile_data.specs.Conflicts.{same_target}
 use Rattle.aa_profile_data.specs.SameRules.{same_cap_rule, same_exec, same_file_rule, same_flag, same_net_rule, same_number, same_other_rule, same_rule}
+use Rattle.aa_profile_data.specs.Ranks.{same_rank}
 use Rattle.aa_profile_data.specs.declared.profile.CapRule.{CapRule}
 use Rattle.aa_profile_data.specs.declared.profile.FileRule.{FileRule}
 use Rattle.aa_profile_data.specs.declared.profile.NetRule.{NetRule}
@@ -56,26 +58,30 @@ halves a b both = (and-first a b both, and-second a b both)
 
 file-equal : (one other : FileRule) → same_file_rule one other ≡ true → one ≡ other
 file-equal one other same =
-    let h6 = halves (bytes_eq one.pattern other.pattern && (one.access.0 == other.access.0) && same_exec one.exec other.exec && same_target one.link other.link
-    && same_flag one.owner other.owner && same_flag one.deny other.deny) (same_flag one.audit other.audit) same in
-    let h5 = halves (bytes_eq one.pattern other.pattern && (one.access.0 == other.access.0) && same_exec one.exec other.exec && same_target one.link other.link
-    && same_flag one.owner other.owner) (same_flag one.deny other.deny) h6.0 in
-    let h4 = halves (bytes_eq one.pattern other.pattern && (one.access.0 == other.access.0) && same_exec one.exec other.exec && same_target one.link other.link)
-    (same_flag one.owner other.owner) h5.0 in
-    let h3 = halves (bytes_eq one.pattern other.pattern && (one.access.0 == other.access.0) && same_exec one.exec other.exec) (same_target one.link other.link) h4.0 in
+    let h7 = halves (bytes_eq one.pattern other.pattern && (one.access.0 == other.access.0) && same_exec one.exec other.exec && same_rank one.rank other.rank
+    && same_target one.link other.link && same_flag one.owner other.owner && same_flag one.deny other.deny) (same_flag one.audit other.audit) same in
+    let h6 = halves (bytes_eq one.pattern other.pattern && (one.access.0 == other.access.0) && same_exec one.exec other.exec && same_rank one.rank other.rank
+    && same_target one.link other.link && same_flag one.owner other.owner) (same_flag one.deny other.deny) h7.0 in
+    let h5 = halves (bytes_eq one.pattern other.pattern && (one.access.0 == other.access.0) && same_exec one.exec other.exec && same_rank one.rank other.rank
+    && same_target one.link other.link) (same_flag one.owner other.owner) h6.0 in
+    let h4 = halves (bytes_eq one.pattern other.pattern && (one.access.0 == other.access.0) && same_exec one.exec other.exec && same_rank one.rank other.rank)
+    (same_target one.link other.link) h5.0 in
+    let h3 = halves (bytes_eq one.pattern other.pattern && (one.access.0 == other.access.0) && same_exec one.exec other.exec) (same_rank one.rank other.rank) h4.0 in
     let h2 = halves (bytes_eq one.pattern other.pattern && (one.access.0 == other.access.0)) (same_exec one.exec other.exec) h3.0 in
     let h1 = halves (bytes_eq one.pattern other.pattern) (one.access.0 == other.access.0) h2.0 in
     let pattern = bytes-equal one.pattern other.pattern h1.0 in
     let access = eqb-true one.access.0 other.access.0 h1.1 in
     let exec = exec-equal one.exec other.exec h2.1 in
-    let link = target-equal one.link other.link h3.1 in
-    let owner = flag-equal one.owner other.owner h4.1 in
-    let deny = flag-equal one.deny other.deny h5.1 in
-    let audit = flag-equal one.audit other.audit h6.1 in
+    let rank = same-ranks one.rank other.rank h3.1 in
+    let link = target-equal one.link other.link h4.1 in
+    let owner = flag-equal one.owner other.owner h5.1 in
+    let deny = flag-equal one.deny other.deny h6.1 in
+    let audit = flag-equal one.audit other.audit h7.1 in
     λ i. record {
       pattern = pattern i;
       access = record { 0 = access i };
       exec = exec i;
+      rank = rank i;
       link = link i;
       owner = owner i;
       deny = deny i;
@@ -84,7 +90,7 @@ file-equal one other same =
 
 file-same : (one : FileRule) → same_file_rule one one ≡ true
 file-same one =
-    λ i. bytes-same one.pattern i && eq-eqb one.access.0 one.access.0 refl i && exec-same one.exec i && target-same one.link i
+    λ i. bytes-same one.pattern i && eq-eqb one.access.0 one.access.0 refl i && exec-same one.exec i && rank-self one.rank i && target-same one.link i
     && flag-same one.owner i && flag-same one.deny i && flag-same one.audit i
 
 cap-equal : (one other : CapRule) → same_cap_rule one other ≡ true → one ≡ other

@@ -1,16 +1,16 @@
--- Rules that conflict (docs/policy.md, "Rules that conflict"): two allow rules of one profile or child lead a program to different places, both by
--- exact patterns or both by others, and some path matches both.
+-- Rules that conflict (docs/policy.md, "Rules that conflict"): two allow rules of one profile or child lead a program to different places, with one
+-- rank, and some path matches both.
 use Rattle.std.specs.Prelude.{◌≡◌, ℕ, suc, Bool, true, false, not, ◌&&◌, if◌then◌else◌, List, [], ◌∷◌, ◌++◌, Option, None, Some, is_none}
 use Rattle.std.specs.List.{list_all, list_any}
 use Rattle.std.specs.Option.{option_map}
 use Rattle.std.specs.Str.{bytes_eq}
 use Rattle.aa_glob_pattern.specs.Shared.{overlaps}
-use Rattle.aa_glob_syntax.specs.Exactness.{is_exact}
 use Rattle.aa_glob_syntax.specs.Overlap.{Overlap}
-use Rattle.aa_glob_syntax.specs.Reading.{items_of}
 use Rattle.aa_profile_access.specs.ExecWords.{same_word}
 use Rattle.aa_profile_data.specs.declared.profile.Child.{Child}
+use Rattle.aa_profile_data.specs.Ranks.{same_rank}
 use Rattle.aa_profile_data.specs.declared.profile.Profile.{Profile}
+use Rattle.aa_profile_data.specs.declared.profile.Rank.{Rank}
 use Rattle.aa_profile_data.specs.declared.profile.Rule.{Rule}
 use Rattle.aa_profile_data.specs.declared.profile.Rule.TheVariants.{Cap, File, Net, Other}
 use Rattle.aa_profile_data.specs.declared.profile.Transition.{Transition}
@@ -26,10 +26,10 @@ same_target (Some one) None = false
 abbrev pub same_transition : Transition → Transition → Bool
 same_transition one other = same_word one.word other.word && same_target one.target other.target
 
--- Where a rule leads the programs whose paths its pattern matches: by which pattern, whether that is exact, and under what they run then.
+-- Where a rule leads the programs whose paths its pattern matches: by which pattern, with which rank, and under what they run then.
 pub record Lead : Type 0 where
   pub pattern : List ℕ
-  pub exact : Bool
+  pub rank : Rank
   pub transition : Transition
 
 -- an allow rule on files leads somewhere where it has an exec word
@@ -37,15 +37,15 @@ abbrev pub lead_of : Rule → Option Lead
 lead_of (File rule) =
     if rule.deny
     then None
-    else option_map (λ transition. record { pattern = rule.pattern; exact = is_exact (items_of rule.pattern); transition = transition }) rule.exec
+    else option_map (λ transition. record { pattern = rule.pattern; rank = rule.rank; transition = transition }) rule.exec
 lead_of (Cap rule) = None
 lead_of (Net rule) = None
 lead_of (Other rule) = None
 
--- two lead to different places, both by exact patterns or both by others, and some path matches both
+-- two lead to different places with one rank, and some path matches both
 abbrev pub lead_apart : Lead → Lead → Bool
 lead_apart one other =
-    (if one.exact then other.exact else not other.exact) && (not (same_transition one.transition other.transition) && overlaps one.pattern other.pattern)
+    same_rank one.rank other.rank && (not (same_transition one.transition other.transition) && overlaps one.pattern other.pattern)
 
 -- two rules conflict
 abbrev pub conflict : Rule → Rule → Bool
@@ -60,7 +60,7 @@ pub record Conflict (one other : Rule) : Type 0 where
   pub there : Lead
   pub leads_here : lead_of one ≡ Some here
   pub leads_there : lead_of other ≡ Some there
-  pub alike : here.exact ≡ there.exact
+  pub alike : here.rank ≡ there.rank
   pub differ : here.transition ≡ there.transition → ⊥
   pub overlap : Overlap here.pattern there.pattern
 

@@ -6,4 +6,5 @@ pub mod Matching
 pub mod Numbers
 pub mod Picked
 pub mod Profile
+pub mod Ranks
 pub mod SameRules

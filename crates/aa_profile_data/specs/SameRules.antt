@@ -3,6 +3,7 @@ use Rattle.std.specs.Prelude.{ℕ, Bool, true, false, not, ◌&&◌, ◌==◌, i
 use Rattle.std.specs.List.{Contains}
 use Rattle.std.specs.Str.{bytes_eq}
 use Rattle.aa_profile_data.specs.Conflicts.{same_target, same_transition}
+use Rattle.aa_profile_data.specs.Ranks.{same_rank}
 use Rattle.aa_profile_data.specs.declared.profile.CapRule.{CapRule}
 use Rattle.aa_profile_data.specs.declared.profile.FileRule.{FileRule}
 use Rattle.aa_profile_data.specs.declared.profile.NetRule.{NetRule}
@@ -31,8 +32,8 @@ same_exec (Some one) None = false
 
 abbrev pub same_file_rule : FileRule → FileRule → Bool
 same_file_rule one other =
-    bytes_eq one.pattern other.pattern && (one.access.0 == other.access.0) && same_exec one.exec other.exec && same_target one.link other.link
-    && same_flag one.owner other.owner && same_flag one.deny other.deny && same_flag one.audit other.audit
+    bytes_eq one.pattern other.pattern && (one.access.0 == other.access.0) && same_exec one.exec other.exec && same_rank one.rank other.rank
+    && same_target one.link other.link && same_flag one.owner other.owner && same_flag one.deny other.deny && same_flag one.audit other.audit
 
 abbrev pub same_cap_rule : CapRule → CapRule → Bool
 same_cap_rule one other = (one.caps == other.caps) && same_flag one.deny other.deny && same_flag one.audit other.audit

@@ -30,8 +30,8 @@ pub fn which_rules_match()
         → IsStrictlyIncreasing (picked (places_from 0 rules) found) }
 {}
 
-/// Two rules whose patterns were read conflict, as the test `conflict` says, exactly where they lead to different places, both by exact patterns or
-/// both by others, and some path matches both. Rules agree exactly where none of them conflicts with an earlier one.
+/// Two rules whose patterns were read conflict, as the test `conflict` says, exactly where they lead to different places with one rank, and some path
+/// matches both. Rules agree exactly where none of them conflicts with an earlier one.
 pub fn how_conflicts_are_tested()
     ensures conflict_is_exact { (one other : Rule) → HasReadPattern one → HasReadPattern other → (conflict one other ≡ true ↔ Conflict one other) }
     ensures agree_is_exact { (rules : List Rule) → All HasReadPattern rules → (agree rules ≡ true ↔ NoneConflict rules) }

@@ -8,5 +8,6 @@ mod same;
 
 pub use laws::{how_conflicts_are_tested, when_rules_are_same, which_rules_match};
 pub use profile::{
-    CapRule, Child, FileRule, Mode, NetRule, OtherRule, Profile, Rule, Transition, child_place,
+    CapRule, Child, FileRule, Mode, NetRule, OtherRule, Profile, Rank, Rule, Transition,
+    child_place,
 };

@@ -3,19 +3,48 @@
 ghost use Rattle.std.specs.Prelude.{◌≡◌, IfOk};
 ghost use Rattle.aa_profile_data.specs.Conflicts.{same_target, same_transition};
 ghost use Rattle.aa_profile_data.specs.Profile.{child_place};
+ghost use Rattle.aa_profile_data.specs.Ranks.{same_rank};
 
 use aa_bytes::{Sequence, SharedBytes, share_option};
 use aa_glob_pattern::Pattern;
 use aa_profile_access::{ExecWord, Perms};
 use std::alloc::{AllocError, Global};
 
-/// Whether what the rules don't allow is refused, or let through and logged.
+/// Whether what the rules don't allow is refused, or let through and logged, or no rule is asked.
 #[derive(Clone, Copy, Debug, PartialEq, Eq)]
 pub enum Mode {
     /// What the rules don't allow is refused.
     Enforce,
     /// What the rules don't allow is let through, unless a rule denies it.
     Complain,
+    /// No rule is asked: all is let through, and nothing is logged.
+    Unconfined,
+}
+
+/// Which exec rules decide where a program goes: of those that apply to its path the ones of the highest rank (docs/policy.md, "The start of a
+/// program"). The rank of a rule without an exec word decides nothing.
+#[derive(Clone, Copy, Debug, PartialEq, Eq)]
+pub enum Rank {
+    /// Below all others.
+    Last,
+    /// That of a pattern that isn't plain.
+    Loose,
+    /// That of a plain pattern, above all others.
+    Plain,
+}
+
+impl Rank {
+    /// Whether another one is the same. It takes no memory.
+    pub fn is_same(self, other: Rank) -> bool
+        ensures { result ≡ same_rank self other }
+    {
+        match (self, other) {
+            (Rank::Last, Rank::Last) => true,
+            (Rank::Loose, Rank::Loose) => true,
+            (Rank::Plain, Rank::Plain) => true,
+            _ => false,
+        }
+    }
 }
 
 /// Under what a program runs that a rule lets be started.
@@ -36,6 +65,8 @@ pub struct FileRule {
     pub access: Perms,
     /// Under what the programs run that it lets be started; none where it has no exec word.
     pub exec: Option<Transition>,
+    /// Before which others that decides.
+    pub rank: Rank,
     /// The target of hard links that it names, which decides nothing. All rules that one written rule makes share it.
     pub link: Option<SharedBytes>,
     /// Whether it applies only where the task's user owns the file.
@@ -197,6 +228,7 @@ impl FileRule {
             pattern: self.pattern.try_copy(alloc)?,
             access: self.access,
             exec: copied_transition(&self.exec)?,
+            rank: self.rank,
             link: share_option(&self.link)?,
             owner: self.owner,
             deny: self.deny,

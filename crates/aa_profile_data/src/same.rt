@@ -42,6 +42,7 @@ fn same_file_rule(one: &FileRule, other: &FileRule) -> bool
     one.pattern.text() == other.pattern.text()
         && one.access == other.access
         && same_exec(&one.exec, &other.exec)
+        && one.rank.is_same(other.rank)
         && same_target(&one.link, &other.link)
         && same_flag(one.owner, other.owner)
         && same_flag(one.deny, other.deny)

@@ -61,7 +61,7 @@ pub fn placed(refusal: ProfileRefusal, place: Place) -> ProfileError
 }
 
 impl ProfileRefusal {
-    /// The number of the refusal: 1 to 10, 20 to 30, 40 to 55, or 99.
+    /// The number of the refusal: 1 to 10, 20 to 30, 40 to 55, 72, or 99.
     pub fn number(self) -> u8
         ensures { result ≡ number_of self }
     {

@@ -1,122 +1,263 @@
 -- What a list of flags says, word by word.
-use Rattle.std.proofs.Common.{◌≡◌, ℕ, Bool, true, false, List, [], ◌∷◌, ◌++◌, Option, None, Some, refl, ap, sym, ◌∙◌, subst}
-use Rattle.std.specs.Prelude.{not, ◌&&◌, ◌||◌, if◌then◌else◌, codes, option_and_then}
+use Rattle.std.proofs.Common.{◌≡◌, ℕ, Bool, true, false, List, [], ◌∷◌, ◌++◌, Option, None, Some, Result, Ok, Err, refl, ap, sym, ◌∙◌, subst}
+use Rattle.std.specs.Prelude.{not, ◌&&◌, ◌||◌, if◌then◌else◌, codes, is_some}
 use Rattle.std.specs.List.{filter, list_all, onto_first, slice_split}
 use Rattle.std.specs.Str.{bytes_eq}
 use Rattle.std.proofs.lemmas.Bool.{and_parts}
 use Rattle.std.proofs.lemmas.Slice.Eq.{bytes_eq-Decides}
 use Rattle.aa_bytes.specs.Texts.{is_empty}
-use Rattle.aa_profile_flags.specs.Flags.{is_idle, separates, unflagged, with_flags, with_item}
-use Rattle.aa_profile_flags.specs.FlagText.{flags_of, has_word, has_words, is_flag, words_of}
+use Rattle.aa_profile_parsing.specs.declared.fault.GrammarRefusal.{GrammarRefusal}
+use Rattle.aa_profile_parsing.specs.declared.language.Language.{Language}
+use Rattle.aa_profile_parsing.specs.declared.language.Language.TheVariants.{Four, Three}
+use Rattle.aa_profile_flags.specs.Flags.{is_idle, mode_flag, name_of_mode, refusal_of_word, same_mode, separates, unflagged, wider_mode_flag, with_flag, with_flags, with_item, with_mode}
+use Rattle.aa_profile_flags.specs.FlagText.{flags_of, has_word, has_words, is_flag, mode_flags, one_mode, words_of}
 use Rattle.aa_profile_flags.specs.declared.flags.Flags.{Flags}
+use Rattle.aa_profile_flags.specs.declared.flags.ModeFlag.{ModeFlag}
+use Rattle.aa_profile_flags.specs.declared.flags.ModeFlag.TheVariants.{Complain, DefaultAllow, Enforce, Unconfined}
 use Rattle.aa_profile_flags.proofs.FlagLemmas.{first_word}
 
--- flags that stood before, and what further words say: whether all are flags, and which of the three that decide something are among them
-abbrev together : Flags → Bool → Bool → Bool → Bool → Option Flags
-together flags all enforce complain audit =
-    if all && not ((flags.enforce || enforce) && (flags.complain || complain))
-    then Some (record { enforce = flags.enforce || enforce; complain = flags.complain || complain; audit = flags.audit || audit })
-    else None
+-- the flags that are read of words, where none is refused
+abbrev pub given : Result Flags GrammarRefusal → Option Flags
+given found = elim found [ Err refusal ↦ None | Ok flags ↦ Some flags ]
 
-abbrev behind : Flags → List (List ℕ) → Option Flags
-behind flags words = together flags (list_all is_flag words) (has_word (codes "enforce") words) (has_word (codes "complain") words) (has_word (codes "audit") words)
+-- what comes of flags, where none is refused
+abbrev pub then_flags : Result Flags GrammarRefusal → (Flags → Result Flags GrammarRefusal) → Result Flags GrammarRefusal
+then_flags found next = elim found [ Err refusal ↦ Err refusal | Ok more ↦ next more ]
+
+-- four tests, one for each mode flag
+abbrev pub by_mode : Bool → Bool → Bool → Bool → ModeFlag → Bool
+by_mode e c u d Enforce = e
+by_mode e c u d Complain = c
+by_mode e c u d Unconfined = u
+by_mode e c u d DefaultAllow = d
+
+-- a mode flag stood before
+abbrev is_before : Option ModeFlag → ModeFlag → Bool
+is_before None mode = false
+is_before (Some before) mode = same_mode before mode
+
+-- what is said, from whether all words are flags, whether `audit` is among them, and from the one mode flag that is
+abbrev pub told_by : Bool → Bool → Option (Option ModeFlag) → Option Flags
+told_by all audit found = if all then elim found [ None ↦ None | Some mode ↦ Some (record { mode = mode; audit = audit }) ] else None
+
+-- flags that stood before, and what further words say: whether all are flags, and which of those that decide something are among them
+abbrev together : Flags → Bool → Bool → Bool → Bool → Bool → Bool → Option Flags
+together flags all e c u d audit =
+    told_by all (flags.audit || audit) (one_mode (filter (λ mode. is_before flags.mode mode || by_mode e c u d mode) mode_flags))
+
+abbrev behind : Language → Flags → List (List ℕ) → Option Flags
+behind language flags words =
+    together flags (list_all (is_flag language) words) (has_word (codes "enforce") words) (has_word (codes "complain") words) (has_word (codes "unconfined") words)
+    (has_word (codes "default_allow") words) (has_word (codes "audit") words)
 
 -- no more than these
-none-behind : (enforce complain audit : Bool) → enforce && complain ≡ false
-    → Some (record { enforce = enforce; complain = complain; audit = audit }) ≡ together (record { enforce = enforce; complain = complain; audit = audit }) true false false false
-none-behind true true audit h = absurd (cc)
-none-behind true false true h = refl
-none-behind true false false h = refl
-none-behind false true true h = refl
-none-behind false true false h = refl
-none-behind false false true h = refl
-none-behind false false false h = refl
+none-behind : (mode : Option ModeFlag) (audit : Bool)
+    → Some (record { mode = mode; audit = audit }) ≡ together (record { mode = mode; audit = audit }) true false false false false false
+none-behind None true = refl
+none-behind None false = refl
+none-behind (Some Enforce) true = refl
+none-behind (Some Enforce) false = refl
+none-behind (Some Complain) true = refl
+none-behind (Some Complain) false = refl
+none-behind (Some Unconfined) true = refl
+none-behind (Some Unconfined) false = refl
+none-behind (Some DefaultAllow) true = refl
+none-behind (Some DefaultAllow) false = refl
 
--- one of the three flags first, and then the others
-enforce-first : (enforce audit all e c a : Bool)
-    → together (record { enforce = true; complain = false; audit = audit }) all e c a ≡ together (record { enforce = enforce; complain = false; audit = audit }) all true c a
-enforce-first true audit all e c a = refl
-enforce-first false audit all e c a = refl
+-- two mode flags say nothing
+two-ec : (all audit u d : Bool) → None ≡ told_by all audit (one_mode (filter (by_mode true true u d) mode_flags))
+two-ec false audit u d = refl
+two-ec true audit u d = refl
 
-complain-first : (complain audit all e c a : Bool)
-    → together (record { enforce = false; complain = true; audit = audit }) all e c a ≡ together (record { enforce = false; complain = complain; audit = audit }) all e true a
-complain-first true audit all e c a = refl
-complain-first false audit all e c a = refl
+two-eu : (all audit c d : Bool) → None ≡ told_by all audit (one_mode (filter (by_mode true c true d) mode_flags))
+two-eu false audit c d = refl
+two-eu true audit true d = refl
+two-eu true audit false d = refl
 
-audit-first : (enforce complain audit all e c a : Bool)
-    → together (record { enforce = enforce; complain = complain; audit = true }) all e c a ≡ together (record { enforce = enforce; complain = complain; audit = audit }) all e c true
-audit-first enforce complain true all e c a = refl
-audit-first enforce complain false all e c a = refl
+two-ed : (all audit c u : Bool) → None ≡ told_by all audit (one_mode (filter (by_mode true c u true) mode_flags))
+two-ed false audit c u = refl
+two-ed true audit true true = refl
+two-ed true audit true false = refl
+two-ed true audit false true = refl
+two-ed true audit false false = refl
 
--- the two modes together say nothing
-both-modes : (enforce complain audit all e c a : Bool) → enforce || e ≡ true → complain || c ≡ true
-    → None ≡ together (record { enforce = enforce; complain = complain; audit = audit }) all e c a
-both-modes enforce complain audit true e c a he hc = rw (he, hc) refl
-both-modes enforce complain audit false e c a he hc = refl
+two-cu : (all audit e d : Bool) → None ≡ told_by all audit (one_mode (filter (by_mode e true true d) mode_flags))
+two-cu false audit e d = refl
+two-cu true audit true d = refl
+two-cu true audit false d = refl
 
--- flags and a word of which it is known which of the three it is, and whether it is a flag that decides nothing
-abbrev with_known : Flags → Bool → Bool → Bool → Bool → Option Flags
-with_known flags enforce complain audit idle =
-    if enforce then (if flags.complain then None else Some (record { enforce = true; complain = false; audit = flags.audit })) else
-    if complain then (if flags.enforce then None else Some (record { enforce = false; complain = true; audit = flags.audit })) else
-    if audit then Some (record { enforce = flags.enforce; complain = flags.complain; audit = true }) else
-    if idle then Some flags else
-    None
+two-cd : (all audit e u : Bool) → None ≡ told_by all audit (one_mode (filter (by_mode e true u true) mode_flags))
+two-cd false audit e u = refl
+two-cd true audit true true = refl
+two-cd true audit true false = refl
+two-cd true audit false true = refl
+two-cd true audit false false = refl
+
+two-ud : (all audit e c : Bool) → None ≡ told_by all audit (one_mode (filter (by_mode e c true true) mode_flags))
+two-ud false audit e c = refl
+two-ud true audit true true = refl
+two-ud true audit true false = refl
+two-ud true audit false true = refl
+two-ud true audit false false = refl
+
+-- a mode flag first, and then the others
+mode-first : (mode : Option ModeFlag) (audit : Bool) (first : ModeFlag) (next : Flags → Result Flags GrammarRefusal) (all e c u d a : Bool)
+    → ((more : Flags) → given (next more) ≡ together more all e c u d a)
+    → given (then_flags (with_mode (record { mode = mode; audit = audit }) first) next)
+    ≡ together (record { mode = mode; audit = audit }) all (bytes_eq (name_of_mode first) (codes "enforce") || e) (bytes_eq (name_of_mode first) (codes "complain") || c)
+    (bytes_eq (name_of_mode first) (codes "unconfined") || u) (bytes_eq (name_of_mode first) (codes "default_allow") || d) (bytes_eq (name_of_mode first) (codes "audit") || a)
+mode-first None audit Enforce next all e c u d a more = more (record { mode = Some Enforce; audit = audit })
+mode-first None audit Complain next all e c u d a more = more (record { mode = Some Complain; audit = audit })
+mode-first None audit Unconfined next all e c u d a more = more (record { mode = Some Unconfined; audit = audit })
+mode-first None audit DefaultAllow next all e c u d a more = more (record { mode = Some DefaultAllow; audit = audit })
+mode-first (Some Enforce) audit Enforce next all e c u d a more = more (record { mode = Some Enforce; audit = audit })
+mode-first (Some Enforce) audit Complain next all e c u d a more = two-ec all (audit || a) u d
+mode-first (Some Enforce) audit Unconfined next all e c u d a more = two-eu all (audit || a) c d
+mode-first (Some Enforce) audit DefaultAllow next all e c u d a more = two-ed all (audit || a) c u
+mode-first (Some Complain) audit Enforce next all e c u d a more = two-ec all (audit || a) u d
+mode-first (Some Complain) audit Complain next all e c u d a more = more (record { mode = Some Complain; audit = audit })
+mode-first (Some Complain) audit Unconfined next all e c u d a more = two-cu all (audit || a) e d
+mode-first (Some Complain) audit DefaultAllow next all e c u d a more = two-cd all (audit || a) e u
+mode-first (Some Unconfined) audit Enforce next all e c u d a more = two-eu all (audit || a) c d
+mode-first (Some Unconfined) audit Complain next all e c u d a more = two-cu all (audit || a) e d
+mode-first (Some Unconfined) audit Unconfined next all e c u d a more = more (record { mode = Some Unconfined; audit = audit })
+mode-first (Some Unconfined) audit DefaultAllow next all e c u d a more = two-ud all (audit || a) e c
+mode-first (Some DefaultAllow) audit Enforce next all e c u d a more = two-ed all (audit || a) c u
+mode-first (Some DefaultAllow) audit Complain next all e c u d a more = two-cd all (audit || a) e u
+mode-first (Some DefaultAllow) audit Unconfined next all e c u d a more = two-ud all (audit || a) e c
+mode-first (Some DefaultAllow) audit DefaultAllow next all e c u d a more = more (record { mode = Some DefaultAllow; audit = audit })
+
+-- `audit` first, and then the others
+audit-first : (mode : Option ModeFlag) (audit : Bool) (next : Flags → Result Flags GrammarRefusal) (all e c u d a : Bool)
+    → ((more : Flags) → given (next more) ≡ together more all e c u d a)
+    → given (next (record { mode = mode; audit = true })) ≡ together (record { mode = mode; audit = audit }) all e c u d true
+audit-first mode true next all e c u d a more = more (record { mode = mode; audit = true })
+audit-first mode false next all e c u d a more = more (record { mode = mode; audit = true })
+
+-- flags and a word of which it is known which mode flag it is, if it is one, whether it is `audit`, and whether it is a flag that decides nothing
+abbrev with_known : Flags → Option ModeFlag → Bool → Bool → GrammarRefusal → Result Flags GrammarRefusal
+with_known flags found audit idle refusal = elim found [
+  | Some mode ↦ with_mode flags mode
+  | None ↦
+      if audit then Ok (record { mode = flags.mode; audit = true }) else
+      if idle then Ok flags else
+      Err refusal
+]
+
+-- a word that is no mode flag first, and then the others
+plain-first : (flags : Flags) (next : Flags → Result Flags GrammarRefusal) (is_e is_c is_u is_d is_audit idle : Bool) (refusal : GrammarRefusal) (all e c u d a : Bool)
+    → ((is_audit || idle) ≡ true → (is_e ≡ false) × (is_c ≡ false) × (is_u ≡ false) × (is_d ≡ false))
+    → ((more : Flags) → given (next more) ≡ together more all e c u d a)
+    → given (then_flags (with_known flags None is_audit idle refusal) next)
+    ≡ together flags ((is_audit || idle) && all) (is_e || e) (is_c || c) (is_u || u) (is_d || d) (is_audit || a)
+plain-first flags next is_e is_c is_u is_d true idle refusal all e c u d a none more =
+    let other = none refl in rw (other.0, other.1, other.2, other.3) (audit-first flags.mode flags.audit next all e c u d a more)
+plain-first flags next is_e is_c is_u is_d false true refusal all e c u d a none more =
+    let other = none refl in rw (other.0, other.1, other.2, other.3) (more flags)
+plain-first flags next is_e is_c is_u is_d false false refusal all e c u d a none more = refl
+
+-- no mode flag is another flag
+not-plain : (language : Language) (mode : ModeFlag) → (bytes_eq (name_of_mode mode) (codes "audit") || is_idle language (name_of_mode mode)) ≡ false
+not-plain Three Enforce = refl
+not-plain Three Complain = refl
+not-plain Three Unconfined = refl
+not-plain Three DefaultAllow = refl
+not-plain Four Enforce = refl
+not-plain Four Complain = refl
+not-plain Four Unconfined = refl
+not-plain Four DefaultAllow = refl
+
+pub other-text : (language : Language) (word : List ℕ) (mode : ModeFlag) → (bytes_eq word (codes "audit") || is_idle language word) ≡ true
+    → bytes_eq word (name_of_mode mode) ≡ false
+other-text language word mode h = by (bytes_eq word (name_of_mode mode)) refl
+  where
+    by : (same : Bool) → bytes_eq word (name_of_mode mode) ≡ same → bytes_eq word (name_of_mode mode) ≡ false
+    by true e =
+        let own = ap (λ (text : List ℕ). bytes_eq text (codes "audit") || is_idle language text) (sym ((bytes_eq-Decides word (name_of_mode mode)).0 e)) in
+        let wrong : false ≡ true = sym (not-plain language mode) ∙ (own ∙ h) in
+        absurd (cc)
+    by false e = e
+
+-- a word that is a mode flag is its name
+same-mode_flag : (one other : ModeFlag) → ◌≡◌ {A = Option ModeFlag} (Some one) (Some other) → one ≡ other
+same-mode_flag one other h = ap (λ (found : Option ModeFlag). elim found [ None ↦ one | Some own ↦ own ]) h
+
+wider-named : (language : Language) (word : List ℕ) (mode : ModeFlag) → wider_mode_flag language word ≡ Some mode → word ≡ name_of_mode mode
+wider-named Three word mode h = absurd (cc)
+wider-named Four word mode h = by (bytes_eq word (codes "unconfined")) (bytes_eq word (codes "default_allow")) refl refl h
+  where
+    by : (u d : Bool) → bytes_eq word (codes "unconfined") ≡ u → bytes_eq word (codes "default_allow") ≡ d
+        → ◌≡◌ {A = Option ModeFlag} (if u then Some Unconfined else if d then Some DefaultAllow else None) (Some mode) → word ≡ name_of_mode mode
+    by true d e f is = (bytes_eq-Decides word (codes "unconfined")).0 e ∙ ap name_of_mode (same-mode_flag Unconfined mode is)
+    by false true e f is = (bytes_eq-Decides word (codes "default_allow")).0 f ∙ ap name_of_mode (same-mode_flag DefaultAllow mode is)
+    by false false e f is = absurd (cc)
+
+pub mode-named : (language : Language) (word : List ℕ) (mode : ModeFlag) → mode_flag language word ≡ Some mode → word ≡ name_of_mode mode
+mode-named language word mode h = by (bytes_eq word (codes "enforce")) (bytes_eq word (codes "complain")) refl refl h
+  where
+    by : (e c : Bool) → bytes_eq word (codes "enforce") ≡ e → bytes_eq word (codes "complain") ≡ c
+        → ◌≡◌ {A = Option ModeFlag} (if e then Some Enforce else if c then Some Complain else wider_mode_flag language word) (Some mode) → word ≡ name_of_mode mode
+    by true c p q is = (bytes_eq-Decides word (codes "enforce")).0 p ∙ ap name_of_mode (same-mode_flag Enforce mode is)
+    by false true p q is = (bytes_eq-Decides word (codes "complain")).0 q ∙ ap name_of_mode (same-mode_flag Complain mode is)
+    by false false p q is = wider-named language word mode is
 
 -- a word first, and then the others
-known-first : (enforce complain audit : Bool) (next : Flags → Option Flags) (e c a i all he hc ha : Bool) → enforce && complain ≡ false → e && c ≡ false → e && a ≡ false → c && a ≡ false
-    → ((more : Flags) → more.enforce && more.complain ≡ false → next more ≡ together more all he hc ha)
-    → option_and_then next (with_known (record { enforce = enforce; complain = complain; audit = audit }) e c a i)
-    ≡ together (record { enforce = enforce; complain = complain; audit = audit }) ((e || c || a || i) && all) (e || he) (c || hc) (a || ha)
-known-first enforce complain audit next true true a i all he hc ha h ec ea ca more = absurd (cc)
-known-first enforce complain audit next true false true i all he hc ha h ec ea ca more = absurd (cc)
-known-first enforce complain audit next false true true i all he hc ha h ec ea ca more = absurd (cc)
-known-first true true audit next true false false i all he hc ha h ec ea ca more = absurd (cc)
-known-first false true audit next true false false i all he hc ha h ec ea ca more = both-modes false true audit all true hc ha refl refl
-known-first enforce false audit next true false false i all he hc ha h ec ea ca more =
-    more (record { enforce = true; complain = false; audit = audit }) refl ∙ enforce-first enforce audit all he hc ha
-known-first true true audit next false true false i all he hc ha h ec ea ca more = absurd (cc)
-known-first true false audit next false true false i all he hc ha h ec ea ca more = both-modes true false audit all he true ha refl refl
-known-first false complain audit next false true false i all he hc ha h ec ea ca more =
-    more (record { enforce = false; complain = true; audit = audit }) refl ∙ complain-first complain audit all he hc ha
-known-first enforce complain audit next false false true i all he hc ha h ec ea ca more =
-    more (record { enforce = enforce; complain = complain; audit = true }) h ∙ audit-first enforce complain audit all he hc ha
-known-first enforce complain audit next false false false true all he hc ha h ec ea ca more = more (record { enforce = enforce; complain = complain; audit = audit }) h
-known-first enforce complain audit next false false false false all he hc ha h ec ea ca more = refl
-
--- a word isn't two texts that differ
-one-text : (word a b : List ℕ) → bytes_eq a b ≡ false → bytes_eq word a && bytes_eq word b ≡ false
-one-text word a b h = by (bytes_eq word a) refl
+word-first : (language : Language) (flags : Flags) (word : List ℕ) (words others : List (List ℕ)) (found : Option ModeFlag) → mode_flag language word ≡ found
+    → ((more : Flags) → given (with_flags language more words) ≡ behind language more others)
+    → given (then_flags (with_flag language flags word) (λ more. with_flags language more words)) ≡ behind language flags (word ∷ others)
+word-first language flags word words others found is more =
+    ap (λ (found : Option ModeFlag). given (then_flags (with_known flags found (bytes_eq word (codes "audit")) (is_idle language word) (refusal_of_word language word)) next)) is
+    ∙ (by found is
+    ∙ ap (λ (found : Option ModeFlag). by_first ((is_some found || bytes_eq word (codes "audit") || is_idle language word) && all) word) (sym is))
   where
-    by : (same : Bool) → bytes_eq word a ≡ same → same && bytes_eq word b ≡ false
-    by true e = ap (λ text. bytes_eq text b) ((bytes_eq-Decides word a).0 e) ∙ h
-    by false e = refl
+    next : Flags → Result Flags GrammarRefusal
+    next more = with_flags language more words
+
+    all : Bool
+    all = list_all (is_flag language) others
+
+    by_first : Bool → List ℕ → Option Flags
+    by_first all word =
+        together flags all (bytes_eq word (codes "enforce") || has_word (codes "enforce") others) (bytes_eq word (codes "complain") || has_word (codes "complain") others)
+        (bytes_eq word (codes "unconfined") || has_word (codes "unconfined") others) (bytes_eq word (codes "default_allow") || has_word (codes "default_allow") others)
+        (bytes_eq word (codes "audit") || has_word (codes "audit") others)
+
+    by : (found : Option ModeFlag) → mode_flag language word ≡ found
+        → given (then_flags (with_known flags found (bytes_eq word (codes "audit")) (is_idle language word) (refusal_of_word language word)) next)
+        ≡ by_first ((is_some found || bytes_eq word (codes "audit") || is_idle language word) && all) word
+    by (Some mode) is =
+        mode-first flags.mode flags.audit mode next all (has_word (codes "enforce") others) (has_word (codes "complain") others) (has_word (codes "unconfined") others)
+        (has_word (codes "default_allow") others) (has_word (codes "audit") others) more
+        ∙ ap (by_first all) (sym (mode-named language word mode is))
+    by None is =
+        plain-first flags next (bytes_eq word (codes "enforce")) (bytes_eq word (codes "complain")) (bytes_eq word (codes "unconfined")) (bytes_eq word (codes "default_allow"))
+        (bytes_eq word (codes "audit")) (is_idle language word) (refusal_of_word language word) all (has_word (codes "enforce") others) (has_word (codes "complain") others)
+        (has_word (codes "unconfined") others) (has_word (codes "default_allow") others) (has_word (codes "audit") others)
+        (λ h. (other-text language word Enforce h, other-text language word Complain h, other-text language word Unconfined h, other-text language word DefaultAllow h)) more
 
 -- words behind flags say what the flags and the words do
-words-behind : (flags : Flags) (words : List (List ℕ)) → flags.enforce && flags.complain ≡ false → with_flags flags words ≡ behind flags (filter (λ word. not (is_empty word)) words)
-words-behind flags [] h = none-behind flags.enforce flags.complain flags.audit h
-words-behind flags ([] ∷ words) h = words-behind flags words h
-words-behind flags ((b ∷ bs) ∷ words) h =
-    let word = b ∷ bs in
-    let others = filter (λ word. not (is_empty word)) words in
-    known-first flags.enforce flags.complain flags.audit (λ more. with_flags more words) (bytes_eq word (codes "enforce")) (bytes_eq word (codes "complain")) (bytes_eq word (codes "audit")) (is_idle word)
-    (list_all is_flag others) (has_word (codes "enforce") others) (has_word (codes "complain") others) (has_word (codes "audit") others)
-    h (one-text word (codes "enforce") (codes "complain") refl) (one-text word (codes "enforce") (codes "audit") refl) (one-text word (codes "complain") (codes "audit") refl)
-    (λ more m. words-behind more words m)
+words-behind : (language : Language) (flags : Flags) (words : List (List ℕ))
+    → given (with_flags language flags words) ≡ behind language flags (filter (λ word. not (is_empty word)) words)
+words-behind language flags [] = none-behind flags.mode flags.audit
+words-behind language flags ([] ∷ words) = words-behind language flags words
+words-behind language flags ((b ∷ bs) ∷ words) =
+    word-first language flags (b ∷ bs) words (filter (λ word. not (is_empty word)) words) (mode_flag language (b ∷ bs)) refl (λ more. words-behind language more words)
 
 -- what a list says goes by its words, wherever they stand
-pub list-said : (text : List ℕ) → with_flags unflagged (slice_split separates text) ≡ flags_of (words_of text)
-list-said text = words-behind unflagged (slice_split separates text) refl
+pub list-said : (language : Language) (text : List ℕ) → given (with_flags language unflagged (slice_split separates text)) ≡ flags_of language (words_of text)
+list-said language text = words-behind language unflagged (slice_split separates text)
 
 -- flags of some words, and of more
-pub with_flags-more : (words more : List (List ℕ)) (flags : Flags) → with_flags flags (words ++ more) ≡ option_and_then (λ found. with_flags found more) (with_flags flags words)
-with_flags-more [] more flags = refl
-with_flags-more (word ∷ words) more flags = by (with_item flags word) (λ found. with_flags-more words more found)
+pub with_flags-more : (language : Language) (words more : List (List ℕ)) (flags : Flags)
+    → with_flags language flags (words ++ more) ≡ then_flags (with_flags language flags words) (λ found. with_flags language found more)
+with_flags-more language [] more flags = refl
+with_flags-more language (word ∷ words) more flags = by (with_item language flags word) (λ found. with_flags-more language words more found)
   where
-    by : (first : Option Flags) → ((found : Flags) → with_flags found (words ++ more) ≡ option_and_then (λ found. with_flags found more) (with_flags found words))
-        → option_and_then (λ found. with_flags found (words ++ more)) first ≡ option_and_then (λ found. with_flags found more) (option_and_then (λ found. with_flags found words) first)
-    by None rest = refl
-    by (Some found) rest = rest found
+    by : (first : Result Flags GrammarRefusal)
+        → ((found : Flags) → with_flags language found (words ++ more) ≡ then_flags (with_flags language found words) (λ found. with_flags language found more))
+        → then_flags first (λ found. with_flags language found (words ++ more)) ≡ then_flags (then_flags first (λ found. with_flags language found words)) (λ found. with_flags language found more)
+    by (Err refusal) rest = refl
+    by (Ok found) rest = rest found
 
 -- a separator stands between words
 pub split-at : (text rest : List ℕ) (b : ℕ) → separates b ≡ true → slice_split separates (text ++ b ∷ rest) ≡ slice_split separates text ++ slice_split separates rest
@@ -193,13 +334,16 @@ stands-among word (first ∷ words) others among is = by (bytes_eq first word) r
     by false e more = let there : has_word word words ≡ true = rw e at is in more parts.1 there
 
 -- the same words say the same, in whatever order and however often they stand
-pub order-is-free : (words others : List (List ℕ)) → has_words words others ≡ true → has_words others words ≡ true → flags_of words ≡ flags_of others
-order-is-free words others there back =
+pub order-is-free : (language : Language) (words others : List (List ℕ)) → has_words words others ≡ true → has_words others words ≡ true
+    → flags_of language words ≡ flags_of language others
+order-is-free language words others there back =
     let test : (word : List ℕ) → has_word word words ≡ has_word word others =
     λ word. same-test (has_word word words) (has_word word others) (stands-among word words others there) (stands-among word others words back)
     in
-    let all = same-test (list_all is_flag words) (list_all is_flag others) (holds-of-all is_flag others words back) (holds-of-all is_flag words others there) in
-    ap (λ all. together unflagged all (has_word (codes "enforce") words) (has_word (codes "complain") words) (has_word (codes "audit") words)) all
-    ∙ (ap (λ e. together unflagged (list_all is_flag others) e (has_word (codes "complain") words) (has_word (codes "audit") words)) (test (codes "enforce"))
-    ∙ (ap (λ c. together unflagged (list_all is_flag others) (has_word (codes "enforce") others) c (has_word (codes "audit") words)) (test (codes "complain"))
-    ∙ ap (together unflagged (list_all is_flag others) (has_word (codes "enforce") others) (has_word (codes "complain") others)) (test (codes "audit"))))
+    let all = same-test (list_all (is_flag language) words) (list_all (is_flag language) others) (holds-of-all (is_flag language) others words back) (holds-of-all (is_flag language) words others there) in
+    ap (λ all. together unflagged all (has_word (codes "enforce") words) (has_word (codes "complain") words) (has_word (codes "unconfined") words) (has_word (codes "default_allow") words) (has_word (codes "audit") words)) all
+    ∙ (ap (λ e. together unflagged (list_all (is_flag language) others) e (has_word (codes "complain") words) (has_word (codes "unconfined") words) (has_word (codes "default_allow") words) (has_word (codes "audit") words)) (test (codes "enforce"))
+    ∙ (ap (λ c. together unflagged (list_all (is_flag language) others) (has_word (codes "enforce") others) c (has_word (codes "unconfined") words) (has_word (codes "default_allow") words) (has_word (codes "audit") words)) (test (codes "complain"))
+    ∙ (ap (λ u. together unflagged (list_all (is_flag language) others) (has_word (codes "enforce") others) (has_word (codes "complain") others) u (has_word (codes "default_allow") words) (has_word (codes "audit") words)) (test (codes "unconfined"))
+    ∙ (ap (λ d. together unflagged (list_all (is_flag language) others) (has_word (codes "enforce") others) (has_word (codes "complain") others) (has_word (codes "unconfined") others) d (has_word (codes "audit") words)) (test (codes "default_allow"))
+    ∙ ap (together unflagged (list_all (is_flag language) others) (has_word (codes "enforce") others) (has_word (codes "complain") others) (has_word (codes "unconfined") others) (has_word (codes "default_allow") others)) (test (codes "audit"))))))

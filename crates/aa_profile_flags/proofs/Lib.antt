@@ -4,3 +4,4 @@ pub mod FlagRefusalLemmas
 pub mod FlagTextLemmas
 pub mod IdleLemmas
 pub mod KeptLemmas
+pub mod NarrowLemmas

@@ -1,5 +1,5 @@
 -- FLAGS as one text, and what their list says (apparmor.d(5), "Profile Flags"; docs/policy.md, "Flags"): what the laws on flags speak of.
-use Rattle.std.specs.Prelude.{◌≡◌, ℕ, Bool, true, false, not, ◌==◌, ◌&&◌, ◌||◌, if◌then◌else◌, List, [], ◌∷◌, ◌++◌, take, drop, Option, None, Some, Ok, codes, MatchOption, IsErr}
+use Rattle.std.specs.Prelude.{◌≡◌, ℕ, Bool, true, false, not, ◌==◌, ◌&&◌, ◌||◌, if◌then◌else◌, List, [], ◌∷◌, ◌++◌, take, drop, Option, None, Some, Ok, codes, is_some, MatchOption, IsErr}
 use Rattle.std.specs.List.{filter, list_all, list_any, prefix_len, slice_split}
 use Rattle.std.specs.Str.{bytes_eq}
 use Rattle.aa_bytes.specs.Bytes.{backslash, closing_parenthesis, comma, equals, is_blank, opening_parenthesis, space}
@@ -8,8 +8,11 @@ use Rattle.aa_text_splicing.specs.Splicing.{Placed}
 use Rattle.aa_text_tokens.specs.declared.cut.TokenKind.TheVariants.{Comma, Word}
 use Rattle.aa_profile_parsing.specs.Parts.{Part}
 use Rattle.aa_profile_parsing.specs.Tokens.{text_of}
-use Rattle.aa_profile_flags.specs.Flags.{is_idle, separates, unflagged}
+use Rattle.aa_profile_parsing.specs.declared.language.Language.{Language}
+use Rattle.aa_profile_flags.specs.Flags.{is_idle, mode_flag, name_of_mode, separates, unflagged}
 use Rattle.aa_profile_flags.specs.declared.flags.Flags.{Flags}
+use Rattle.aa_profile_flags.specs.declared.flags.ModeFlag.{ModeFlag}
+use Rattle.aa_profile_flags.specs.declared.flags.ModeFlag.TheVariants.{Complain, DefaultAllow, Enforce, Unconfined}
 
 -- each blank of a text stands behind a backslash, where this byte stands before the text
 abbrev pub are_blanks_escaped : ℕ → List ℕ → Bool
@@ -37,22 +40,32 @@ words_of text = filter (λ word. not (is_empty word)) (slice_split separates tex
 abbrev pub has_word : List ℕ → List (List ℕ) → Bool
 has_word word words = list_any (λ other. bytes_eq other word) words
 
-abbrev pub is_flag : List ℕ → Bool
-is_flag word = bytes_eq word (codes "enforce") || bytes_eq word (codes "complain") || bytes_eq word (codes "audit") || is_idle word
+abbrev pub is_flag : Language → List ℕ → Bool
+is_flag language word = is_some (mode_flag language word) || bytes_eq word (codes "audit") || is_idle language word
 
 -- each of some words stands among others
 abbrev pub has_words : List (List ℕ) → List (List ℕ) → Bool
 has_words words others = list_all (λ word. has_word word others) words
 
--- `enforce` and `complain` stand among words
-abbrev pub has_both_modes : List (List ℕ) → Bool
-has_both_modes words = has_word (codes "enforce") words && has_word (codes "complain") words
+-- the mode flags
+abbrev pub mode_flags : List ModeFlag
+mode_flags = Enforce ∷ Complain ∷ Unconfined ∷ DefaultAllow ∷ []
 
--- What words say, wherever and however often each of them stands: all have to be flags, and `enforce` and `complain` not be both there.
-abbrev pub flags_of : List (List ℕ) → Option Flags
-flags_of words =
-    if list_all is_flag words && not (has_both_modes words)
-    then Some (record { enforce = has_word (codes "enforce") words; complain = has_word (codes "complain") words; audit = has_word (codes "audit") words })
+-- the mode flags that stand among words
+abbrev pub modes_among : List (List ℕ) → List ModeFlag
+modes_among words = filter (λ mode. has_word (name_of_mode mode) words) mode_flags
+
+-- one of some mode flags, or none where there are none: there may not be two
+abbrev pub one_mode : List ModeFlag → Option (Option ModeFlag)
+one_mode [] = Some None
+one_mode (mode ∷ []) = Some (Some mode)
+one_mode (mode ∷ other ∷ more) = None
+
+-- What words say, wherever and however often each of them stands: all have to be flags, and no two different mode flags be there.
+abbrev pub flags_of : Language → List (List ℕ) → Option Flags
+flags_of language words =
+    if list_all (is_flag language) words
+    then elim (one_mode (modes_among words)) [ None ↦ None | Some mode ↦ Some (record { mode = mode; audit = has_word (codes "audit") words }) ]
     else None
 
 -- what stands behind the blanks that a text begins with
@@ -61,28 +74,28 @@ behind_blanks [] = []
 behind_blanks (b ∷ bs) = if is_blank b then behind_blanks bs else b ∷ bs
 
 -- what a list says that ends with the first `)`, behind which nothing but blanks stands
-abbrev pub said_up_to_parenthesis : List ℕ → Option Flags
-said_up_to_parenthesis text =
+abbrev pub said_up_to_parenthesis : Language → List ℕ → Option Flags
+said_up_to_parenthesis language text =
     let size = prefix_len (λ b. not (b == closing_parenthesis)) text in
     elim (drop size text) [
       | [] ↦ None
-      | parenthesis ∷ behind ↦ if list_all is_blank behind then flags_of (words_of (take size text)) else None
+      | parenthesis ∷ behind ↦ if list_all is_blank behind then flags_of language (words_of (take size text)) else None
     ]
 
 -- what a list in parentheses says
-abbrev pub said_in_parentheses : List ℕ → Option Flags
-said_in_parentheses text = if begins_with_byte opening_parenthesis text then said_up_to_parenthesis (drop 1 text) else None
+abbrev pub said_in_parentheses : Language → List ℕ → Option Flags
+said_in_parentheses language text = if begins_with_byte opening_parenthesis text then said_up_to_parenthesis language (drop 1 text) else None
 
 -- the same behind `=`, and maybe blanks
-abbrev pub said_behind_sign : List ℕ → Option Flags
-said_behind_sign text = if begins_with_byte equals text then said_in_parentheses (behind_blanks (drop 1 text)) else None
+abbrev pub said_behind_sign : Language → List ℕ → Option Flags
+said_behind_sign language text = if begins_with_byte equals text then said_in_parentheses language (behind_blanks (drop 1 text)) else None
 
 -- What FLAGS say as a text: nothing, or a list in parentheses, where `flags` and `=` may stand before it, with or without blanks behind each.
-abbrev pub said : List ℕ → Option Flags
-said text =
+abbrev pub said : Language → List ℕ → Option Flags
+said language text =
     if is_empty text then Some unflagged else
-    if begins_with (codes "flags") text then said_behind_sign (behind_blanks (drop 5 text)) else
-    said_in_parentheses text
+    if begins_with (codes "flags") text then said_behind_sign language (behind_blanks (drop 5 text)) else
+    said_in_parentheses language text
 
 -- the word `flags`, `=` and a text, each behind some blanks
 abbrev pub with_keyword : List ℕ → List ℕ → List ℕ → List ℕ

@@ -3,6 +3,7 @@ use Rattle.std.specs.Prelude.{ℕ, not, ◌==◌, List, drop, take}
 use Rattle.std.specs.List.{filter, prefix_len}
 use Rattle.aa_bytes.specs.Bytes.{closing_parenthesis, opening_parenthesis}
 use Rattle.aa_profile_parsing.specs.Tokens.{is_open_brace}
+use Rattle.aa_profile_parsing.specs.declared.language.Language.{Language}
 use Rattle.aa_text_splicing.specs.Splicing.{Placed}
 use Rattle.aa_profile_flags.specs.FlagText.{spaced, words_of}
 use Rattle.aa_profile_flags.specs.Flags.{is_idle}
@@ -24,9 +25,9 @@ abbrev pub list_text : List ℕ → List ℕ
 list_text text = up_to_parenthesis (drop 1 (drop (prefix_len (λ b. not (b == opening_parenthesis)) text) text))
 
 -- those of a list's words that decide nothing, in their order
-abbrev pub idle_words : List ℕ → List (List ℕ)
-idle_words text = filter is_idle (words_of text)
+abbrev pub idle_words : Language → List ℕ → List (List ℕ)
+idle_words language text = filter (is_idle language) (words_of text)
 
 -- the flags of FLAGS that decide nothing, in their order
-abbrev pub idle_flags : List Placed → List (List ℕ)
-idle_flags tokens = idle_words (list_text (spaced tokens))
+abbrev pub idle_flags : Language → List Placed → List (List ℕ)
+idle_flags language tokens = idle_words language (list_text (spaced tokens))

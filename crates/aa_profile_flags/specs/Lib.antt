@@ -3,4 +3,5 @@ pub mod FlagText
 pub mod Flags
 pub mod IdleFlags
 pub mod KeptFlags
+pub mod NarrowFlags
 pub mod code

@@ -9,6 +9,7 @@ ghost use Rattle.aa_profile_parsing.specs.SeenTokens.{seen_tokens};
 
 use crate::flags::{first_word, is_idle};
 use aa_bytes::{Sequence, behind, length_while};
+use aa_profile_parsing::Language;
 use aa_text_splicing::Spliced;
 use aa_text_tokens::TokenKind;
 use std::alloc::{AllocError, Global};
@@ -70,24 +71,33 @@ fn list_text(text: &[u8]) -> &[u8]
 }
 
 // Appends a word, if it is a flag that decides nothing.
-fn push_if_idle(alloc: Global, word: &[u8], flags: &mut Vec<Sequence<u8>>) -> Result<(), AllocError>
-    ensures { OnOk result (flags.new.items ≡ flags.old.items ++ filter is_idle (word.now ∷ [])) }
+fn push_if_idle(
+    alloc: Global,
+    language: Language,
+    word: &[u8],
+    flags: &mut Vec<Sequence<u8>>,
+) -> Result<(), AllocError>
+    ensures { OnOk result (flags.new.items ≡ flags.old.items ++ filter (is_idle language) (word.now ∷ [])) }
 {
-    if is_idle(word) {
+    if is_idle(language, word) {
         flags.push(Sequence::from_slice(alloc, word)?)?;
     }
     Ok(())
 }
 
 // Those of a list's words that are flags that decide nothing.
-fn idle_words(alloc: Global, text: &[u8]) -> Result<Vec<Sequence<u8>>, AllocError>
-    ensures { IfOk result (λ flags. flags.items ≡ idle_words text.now) }
+fn idle_words(
+    alloc: Global,
+    language: Language,
+    text: &[u8],
+) -> Result<Vec<Sequence<u8>>, AllocError>
+    ensures { IfOk result (λ flags. flags.items ≡ idle_words language text.now) }
 {
     let mut flags = Vec::new(alloc);
     let mut rest = text;
     loop {
         let (word, more) = first_word(rest);
-        push_if_idle(alloc, word, &mut flags)?;
+        push_if_idle(alloc, language, word, &mut flags)?;
         let Some(more) = more else {
             return Ok(flags);
         };
@@ -103,11 +113,12 @@ fn idle_words(alloc: Global, text: &[u8]) -> Result<Vec<Sequence<u8>>, AllocErro
 /// Where memory runs out.
 pub fn idle_flags(
     alloc: Global,
+    language: Language,
     tokens: &[Spliced<'_>],
 ) -> Result<Sequence<Sequence<u8>>, AllocError>
-    ensures { IfOk result (λ flags. flags ≡ idle_flags (seen_tokens tokens.now)) }
+    ensures { IfOk result (λ flags. flags ≡ idle_flags language (seen_tokens tokens.now)) }
 {
     let text = spaced(alloc, tokens)?;
-    let flags = idle_words(alloc, list_text(&text))?;
+    let flags = idle_words(alloc, language, list_text(&text))?;
     Ok(Sequence::from_vec(flags))
 }

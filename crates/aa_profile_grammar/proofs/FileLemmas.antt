@@ -6,6 +6,7 @@ use Rattle.aa_text_splicing.specs.Splicing.{Placed}
 use Rattle.aa_profile_parsing.specs.GrammarError.{told}
 use Rattle.aa_profile_parsing.specs.Parts.{Part}
 use Rattle.aa_profile_parsing.specs.declared.fault.GrammarRefusal.TheVariants.{NoProfile}
+use Rattle.aa_profile_parsing.specs.declared.language.Language.{Language}
 use Rattle.aa_profile_parsing.specs.declared.grammar_error.GrammarError.{GrammarError}
 use Rattle.aa_profile_grammar.specs.Blocks.{Profile, all_profiles}
 use Rattle.aa_profile_grammar.specs.Files.{File, file}
@@ -17,8 +18,8 @@ abbrev with_profiles : List Assignment → Result (List Profile) GrammarError �
 with_profiles assignments (Ok profiles) = Ok (record { assignments = assignments; profiles = profiles })
 with_profiles assignments (Err error) = Err error
 
-file-is : (tokens behind : List Placed) (assignments : List Assignment) → preamble tokens ≡ Ok (assignments, behind) → file tokens ≡ with_profiles assignments (some_profiles behind)
-file-is tokens behind assignments p = rw (p, file) (by (all_profiles behind))
+file-is : (language : Language) (tokens behind : List Placed) (assignments : List Assignment) → preamble tokens ≡ Ok (assignments, behind) → file language tokens ≡ with_profiles assignments (some_profiles language behind)
+file-is language tokens behind assignments p = rw (p, file) (by (all_profiles language behind))
   where
     some : (none : Bool) (profiles : List Profile)
         → (if none then Err (record { refusal = NoProfile; place = None }) else Ok (record { assignments = assignments; profiles = profiles }))
@@ -39,11 +40,11 @@ file-is tokens behind assignments p = rw (p, file) (by (all_profiles behind))
     by (Ok read) = some (is_empty read.0) read.0
 
 -- a file whose preamble and profiles were read
-pub file-read : (tokens behind : List Placed) (assignments : List Assignment) (profiles : List Profile) → preamble tokens ≡ Ok (assignments, behind) → some_profiles behind ≡ Ok profiles
-    → file tokens ≡ Ok (record { assignments = assignments; profiles = profiles })
-file-read tokens behind assignments profiles p s = file-is tokens behind assignments p ∙ ap (with_profiles assignments) s
+pub file-read : (language : Language) (tokens behind : List Placed) (assignments : List Assignment) (profiles : List Profile) → preamble tokens ≡ Ok (assignments, behind) → some_profiles language behind ≡ Ok profiles
+    → file language tokens ≡ Ok (record { assignments = assignments; profiles = profiles })
+file-read language tokens behind assignments profiles p s = file-is language tokens behind assignments p ∙ ap (with_profiles assignments) s
 
 -- a file whose profiles are refused
-pub file-refused : (tokens behind : List Placed) (assignments : List Assignment) (error : GrammarError) → preamble tokens ≡ Ok (assignments, behind) → some_profiles behind ≡ Err error
-    → file tokens ≡ Err error
-file-refused tokens behind assignments error p s = file-is tokens behind assignments p ∙ ap (with_profiles assignments) s
+pub file-refused : (language : Language) (tokens behind : List Placed) (assignments : List Assignment) (error : GrammarError) → preamble tokens ≡ Ok (assignments, behind) → some_profiles language behind ≡ Err error
+    → file language tokens ≡ Err error
+file-refused language tokens behind assignments error p s = file-is language tokens behind assignments p ∙ ap (with_profiles assignments) s

@@ -10,6 +10,7 @@ use Rattle.aa_profile_parsing.specs.declared.fault.Fault.{Fault}
 use Rattle.aa_profile_parsing.specs.declared.fault.Fault.TheVariants.{At, Memory, RanOut}
 use Rattle.aa_profile_parsing.specs.declared.fault.GrammarRefusal.{GrammarRefusal}
 use Rattle.aa_profile_parsing.specs.declared.fault.GrammarRefusal.TheVariants.{BadName, NestedChild, OpenBlock, TwiceNamed}
+use Rattle.aa_profile_parsing.specs.declared.language.Language.{Language}
 use Rattle.aa_profile_rules.specs.Rules.{Rule, rule}
 use Rattle.aa_profile_grammar.specs.Heads.{Head, Named, begins_child, child_name, head, top_name}
 use Rattle.aa_profile_grammar.specs.Preamble.{behind_version}
@@ -50,31 +51,31 @@ abbrev pub refusal_of_name : Bool → Bool → Option GrammarRefusal
 refusal_of_name fits taken = if not fits then Some BadName else if taken then Some TwiceNamed else None
 
 -- a rule in the block of a child or a hat, in which no other may stand
-abbrev pub child_rule : List Placed → Part Rule
-child_rule [] = Err RanOut
-child_rule (token ∷ tokens) = if begins_child token then refused NestedChild token else rule (token ∷ tokens)
+abbrev pub child_rule : Language → List Placed → Part Rule
+child_rule language [] = Err RanOut
+child_rule language (token ∷ tokens) = if begins_child token then refused NestedChild token else rule language (token ∷ tokens)
 
 -- what comes next in the block of a child or a hat
-abbrev pub next_rule : List Placed → Part (Next Rule)
-next_rule [] = Err RanOut
-next_rule (token ∷ tokens) =
+abbrev pub next_rule : Language → List Placed → Part (Next Rule)
+next_rule language [] = Err RanOut
+next_rule language (token ∷ tokens) =
     if is_close_brace token.token.kind then Ok (End, tokens) else
     if is_word_of (codes "abi") token then skipped (behind_version tokens) else
-    followed (child_rule (token ∷ tokens)) (λ rule behind. Ok (Item rule, behind))
+    followed (child_rule language (token ∷ tokens)) (λ rule behind. Ok (Item rule, behind))
 
 abbrev pub is_hat : Form → Bool
 is_hat Hat = true
 is_hat _ = false
 
 -- the rules in the block of a child or a hat, up to its closing brace
-abbrev pub child_block : List Placed → Part (List Rule)
-child_block tokens = rows (λ read. next_rule) tokens
+abbrev pub child_block : Language → List Placed → Part (List Rule)
+child_block language tokens = rows (λ read. next_rule language) tokens
 
 -- a child or a hat, behind its name
-abbrev pub child_behind : Named → List Placed → Part Child
-child_behind named tokens =
-    followed (head named tokens) (λ head behind.
-    followed (closed head.brace (child_block behind)) (λ rules rest. Ok (record { hat = is_hat named.form; head = head; rules = rules }, rest)))
+abbrev pub child_behind : Language → Named → List Placed → Part Child
+child_behind language named tokens =
+    followed (head language named tokens) (λ head behind.
+    followed (closed head.brace (child_block language behind)) (λ rules rest. Ok (record { hat = is_hat named.form; head = head; rules = rules }, rest)))
 
 -- a member of a block is a child or a hat of this name
 abbrev pub is_child_of_name : List ℕ → Member → Bool
@@ -82,58 +83,58 @@ is_child_of_name name (OfRule rule) = false
 is_child_of_name name (OfChild child) = bytes_eq child.head.name name
 
 -- a child or a hat, behind what its profile's block held before
-abbrev pub child : List Member → Placed → List Placed → Part Child
-child read token tokens =
+abbrev pub child : Language → List Member → Placed → List Placed → Part Child
+child language read token tokens =
     followed (child_name token tokens) (λ named behind.
     elim (refusal_of_name (is_name named.name) (list_any (is_child_of_name named.name) read)) [
       | Some refusal ↦ refused refusal named.token
-      | None ↦ child_behind named behind
+      | None ↦ child_behind language named behind
     ])
 
 -- a member of a profile's block, behind what the block held before
-abbrev pub member : List Member → List Placed → Part Member
-member read [] = Err RanOut
-member read (token ∷ tokens) =
+abbrev pub member : Language → List Member → List Placed → Part Member
+member language read [] = Err RanOut
+member language read (token ∷ tokens) =
     if begins_child token
-    then followed (child read token tokens) (λ child behind. Ok (OfChild child, behind))
-    else followed (rule (token ∷ tokens)) (λ rule behind. Ok (OfRule rule, behind))
+    then followed (child language read token tokens) (λ child behind. Ok (OfChild child, behind))
+    else followed (rule language (token ∷ tokens)) (λ rule behind. Ok (OfRule rule, behind))
 
 -- what comes next in the block of a profile
-abbrev pub next_member : List Member → List Placed → Part (Next Member)
-next_member read [] = Err RanOut
-next_member read (token ∷ tokens) =
+abbrev pub next_member : Language → List Member → List Placed → Part (Next Member)
+next_member language read [] = Err RanOut
+next_member language read (token ∷ tokens) =
     if is_close_brace token.token.kind then Ok (End, tokens) else
     if is_word_of (codes "abi") token then skipped (behind_version tokens) else
-    followed (member read (token ∷ tokens)) (λ member behind. Ok (Item member, behind))
+    followed (member language read (token ∷ tokens)) (λ member behind. Ok (Item member, behind))
 
 -- what the block of a profile holds, up to its closing brace
-abbrev pub profile_block : List Placed → Part (List Member)
-profile_block tokens = rows next_member tokens
+abbrev pub profile_block : Language → List Placed → Part (List Member)
+profile_block language tokens = rows (next_member language) tokens
 
 -- a profile, behind its name
-abbrev pub profile_behind : Named → List Placed → Part Profile
-profile_behind named tokens =
-    followed (head named tokens) (λ head behind.
-    followed (closed head.brace (profile_block behind)) (λ members rest. Ok (record { head = head; members = members }, rest)))
+abbrev pub profile_behind : Language → Named → List Placed → Part Profile
+profile_behind language named tokens =
+    followed (head language named tokens) (λ head behind.
+    followed (closed head.brace (profile_block language behind)) (λ members rest. Ok (record { head = head; members = members }, rest)))
 
 -- a profile has this name
 abbrev pub is_of_name : List ℕ → Profile → Bool
 is_of_name name profile = bytes_eq profile.head.name name
 
 -- a profile, behind others of the file
-abbrev pub profile : List Profile → Placed → List Placed → Part Profile
-profile read token tokens =
+abbrev pub profile : Language → List Profile → Placed → List Placed → Part Profile
+profile language read token tokens =
     followed (top_name token tokens) (λ named behind.
     elim (refusal_of_name (is_top_name named.name) (list_any (is_of_name named.name) read)) [
       | Some refusal ↦ refused refusal named.token
-      | None ↦ profile_behind named behind
+      | None ↦ profile_behind language named behind
     ])
 
 -- what comes next in a file, behind its preamble
-abbrev pub next_profile : List Profile → List Placed → Part (Next Profile)
-next_profile read [] = Ok (End, [])
-next_profile read (token ∷ tokens) = followed (profile read token tokens) (λ profile behind. Ok (Item profile, behind))
+abbrev pub next_profile : Language → List Profile → List Placed → Part (Next Profile)
+next_profile language read [] = Ok (End, [])
+next_profile language read (token ∷ tokens) = followed (profile language read token tokens) (λ profile behind. Ok (Item profile, behind))
 
 -- the profiles of a file, from the tokens behind its preamble
-abbrev pub all_profiles : List Placed → Part (List Profile)
-all_profiles tokens = rows next_profile tokens
+abbrev pub all_profiles : Language → List Placed → Part (List Profile)
+all_profiles language tokens = rows (next_profile language) tokens

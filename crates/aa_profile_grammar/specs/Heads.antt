@@ -7,6 +7,7 @@ use Rattle.aa_text_tokens.specs.declared.cut.TokenKind.TheVariants.{Assign}
 use Rattle.aa_profile_parsing.specs.Parts.{Part, expected, followed, refused}
 use Rattle.aa_profile_parsing.specs.Tokens.{is_pattern, is_text, is_word, is_word_of, text_of}
 use Rattle.aa_profile_parsing.specs.declared.fault.GrammarRefusal.TheVariants.{BadToken, LateAssignment}
+use Rattle.aa_profile_parsing.specs.declared.language.Language.{Language}
 use Rattle.aa_profile_flags.specs.Flags.{flags}
 use Rattle.aa_profile_flags.specs.IdleFlags.{flag_tokens}
 use Rattle.aa_profile_flags.specs.declared.flags.Flags.{Flags}
@@ -69,8 +70,8 @@ attachment named tokens = elim named.form [
 ]
 
 -- a head, behind its name
-abbrev pub head : Named → List Placed → Part Head
-head named tokens =
+abbrev pub head : Language → Named → List Placed → Part Head
+head language named tokens =
     let attached = attachment named tokens in
-    followed (flags attached.1) (λ read behind.
+    followed (flags language attached.1) (λ read behind.
     Ok (record { name = named.name; attachment = attached.0; flags = read.0; flag_tokens = flag_tokens attached.1; brace = read.1 }, behind))

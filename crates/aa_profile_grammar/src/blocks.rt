@@ -16,7 +16,7 @@ use crate::preamble::read_version;
 use crate::sequence::{Next, Rest};
 use crate::so_far::{MembersSoFar, ProfilesSoFar};
 use aa_profile_access::{is_name, is_top_name};
-use aa_profile_parsing::{Fault, GrammarRefusal, is_word_of, refusal_at};
+use aa_profile_parsing::{Fault, GrammarRefusal, Language, is_word_of, refusal_at};
 use aa_profile_rules::{Rule, read_rule};
 use aa_text_splicing::Spliced;
 use aa_text_tokens::TokenKind;
@@ -75,9 +75,12 @@ fn refusal_of_name(fits: bool, taken: bool) -> Option<GrammarRefusal>
 }
 
 // A rule in the block of a child or a hat, in which no other may stand, and what stands behind it.
-fn read_child_rule<'a>(tokens: &'a [Spliced<'a>]) -> Result<(Rule<'a>, &'a [Spliced<'a>]), Fault>
-    ensures ok { IfOk result (IsRead seen_rule child_rule tokens.now) }
-    ensures refused { IfErr result (IsFault child_rule tokens.now) }
+fn read_child_rule<'a>(
+    language: Language,
+    tokens: &'a [Spliced<'a>],
+) -> Result<(Rule<'a>, &'a [Spliced<'a>]), Fault>
+    ensures ok { IfOk result (IsRead seen_rule (child_rule language) tokens.now) }
+    ensures refused { IfErr result (IsFault (child_rule language) tokens.now) }
     ensures shorter { IfOk result (λ read. length read.1.now < length tokens.now) }
 {
     match tokens {
@@ -85,14 +88,14 @@ fn read_child_rule<'a>(tokens: &'a [Spliced<'a>]) -> Result<(Rule<'a>, &'a [Spli
         [token, ..] if begins_child(*token) => {
             Err(refusal_at(GrammarRefusal::NestedChild, *token))
         }
-        _ => read_rule(tokens),
+        _ => read_rule(language, tokens),
     }
 }
 
 // What comes next in the block of a child or a hat, and what stands behind it.
-fn next_rule<'a>(rest: Rest<'a>) -> Result<(Next<Rule<'a>>, Rest<'a>), Fault>
-    ensures ok { IfOk result (IsNext seen_rule next_rule rest.entry) }
-    ensures refused { IfErr result (IsFault next_rule rest.entry.tokens.now) }
+fn next_rule<'a>(language: Language, rest: Rest<'a>) -> Result<(Next<Rule<'a>>, Rest<'a>), Fault>
+    ensures ok { IfOk result (IsNext seen_rule (next_rule language) rest.entry) }
+    ensures refused { IfErr result (IsFault (next_rule language) rest.entry.tokens.now) }
     ensures shorter { IfOk result (λ read. length read.1.tokens.now < length rest.entry.tokens.now) }
 {
     let [token, behind @ ..] = rest.tokens else {
@@ -105,23 +108,24 @@ fn next_rule<'a>(rest: Rest<'a>) -> Result<(Next<Rule<'a>>, Rest<'a>), Fault>
         let tokens = read_version(behind)?;
         return Ok((Next::Nothing, Rest { tokens }));
     }
-    let (rule, tokens) = read_child_rule(rest.tokens)?;
+    let (rule, tokens) = read_child_rule(language, rest.tokens)?;
     Ok((Next::Item(rule), Rest { tokens }))
 }
 
 // The rules in the block of a child or a hat, and what stands behind its closing brace.
 fn read_rules<'a>(
     alloc: Global,
+    language: Language,
     tokens: &'a [Spliced<'a>],
 ) -> Result<(Vec<Rule<'a>>, &'a [Spliced<'a>]), Fault>
-    ensures ok { IfOk result (IsRead (seen_items seen_rule) child_block tokens.now) }
-    ensures refused { IfErr result (IsFaultOrMemory child_block tokens.now) }
+    ensures ok { IfOk result (IsRead (seen_items seen_rule) (child_block language) tokens.now) }
+    ensures refused { IfErr result (IsFaultOrMemory (child_block language) tokens.now) }
     ensures shorter { IfOk result (λ read. length read.1.now < length tokens.now) }
 {
     let mut rules = Vec::new(alloc);
     let mut rest = Rest { tokens };
     loop {
-        let (next, behind) = next_rule(rest)?;
+        let (next, behind) = next_rule(language, rest)?;
         match next {
             Next::Item(rule) => rules.push(rule)?,
             Next::Nothing => {}
@@ -134,15 +138,16 @@ fn read_rules<'a>(
 // A child or a hat behind its name, and what stands behind its closing brace.
 fn read_child_behind<'a>(
     alloc: Global,
+    language: Language,
     named: Named<'a>,
     tokens: &'a [Spliced<'a>],
 ) -> Result<(Child<'a>, &'a [Spliced<'a>]), Fault>
-    ensures ok { IfOk result (IsRead seen_child (child_behind (seen_named named.entry)) tokens.now) }
-    ensures refused { IfErr result (IsFaultOrMemory (child_behind (seen_named named.entry)) tokens.now) }
+    ensures ok { IfOk result (IsRead seen_child (child_behind language (seen_named named.entry)) tokens.now) }
+    ensures refused { IfErr result (IsFaultOrMemory (child_behind language (seen_named named.entry)) tokens.now) }
     ensures shorter { IfOk result (λ read. length read.1.now < length tokens.now) }
 {
-    let (head, behind) = read_head(named, tokens)?;
-    match read_rules(alloc, behind) {
+    let (head, behind) = read_head(language, named, tokens)?;
+    match read_rules(alloc, language, behind) {
         Ok((rules, rest)) => Ok((
             Child {
                 hat: named.form == Form::Hat,
@@ -158,50 +163,53 @@ fn read_child_behind<'a>(
 // A child or a hat, from its first token and those behind it, and what stands behind its closing brace.
 fn read_child<'a>(
     alloc: Global,
+    language: Language,
     members: &MembersSoFar<'_>,
     token: Spliced<'a>,
     tokens: &'a [Spliced<'a>],
 ) -> Result<(Child<'a>, &'a [Spliced<'a>]), Fault>
-    ensures ok { IfOk result (IsRead seen_child (child (map seen_member members.now.items.items) (seen_spliced token.entry)) tokens.now) }
-    ensures refused { IfErr result (IsFaultOrMemory (child (map seen_member members.now.items.items) (seen_spliced token.entry)) tokens.now) }
+    ensures ok { IfOk result (IsRead seen_child (child language (map seen_member members.now.items.items) (seen_spliced token.entry)) tokens.now) }
+    ensures refused { IfErr result (IsFaultOrMemory (child language (map seen_member members.now.items.items) (seen_spliced token.entry)) tokens.now) }
     ensures shorter { IfOk result (λ read. length read.1.now < length tokens.now) }
 {
     let (named, behind) = read_child_name(token, tokens)?;
     match refusal_of_name(is_name(named.name), members.has(named.name)) {
         Some(refusal) => Err(refusal_at(refusal, named.token)),
-        None => read_child_behind(alloc, named, behind),
+        None => read_child_behind(alloc, language, named, behind),
     }
 }
 
 // A member of a profile's block, and what stands behind it.
 fn read_member<'a>(
     alloc: Global,
+    language: Language,
     members: &MembersSoFar<'_>,
     tokens: &'a [Spliced<'a>],
 ) -> Result<(Member<'a>, &'a [Spliced<'a>]), Fault>
-    ensures ok { IfOk result (IsRead seen_member (member (map seen_member members.now.items.items)) tokens.now) }
-    ensures refused { IfErr result (IsFaultOrMemory (member (map seen_member members.now.items.items)) tokens.now) }
+    ensures ok { IfOk result (IsRead seen_member (member language (map seen_member members.now.items.items)) tokens.now) }
+    ensures refused { IfErr result (IsFaultOrMemory (member language (map seen_member members.now.items.items)) tokens.now) }
     ensures shorter { IfOk result (λ read. length read.1.now < length tokens.now) }
 {
     let [token, behind @ ..] = tokens else {
         return Err(Fault::RanOut);
     };
     if begins_child(*token) {
-        let (child, rest) = read_child(alloc, members, *token, behind)?;
+        let (child, rest) = read_child(alloc, language, members, *token, behind)?;
         return Ok((Member::OfChild(child), rest));
     }
-    let (rule, rest) = read_rule(tokens)?;
+    let (rule, rest) = read_rule(language, tokens)?;
     Ok((Member::OfRule(rule), rest))
 }
 
 // What comes next in the block of a profile, and what stands behind it.
 fn next_member<'a>(
     alloc: Global,
+    language: Language,
     members: &MembersSoFar<'_>,
     rest: Rest<'a>,
 ) -> Result<(Next<Member<'a>>, Rest<'a>), Fault>
-    ensures ok { IfOk result (IsNext seen_member (next_member (map seen_member members.now.items.items)) rest.entry) }
-    ensures refused { IfErr result (IsFaultOrMemory (next_member (map seen_member members.now.items.items)) rest.entry.tokens.now) }
+    ensures ok { IfOk result (IsNext seen_member (next_member language (map seen_member members.now.items.items)) rest.entry) }
+    ensures refused { IfErr result (IsFaultOrMemory (next_member language (map seen_member members.now.items.items)) rest.entry.tokens.now) }
     ensures shorter { IfOk result (λ read. length read.1.tokens.now < length rest.entry.tokens.now) }
 {
     let [token, behind @ ..] = rest.tokens else {
@@ -214,23 +222,24 @@ fn next_member<'a>(
         let tokens = read_version(behind)?;
         return Ok((Next::Nothing, Rest { tokens }));
     }
-    let (member, tokens) = read_member(alloc, members, rest.tokens)?;
+    let (member, tokens) = read_member(alloc, language, members, rest.tokens)?;
     Ok((Next::Item(member), Rest { tokens }))
 }
 
 // What the block of a profile holds, and what stands behind its closing brace.
 fn read_members<'a>(
     alloc: Global,
+    language: Language,
     tokens: &'a [Spliced<'a>],
 ) -> Result<(Vec<Member<'a>>, &'a [Spliced<'a>]), Fault>
-    ensures ok { IfOk result (IsRead (seen_items seen_member) profile_block tokens.now) }
-    ensures refused { IfErr result (IsFaultOrMemory profile_block tokens.now) }
+    ensures ok { IfOk result (IsRead (seen_items seen_member) (profile_block language) tokens.now) }
+    ensures refused { IfErr result (IsFaultOrMemory (profile_block language) tokens.now) }
     ensures shorter { IfOk result (λ read. length read.1.now < length tokens.now) }
 {
     let mut members = MembersSoFar::new(alloc);
     let mut rest = Rest { tokens };
     loop {
-        let (next, behind) = next_member(alloc, &members, rest)?;
+        let (next, behind) = next_member(alloc, language, &members, rest)?;
         match next {
             Next::Item(member) => members = members.with(member)?,
             Next::Nothing => {}
@@ -243,15 +252,16 @@ fn read_members<'a>(
 // A profile behind its name, and what stands behind its closing brace.
 fn read_profile_behind<'a>(
     alloc: Global,
+    language: Language,
     named: Named<'a>,
     tokens: &'a [Spliced<'a>],
 ) -> Result<(Profile<'a>, &'a [Spliced<'a>]), Fault>
-    ensures ok { IfOk result (IsRead seen_profile (profile_behind (seen_named named.entry)) tokens.now) }
-    ensures refused { IfErr result (IsFaultOrMemory (profile_behind (seen_named named.entry)) tokens.now) }
+    ensures ok { IfOk result (IsRead seen_profile (profile_behind language (seen_named named.entry)) tokens.now) }
+    ensures refused { IfErr result (IsFaultOrMemory (profile_behind language (seen_named named.entry)) tokens.now) }
     ensures shorter { IfOk result (λ read. length read.1.now < length tokens.now) }
 {
-    let (head, behind) = read_head(named, tokens)?;
-    match read_members(alloc, behind) {
+    let (head, behind) = read_head(language, named, tokens)?;
+    match read_members(alloc, language, behind) {
         Ok((members, rest)) => Ok((Profile { head, members }, rest)),
         Err(fault) => Err(closed(head.brace, fault)),
     }
@@ -260,35 +270,37 @@ fn read_profile_behind<'a>(
 // A profile, from its first token and those behind it, and what stands behind its closing brace.
 fn read_profile<'a>(
     alloc: Global,
+    language: Language,
     profiles: &ProfilesSoFar<'_>,
     token: Spliced<'a>,
     tokens: &'a [Spliced<'a>],
 ) -> Result<(Profile<'a>, &'a [Spliced<'a>]), Fault>
-    ensures ok { IfOk result (IsRead seen_profile (profile (map seen_profile profiles.now.items.items) (seen_spliced token.entry)) tokens.now) }
-    ensures refused { IfErr result (IsFaultOrMemory (profile (map seen_profile profiles.now.items.items) (seen_spliced token.entry)) tokens.now) }
+    ensures ok { IfOk result (IsRead seen_profile (profile language (map seen_profile profiles.now.items.items) (seen_spliced token.entry)) tokens.now) }
+    ensures refused { IfErr result (IsFaultOrMemory (profile language (map seen_profile profiles.now.items.items) (seen_spliced token.entry)) tokens.now) }
     ensures shorter { IfOk result (λ read. length read.1.now < length tokens.now) }
 {
     let (named, behind) = read_top_name(token, tokens)?;
     match refusal_of_name(is_top_name(named.name), profiles.has(named.name)) {
         Some(refusal) => Err(refusal_at(refusal, named.token)),
-        None => read_profile_behind(alloc, named, behind),
+        None => read_profile_behind(alloc, language, named, behind),
     }
 }
 
 // What comes next in a file behind its preamble, and what stands behind it.
 fn next_profile<'a>(
     alloc: Global,
+    language: Language,
     profiles: &ProfilesSoFar<'_>,
     rest: Rest<'a>,
 ) -> Result<(Next<Profile<'a>>, Rest<'a>), Fault>
-    ensures ok { IfOk result (IsNext seen_profile (next_profile (map seen_profile profiles.now.items.items)) rest.entry) }
-    ensures refused { IfErr result (IsFaultOrMemory (next_profile (map seen_profile profiles.now.items.items)) rest.entry.tokens.now) }
+    ensures ok { IfOk result (IsNext seen_profile (next_profile language (map seen_profile profiles.now.items.items)) rest.entry) }
+    ensures refused { IfErr result (IsFaultOrMemory (next_profile language (map seen_profile profiles.now.items.items)) rest.entry.tokens.now) }
     ensures shorter { IfOk result (λ read. is_end read.0 ≡ false → length read.1.tokens.now < length rest.entry.tokens.now) }
 {
     let [token, behind @ ..] = rest.tokens else {
         return Ok((Next::End, rest));
     };
-    let (profile, tokens) = read_profile(alloc, profiles, *token, behind)?;
+    let (profile, tokens) = read_profile(alloc, language, profiles, *token, behind)?;
     Ok((Next::Item(profile), Rest { tokens }))
 }
 
@@ -299,15 +311,16 @@ fn next_profile<'a>(
 /// Each at the first token, from the left, that the grammar doesn't take at its place (docs/policy.md, "Files"); `Memory`: memory ran out.
 pub fn read_profiles<'a>(
     alloc: Global,
+    language: Language,
     tokens: &'a [Spliced<'a>],
 ) -> Result<(Vec<Profile<'a>>, &'a [Spliced<'a>]), Fault>
-    ensures ok { IfOk result (IsRead (seen_items seen_profile) all_profiles tokens.now) }
-    ensures refused { IfErr result (IsFaultOrMemory all_profiles tokens.now) }
+    ensures ok { IfOk result (IsRead (seen_items seen_profile) (all_profiles language) tokens.now) }
+    ensures refused { IfErr result (IsFaultOrMemory (all_profiles language) tokens.now) }
 {
     let mut profiles = ProfilesSoFar::new(alloc);
     let mut rest = Rest { tokens };
     loop {
-        let (next, behind) = next_profile(alloc, &profiles, rest)?;
+        let (next, behind) = next_profile(alloc, language, &profiles, rest)?;
         match next {
             Next::Item(profile) => profiles = profiles.with(profile)?,
             Next::Nothing => {}

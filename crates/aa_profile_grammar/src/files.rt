@@ -9,7 +9,7 @@ ghost use Rattle.aa_profile_grammar.specs.code.SomeProfiles.{some_profiles};
 
 use crate::blocks::{Profile, read_profiles};
 use crate::preamble::{Assignment, read_preamble};
-use aa_profile_parsing::{Fault, GrammarError, GrammarRefusal};
+use aa_profile_parsing::{Fault, GrammarError, GrammarRefusal, Language};
 use aa_text_splicing::Spliced;
 use std::alloc::Global;
 
@@ -22,7 +22,7 @@ pub struct File<'a> {
     pub profiles: Vec<Profile<'a>>,
 }
 
-/// A profile's file as its tokens write it.
+/// A profile's file as its tokens write it, by a language.
 ///
 /// # Errors
 ///
@@ -32,18 +32,23 @@ pub struct File<'a> {
 /// - `BadFlag`, `BadAccess`, `TwoExec`, `ExecQualifier`, `WriteAppend`, `BadName`: the token that holds the flag, the access, the name or the
 ///   target.
 /// - `TargetWithoutExec`: the word `->`.
+/// - `LeftOut`: the token of what AppArmor has and isn't read here; in language 4.
 /// - `BadCapability`, `BadNetwork`: the word of the rule that is at fault.
 /// - `TwiceNamed`: the token of a name that another profile of the file has, or another child or hat of the profile.
 /// - `NestedChild`: the word that a child within a child begins with.
 /// - `LateAssignment`: an assignment behind a profile.
 /// - `NoProfile`, without a place: the file has no profile.
 /// - `Memory`, without a place: memory ran out.
-pub fn read_file<'a>(alloc: Global, tokens: &'a [Spliced<'a>]) -> Result<File<'a>, GrammarError>
-    ensures ok { IfOk result (λ read. file (seen_tokens tokens.now) ≡ Ok (seen_file read)) }
-    ensures refused { IfErr result (λ error. error ≢ record { refusal = Memory; place = None } → file (seen_tokens tokens.now) ≡ Err error) }
+pub fn read_file<'a>(
+    alloc: Global,
+    language: Language,
+    tokens: &'a [Spliced<'a>],
+) -> Result<File<'a>, GrammarError>
+    ensures ok { IfOk result (λ read. file language (seen_tokens tokens.now) ≡ Ok (seen_file read)) }
+    ensures refused { IfErr result (λ error. error ≢ record { refusal = Memory; place = None } → file language (seen_tokens tokens.now) ≡ Err error) }
 {
     let (assignments, behind) = read_preamble(alloc, tokens)?;
-    match read_some_profiles(alloc, behind) {
+    match read_some_profiles(alloc, language, behind) {
         Ok(profiles) => Ok(File {
             assignments,
             profiles,
@@ -55,12 +60,13 @@ pub fn read_file<'a>(alloc: Global, tokens: &'a [Spliced<'a>]) -> Result<File<'a
 // The profiles of a file, of which there must be one, from the tokens behind its preamble.
 fn read_some_profiles<'a>(
     alloc: Global,
+    language: Language,
     tokens: &'a [Spliced<'a>],
 ) -> Result<Vec<Profile<'a>>, GrammarError>
-    ensures ok { IfOk result (λ profiles. some_profiles (seen_tokens tokens.now) ≡ Ok (map seen_profile profiles.items)) }
-    ensures refused { IfErr result (λ error. error ≢ record { refusal = Memory; place = None } → some_profiles (seen_tokens tokens.now) ≡ Err error) }
+    ensures ok { IfOk result (λ profiles. some_profiles language (seen_tokens tokens.now) ≡ Ok (map seen_profile profiles.items)) }
+    ensures refused { IfErr result (λ error. error ≢ record { refusal = Memory; place = None } → some_profiles language (seen_tokens tokens.now) ≡ Err error) }
 {
-    let (profiles, _) = read_profiles(alloc, tokens)?;
+    let (profiles, _) = read_profiles(alloc, language, tokens)?;
     if profiles.is_empty() {
         return Err(GrammarError {
             refusal: GrammarRefusal::NoProfile,

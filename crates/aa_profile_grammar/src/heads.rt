@@ -11,7 +11,9 @@ ghost use Rattle.aa_profile_grammar.specs.SeenFiles.{seen_head};
 
 use aa_bytes::{begins_with_byte, behind};
 use aa_profile_flags::{Flags, flag_tokens, read_flags};
-use aa_profile_parsing::{Fault, GrammarRefusal, is_pattern, is_word_of, read_text, refusal_at};
+use aa_profile_parsing::{
+    Fault, GrammarRefusal, Language, is_pattern, is_word_of, read_text, refusal_at,
+};
 use aa_text_splicing::Spliced;
 use aa_text_tokens::TokenKind;
 
@@ -164,15 +166,16 @@ fn read_attachment<'a>(
 
 // The head behind its name, and what stands behind its brace.
 pub fn read_head<'a>(
+    language: Language,
     named: Named<'a>,
     tokens: &'a [Spliced<'a>],
 ) -> Result<(Head<'a>, &'a [Spliced<'a>]), Fault>
-    ensures ok { IfOk result (IsRead seen_head (head (seen_named named.entry)) tokens.now) }
-    ensures refused { IfErr result (IsFault (head (seen_named named.entry)) tokens.now) }
+    ensures ok { IfOk result (IsRead seen_head (head language (seen_named named.entry)) tokens.now) }
+    ensures refused { IfErr result (IsFault (head language (seen_named named.entry)) tokens.now) }
     ensures shorter { IfOk result (λ read. length read.1.now < length tokens.now) }
 {
     let (attachment, behind) = read_attachment(named, tokens);
-    let (flags, brace, rest) = read_flags(behind)?;
+    let (flags, brace, rest) = read_flags(language, behind)?;
     Ok((
         Head {
             name: named.name,

@@ -8,8 +8,8 @@ mod preamble;
 mod sequence;
 mod so_far;
 
-pub use aa_profile_flags::{Flags, what_flags_say};
-pub use aa_profile_parsing::{GrammarError, GrammarRefusal};
+pub use aa_profile_flags::{Flags, ModeFlag, what_flags_say};
+pub use aa_profile_parsing::{GrammarError, GrammarRefusal, Language};
 pub use aa_profile_rules::{Access, Qualifiers, Rule, Sockets};
 pub use blocks::{Child, Member, Profile};
 pub use files::{File, read_file};

@@ -1,7 +1,7 @@
 -- The refusals of a file's grammar: each one's number and name (docs/commands.md, "Refusals").
 use Rattle.std.specs.Prelude.{ℕ, List, codes}
 use Rattle.aa_profile_parsing.specs.declared.fault.GrammarRefusal.{GrammarRefusal}
-use Rattle.aa_profile_parsing.specs.declared.fault.GrammarRefusal.TheVariants.{BadToken, OpenBlock, BadFlag, BadAccess, WriteAppend, TwoExec, ExecQualifier, TargetWithoutExec, BadCapability, BadNetwork, TwiceNamed, NestedChild, LateAssignment, NoProfile, BadName, Memory}
+use Rattle.aa_profile_parsing.specs.declared.fault.GrammarRefusal.TheVariants.{BadToken, OpenBlock, BadFlag, BadAccess, WriteAppend, TwoExec, ExecQualifier, TargetWithoutExec, BadCapability, BadNetwork, TwiceNamed, NestedChild, LateAssignment, NoProfile, BadName, LeftOut, Memory}
 
 -- the one table of numbers and names
 abbrev pub described : GrammarRefusal → ℕ × List ℕ
@@ -20,6 +20,7 @@ described NestedChild = (51, codes "NestedChild")
 described LateAssignment = (52, codes "LateAssignment")
 described NoProfile = (53, codes "NoProfile")
 described BadName = (54, codes "BadName")
+described LeftOut = (72, codes "LeftOut")
 described Memory = (99, codes "Memory")
 
 abbrev pub number_of : GrammarRefusal → ℕ

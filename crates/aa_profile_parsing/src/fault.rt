@@ -18,7 +18,7 @@ pub enum GrammarRefusal {
     BadToken,
     /// A block that isn't closed.
     OpenBlock,
-    /// A flag that isn't known, or `enforce` beside `complain`.
+    /// A flag that isn't known, or two different modes.
     BadFlag,
     /// An access that holds what is no access letter and no exec word.
     BadAccess,
@@ -44,12 +44,14 @@ pub enum GrammarRefusal {
     NoProfile,
     /// A name that none may have.
     BadName,
+    /// What AppArmor has and isn't read here.
+    LeftOut,
     /// Memory ran out.
     Memory,
 }
 
 impl GrammarRefusal {
-    /// The number of the refusal: 40 to 54, or 99.
+    /// The number of the refusal: 40 to 54, 72, or 99.
     pub fn number(self) -> u8
         ensures { result ≡ number_of self }
     {
@@ -69,6 +71,7 @@ impl GrammarRefusal {
             GrammarRefusal::LateAssignment => 52,
             GrammarRefusal::NoProfile => 53,
             GrammarRefusal::BadName => 54,
+            GrammarRefusal::LeftOut => 72,
             GrammarRefusal::Memory => 99,
         }
     }
@@ -93,6 +96,7 @@ impl GrammarRefusal {
             GrammarRefusal::LateAssignment => "LateAssignment",
             GrammarRefusal::NoProfile => "NoProfile",
             GrammarRefusal::BadName => "BadName",
+            GrammarRefusal::LeftOut => "LeftOut",
             GrammarRefusal::Memory => "Memory",
         }
     }

@@ -1,9 +1,10 @@
--- The tokens of a file's patterns, in their order: attachments, names that are attachments, and the patterns of file rules.
+-- The tokens of a file's patterns, in their order: attachments, names that are attachments, and the patterns of file rules. A rule
+-- that lets all has that of all files twice: once for what is let, and once for how programs are started.
 use Rattle.std.specs.Prelude.{List, [], ◌∷◌, ◌++◌, None, Some}
 use Rattle.std.specs.List.{flat_map}
 use Rattle.aa_profile_grammar.specs.Blocks.{OfChild, OfRule, Child, Member, Profile}
 use Rattle.aa_profile_grammar.specs.Heads.{Head}
-use Rattle.aa_profile_rules.specs.Rules.{Kept, OnCapabilities, OnFile, OnNetwork, Rule}
+use Rattle.aa_profile_rules.specs.Rules.{All, Kept, OnCapabilities, OnFile, OnNetwork, Rule, all_files}
 use Rattle.aa_text_splicing.specs.Splicing.{Placed}
 
 abbrev pub of_rule : Rule → List Placed
@@ -11,6 +12,7 @@ of_rule (OnFile qualifiers pattern access target) = pattern ∷ []
 of_rule (OnCapabilities qualifiers word capabilities) = []
 of_rule (OnNetwork qualifiers word sockets) = []
 of_rule (Kept qualifiers tokens) = []
+of_rule (All qualifiers word) = all_files word ∷ all_files word ∷ []
 
 abbrev pub of_rules : List Rule → List Placed
 of_rules rules = flat_map of_rule rules

@@ -14,7 +14,7 @@ use crate::places::{ProfilePlaces, SectionPlaces};
 use aa_bytes::Sequence;
 use aa_profile_flags::idle_flags;
 use aa_profile_grammar::{Child, Head, Member, Profile, Rule};
-use aa_profile_parsing::place_of;
+use aa_profile_parsing::{Language, place_of};
 use aa_text_files::Place;
 use aa_text_splicing::Spliced;
 use aa_text_variables::ExpansionTable;
@@ -39,6 +39,7 @@ fn place_of_rule(rule: &Rule<'_>) -> Option<Place>
         Rule::OnCapabilities { word, .. } => Some(place_of(*word)),
         Rule::OnNetwork { word, .. } => Some(place_of(*word)),
         Rule::Kept { tokens, .. } => first_place(tokens),
+        Rule::All { word, .. } => Some(place_of(*word)),
     }
 }
 
@@ -52,8 +53,8 @@ fn place_of_attachment(head: &Head<'_>) -> Option<Place>
     }
 }
 
-/// How many rules a written one makes: a file rule one for each expansion of its pattern, and any other one. The caller sees to it that the pattern has
-/// expansions, and no more than a file may have rules.
+/// How many rules a written one makes: a file rule one for each expansion of its pattern, one that lets all five, and any other one. The caller
+/// sees to it that the pattern has expansions, and no more than a file may have rules.
 ///
 /// # Errors
 ///
@@ -69,6 +70,7 @@ pub fn rule_count(table: &mut ExpansionTable<'_>, rule: &Rule<'_>) -> Result<usi
             Err(_) => Err(AllocError),
         },
         Rule::OnCapabilities { .. } | Rule::OnNetwork { .. } | Rule::Kept { .. } => Ok(1),
+        Rule::All { .. } => Ok(5),
     }
 }
 
@@ -122,35 +124,38 @@ fn read_rules(
 // Where a block has what it has, by its head and the places of its rules.
 fn section_places(
     alloc: Global,
+    language: Language,
     head: &Head<'_>,
     rules: Vec<Option<Place>>,
 ) -> Result<SectionPlaces, AllocError>
-    ensures { IfOk result (λ places. places ≡ section_places (seen_head head.now) rules.items) }
+    ensures { IfOk result (λ places. places ≡ section_places language (seen_head head.now) rules.items) }
 {
     Ok(SectionPlaces {
         attachment: place_of_attachment(head),
         rules: Sequence::from_vec(rules),
-        flags: idle_flags(alloc, head.flag_tokens)?,
+        flags: idle_flags(alloc, language, head.flag_tokens)?,
     })
 }
 
 // Where a child or a hat has what it has.
 fn child_places(
     alloc: Global,
+    language: Language,
     table: &mut ExpansionTable<'_>,
     child: &Child<'_>,
 ) -> Result<SectionPlaces, AllocError>
     requires { are_counted table.old (of_rules (map seen_rule child.now.rules.items)) ≡ true }
-    ensures places { IfOk result (λ places. places ≡ child_places table.old (seen_child child.now)) }
+    ensures places { IfOk result (λ places. places ≡ child_places language table.old (seen_child child.now)) }
     ensures same { table.new ≡ table.old }
 {
     let rules = read_rules(alloc, table, &child.rules)?;
-    section_places(alloc, &child.head, rules)
+    section_places(alloc, language, &child.head, rules)
 }
 
 // Appends the places of the rules that a member of a block makes, or those of the child or hat that it is.
 fn push_member(
     alloc: Global,
+    language: Language,
     table: &mut ExpansionTable<'_>,
     member: &Member<'_>,
     places: &mut Vec<Option<Place>>,
@@ -158,13 +163,13 @@ fn push_member(
 ) -> Result<(), AllocError>
     requires { are_counted table.old (of_member (seen_member member.now)) ≡ true }
     ensures places { OnOk result (places.new.items ≡ places.old.items ++ places_of_member table.old (seen_member member.now)) }
-    ensures children { OnOk result (children.new.items ≡ children.old.items ++ places_in_member table.old (seen_member member.now)) }
+    ensures children { OnOk result (children.new.items ≡ children.old.items ++ places_in_member language table.old (seen_member member.now)) }
     ensures same { table.new ≡ table.old }
 {
     match member {
         Member::OfRule(rule) => push_rule(table, rule, places),
         Member::OfChild(child) => {
-            children.push(child_places(alloc, table, child)?)?;
+            children.push(child_places(alloc, language, table, child)?)?;
             Ok(())
         }
     }
@@ -173,18 +178,26 @@ fn push_member(
 // Where a profile has what it has, and where its children and hats do.
 fn profile_places(
     alloc: Global,
+    language: Language,
     table: &mut ExpansionTable<'_>,
     profile: &Profile<'_>,
 ) -> Result<ProfilePlaces, AllocError>
     requires { are_counted table.old (of_members (map seen_member profile.now.members.items)) ≡ true }
-    ensures places { IfOk result (λ read. read ≡ places_of_profile table.old (seen_profile profile.now)) }
+    ensures places { IfOk result (λ read. read ≡ places_of_profile language table.old (seen_profile profile.now)) }
     ensures same { table.new ≡ table.old }
 {
     let mut rules = Vec::new(alloc);
     let mut children = Vec::new(alloc);
-    push_members(alloc, table, &profile.members, &mut rules, &mut children)?;
+    push_members(
+        alloc,
+        language,
+        table,
+        &profile.members,
+        &mut rules,
+        &mut children,
+    )?;
     Ok(ProfilePlaces {
-        own: section_places(alloc, &profile.head, rules)?,
+        own: section_places(alloc, language, &profile.head, rules)?,
         children: Sequence::from_vec(children),
     })
 }
@@ -192,6 +205,7 @@ fn profile_places(
 // Appends the places of a block's rules, and those of its children and hats.
 fn push_members(
     alloc: Global,
+    language: Language,
     table: &mut ExpansionTable<'_>,
     members: &[Member<'_>],
     places: &mut Vec<Option<Place>>,
@@ -199,12 +213,12 @@ fn push_members(
 ) -> Result<(), AllocError>
     requires { are_counted table.old (of_members (map seen_member members.now)) ≡ true }
     ensures places { OnOk result (places.new.items ≡ places.old.items ++ places_of_members table.old (map seen_member members.now)) }
-    ensures children { OnOk result (children.new.items ≡ children.old.items ++ places_in_members table.old (map seen_member members.now)) }
+    ensures children { OnOk result (children.new.items ≡ children.old.items ++ places_in_members language table.old (map seen_member members.now)) }
     ensures same { table.new ≡ table.old }
 {
     let mut rest = members;
     while let [member, behind @ ..] = rest {
-        push_member(alloc, table, member, places, children)?;
+        push_member(alloc, language, table, member, places, children)?;
         rest = behind;
     }
     Ok(())
@@ -213,15 +227,16 @@ fn push_members(
 // Appends where a profile has what it has, and where its children and hats do.
 fn push_profile(
     alloc: Global,
+    language: Language,
     table: &mut ExpansionTable<'_>,
     profile: &Profile<'_>,
     places: &mut Vec<ProfilePlaces>,
 ) -> Result<(), AllocError>
     requires { are_counted table.old (of_members (map seen_member profile.now.members.items)) ≡ true }
-    ensures places { OnOk result (places.new.items ≡ places.old.items ++ places_of_profile table.old (seen_profile profile.now) ∷ []) }
+    ensures places { OnOk result (places.new.items ≡ places.old.items ++ places_of_profile language table.old (seen_profile profile.now) ∷ []) }
     ensures same { table.new ≡ table.old }
 {
-    places.push(profile_places(alloc, table, profile)?)?;
+    places.push(profile_places(alloc, language, table, profile)?)?;
     Ok(())
 }
 
@@ -235,17 +250,18 @@ fn push_profile(
 /// Where memory runs out.
 pub fn read_places(
     alloc: Global,
+    language: Language,
     table: &mut ExpansionTable<'_>,
     profiles: &[Profile<'_>],
 ) -> Result<Vec<ProfilePlaces>, AllocError>
     requires { are_counted table.old (of_profiles (map seen_profile profiles.now)) ≡ true }
-    ensures places { IfOk result (λ places. places.items ≡ map (places_of_profile table.old) (map seen_profile profiles.now)) }
+    ensures places { IfOk result (λ places. places.items ≡ map (places_of_profile language table.old) (map seen_profile profiles.now)) }
     ensures same { table.new ≡ table.old }
 {
     let mut places = Vec::new(alloc);
     let mut rest = profiles;
     while let [profile, behind @ ..] = rest {
-        push_profile(alloc, table, profile, &mut places)?;
+        push_profile(alloc, language, table, profile, &mut places)?;
         rest = behind;
     }
     Ok(places)

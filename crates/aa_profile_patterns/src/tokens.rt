@@ -4,9 +4,10 @@ ghost use Rattle.std.specs.Prelude.{◌≡◌, ◌++◌, IfOk, OnOk, map};
 ghost use Rattle.aa_profile_grammar.specs.SeenFiles.{seen_child, seen_head, seen_member, seen_profile};
 ghost use Rattle.aa_profile_parsing.specs.SeenTokens.{seen_tokens};
 ghost use Rattle.aa_profile_rules.specs.SeenRules.{seen_rule};
-ghost use Rattle.aa_profile_patterns.specs.PatternTokens.{of_child, of_head, of_member, of_members, of_profile, of_profiles, of_rules};
+ghost use Rattle.aa_profile_patterns.specs.PatternTokens.{of_child, of_head, of_member, of_members, of_profile, of_profiles, of_rule, of_rules};
 
 use aa_profile_grammar::{Child, Head, Member, Profile, Rule};
+use aa_profile_rules::all_files;
 use aa_text_splicing::Spliced;
 use std::alloc::{AllocFailed, Global};
 
@@ -23,6 +24,23 @@ fn push_head<'a>(
     Ok(())
 }
 
+// Puts those of a rule behind others.
+fn push_rule<'a>(
+    rule: &Rule<'a>,
+    tokens: &mut Vec<Spliced<'a>>,
+) -> Result<(), AllocFailed<Spliced<'a>>>
+    ensures { OnOk result (seen_tokens tokens.new.items ≡ seen_tokens tokens.old.items ++ of_rule (seen_rule rule.now)) }
+{
+    match rule {
+        Rule::OnFile { pattern, .. } => tokens.push(*pattern),
+        Rule::OnCapabilities { .. } | Rule::OnNetwork { .. } | Rule::Kept { .. } => Ok(()),
+        Rule::All { word, .. } => {
+            tokens.push(all_files(*word))?;
+            tokens.push(all_files(*word))
+        }
+    }
+}
+
 // Puts those of rules behind others.
 fn push_rules<'a>(
     rules: &[Rule<'a>],
@@ -32,9 +50,7 @@ fn push_rules<'a>(
 {
     let mut rest = rules;
     while let [rule, behind @ ..] = rest {
-        if let Rule::OnFile { pattern, .. } = rule {
-            tokens.push(*pattern)?;
-        }
+        push_rule(rule, tokens)?;
         rest = behind;
     }
     Ok(())
@@ -59,9 +75,7 @@ fn push_member<'a>(
     ensures { OnOk result (seen_tokens tokens.new.items ≡ seen_tokens tokens.old.items ++ of_member (seen_member member.now)) }
 {
     match member {
-        Member::OfRule(Rule::OnFile { pattern, .. }) => tokens.push(*pattern),
-        Member::OfRule(Rule::OnCapabilities { .. } | Rule::OnNetwork { .. } | Rule::Kept { .. }) =>
-            Ok(()),
+        Member::OfRule(rule) => push_rule(rule, tokens),
         Member::OfChild(child) => push_child(child, tokens),
     }
 }

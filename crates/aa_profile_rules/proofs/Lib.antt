@@ -1,1 +1,3 @@
+pub mod NarrowLemmas
 pub mod NumberLemmas
+pub mod RuleLemmas

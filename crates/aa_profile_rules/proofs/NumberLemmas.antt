@@ -1,32 +1,28 @@
 -- The numbers in rules: those of the tables.
-use Rattle.std.proofs.Common.{◌≡◌, ℕ, ◌<◌, ◌^◌, Bool, true, false, List, [], ◌∷◌, Option, None, Some, Result, Ok, Err, refl, arith}
-use Rattle.std.specs.Prelude.{IfOk, IfSome, nat_lt, if◌then◌else◌, codes}
+use Rattle.std.proofs.Common.{◌≡◌, ℕ, ◌<◌, ◌^◌, Bool, true, false, List, [], ◌∷◌, Option, None, Some, Ok, refl, arith}
+use Rattle.std.specs.Prelude.{IfSome, nat_lt, if◌then◌else◌, codes}
 use Rattle.std.proofs.lemmas.Bool.{and_parts, lt-ltb, ltb-true}
 use Rattle.std.proofs.lemmas.Nat.{or_lt, pow_below}
+use Rattle.std.proofs.lemmas.Result.{IfOk-weaker}
 use Rattle.aa_text_splicing.specs.Splicing.{Placed}
 use Rattle.aa_profile_tables.specs.Capabilities.{capability_number}
 use Rattle.aa_profile_tables.specs.Domains.{domain_number}
 use Rattle.aa_profile_tables.specs.Kinds.{kind_number}
 use Rattle.aa_profile_tables.specs.KnownNumbers.{is_kind}
-use Rattle.aa_profile_parsing.specs.Parts.{Part, behind_comma, expected, followed, refused}
-use Rattle.aa_profile_parsing.specs.Tokens.{is_comma, is_pattern, is_word, is_word_of, text_of}
-use Rattle.aa_profile_parsing.specs.declared.fault.Fault.{Fault}
-use Rattle.aa_profile_parsing.specs.declared.fault.GrammarRefusal.TheVariants.{BadCapability, BadNetwork, BadToken}
-use Rattle.aa_profile_rules.specs.Access.{access}
+use Rattle.aa_profile_parsing.specs.Parts.{Part, refused}
+use Rattle.aa_profile_parsing.specs.Tokens.{is_word, is_word_of, text_of}
+use Rattle.aa_profile_parsing.specs.declared.fault.GrammarRefusal.TheVariants.{BadCapability, BadNetwork, BadToken, LeftOut}
+use Rattle.aa_profile_parsing.specs.declared.language.Language.{Language}
+use Rattle.aa_profile_parsing.specs.declared.language.Language.TheVariants.{Four, Three}
 use Rattle.aa_profile_rules.specs.Capabilities.{all_capabilities, capabilities, named_capabilities, with_capability}
-use Rattle.aa_profile_rules.specs.KeptRules.{begins_kept, kept}
 use Rattle.aa_profile_rules.specs.Networks.{all_sockets, first_named, named_in, second_named, sockets, sockets_behind, stands_behind}
 use Rattle.aa_profile_rules.specs.Qualifiers.{qualifiers, unqualified}
 use Rattle.aa_profile_rules.specs.RuleNumbers.{are_sockets, has_known_numbers}
-use Rattle.aa_profile_rules.specs.Rules.{Kept, OnCapabilities, OnFile, OnNetwork, Rule, access_first, begins_unowned, capability_rule, ended, file_rule, kept_rule, network_rule, pattern_first, plain_rule, rule, rule_behind, rule_behind_file, targeted_rule, unowned_rule, whole_rule}
+use Rattle.aa_profile_rules.specs.Rules.{All, OnFile, Rule, all_rule, common_rule, ended, is_left_out, rule, rule_behind, wider_rule}
 use Rattle.aa_profile_rules.specs.Targets.{target}
-use Rattle.aa_profile_rules.specs.declared.access.Access.{Access}
 use Rattle.aa_profile_rules.specs.declared.networks.Sockets.{Sockets}
 use Rattle.aa_profile_rules.specs.declared.qualifiers.Qualifiers.{Qualifiers}
-
--- what a part reads has a property, if it reads anything
-abbrev Reads : {A : Type 0} → (A → Type 0) → Part A → Type 0
-Reads P part = IfOk part (λ read. P read.0)
+use Rattle.aa_profile_rules.proofs.RuleLemmas.{Given, Reads, common_rule-has, reads-any, reads-either, reads-ended, reads-every, reads-followed}
 
 -- a rule has no number that doesn't stand in the tables
 abbrev Known : Rule → Type 0
@@ -35,67 +31,6 @@ Known rule = has_known_numbers rule ≡ true
 -- the numbers of sockets stand in the tables
 abbrev AreSockets : Sockets → Type 0
 AreSockets found = are_sockets found ≡ true
-
--- what is read behind a part has a property, where it has it whatever the part reads
-reads-followed : {A B : Type 0} (P : A → Type 0) (Q : B → Type 0) (part : Part A) (next : A → List Placed → Part B) → Reads P part
-    → ((a : A) (behind : List Placed) → P a → Reads Q (next a behind)) → Reads Q (followed part next)
-reads-followed P Q (Err fault) next h more = tt
-reads-followed P Q (Ok (a, behind)) next h more = more a behind h
-
--- any part reads something
-reads-any : {A : Type 0} (part : Part A) → Reads (λ _. Unit {0}) part
-reads-any (Err fault) = tt
-reads-any (Ok read) = tt
-
--- what is read has a property, where it has it whichever part is taken
-reads-either : {A : Type 0} (P : A → Type 0) (test : Bool) (one other : Part A) → Reads P one → Reads P other → Reads P (if test then one else other)
-reads-either P true one other h k = h
-reads-either P false one other h k = k
-
-ended-known : (rule : Rule) (tokens : List Placed) → Known rule → Reads Known (ended rule tokens)
-ended-known rule tokens h = by (behind_comma tokens)
-  where
-    told : Result (List Placed) Fault → Part Rule
-    told behind = elim behind [ Err fault ↦ Err fault | Ok behind ↦ Ok (rule, behind) ]
-
-    by : (behind : Result (List Placed) Fault) → Reads Known (told behind)
-    by (Err fault) = tt
-    by (Ok behind) = h
-
--- file rules and kept rules have no numbers
-targeted_rule-known : (qualifiers : Qualifiers) (pattern : Placed) (access : Access) (tokens : List Placed) → Reads Known (targeted_rule qualifiers pattern access tokens)
-targeted_rule-known qualifiers pattern access tokens =
-    reads-followed (λ _. Unit {0}) Known (target access tokens) (λ target behind. ended (OnFile qualifiers pattern access target) behind) (reads-any (target access tokens))
-    (λ target behind _. ended-known (OnFile qualifiers pattern access target) behind refl)
-
-pattern_first-known : (qualifiers : Qualifiers) (pattern : Placed) (tokens : List Placed) → Reads Known (pattern_first qualifiers pattern tokens)
-pattern_first-known qualifiers pattern tokens =
-    reads-followed (λ _. Unit {0}) Known (access qualifiers.deny tokens) (λ access behind. targeted_rule qualifiers pattern access behind) (reads-any (access qualifiers.deny tokens))
-    (λ access behind _. targeted_rule-known qualifiers pattern access behind)
-
-access_first-known : (qualifiers : Qualifiers) (tokens : List Placed) → Reads Known (access_first qualifiers tokens)
-access_first-known qualifiers tokens =
-    reads-followed (λ _. Unit {0}) Known (access qualifiers.deny tokens)
-    (λ access behind. followed (expected is_pattern behind) (λ pattern rest. targeted_rule qualifiers pattern access rest)) (reads-any (access qualifiers.deny tokens))
-    (λ access behind _.
-    reads-followed (λ _. Unit {0}) Known (expected is_pattern behind) (λ pattern rest. targeted_rule qualifiers pattern access rest) (reads-any (expected is_pattern behind))
-    (λ pattern rest _. targeted_rule-known qualifiers pattern access rest))
-
-file_rule-known : (qualifiers : Qualifiers) (tokens : List Placed) → Reads Known (file_rule qualifiers tokens)
-file_rule-known qualifiers [] = tt
-file_rule-known qualifiers (token ∷ tokens) =
-    reads-either Known (is_pattern token) (pattern_first qualifiers token tokens) (access_first qualifiers (token ∷ tokens))
-    (pattern_first-known qualifiers token tokens) (access_first-known qualifiers (token ∷ tokens))
-
-rule_behind_file-known : (qualifiers : Qualifiers) (word : Placed) (tokens : List Placed) → Reads Known (rule_behind_file qualifiers word tokens)
-rule_behind_file-known qualifiers word [] = tt
-rule_behind_file-known qualifiers word (token ∷ tokens) =
-    reads-either Known (is_comma token.token.kind) (Ok (whole_rule qualifiers word, tokens)) (file_rule qualifiers (token ∷ tokens))
-    refl (file_rule-known qualifiers (token ∷ tokens))
-
-kept_rule-known : (qualifiers : Qualifiers) (tokens : List Placed) → Reads Known (kept_rule qualifiers tokens)
-kept_rule-known qualifiers tokens =
-    reads-followed (λ _. Unit {0}) Known (kept tokens) (λ kept behind. Ok (Kept qualifiers kept, behind)) (reads-any (kept tokens)) (λ kept behind _. refl)
 
 -- the numbers of names stand in the tables
 pub record NamesKnown : Type 0 where
@@ -196,36 +131,43 @@ module _ (known : NamesKnown) where
       by true (Some first) f = sockets_behind-known first tokens f
       by false first f = refl
 
-  unowned_rule-known : (qualifiers : Qualifiers) (word : Placed) (tokens : List Placed) → Reads Known (unowned_rule qualifiers word tokens)
-  unowned_rule-known qualifiers word tokens =
-      reads-either Known qualifiers.owner (refused BadToken word) (chosen (is_word_of (codes "capability") word)) tt
-      (reads-either Known (is_word_of (codes "capability") word) (capability_rule qualifiers word tokens) (network_rule qualifiers word tokens)
-      (reads-followed (λ set. set < 2 ^ 41) Known (capabilities tokens) (λ set behind. ended (OnCapabilities qualifiers word set) behind) (capabilities-known tokens)
-      (λ set behind below. ended-known (OnCapabilities qualifiers word set) behind (lt-ltb set (2 ^ 41) below)))
-      (reads-followed AreSockets Known (sockets tokens) (λ found behind. ended (OnNetwork qualifiers word found) behind) (sockets-known tokens)
-      (λ found behind fit. ended-known (OnNetwork qualifiers word found) behind fit)))
-    where
-      chosen : Bool → Part Rule
-      chosen test = if test then capability_rule qualifiers word tokens else network_rule qualifiers word tokens
+  -- so those of the parts of rules do
+  all-given : (language : Language) → Given language Known
+  all-given language = record {
+    by_target = λ qualifiers pattern access tokens. reads-every (λ target. Known (OnFile qualifiers pattern access target)) (target language access tokens) (λ _. refl);
+    by_word_file = λ qualifiers word. refl;
+    by_capabilities = λ qualifiers word tokens. IfOk-weaker (capabilities tokens) _ _ (λ read below. lt-ltb read.0 (2 ^ 41) below) (capabilities-known tokens);
+    by_sockets = λ qualifiers word tokens. sockets-known tokens;
+    kept = λ qualifiers tokens. refl;
+  }
 
-  plain_rule-known : (qualifiers : Qualifiers) (tokens : List Placed) → Reads Known (plain_rule qualifiers tokens)
-  plain_rule-known qualifiers [] = tt
-  plain_rule-known qualifiers (token ∷ tokens) =
-      reads-either Known (begins_unowned token) (unowned_rule qualifiers token tokens) (file_rule qualifiers (token ∷ tokens))
-      (unowned_rule-known qualifiers token tokens) (file_rule-known qualifiers (token ∷ tokens))
+  common_rule-known : (language : Language) (qualifiers : Qualifiers) (tokens : List Placed) → Reads Known (common_rule language qualifiers tokens)
+  common_rule-known language = common_rule-has language Known (all-given language)
 
-  behind-known : (qualifiers : Qualifiers) (tokens : List Placed) → Reads Known (rule_behind qualifiers tokens)
-  behind-known qualifiers [] = tt
-  behind-known qualifiers (token ∷ tokens) =
-      reads-either Known (is_word_of (codes "file") token) (rule_behind_file qualifiers token tokens) (unnamed (begins_kept token)) (rule_behind_file-known qualifiers token tokens)
-      (reads-either Known (begins_kept token) (kept_rule qualifiers (token ∷ tokens)) (plain_rule qualifiers (token ∷ tokens))
-      (kept_rule-known qualifiers (token ∷ tokens)) (plain_rule-known qualifiers (token ∷ tokens)))
+  all_rule-known : (qualifiers : Qualifiers) (word : Placed) (tokens : List Placed) → Reads Known (all_rule qualifiers word tokens)
+  all_rule-known qualifiers word tokens =
+      reads-either Known qualifiers.owner (refused BadToken word) (owned qualifiers.deny) tt
+      (reads-either Known qualifiers.deny (refused LeftOut word) (ended (All qualifiers word) tokens) tt (reads-ended Known (All qualifiers word) tokens refl))
     where
-      unnamed : Bool → Part Rule
-      unnamed test = if test then kept_rule qualifiers (token ∷ tokens) else plain_rule qualifiers (token ∷ tokens)
+      owned : Bool → Part Rule
+      owned test = if test then refused LeftOut word else ended (All qualifiers word) tokens
+
+  wider_rule-known : (qualifiers : Qualifiers) (tokens : List Placed) → Reads Known (wider_rule qualifiers tokens)
+  wider_rule-known qualifiers [] = tt
+  wider_rule-known qualifiers (token ∷ tokens) =
+      reads-either Known (is_left_out token) (refused LeftOut token) (taken (is_word_of (codes "all") token)) tt
+      (reads-either Known (is_word_of (codes "all") token) (all_rule qualifiers token tokens) (common_rule Four qualifiers (token ∷ tokens))
+      (all_rule-known qualifiers token tokens) (common_rule-known Four qualifiers (token ∷ tokens)))
+    where
+      taken : Bool → Part Rule
+      taken test = if test then all_rule qualifiers token tokens else common_rule Four qualifiers (token ∷ tokens)
+
+  behind-known : (language : Language) (qualifiers : Qualifiers) (tokens : List Placed) → Reads Known (rule_behind language qualifiers tokens)
+  behind-known Three qualifiers tokens = common_rule-known Three qualifiers tokens
+  behind-known Four qualifiers tokens = wider_rule-known qualifiers tokens
 
   -- no rule that is read has a number that doesn't stand in the tables
-  pub rule-known : (tokens : List Placed) → Reads Known (rule tokens)
-  rule-known tokens =
-      reads-followed (λ _. Unit {0}) Known (qualifiers unqualified tokens) rule_behind (reads-any (qualifiers unqualified tokens))
-      (λ found behind _. behind-known found behind)
+  pub rule-known : (language : Language) (tokens : List Placed) → Reads Known (rule language tokens)
+  rule-known language tokens =
+      reads-followed (λ _. Unit {0}) Known (qualifiers unqualified tokens) (rule_behind language) (reads-any (qualifiers unqualified tokens))
+      (λ found behind _. behind-known language found behind)

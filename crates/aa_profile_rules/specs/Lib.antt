@@ -1,6 +1,7 @@
 pub mod Access
 pub mod Capabilities
 pub mod KeptRules
+pub mod NarrowRules
 pub mod Networks
 pub mod Qualifiers
 pub mod RuleNumbers

@@ -1,13 +1,16 @@
 -- Rules as they are written (apparmor.d(5), "FILE"; docs/policy.md, "Rules").
-use Rattle.std.specs.Prelude.{ℕ, Bool, ◌||◌, if◌then◌else◌, List, [], ◌∷◌, Option, None, Ok, Err, codes}
+use Rattle.std.specs.Prelude.{ℕ, Bool, ◌&&◌, ◌||◌, if◌then◌else◌, List, [], ◌∷◌, Option, None, Ok, Err, codes}
 use Rattle.aa_text_splicing.specs.Splicing.{Placed}
+use Rattle.aa_bytes.specs.Texts.{begins_with}
 use Rattle.aa_profile_parsing.specs.Parts.{Part, behind_comma, expected, followed, refused}
-use Rattle.aa_profile_parsing.specs.Tokens.{is_comma, is_pattern, is_word_of}
+use Rattle.aa_profile_parsing.specs.Tokens.{is_comma, is_open_brace, is_pattern, is_word, is_word_of, text_of}
 use Rattle.aa_profile_parsing.specs.declared.fault.Fault.TheVariants.{RanOut}
-use Rattle.aa_profile_parsing.specs.declared.fault.GrammarRefusal.TheVariants.{BadToken}
+use Rattle.aa_profile_parsing.specs.declared.fault.GrammarRefusal.TheVariants.{BadToken, LeftOut}
+use Rattle.aa_profile_parsing.specs.declared.language.Language.{Language}
+use Rattle.aa_profile_parsing.specs.declared.language.Language.TheVariants.{Four, Three}
 use Rattle.aa_profile_rules.specs.Access.{access, whole_access}
 use Rattle.aa_profile_rules.specs.Capabilities.{capabilities}
-use Rattle.aa_profile_rules.specs.KeptRules.{begins_kept, kept}
+use Rattle.aa_profile_rules.specs.KeptRules.{begins_kept, is_among, kept}
 use Rattle.aa_profile_rules.specs.Networks.{sockets}
 use Rattle.aa_profile_rules.specs.Qualifiers.{qualifiers, unqualified}
 use Rattle.aa_profile_rules.specs.Targets.{target}
@@ -16,37 +19,38 @@ use Rattle.aa_profile_rules.specs.declared.networks.Sockets.{Sockets}
 use Rattle.aa_profile_rules.specs.declared.qualifiers.Qualifiers.{Qualifiers}
 
 -- A rule: on the files of a pattern, with its access and the target that it names, if it does; on a set of capabilities, or on sockets, with the
--- token of its word; or one that is kept, with its tokens up to the Comma that ends it.
+-- token of its word; one that is kept, with its tokens up to the Comma that ends it; or one that lets all, with the token of its word.
 pub data Rule : Type 0 where
   OnFile : (qualifiers : Qualifiers) (pattern : Placed) (access : Access) (target : Option Placed) → Rule
   OnCapabilities : (qualifiers : Qualifiers) (word : Placed) (capabilities : ℕ) → Rule
   OnNetwork : (qualifiers : Qualifiers) (word : Placed) (sockets : Sockets) → Rule
   Kept : (qualifiers : Qualifiers) (tokens : List Placed) → Rule
+  All : (qualifiers : Qualifiers) (word : Placed) → Rule
 
 -- a rule, where a Comma ends it
 abbrev pub ended : Rule → List Placed → Part Rule
 ended rule tokens = elim (behind_comma tokens) [ Err fault ↦ Err fault | Ok behind ↦ Ok (rule, behind) ]
 
 -- a file rule behind its pattern and its access: a target may follow
-abbrev pub targeted_rule : Qualifiers → Placed → Access → List Placed → Part Rule
-targeted_rule qualifiers pattern access tokens =
-    followed (target access tokens) (λ target behind. ended (OnFile qualifiers pattern access target) behind)
+abbrev pub targeted_rule : Language → Qualifiers → Placed → Access → List Placed → Part Rule
+targeted_rule language qualifiers pattern access tokens =
+    followed (target language access tokens) (λ target behind. ended (OnFile qualifiers pattern access target) behind)
 
 -- a file rule behind its pattern
-abbrev pub pattern_first : Qualifiers → Placed → List Placed → Part Rule
-pattern_first qualifiers pattern tokens = followed (access qualifiers.deny tokens) (λ access behind. targeted_rule qualifiers pattern access behind)
+abbrev pub pattern_first : Language → Qualifiers → Placed → List Placed → Part Rule
+pattern_first language qualifiers pattern tokens = followed (access qualifiers.deny tokens) (λ access behind. targeted_rule language qualifiers pattern access behind)
 
 -- a file rule whose access stands before its pattern
-abbrev pub access_first : Qualifiers → List Placed → Part Rule
-access_first qualifiers tokens =
+abbrev pub access_first : Language → Qualifiers → List Placed → Part Rule
+access_first language qualifiers tokens =
     followed (access qualifiers.deny tokens) (λ access behind.
-    followed (expected is_pattern behind) (λ pattern rest. targeted_rule qualifiers pattern access rest))
+    followed (expected is_pattern behind) (λ pattern rest. targeted_rule language qualifiers pattern access rest))
 
 -- A file rule: a pattern and its access, in either order, and a target.
-abbrev pub file_rule : Qualifiers → List Placed → Part Rule
-file_rule qualifiers [] = Err RanOut
-file_rule qualifiers (token ∷ tokens) =
-    if is_pattern token then pattern_first qualifiers token tokens else access_first qualifiers (token ∷ tokens)
+abbrev pub file_rule : Language → Qualifiers → List Placed → Part Rule
+file_rule language qualifiers [] = Err RanOut
+file_rule language qualifiers (token ∷ tokens) =
+    if is_pattern token then pattern_first language qualifiers token tokens else access_first language qualifiers (token ∷ tokens)
 
 -- the pattern of all files, in the place of a token
 abbrev pub all_files : Placed → Placed
@@ -60,10 +64,10 @@ abbrev pub whole_rule : Qualifiers → Placed → Rule
 whole_rule qualifiers word = OnFile qualifiers (all_files word) (whole_access qualifiers.deny) None
 
 -- A rule behind the word `file`: that of the word alone, where a Comma follows, and else a file rule.
-abbrev pub rule_behind_file : Qualifiers → Placed → List Placed → Part Rule
-rule_behind_file qualifiers word [] = Err RanOut
-rule_behind_file qualifiers word (token ∷ tokens) =
-    if is_comma token.token.kind then Ok (whole_rule qualifiers word, tokens) else file_rule qualifiers (token ∷ tokens)
+abbrev pub rule_behind_file : Language → Qualifiers → Placed → List Placed → Part Rule
+rule_behind_file language qualifiers word [] = Err RanOut
+rule_behind_file language qualifiers word (token ∷ tokens) =
+    if is_comma token.token.kind then Ok (whole_rule qualifiers word, tokens) else file_rule language qualifiers (token ∷ tokens)
 
 abbrev pub kept_rule : Qualifiers → List Placed → Part Rule
 kept_rule qualifiers tokens = followed (kept tokens) (λ kept behind. Ok (Kept qualifiers kept, behind))
@@ -88,19 +92,49 @@ unowned_rule qualifiers word tokens =
     network_rule qualifiers word tokens
 
 -- a rule that isn't kept: on what has no owner, where it begins with such a word, and else on files
-abbrev pub plain_rule : Qualifiers → List Placed → Part Rule
-plain_rule qualifiers [] = Err RanOut
-plain_rule qualifiers (token ∷ tokens) =
-    if begins_unowned token then unowned_rule qualifiers token tokens else file_rule qualifiers (token ∷ tokens)
+abbrev pub plain_rule : Language → Qualifiers → List Placed → Part Rule
+plain_rule language qualifiers [] = Err RanOut
+plain_rule language qualifiers (token ∷ tokens) =
+    if begins_unowned token then unowned_rule qualifiers token tokens else file_rule language qualifiers (token ∷ tokens)
 
--- a rule behind its qualifiers; the word `file` stands alone or before a file rule
-abbrev pub rule_behind : Qualifiers → List Placed → Part Rule
-rule_behind qualifiers [] = Err RanOut
-rule_behind qualifiers (token ∷ tokens) =
-    if is_word_of (codes "file") token then rule_behind_file qualifiers token tokens else
+-- a rule that each language has, behind its qualifiers; the word `file` stands alone or before a file rule
+abbrev pub common_rule : Language → Qualifiers → List Placed → Part Rule
+common_rule language qualifiers [] = Err RanOut
+common_rule language qualifiers (token ∷ tokens) =
+    if is_word_of (codes "file") token then rule_behind_file language qualifiers token tokens else
     if begins_kept token then kept_rule qualifiers (token ∷ tokens) else
-    plain_rule qualifiers (token ∷ tokens)
+    plain_rule language qualifiers (token ∷ tokens)
+
+-- words with which rules of AppArmor begin that aren't read here
+abbrev pub left_out_words : List (List ℕ)
+left_out_words = codes "safe" ∷ codes "unsafe" ∷ codes "prompt" ∷ codes "other" ∷ codes "if" ∷ []
+
+-- what rules of AppArmor begin with that aren't read here: such a word, a priority, or the brace of a block of rules
+abbrev pub is_left_out : Placed → Bool
+is_left_out token =
+    is_open_brace token.token.kind ||
+    (is_word token.token.kind && (begins_with (codes "priority") (text_of token) || is_among left_out_words (text_of token)))
+
+-- A rule that lets all, behind its word. Where `owner` stands before that word, nothing that follows would be accepted; `deny` isn't read here.
+abbrev pub all_rule : Qualifiers → Placed → List Placed → Part Rule
+all_rule qualifiers word tokens =
+    if qualifiers.owner then refused BadToken word else
+    if qualifiers.deny then refused LeftOut word else
+    ended (All qualifiers word) tokens
+
+-- a rule of language 4, behind its qualifiers
+abbrev pub wider_rule : Qualifiers → List Placed → Part Rule
+wider_rule qualifiers [] = Err RanOut
+wider_rule qualifiers (token ∷ tokens) =
+    if is_left_out token then refused LeftOut token else
+    if is_word_of (codes "all") token then all_rule qualifiers token tokens else
+    common_rule Four qualifiers (token ∷ tokens)
+
+-- a rule behind its qualifiers
+abbrev pub rule_behind : Language → Qualifiers → List Placed → Part Rule
+rule_behind Three qualifiers tokens = common_rule Three qualifiers tokens
+rule_behind Four qualifiers tokens = wider_rule qualifiers tokens
 
 -- the rule that tokens begin with
-abbrev pub rule : List Placed → Part Rule
-rule tokens = followed (qualifiers unqualified tokens) rule_behind
+abbrev pub rule : Language → List Placed → Part Rule
+rule language tokens = followed (qualifiers unqualified tokens) (rule_behind language)

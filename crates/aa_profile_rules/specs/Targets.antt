@@ -11,6 +11,9 @@ use Rattle.aa_text_splicing.specs.Splicing.{Placed}
 use Rattle.aa_profile_parsing.specs.Parts.{Part, expected, followed, refused}
 use Rattle.aa_profile_parsing.specs.Tokens.{is_text, is_word_of, text_of}
 use Rattle.aa_profile_parsing.specs.declared.fault.GrammarRefusal.TheVariants.{BadName, TargetWithoutExec}
+use Rattle.aa_profile_parsing.specs.declared.language.Language.{Language}
+use Rattle.aa_profile_parsing.specs.declared.language.Language.TheVariants.{Four, Three}
+use Rattle.aa_profile_access.specs.Stacks.{is_name_or_stack_of}
 use Rattle.aa_profile_rules.specs.declared.access.Access.{Access}
 
 -- where an exec word leads may have a name: that of a profile, or of a child or a hat
@@ -32,22 +35,28 @@ is_name_of to.Profile text = is_full_name text
 is_name_of to.Child text = is_top_name text
 is_name_of _ text = false
 
+-- a text names what is there, by a language; language 4 has stacks
+abbrev pub names_what_is : Language → Destination → List ℕ → Bool
+names_what_is Three destination text = is_name_of destination text
+names_what_is Four destination text = is_name_or_stack_of destination text
+
 -- a text may be the target of an access that may have one; that of a link may be any
-abbrev pub is_target : Access → List ℕ → Bool
-is_target access text = elim access.word [
-  | Some word ↦ is_name_of (row word).destination text
+abbrev pub is_target : Language → Access → List ℕ → Bool
+is_target language access text = elim access.word [
+  | Some word ↦ names_what_is language (row word).destination text
   | None ↦ true
 ]
 
 -- the target of an access, behind `->`
-abbrev pub named_target : Access → List Placed → Part (Option Placed)
-named_target access tokens =
-    followed (expected is_text tokens) (λ target behind. if is_target access (text_of target) then Ok (Some target, behind) else refused BadName target)
+abbrev pub named_target : Language → Access → List Placed → Part (Option Placed)
+named_target language access tokens =
+    followed (expected is_text tokens) (λ target behind.
+    if is_target language access (text_of target) then Ok (Some target, behind) else refused BadName target)
 
 -- the target that tokens begin with, if they begin with `->`
-abbrev pub target : Access → List Placed → Part (Option Placed)
-target access [] = Ok (None, [])
-target access (token ∷ tokens) =
+abbrev pub target : Language → Access → List Placed → Part (Option Placed)
+target language access [] = Ok (None, [])
+target language access (token ∷ tokens) =
     if is_word_of (codes "->") token
-    then if takes_target access then named_target access tokens else refused TargetWithoutExec token
+    then if takes_target access then named_target language access tokens else refused TargetWithoutExec token
     else Ok (None, token ∷ tokens)

@@ -83,7 +83,7 @@ pub fn read_access<'a>(
     }
 }
 
-// What `file` alone lets or denies.
+/// What `file` alone lets or denies. It takes no memory.
 pub fn whole_access(deny: bool) -> Access
     ensures { result ≡ whole_access deny }
 {

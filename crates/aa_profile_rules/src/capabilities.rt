@@ -9,8 +9,8 @@ use aa_profile_tables::{capability_number, which_numbers_names_have};
 use aa_text_splicing::Spliced;
 use aa_text_tokens::TokenKind;
 
-// All capabilities: as many lowest bits as there are.
-const ALL_CAPABILITIES: u64 = (1 << 41) - 1;
+/// All capabilities: as many lowest bits as there are.
+pub const ALL_CAPABILITIES: u64 = (1 << 41) - 1;
 
 // A set, and the capability of a number.
 fn with_capability(set: u64, number: u8) -> u64

@@ -1,5 +1,5 @@
-//! Rules of a profile's file as they are written: qualifiers, patterns, access and targets, capabilities, sockets, and the
-//! rules that are kept as they are.
+//! Rules of a profile's file as they are written: qualifiers, patterns, access and targets, capabilities, sockets, the rules
+//! that are kept as they are, and the rule that lets all.
 #![tactic(auto)]
 
 mod access;
@@ -11,8 +11,9 @@ mod qualifiers;
 mod rules;
 mod targets;
 
-pub use access::Access;
-pub use laws::which_numbers_rules_have;
-pub use networks::Sockets;
+pub use access::{Access, whole_access};
+pub use capabilities::ALL_CAPABILITIES;
+pub use laws::{which_numbers_rules_have, which_rules_language_3_has};
+pub use networks::{Sockets, all_sockets};
 pub use qualifiers::Qualifiers;
-pub use rules::{Rule, read_rule};
+pub use rules::{Rule, all_files, read_rule};

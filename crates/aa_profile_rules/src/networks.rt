@@ -18,8 +18,8 @@ pub struct Sockets {
     pub kind: Option<u8>,
 }
 
-// All sockets.
-fn all_sockets() -> Sockets
+/// All sockets. It takes no memory.
+pub fn all_sockets() -> Sockets
     ensures { result ≡ all_sockets }
 {
     Sockets {

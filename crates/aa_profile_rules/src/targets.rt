@@ -4,11 +4,11 @@ ghost use Rattle.std.specs.Prelude.{◌≡◌, ◌≤◌, IfOk, IfErr, length};
 ghost use Rattle.std.specs.Option.{option_map};
 ghost use Rattle.aa_text_splicing.specs.SeenTokens.{seen_spliced};
 ghost use Rattle.aa_profile_parsing.specs.Readings.{IsFault, IsRead};
-ghost use Rattle.aa_profile_rules.specs.Targets.{is_name_of, is_nameable, is_target, named_target, takes_target, target};
+ghost use Rattle.aa_profile_rules.specs.Targets.{is_name_of, is_nameable, is_target, named_target, names_what_is, takes_target, target};
 
 use crate::access::Access;
-use aa_profile_access::{Destination, Perms, is_full_name, is_top_name};
-use aa_profile_parsing::{Fault, GrammarRefusal, is_word_of, read_text, refusal_at};
+use aa_profile_access::{Destination, Perms, is_full_name, is_name_or_stack_of, is_top_name};
+use aa_profile_parsing::{Fault, GrammarRefusal, Language, is_word_of, read_text, refusal_at};
 use aa_text_splicing::Spliced;
 use bitflags::Flags;
 
@@ -43,27 +43,38 @@ fn is_name_of(destination: Destination, text: &[u8]) -> bool
     }
 }
 
+// Whether a text names what is there, by a language.
+fn names_what_is(language: Language, destination: Destination, text: &[u8]) -> bool
+    ensures { result ≡ names_what_is language destination text.now }
+{
+    match language {
+        Language::Three => is_name_of(destination, text),
+        Language::Four => is_name_or_stack_of(destination, text),
+    }
+}
+
 // Whether a text may be the target of an access that may have one.
-fn is_target(access: Access, text: &[u8]) -> bool
-    ensures { result ≡ is_target access text.now }
+fn is_target(language: Language, access: Access, text: &[u8]) -> bool
+    ensures { result ≡ is_target language access text.now }
 {
     match access.word {
-        Some(word) => is_name_of(word.destination(), text),
+        Some(word) => names_what_is(language, word.destination(), text),
         None => true,
     }
 }
 
 // The target of an access, behind `->`, and what stands behind it.
 fn read_named<'a>(
+    language: Language,
     access: Access,
     tokens: &'a [Spliced<'a>],
 ) -> Result<(Option<Spliced<'a>>, &'a [Spliced<'a>]), Fault>
-    ensures ok { IfOk result (IsRead (option_map seen_spliced) (named_target access) tokens.now) }
-    ensures refused { IfErr result (IsFault (named_target access) tokens.now) }
+    ensures ok { IfOk result (IsRead (option_map seen_spliced) (named_target language access) tokens.now) }
+    ensures refused { IfErr result (IsFault (named_target language access) tokens.now) }
     ensures within { IfOk result (λ read. length read.1.now ≤ length tokens.now) }
 {
     let (target, behind) = read_text(tokens)?;
-    if !is_target(access, target.token.text) {
+    if !is_target(language, access, target.token.text) {
         return Err(refusal_at(GrammarRefusal::BadName, target));
     }
     Ok((Some(target), behind))
@@ -71,11 +82,12 @@ fn read_named<'a>(
 
 // The target that tokens begin with, if they begin with `->`, and what stands behind it.
 pub fn read_target<'a>(
+    language: Language,
     access: Access,
     tokens: &'a [Spliced<'a>],
 ) -> Result<(Option<Spliced<'a>>, &'a [Spliced<'a>]), Fault>
-    ensures ok { IfOk result (IsRead (option_map seen_spliced) (target access) tokens.now) }
-    ensures refused { IfErr result (IsFault (target access) tokens.now) }
+    ensures ok { IfOk result (IsRead (option_map seen_spliced) (target language access) tokens.now) }
+    ensures refused { IfErr result (IsFault (target language access) tokens.now) }
     ensures within { IfOk result (λ read. length read.1.now ≤ length tokens.now) }
 {
     match tokens {
@@ -83,7 +95,7 @@ pub fn read_target<'a>(
             if !takes_target(access) {
                 return Err(refusal_at(GrammarRefusal::TargetWithoutExec, *token));
             }
-            read_named(access, behind)
+            read_named(language, access, behind)
         }
         _ => Ok((None, tokens)),
     }

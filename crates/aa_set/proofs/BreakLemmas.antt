@@ -4,10 +4,11 @@ use Rattle.std.specs.List.{flat_map}
 use Rattle.std.specs.Io.KnownBytes.{Appends}
 use Rattle.std.proofs.lemmas.List.Concat.{flat_map-append}
 use Rattle.aa_set.specs.Laws.{SoFarIsFront}
-use Rattle.aa_set.specs.Manager.{Managed, new_manager}
+use Rattle.aa_set_manager.specs.Manager.{Managed}
 use Rattle.aa_set.specs.Reply.{reply_text}
-use Rattle.aa_set.specs.Run.{IsAnsweredSoFar, IsFrontAnswered, Outcome, after_lines, flagged, line_outcome, output, replies_to}
-use Rattle.aa_set.specs.declared.reply.Reply.{Reply}
+use Rattle.aa_set.specs.Run.{IsAnsweredSoFar, IsFrontAnswered, after_lines, flagged, output, replies_to}
+use Rattle.aa_set_manager.specs.Outcomes.{Outcome, line_outcome}
+use Rattle.aa_set_manager.specs.declared.reply.Reply.{Reply}
 use Rattle.aa_set.specs.code.Session.{Follows, IsAfter, IsCut, IsFrontOfWhole}
 use Rattle.aa_set.specs.declared.session.Session.{Session}
 use Rattle.aa_set_lines.specs.Lines.{is_line_feed, lines, whole_lines, without_empty_last, without_last}
@@ -49,42 +50,39 @@ flagged-more : (done : Lines) (more : List (List ℕ)) → flagged (map (λ line
 flagged-more [] more = refl
 flagged-more (line ∷ done) more = ap (λ rest. line ∷ rest) (flagged-more done more)
 
-module _ (files : Files) (force_complain : Bool) where
-  abbrev start : Managed
-  start = new_manager force_complain
-
+module _ (files : Files) (begin : Managed) where
   abbrev texts : Lines → List ℕ
-  texts done = flat_map (reply_text files) (replies_to files start done)
+  texts done = flat_map (reply_text files) (replies_to files begin done)
 
   -- the texts of further lines come behind
-  texts-append : (done more : Lines) → texts (done ++ more) ≡ texts done ++ flat_map (reply_text files) (replies_to files (after_lines files start done) more)
+  texts-append : (done more : Lines) → texts (done ++ more) ≡ texts done ++ flat_map (reply_text files) (replies_to files (after_lines files begin done) more)
   texts-append done more =
-      ap (flat_map (reply_text files)) (replies_to-append files start done more)
-      ∙ flat_map-append (reply_text files) (replies_to files start done) (replies_to files (after_lines files start done) more)
+      ap (flat_map (reply_text files)) (replies_to-append files begin done more)
+      ∙ flat_map-append (reply_text files) (replies_to files begin done) (replies_to files (after_lines files begin done) more)
 
   -- what was put behind so far is written, and then a front of what waited and of a text
-  pub front-after : {before old : Option (List ℕ)} {s : Session} {done : Lines} (new : Option (List ℕ)) (text : List ℕ) → IsAfter files force_complain before old s done
+  pub front-after : {before old : Option (List ℕ)} {s : Session} {done : Lines} (new : Option (List ℕ)) (text : List ℕ) → IsAfter files begin before old s done
       → AppendsFront old new (s.waiting.items ++ text) → AppendsFront before new (texts done ++ text)
   front-after {before} {old} {s} {done} new text after front =
       Front-same before new (after.written.done ++ (s.waiting.items ++ text)) (texts done ++ text) (Front-behind before old new after.written.done (s.waiting.items ++ text) after.written.writes front)
       (sym (append_assoc after.written.done s.waiting.items text) ∙ ap (λ (l : List ℕ). l ++ text) after.written.keeps)
 
-  pub front-waiting : {before old : Option (List ℕ)} {s : Session} {done : Lines} (new : Option (List ℕ)) → IsAfter files force_complain before old s done
+  pub front-waiting : {before old : Option (List ℕ)} {s : Session} {done : Lines} (new : Option (List ℕ)) → IsAfter files begin before old s done
       → AppendsFront old new s.waiting.items → AppendsFront before new (texts done)
   front-waiting {before} {old} {s} {done} new after front =
       Front-same before new (texts done ++ []) (texts done) (front-after new [] after (Front-same old new s.waiting.items (s.waiting.items ++ []) front (sym (append-nil s.waiting.items))))
       (append-nil (texts done))
 
-  texts-line : (done : Lines) (line : List ℕ) (flag : Bool) → texts (done ++ (line, flag) ∷ []) ≡ texts done ++ reply_text files (line_outcome files (after_lines files start done) line flag).reply
+  texts-line : (done : Lines) (line : List ℕ) (flag : Bool) → texts (done ++ (line, flag) ∷ []) ≡ texts done ++ reply_text files (line_outcome files (after_lines files begin done) line flag).reply
   texts-line done line flag =
-      texts-append done ((line, flag) ∷ []) ∙ ap (λ (l : List ℕ). texts done ++ l) (append-nil (reply_text files (line_outcome files (after_lines files start done) line flag).reply))
+      texts-append done ((line, flag) ∷ []) ∙ ap (λ (l : List ℕ). texts done ++ l) (append-nil (reply_text files (line_outcome files (after_lines files begin done) line flag).reply))
 
   -- the reply to a line was to be written, behind what waited
   pub front-line : {before old : Option (List ℕ)} {s : Session} {done : Lines} (new : Option (List ℕ)) (line : List ℕ) (flag : Bool) (reply : Reply) (next : Managed)
-      → IsAfter files force_complain before old s done → ◌≡◌ {A = Outcome} (record { reply = reply; managed = next }) (line_outcome files s.manager line flag)
+      → IsAfter files begin before old s done → ◌≡◌ {A = Outcome} (record { reply = reply; managed = next }) (line_outcome files s.manager line flag)
       → AppendsFront old new (s.waiting.items ++ reply_text files reply) → AppendsFront before new (texts (done ++ (line, flag) ∷ []))
   front-line {before} {old} {s} {done} new line flag reply next after answers front =
-      let out : reply ≡ (line_outcome files (after_lines files start done) line flag).reply
+      let out : reply ≡ (line_outcome files (after_lines files begin done) line flag).reply
       = ap (λ (a : Outcome). a.reply) answers ∙ ap (λ m. (line_outcome files m line flag).reply) after.managed in
       Front-same before new (texts done ++ reply_text files reply) (texts (done ++ (line, flag) ∷ [])) (front-after new (reply_text files reply) after front)
       (ap (λ reply. texts done ++ reply_text files reply) out ∙ sym (texts-line done line flag))
@@ -94,17 +92,17 @@ module _ (files : Files) (force_complain : Bool) where
       → AppendsFront before new (texts (done ++ (front, flag) ∷ [])) → AppendsFront before new (texts (done ++ (line, flag) ∷ []))
   front-line-same before new done front line flag same written =
       Front-same before new (texts (done ++ (front, flag) ∷ [])) (texts (done ++ (line, flag) ∷ [])) written
-      (texts-line done front flag ∙ ap (λ (a : Outcome). texts done ++ reply_text files a.reply) (same (after_lines files start done)) ∙ sym (texts-line done line flag))
+      (texts-line done front flag ∙ ap (λ (a : Outcome). texts done ++ reply_text files a.reply) (same (after_lines files begin done)) ∙ sym (texts-line done line flag))
 
   -- lines that were cut, all of which were to be written
   pub front-cut : {before now : Option (List ℕ)} {input : List ℕ} {done : Lines} {buffer : List ℕ} → IsCut input done buffer → AppendsFront before now (texts done)
-      → IsFrontOfWhole files force_complain before now input
+      → IsFrontOfWhole files begin before now input
   front-cut {before} {now} {input} {done} {buffer} cut written =
       record { lines = done; more = []; whole = whole-cut cut ∙ sym (append-nil (map (λ line. line.0) done)); written = written }
 
   -- more bytes leave a front a front
-  pub front-longer : {before now : Option (List ℕ)} {input : List ℕ} → IsFrontOfWhole files force_complain before now input → (rest : List ℕ)
-      → IsFrontOfWhole files force_complain before now (input ++ rest)
+  pub front-longer : {before now : Option (List ℕ)} {input : List ℕ} → IsFrontOfWhole files begin before now input → (rest : List ℕ)
+      → IsFrontOfWhole files begin before now (input ++ rest)
   front-longer {before} {now} {input} front rest =
       let (more, is) = whole-more input rest in
       record {
@@ -114,35 +112,35 @@ module _ (files : Files) (force_complain : Bool) where
         written = front.written;
       }
 
-  pub front-same : {before now : Option (List ℕ)} {input other : List ℕ} → IsFrontOfWhole files force_complain before now input → input ≡ other
-      → IsFrontOfWhole files force_complain before now other
-  front-same {before} {now} front same = subst (IsFrontOfWhole files force_complain before now) same front
+  pub front-same : {before now : Option (List ℕ)} {input other : List ℕ} → IsFrontOfWhole files begin before now input → input ≡ other
+      → IsFrontOfWhole files begin before now other
+  front-same {before} {now} front same = subst (IsFrontOfWhole files begin before now) same front
 
   -- a front of the replies to lines with which the lines of an input begin is one of its output
   front-of : (before now : Option (List ℕ)) (input : List ℕ) (done : Lines) (more : List (List ℕ)) → lines input ≡ map (λ line. line.0) done ++ more
-      → AppendsFront before now (texts done) → IsFrontAnswered files force_complain before now input
+      → AppendsFront before now (texts done) → IsFrontAnswered files begin before now input
   front-of before now input done more is written =
       let flags : List Bool = map (λ line. line.1) done in
       record {
         flags = flags;
-        written = Front-same before now (texts done ++ flat_map (reply_text files) (replies_to files (after_lines files start done) (flagged more []))) (output files force_complain input flags)
-            (Front-more before now (texts done) (flat_map (reply_text files) (replies_to files (after_lines files start done) (flagged more []))) written)
+        written = Front-same before now (texts done ++ flat_map (reply_text files) (replies_to files (after_lines files begin done) (flagged more []))) (output files begin input flags)
+            (Front-more before now (texts done) (flat_map (reply_text files) (replies_to files (after_lines files begin done) (flagged more []))) written)
             (sym (texts-append done (flagged more [])) ∙ ap texts (sym (ap (λ ls. flagged ls flags) is ∙ flagged-more done more)));
       }
 
-  pub front-answered : {before now : Option (List ℕ)} {input : List ℕ} → IsFrontOfWhole files force_complain before now input → IsFrontAnswered files force_complain before now input
+  pub front-answered : {before now : Option (List ℕ)} {input : List ℕ} → IsFrontOfWhole files begin before now input → IsFrontAnswered files begin before now input
   front-answered {before} {now} {input} front =
       let (more, is) = lines-whole input in
       front-of before now input front.lines (front.more ++ more)
       (is ∙ ap (λ whole. whole ++ more) front.whole ∙ append_assoc (map (λ line. line.0) front.lines) front.more more) front.written
 
   pub front-all : {before now : Option (List ℕ)} (input : List ℕ) (done : Lines) → lines input ≡ map (λ line. line.0) done → AppendsFront before now (texts done)
-      → IsFrontAnswered files force_complain before now input
+      → IsFrontAnswered files begin before now input
   front-all {before} {now} input done is written = front-of before now input done [] (is ∙ sym (append-nil (map (λ line. line.0) done))) written
 
   -- where nothing waits, the whole lines are answered
-  pub answered-so-far : {before now : Option (List ℕ)} {s : Session} {held input : List ℕ} → Follows files force_complain before now s held input → s.waiting.items ≡ []
-      → IsAnsweredSoFar files force_complain before now input
+  pub answered-so-far : {before now : Option (List ℕ)} {s : Session} {held input : List ℕ} → Follows files begin before now s held input → s.waiting.items ≡ []
+      → IsAnsweredSoFar files begin before now input
   answered-so-far {before} {now} {s} {held} {input} follows empty =
       let done : Lines = follows.lines in
       let flags : List Bool = map (λ line. line.1) done in
@@ -162,7 +160,7 @@ flagged-names (l ∷ ls) (flag ∷ flags) = ap (λ rest. l ∷ rest) (flagged-na
 
 -- what is written for whole lines is a front of what is written for more
 pub so-far-front : SoFarIsFront
-so-far-front files force_complain input more flags =
+so-far-front files begin input more flags =
     let done : Lines = flagged (whole_lines input) flags in
     let later : List Bool = map (λ line. line.1) done in
     let (whole, is) = whole-more input more in
@@ -171,6 +169,6 @@ so-far-front files force_complain input more flags =
     let same : lines (input ++ more) ≡ map (λ line. line.0) done ++ (whole ++ last) =
     all ∙ ap (λ ls. ls ++ last) is ∙ append_assoc (whole_lines input) whole last ∙ ap (λ ls. ls ++ (whole ++ last)) (sym (flagged-names (whole_lines input) flags)) in (
       later,
-      flat_map (reply_text files) (replies_to files (after_lines files (new_manager force_complain) done) rest),
-      ap (texts files force_complain) (ap (λ ls. flagged ls later) same ∙ flagged-more done (whole ++ last)) ∙ texts-append files force_complain done rest,
+      flat_map (reply_text files) (replies_to files (after_lines files begin done) rest),
+      ap (texts files begin) (ap (λ ls. flagged ls later) same ∙ flagged-more done (whole ++ last)) ∙ texts-append files begin done rest,
     )

@@ -1,9 +1,10 @@
 -- The laws of the machine.
 use Rattle.std.proofs.Common.{◌≡◌, ℕ, ◌+◌, Bool, true, false, not, cond, leb, ◌&&◌, List, [], ◌∷◌, ◌++◌, length, Option, None, Some, Result, Ok, Err, IfOk, is_some, refl, sym, ap, ◌∙◌, subst, arith, append_assoc, append-nil, length-append}
 use Rattle.std.proofs.lemmas.Bool.{cond-false, cond-true, le-leb, true≢false}
-use Rattle.aa_history.specs.Machine.{Machine, MarksItsSets, accepted, all_sets, can_go_back, can_go_on, gone_back, gone_on, gone_where, marked, with_mark}
+use Rattle.aa_history.specs.Machine.{MarksItsSets, all_sets, can_go_back, can_go_on, gone_back, gone_on, gone_where, marked, with_mark}
 use Rattle.aa_history.specs.MachineLaws.{BackAfterOn, BackFromNewSets, BackKeepsSets, CanGoBackInParts, CanGoOnInParts, GoesBackInParts, GoesOnInParts, LengthsAfterBack, LengthsAfterOn, OnAfterBack, OnKeepsSets}
 use Rattle.aa_history.specs.MarkLaws.{MarkKeepsAll, StartedMarksItsSets, StepsMarkTheirSets}
+use Rattle.aa_profile_parsing.specs.declared.language.Language.{Language}
 use Rattle.aa_set_commands.specs.Command.{Ask, Back, Command, Listed, Make, Mark, Redo, Show, Undo}
 use Rattle.aa_set_commands.specs.Refusal.{plain}
 use Rattle.aa_set_commands.specs.declared.refusal.Refusal.{Refusal}
@@ -15,14 +16,16 @@ use Rattle.aa_decide_slots.specs.Named.{have_distinct_names}
 use Rattle.aa_set_lines.specs.Limits.{longest_line}
 use Rattle.aa_set_lines.specs.Lines.{lines}
 use Rattle.aa_set_answers.specs.List.{list_lines}
-use Rattle.aa_set.specs.Laws.{AreDistinct, GivesBack, NoneFlagged, NoneGoes, PiecesChangeNoReply, StepsAdd, StepsReturn, changes, command_in, goes, is_change}
-use Rattle.aa_set.specs.Manager.{Managed, after_change, back_at, is_mark_name, marking, new_manager, next, redone, undone}
+use Rattle.aa_set.specs.Laws.{GivesBack, NoneFlagged, NoneGoes, PiecesChangeNoReply, StepsAdd, StepsReturn, changes, goes, is_change}
+use Rattle.aa_set_manager.specs.Outcomes.{Outcome, answered, changed, command_in, command_outcome, line_outcome, obeyed, refused, takes_memory}
+use Rattle.aa_set_manager.specs.Manager.{AreDistinct, Managed, after_change, back_at, is_mark_name, marking, new_manager_in, next, redone, undone}
 use Rattle.aa_set.specs.Reply.{is_refusal}
-use Rattle.aa_set.specs.Run.{Outcome, after_lines, answered, changed, command_outcome, flagged, line_outcome, obeyed, refused, replies_to, takes_memory}
+use Rattle.aa_set.specs.Run.{after_lines, flagged, replies_to}
 use Rattle.aa_decide_slots.specs.Entries.{Loaded}
 use Rattle.aa_set.proofs.StepLemmas.{line_marks}
-use Rattle.aa_set.specs.declared.reply.Reply.{Reply}
-use Rattle.aa_set.specs.declared.reply.Reply.TheVariants.{Answered, Refused, Silent}
+use Rattle.aa_set_manager.proofs.DistinctLemmas.{accepted-distinct, distinct-behind}
+use Rattle.aa_set_manager.specs.declared.reply.Reply.{Reply}
+use Rattle.aa_set_manager.specs.declared.reply.Reply.TheVariants.{Answered, Refused, Silent}
 
 abbrev Files : Type 0
 Files = List (List ℕ × List ℕ)
@@ -75,7 +78,7 @@ command_grows files m flag (Ok (Some (Redo n))) h = absurd (true≢false h)
 command_grows files m flag (Ok (Some (Back name))) h = absurd (true≢false h)
 command_grows files m flag (Ok (Some (Mark name))) h = flag_grows files m flag false (Mark name) (mark_grows m name (is_mark_name name))
 command_grows files m flag (Ok (Some (Make change))) h =
-    flag_grows files m flag true (Make change) (change_grows m (parts_of files change) (change_of_set files m.force_complain m.machine.now change))
+    flag_grows files m flag true (Make change) (change_grows m (parts_of files m.settings change) (change_of_set files m.settings m.machine.now change))
 command_grows files m flag (Ok (Some (Ask question))) h = flag_grows files m flag false (Ask question) (answered_grows m (reply_lines m.machine.now question))
 command_grows files m flag (Ok (Some Listed)) h = flag_grows files m flag false Listed (answered_grows m (Ok (list_lines m.machine.now)))
 command_grows files m flag (Ok (Some (Show name))) h = flag_grows files m flag false (Show name) (answered_grows m (shown m.machine.now name))
@@ -116,26 +119,6 @@ given_back back m after new n sets size =
 pub restored : BackFromNewSets (List Loaded) → (files : Files) (m : Managed) (lines : List (List ℕ × Bool)) → NoneGoes lines
     → GivesBack m (undone (changes files m lines) (after_lines files m lines))
 restored back files m lines h = let grown = lines_grow files m lines h in given_back back m (after_lines files m lines) grown.0 (changes files m lines) grown.1 grown.2
-
--- distinct sets, and distinct sets behind them
-distinct-append : (xs ys : List (List Loaded)) → AreDistinct xs → AreDistinct ys → AreDistinct (xs ++ ys)
-distinct-append [] ys p q = q
-distinct-append (x ∷ xs) ys p q = (p.0, distinct-append xs ys p.1 q)
-
-distinct-front : (xs ys : List (List Loaded)) → AreDistinct (xs ++ ys) → AreDistinct xs
-distinct-front [] ys p = tt
-distinct-front (x ∷ xs) ys p = (p.0, distinct-front xs ys p.1)
-
-pub distinct-behind : (xs ys : List (List Loaded)) → AreDistinct (xs ++ ys) → AreDistinct ys
-distinct-behind [] ys p = p
-distinct-behind (x ∷ xs) ys p = distinct-behind xs ys p.1
-
--- distinct sets stay so where one more is accepted
-pub accepted-distinct : (machine : Machine (List Loaded)) (set : List Loaded) → AreDistinct (all_sets machine) → have_distinct_names set ≡ true → AreDistinct (all_sets (accepted machine set))
-accepted-distinct machine set h d =
-    let now = distinct-behind machine.earlier (machine.now ∷ machine.later) h in
-    distinct-append (machine.earlier ++ machine.now ∷ []) (set ∷ [])
-    (distinct-append machine.earlier (machine.now ∷ []) (distinct-front machine.earlier (machine.now ∷ machine.later) h) (now.0, tt)) (d, tt)
 
 changed_distinct : (m : Managed) (size : ℕ) (r : Result (List Loaded) Refusal) → AreDistinct (all_sets m.machine) → IfOk r (λ set. have_distinct_names set ≡ true)
     → AreDistinct (all_sets (changed m (after_change m size r)).managed.machine)
@@ -199,7 +182,7 @@ obeyed_distinct keep files m (Mark name) there h = mark_distinct m name h
 obeyed_distinct keep files m (Back name) there h = returned_distinct keep.to_mark m name there h
 obeyed_distinct keep files m (Make change) there h =
     let now = distinct-behind m.machine.earlier (m.machine.now ∷ m.machine.later) h in
-    changed_distinct m (parts_of files change) (change_of_set files m.force_complain m.machine.now change) h (keep.changes files m.force_complain m.machine.now change now.0)
+    changed_distinct m (parts_of files m.settings change) (change_of_set files m.settings m.machine.now change) h (keep.changes files m.settings m.machine.now change now.0)
 obeyed_distinct keep files m (Ask question) there h = answered_distinct m (reply_lines m.machine.now question) h
 obeyed_distinct keep files m Listed there h = answered_distinct m (Ok (list_lines m.machine.now)) h
 obeyed_distinct keep files m (Show name) there h = answered_distinct m (shown m.machine.now name) h
@@ -218,8 +201,8 @@ lines_distinct keep files m (line ∷ lines) there h = lines_distinct keep files
     (either_distinct (leb (length line.0) longest_line) (command_outcome files m line.1 (command_in line.0)) (refused m (plain LineTooLong))
     (command_distinct keep files m line.1 (command_in line.0) there h) h)
 
-pub distinct : Keeping → (files : Files) (force_complain : Bool) (lines : List (List ℕ × Bool)) → AreDistinct (all_sets (after_lines files (new_manager force_complain) lines).machine)
-distinct keep files force_complain lines = lines_distinct keep files (new_manager force_complain) lines (keep.started []) (refl, tt)
+pub distinct : Keeping → (files : Files) (language : Language) (force_complain : Bool) (lines : List (List ℕ × Bool)) → AreDistinct (all_sets (after_lines files (new_manager_in language force_complain) lines).machine)
+distinct keep files language force_complain lines = lines_distinct keep files (new_manager_in language force_complain) lines (keep.started []) (refl, tt)
 
 -- undoing k and n changes at once is undoing k and then n
 undone_sum : CanGoBackInParts (List Loaded) → GoesBackInParts (List Loaded) → (k n : ℕ) (m : Managed) → undone (k + n) m ≡ next (undone n) (undone k m)
@@ -294,5 +277,5 @@ unflagged (l ∷ ls) (flag ∷ flags) (is, none) =
 
 -- two runs without flags give the same replies
 pub pieces-no-reply : PiecesChangeNoReply
-pieces-no-reply files force_complain input some others none nor =
-    ap (replies_to files (new_manager force_complain)) (unflagged (lines input) some none ∙ sym (unflagged (lines input) others nor))
+pieces-no-reply files begin input some others none nor =
+    ap (replies_to files begin) (unflagged (lines input) some none ∙ sym (unflagged (lines input) others nor))

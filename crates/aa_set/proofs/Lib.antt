@@ -2,9 +2,7 @@ pub mod BreakLemmas
 pub mod LawLemmas
 pub mod LineLemmas
 pub mod LinesLemmas
-pub mod ManagerLemmas
 pub mod MarkLemmas
-pub mod ReplyLemmas
 pub mod RunLemmas
 pub mod StayLaws
 pub mod StepLemmas

@@ -11,11 +11,12 @@ use Rattle.aa_set_commands.specs.Refusal.{plain}
 use Rattle.aa_set_commands.specs.declared.refusal.Refusal.{Refusal}
 use Rattle.aa_set_commands.specs.declared.refusal.RefusalKind.TheVariants.{BadRequest, LineTooLong, Memory, NoMark}
 use Rattle.aa_set_lines.specs.Limits.{longest_line}
-use Rattle.aa_set.specs.Laws.{BackNeverFails, BackTwiceIsOnce, GivesBack, MarkGivesBack, MarkLeavesSets, SameMarksLeadToOne, command_in, marks}
-use Rattle.aa_set.specs.Manager.{Managed, back_at, is_mark_name, marking, new_manager, next}
+use Rattle.aa_set.specs.Laws.{BackNeverFails, BackTwiceIsOnce, GivesBack, MarkGivesBack, MarkLeavesSets, SameMarksLeadToOne, marks}
+use Rattle.aa_set_manager.specs.Outcomes.{Outcome, changed, command_in, command_outcome, line_outcome, obeyed, refused, takes_memory}
+use Rattle.aa_set_manager.specs.Manager.{Managed, back_at, is_mark_name, marking, new_manager_in, next}
 use Rattle.aa_set.specs.Reply.{is_refusal}
-use Rattle.aa_set.specs.Run.{Outcome, after_lines, changed, command_outcome, line_outcome, obeyed, refused, takes_memory}
-use Rattle.aa_set.specs.declared.reply.Reply.TheVariants.{Done}
+use Rattle.aa_set.specs.Run.{after_lines}
+use Rattle.aa_set_manager.specs.declared.reply.Reply.TheVariants.{Done}
 use Rattle.aa_set.proofs.StepLemmas.{lines_mark, lines_steps}
 
 abbrev Files : Type 0
@@ -74,9 +75,9 @@ back_line files m line name flag short is h =
 
 -- `back` of a name that is marked never fails, and drops nothing
 pub back-never-fails : StartedMarksItsSets (List Loaded) → StepsMarkTheirSets (List Loaded) → MarkKeepsAll (List Loaded) → BackNeverFails
-back-never-fails started steps keep files force_complain lines line name flag short is h =
-    let m : Managed = after_lines files (new_manager force_complain) lines in
-    let there = lines_mark started steps files force_complain lines in
+back-never-fails started steps keep files language force_complain lines line name flag short is h =
+    let m : Managed = after_lines files (new_manager_in language force_complain) lines in
+    let there = lines_mark started steps files language force_complain lines in
     let kept = keep name m.machine there in
     subst (λ (a : Outcome). (a.reply ≡ Done) × (all_sets a.managed.machine ≡ all_sets m.machine) × (a.managed.machine.marks ≡ m.machine.marks))
     (sym (back_line files m line name flag short is h)) (refl, kept.0, kept.1)
@@ -106,9 +107,9 @@ marked_is files m line name flag is h =
 
 -- `back` gives back the very policy set that was marked
 pub mark-gives-back : StartedMarksItsSets (List Loaded) → StepsMarkTheirSets (List Loaded) → MarkLeadsBack (List Loaded) → MarkGivesBack
-mark-gives-back started steps leads files force_complain before lines line name flag is accepted leave =
-    let m : Managed = after_lines files (new_manager force_complain) before in
-    let there = lines_mark started steps files force_complain before in
+mark-gives-back started steps leads files language force_complain before lines line name flag is accepted leave =
+    let m : Managed = after_lines files (new_manager_in language force_complain) before in
+    let there = lines_mark started steps files language force_complain before in
     let e = marked_is files m line name flag is accepted in
     let first : Managed = (line_outcome files m line flag).managed in
     let those = lines_steps files first lines in
@@ -130,9 +131,9 @@ same-marks name other m h = ap (λ found. cond {A = Result Managed Refusal} (is_
 
 -- twice is once
 pub back-twice : StartedMarksItsSets (List Loaded) → StepsMarkTheirSets (List Loaded) → MarkKeepsAll (List Loaded) → MarkTwiceIsOnce (List Loaded) → BackTwiceIsOnce
-back-twice started steps keep twice files force_complain lines name =
-    let m : Managed = after_lines files (new_manager force_complain) lines in
-    let there = lines_mark started steps files force_complain lines in
+back-twice started steps keep twice files language force_complain lines name =
+    let m : Managed = after_lines files (new_manager_in language force_complain) lines in
+    let there = lines_mark started steps files language force_complain lines in
     by m there (is_marked name m.machine) refl
   where
     by : (m : Managed) → MarksItsSets m.machine → (t : Bool) → is_marked name m.machine ≡ t → next (back_at name) (back_at name m) ≡ back_at name m

@@ -7,13 +7,14 @@ use Rattle.std.proofs.lemmas.List.Concat.{flat_map-append}
 use Rattle.std.proofs.lemmas.List.Sums.{sum_by-append}
 use Rattle.std.specs.Io.KnownBytes.{Appends}
 use Rattle.aa_bytes.specs.Texts.{is_empty}
-use Rattle.aa_set.specs.Manager.{Managed, new_manager}
+use Rattle.aa_set_manager.specs.Manager.{Managed}
 use Rattle.aa_set_lines.specs.Lines.{is_line_feed, lines, without_empty_last}
 use Rattle.aa_set.specs.Reply.{reply_text, is_refusal, is_acceptance}
-use Rattle.aa_set.specs.Run.{Outcome, line_outcome, replies_to, after_lines, flagged, replies, IsAnswered}
+use Rattle.aa_set.specs.Run.{replies_to, after_lines, flagged, replies, IsAnswered}
+use Rattle.aa_set_manager.specs.Outcomes.{Outcome, line_outcome}
 use Rattle.aa_set.specs.code.Session.{IsAfter, IsCut, Follows}
 use Rattle.aa_set_lines.specs.Streams.{WritesBehind}
-use Rattle.aa_set.specs.declared.reply.Reply.{Reply}
+use Rattle.aa_set_manager.specs.declared.reply.Reply.{Reply}
 use Rattle.aa_set_lines.specs.Limits.{longest_line}
 use Rattle.aa_set.specs.declared.session.Session.{Session}
 use Rattle.aa_set.specs.declared.session.Summary.{Summary}
@@ -95,35 +96,32 @@ lines-unfinished {input} {done} {buffer} cut flag some =
     filled [] h = absurd (h refl)
     filled (b ∷ bs) h = refl
 
-module _ (files : Files) (force_complain : Bool) where
-  abbrev start : Managed
-  start = new_manager force_complain
-
+module _ (files : Files) (begin : Managed) where
   -- a session after one more line
   pub IsAfter-more : {before now next : Option (List ℕ)} {s t : Session} {done : Lines} (line : List ℕ) (flag : Bool) (reply : Reply)
-      → IsAfter files force_complain before now s done
+      → IsAfter files begin before now s done
       → ◌≡◌ {A = Outcome} (record { reply = reply; managed = t.manager }) (line_outcome files s.manager line flag)
       → WritesBehind now next s.waiting.items t.waiting.items (reply_text files reply)
       → t.summary.accepted ≡ s.summary.accepted + count_by is_acceptance (reply ∷ [])
       → t.summary.refused ≡ s.summary.refused + count_by is_refusal (reply ∷ [])
-      → IsAfter files force_complain before next t (done ++ (line, flag) ∷ [])
+      → IsAfter files begin before next t (done ++ (line, flag) ∷ [])
   IsAfter-more {before} {now} {next} {s} {t} {done} line flag reply after answers behind accepted refused =
-      let old : Managed = after_lines files start done in
+      let old : Managed = after_lines files begin done in
       let out : ◌≡◌ {A = Outcome} (record { reply = reply; managed = t.manager }) (line_outcome files old line flag) = answers ∙ ap (λ m. line_outcome files m line flag) after.managed in
-      let all : replies_to files start (done ++ (line, flag) ∷ []) ≡ replies_to files start done ++ reply ∷ []
-      = replies_to-append files start done ((line, flag) ∷ []) ∙ ap (λ (a : Outcome). replies_to files start done ++ a.reply ∷ []) (sym out) in
+      let all : replies_to files begin (done ++ (line, flag) ∷ []) ≡ replies_to files begin done ++ reply ∷ []
+      = replies_to-append files begin done ((line, flag) ∷ []) ∙ ap (λ (a : Outcome). replies_to files begin done ++ a.reply ∷ []) (sym out) in
       record {
-        managed = ap (λ (a : Outcome). a.managed) out ∙ sym (after_lines-append files start done ((line, flag) ∷ []));
+        managed = ap (λ (a : Outcome). a.managed) out ∙ sym (after_lines-append files begin done ((line, flag) ∷ []));
         written = WritesBehind-same (WritesBehind-trans after.written behind) (
-            ap (λ text. flat_map (reply_text files) (replies_to files start done) ++ text) (sym (append-nil (reply_text files reply)))
-            ∙ sym (flat_map-append (reply_text files) (replies_to files start done) (reply ∷ []))
+            ap (λ text. flat_map (reply_text files) (replies_to files begin done) ++ text) (sym (append-nil (reply_text files reply)))
+            ∙ sym (flat_map-append (reply_text files) (replies_to files begin done) (reply ∷ []))
             ∙ ap (flat_map (reply_text files)) (sym all));
         summed = record {
           accepted = accepted ∙ ap (λ n. n + count_by is_acceptance (reply ∷ [])) after.summed.accepted
-              ∙ sym (sum_by-append (λ r. cond (is_acceptance r) 1 0) (replies_to files start done) (reply ∷ []))
+              ∙ sym (sum_by-append (λ r. cond (is_acceptance r) 1 0) (replies_to files begin done) (reply ∷ []))
               ∙ ap (count_by is_acceptance) (sym all);
           refused = refused ∙ ap (λ n. n + count_by is_refusal (reply ∷ [])) after.summed.refused
-              ∙ sym (sum_by-append (λ r. cond (is_refusal r) 1 0) (replies_to files start done) (reply ∷ []))
+              ∙ sym (sum_by-append (λ r. cond (is_refusal r) 1 0) (replies_to files begin done) (reply ∷ []))
               ∙ ap (count_by is_refusal) (sym all);
         };
       }
@@ -131,16 +129,16 @@ module _ (files : Files) (force_complain : Bool) where
   -- a session that answered a front of a line answered the line
   pub IsAfter-line : {before now : Option (List ℕ)} {s : Session} (done : Lines) (front line : List ℕ) (flag : Bool)
       → ((m : Managed) → line_outcome files m front flag ≡ line_outcome files m line flag)
-      → IsAfter files force_complain before now s (done ++ (front, flag) ∷ []) → IsAfter files force_complain before now s (done ++ (line, flag) ∷ [])
+      → IsAfter files begin before now s (done ++ (front, flag) ∷ []) → IsAfter files begin before now s (done ++ (line, flag) ∷ [])
   IsAfter-line {before} {now} {s} done front line flag same after =
-      let old : Managed = after_lines files start done in
+      let old : Managed = after_lines files begin done in
       let by_front : Lines = done ++ (front, flag) ∷ [] in
       let by_line : Lines = done ++ (line, flag) ∷ [] in
-      let replies : replies_to files start by_front ≡ replies_to files start by_line
-      = replies_to-append files start done ((front, flag) ∷ []) ∙ ap (λ (a : Outcome). replies_to files start done ++ a.reply ∷ []) (same old)
-      ∙ sym (replies_to-append files start done ((line, flag) ∷ [])) in
-      let manager : after_lines files start by_front ≡ after_lines files start by_line
-      = after_lines-append files start done ((front, flag) ∷ []) ∙ ap (λ (a : Outcome). a.managed) (same old) ∙ sym (after_lines-append files start done ((line, flag) ∷ [])) in
+      let replies : replies_to files begin by_front ≡ replies_to files begin by_line
+      = replies_to-append files begin done ((front, flag) ∷ []) ∙ ap (λ (a : Outcome). replies_to files begin done ++ a.reply ∷ []) (same old)
+      ∙ sym (replies_to-append files begin done ((line, flag) ∷ [])) in
+      let manager : after_lines files begin by_front ≡ after_lines files begin by_line
+      = after_lines-append files begin done ((front, flag) ∷ []) ∙ ap (λ (a : Outcome). a.managed) (same old) ∙ sym (after_lines-append files begin done ((line, flag) ∷ [])) in
       record {
         managed = after.managed ∙ manager;
         written = WritesBehind-same after.written (ap (flat_map (reply_text files)) replies);
@@ -149,11 +147,11 @@ module _ (files : Files) (force_complain : Bool) where
 
   -- after all lines, and once all that waits is written, the input is answered
   pub IsAnswered-all : {before now next : Option (List ℕ)} {s : Session} {done : Lines} (input : List ℕ) → lines input ≡ map (λ line. line.0) done
-      → IsAfter files force_complain before now s done → Appends now next s.waiting.items → IsAnswered files force_complain before next s.summary input
+      → IsAfter files begin before now s done → Appends now next s.waiting.items → IsAnswered files begin before next s.summary input
   IsAnswered-all {before} {now} {next} {s} {done} input cut after flushed =
       let flags : List Bool = map (λ line. line.1) done in
       let all : flagged (lines input) flags ≡ done = ap (λ ls. flagged ls flags) cut ∙ flagged-unzipped done in
-      let replies_are : replies_to files start done ≡ replies files force_complain input flags = ap (replies_to files start) (sym all) in
+      let replies_are : replies_to files begin done ≡ replies files begin input flags = ap (replies_to files begin) (sym all) in
       record {
         flags = flags;
         written = subst (Appends before next) (ap (flat_map (reply_text files)) replies_are) (WritesBehind-flushed next after.written flushed);
@@ -161,13 +159,13 @@ module _ (files : Files) (force_complain : Bool) where
       }
 
   -- an input that is written otherwise
-  pub Follows-same : {before now : Option (List ℕ)} {s : Session} {held input other : List ℕ} → Follows files force_complain before now s held input → input ≡ other
-      → Follows files force_complain before now s held other
-  Follows-same {before} {now} {s} {held} follows same = subst (Follows files force_complain before now s held) same follows
+  pub Follows-same : {before now : Option (List ℕ)} {s : Session} {held input other : List ℕ} → Follows files begin before now s held input → input ≡ other
+      → Follows files begin before now s held other
+  Follows-same {before} {now} {s} {held} follows same = subst (Follows files begin before now s held) same follows
 
   -- the buffer holds what was read of a line that goes on
-  pub Follows-kept : {before now : Option (List ℕ)} {s : Session} {held next input : List ℕ} → Follows files force_complain before now s held input → (rest : List ℕ)
-      → list_any is_line_feed rest ≡ false → next ≡ take (longest_line + 1) (held ++ rest) → Follows files force_complain before now s next (input ++ rest)
+  pub Follows-kept : {before now : Option (List ℕ)} {s : Session} {held next input : List ℕ} → Follows files begin before now s held input → (rest : List ℕ)
+      → list_any is_line_feed rest ≡ false → next ≡ take (longest_line + 1) (held ++ rest) → Follows files begin before now s next (input ++ rest)
   Follows-kept {before} {now} {s} {held} {next} {input} follows rest whole kept = record {
     lines = follows.lines;
     after = follows.after;
@@ -175,16 +173,16 @@ module _ (files : Files) (force_complain : Bool) where
   }
 
   -- all that waited is written
-  pub Follows-flushed : {before now next : Option (List ℕ)} {s t : Session} {held input : List ℕ} → Follows files force_complain before now s held input
-      → Appends now next s.waiting.items → t.manager ≡ s.manager → t.summary ≡ s.summary → t.waiting.items ≡ [] → Follows files force_complain before next t held input
+  pub Follows-flushed : {before now next : Option (List ℕ)} {s t : Session} {held input : List ℕ} → Follows files begin before now s held input
+      → Appends now next s.waiting.items → t.manager ≡ s.manager → t.summary ≡ s.summary → t.waiting.items ≡ [] → Follows files begin before next t held input
   Follows-flushed {before} {now} {next} {s} {t} {held} {input} follows flushed manager summary empty = record {
     lines = follows.lines;
     after = record {
       managed = manager ∙ follows.after.managed;
-      written = subst (λ waits. WritesBehind before next [] waits (flat_map (reply_text files) (replies_to files start follows.lines))) (sym empty) (record {
-        done = flat_map (reply_text files) (replies_to files start follows.lines);
+      written = subst (λ waits. WritesBehind before next [] waits (flat_map (reply_text files) (replies_to files begin follows.lines))) (sym empty) (record {
+        done = flat_map (reply_text files) (replies_to files begin follows.lines);
         writes = WritesBehind-flushed next follows.after.written flushed;
-        keeps = append-nil (flat_map (reply_text files) (replies_to files start follows.lines));
+        keeps = append-nil (flat_map (reply_text files) (replies_to files begin follows.lines));
       });
       summed = record { accepted = ap (λ (s : Summary). s.accepted) summary ∙ follows.after.summed.accepted; refused = ap (λ (s : Summary). s.refused) summary ∙ follows.after.summed.refused };
     };

@@ -8,10 +8,10 @@ use Rattle.aa_text_files.specs.Files.{File}
 use Rattle.aa_set_lines.specs.Limits.{longest_line}
 use Rattle.aa_set_answers.specs.Answers.{asks_absent, reply_lines, shown, shows_absent}
 use Rattle.aa_set_answers.specs.List.{list_lines}
-use Rattle.aa_set.specs.Laws.{OtherLineLeavesAll, RefusedLineLeavesAll, SetDecidesAnswer, command_in, goes, is_change, is_question, marks}
-use Rattle.aa_set.specs.Manager.{Managed, back_at, made, marking, redone, undone}
+use Rattle.aa_set.specs.Laws.{OtherLineLeavesAll, RefusedLineLeavesAll, SetDecidesAnswer, goes, is_change, is_question, marks}
+use Rattle.aa_set_manager.specs.Outcomes.{Outcome, answered, changed, command_in, command_outcome, obeyed, refused, takes_memory}
+use Rattle.aa_set_manager.specs.Manager.{Managed, back_at, made, marking, redone, undone}
 use Rattle.aa_set.specs.Reply.{is_refusal}
-use Rattle.aa_set.specs.Run.{Outcome, answered, changed, command_outcome, obeyed, refused, takes_memory}
 
 -- an outcome leaves a manager, if its reply is a refusal
 abbrev LeavesIfRefused : Managed → Outcome → Type 0

@@ -5,14 +5,16 @@ use Rattle.aa_history.specs.Machine.{Machine, MarksItsSets, can_go_back, can_go_
 use Rattle.aa_history.specs.MarkLaws.{Accept, Mark as StepMark, Redo as StepOn, Return, SparesThroughout, StartedMarksItsSets, Step, StepsMarkTheirSets, Undo as StepBack, run, stepped}
 use Rattle.aa_set_answers.specs.Answers.{reply_lines, shown}
 use Rattle.aa_set_changes.specs.Changes.{changed as change_of_set, parts_of}
+use Rattle.aa_profile_parsing.specs.declared.language.Language.{Language}
 use Rattle.aa_set_commands.specs.Command.{Ask, Back, Command, Listed, Make, Mark, PolicyChange, Redo, Show, Undo}
 use Rattle.aa_set_commands.specs.Refusal.{plain}
 use Rattle.aa_set_commands.specs.declared.refusal.Refusal.{Refusal}
 use Rattle.aa_set_commands.specs.declared.refusal.RefusalKind.TheVariants.{BadRequest, LineTooLong, Memory, NoMark, NothingToRedo, NothingToUndo}
 use Rattle.aa_set_lines.specs.Limits.{longest_line}
-use Rattle.aa_set.specs.Laws.{LeaveMark, MarkStands, command_in}
-use Rattle.aa_set.specs.Manager.{Managed, after_change, back_at, is_mark_name, marking, new_manager, redone, undone}
-use Rattle.aa_set.specs.Run.{Outcome, after_lines, changed, command_outcome, line_outcome, obeyed, refused, takes_memory}
+use Rattle.aa_set.specs.Laws.{LeaveMark, MarkStands}
+use Rattle.aa_set_manager.specs.Outcomes.{Outcome, changed, command_in, command_outcome, line_outcome, obeyed, refused, takes_memory}
+use Rattle.aa_set_manager.specs.Manager.{Managed, after_change, back_at, is_mark_name, marking, new_manager_in, redone, undone}
+use Rattle.aa_set.specs.Run.{after_lines}
 use Rattle.aa_set.proofs.StayLaws.{answered-leaves}
 
 abbrev Files : Type 0
@@ -68,7 +70,7 @@ mark_steps m name = by (is_mark_name name)
     by false = record { steps = []; is = refl; spares = λ other number stands. tt }
 
 obeyed_steps : (files : Files) (m : Managed) (command : Command) → StepsTo m (Ok (Some command)) (obeyed files m command)
-obeyed_steps files m (Make change) = made_steps m change (parts_of files change) (change_of_set files m.force_complain m.machine.now change)
+obeyed_steps files m (Make change) = made_steps m change (parts_of files m.settings change) (change_of_set files m.settings m.machine.now change)
 obeyed_steps files m (Undo n) = back_steps m n
 obeyed_steps files m (Redo n) = on_steps m n
 obeyed_steps files m (Mark name) = mark_steps m name
@@ -117,11 +119,11 @@ lines_steps files m (line ∷ lines) =
     }
 
 -- each mark is of a policy set that there is, wherever a run comes to
-pub lines_mark : StartedMarksItsSets (List Loaded) → StepsMarkTheirSets (List Loaded) → (files : Files) (force_complain : Bool) (lines : List (List ℕ × Bool))
-    → MarksItsSets (after_lines files (new_manager force_complain) lines).machine
-lines_mark started steps files force_complain lines =
-    let those = lines_steps files (new_manager force_complain) lines in
-    subst MarksItsSets (sym those.is) (steps (new_manager force_complain).machine those.steps (started []))
+pub lines_mark : StartedMarksItsSets (List Loaded) → StepsMarkTheirSets (List Loaded) → (files : Files) (language : Language) (force_complain : Bool) (lines : List (List ℕ × Bool))
+    → MarksItsSets (after_lines files (new_manager_in language force_complain) lines).machine
+lines_mark started steps files language force_complain lines =
+    let those = lines_steps files (new_manager_in language force_complain) lines in
+    subst MarksItsSets (sym those.is) (steps (new_manager_in language force_complain).machine those.steps (started []))
 
 -- and after each line that is answered then
 pub line_marks : StepsMarkTheirSets (List Loaded) → (files : Files) (m : Managed) (line : List ℕ × Bool) → MarksItsSets m.machine

@@ -3,21 +3,16 @@ use Rattle.std.specs.Prelude.{◌≡◌, ◌≢◌, ℕ, ◌+◌, ◌≤◌, nat
 use Rattle.std.specs.Prelude.{List, ◌∷◌, [], ◌++◌, IfOk, Option, Some, Result, Ok, Err}
 use Rattle.aa_text_files.specs.Files.{File}
 use Rattle.aa_history.specs.Machine.{all_sets, is_marked, marked}
-use Rattle.aa_set_commands.specs.Command.{Ask, Back, Command, Listed, Make, Mark, Redo, Show, Undo, line_command}
+use Rattle.aa_profile_parsing.specs.declared.language.Language.{Language}
+use Rattle.aa_set_commands.specs.Command.{Ask, Back, Command, Listed, Make, Mark, Redo, Show, Undo}
 use Rattle.aa_set_commands.specs.declared.refusal.Refusal.{Refusal}
-use Rattle.aa_decide_slots.specs.Named.{have_distinct_names}
-use Rattle.aa_set_lines.specs.Words.{words_of}
-use Rattle.aa_set.specs.Manager.{Managed, back_at, new_manager, next, redone, undone}
+use Rattle.aa_set_manager.specs.Manager.{AreDistinct, Managed, back_at, new_manager_in, next, redone, undone}
 use Rattle.aa_set.specs.Reply.{is_refusal}
-use Rattle.aa_set.specs.declared.reply.Reply.{Reply}
-use Rattle.aa_set.specs.declared.reply.Reply.TheVariants.{Done}
+use Rattle.aa_set_manager.specs.declared.reply.Reply.{Reply}
+use Rattle.aa_set_manager.specs.declared.reply.Reply.TheVariants.{Done}
 use Rattle.aa_set_lines.specs.Limits.{longest_line}
-use Rattle.aa_set.specs.Run.{after_lines, line_outcome, output, output_so_far, replies}
-use Rattle.aa_decide_slots.specs.Entries.{Loaded}
-
--- the command in a line
-abbrev pub command_in : List ℕ → Result (Option Command) Refusal
-command_in line = line_command (words_of line)
+use Rattle.aa_set.specs.Run.{after_lines, output, output_so_far, replies}
+use Rattle.aa_set_manager.specs.Outcomes.{command_in, line_outcome}
 
 -- a command changes the policy set, unless it is refused
 abbrev pub is_change : Result (Option Command) Refusal → Bool
@@ -59,11 +54,6 @@ changes files managed (line ∷ lines) =
 abbrev pub GivesBack : Managed → Result Managed Refusal → Type 0
 GivesBack managed (Ok after) = (after.machine.now ≡ managed.machine.now) × (after.machine.earlier ≡ managed.machine.earlier)
 GivesBack managed (Err refusal) = ⊥
-
--- each of these policy sets has distinct names
-abbrev pub AreDistinct : List (List Loaded) → Type 0
-AreDistinct [] = Unit {0}
-AreDistinct (set ∷ sets) = (have_distinct_names set ≡ true) × AreDistinct sets
 
 -- A refused line leaves the policy set, both lists of sets, and the marks.
 abbrev pub RefusedLineLeavesAll : Type 0
@@ -107,8 +97,8 @@ SetDecidesAnswer =
 -- No policy set that a run comes to has two profiles of one name.
 abbrev pub SetsHaveDistinctNames : Type 0
 SetsHaveDistinctNames =
-    (files : List File) (force_complain : Bool) (lines : List (List ℕ × Bool))
-    → AreDistinct (all_sets (after_lines files (new_manager force_complain) lines).machine)
+    (files : List File) (language : Language) (force_complain : Bool) (lines : List (List ℕ × Bool))
+    → AreDistinct (all_sets (after_lines files (new_manager_in language force_complain) lines).machine)
 
 -- Undoing some changes and then more is undoing them at once, and likewise with redoing.
 abbrev pub StepsAdd : Type 0
@@ -126,9 +116,9 @@ StepsReturn =
 -- What is written for the whole lines of an input, for some flags on them, is a front of what is written for that input and any more, for some flags.
 abbrev pub SoFarIsFront : Type 0
 SoFarIsFront =
-    (files : List File) (force_complain : Bool) (input more : List ℕ) (flags : List Bool)
+    (files : List File) (begin : Managed) (input more : List ℕ) (flags : List Bool)
     → (later : List Bool) × (rest : List ℕ)
-    × (output files force_complain (input ++ more) later ≡ output_so_far files force_complain input flags ++ rest)
+    × (output files begin (input ++ more) later ≡ output_so_far files begin input flags ++ rest)
 
 -- none of these flags says that a line found no memory
 abbrev pub NoneFlagged : List Bool → Type 0
@@ -138,17 +128,17 @@ NoneFlagged (flag ∷ flags) = (flag ≡ false) × NoneFlagged flags
 -- Two runs over the same bytes, in whatever pieces these come, give the same replies where no line of either found no memory.
 abbrev pub PiecesChangeNoReply : Type 0
 PiecesChangeNoReply =
-    (files : List File) (force_complain : Bool) (input : List ℕ) (some others : List Bool)
+    (files : List File) (begin : Managed) (input : List ℕ) (some others : List Bool)
     → NoneFlagged some
     → NoneFlagged others
-    → replies files force_complain input some ≡ replies files force_complain input others
+    → replies files begin input some ≡ replies files begin input others
 
 -- A name that is marked always leads back: in any run `back` of it is answered `ok`, whether memory is left or not, and
 -- it drops no policy set and no mark.
 abbrev pub BackNeverFails : Type 0
 BackNeverFails =
-    (files : List File) (force_complain : Bool) (lines : List (List ℕ × Bool)) (line name : List ℕ) (flag : Bool)
-    → let managed = after_lines files (new_manager force_complain) lines in
+    (files : List File) (language : Language) (force_complain : Bool) (lines : List (List ℕ × Bool)) (line name : List ℕ) (flag : Bool)
+    → let managed = after_lines files (new_manager_in language force_complain) lines in
     let outcome = line_outcome files managed line flag in
     nat_le (length line) longest_line ≡ true
     → command_in line ≡ Ok (Some (Back name))
@@ -173,8 +163,8 @@ LeaveMark files name number managed (line ∷ lines) =
 -- gives back the very policy set that was marked, and the sets before it.
 abbrev pub MarkGivesBack : Type 0
 MarkGivesBack =
-    (files : List File) (force_complain : Bool) (before lines : List (List ℕ × Bool)) (line name : List ℕ) (flag : Bool)
-    → let managed = after_lines files (new_manager force_complain) before in
+    (files : List File) (language : Language) (force_complain : Bool) (before lines : List (List ℕ × Bool)) (line name : List ℕ) (flag : Bool)
+    → let managed = after_lines files (new_manager_in language force_complain) before in
     let marked = line_outcome files managed line flag in
     command_in line ≡ Ok (Some (Mark name))
     → is_refusal marked.reply ≡ false
@@ -191,6 +181,6 @@ SameMarksLeadToOne =
 -- In any run, going to a mark twice is going there once.
 abbrev pub BackTwiceIsOnce : Type 0
 BackTwiceIsOnce =
-    (files : List File) (force_complain : Bool) (lines : List (List ℕ × Bool)) (name : List ℕ)
-    → let managed = after_lines files (new_manager force_complain) lines in
+    (files : List File) (language : Language) (force_complain : Bool) (lines : List (List ℕ × Bool)) (name : List ℕ)
+    → let managed = after_lines files (new_manager_in language force_complain) lines in
     next (back_at name) (back_at name managed) ≡ back_at name managed

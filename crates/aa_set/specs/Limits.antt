@@ -4,7 +4,3 @@ use Rattle.std.specs.Prelude.{ℕ}
 -- how many reads a run makes at most
 abbrev pub most_reads : ℕ
 most_reads = 2147483648
-
--- how many bytes the name of a mark has at most
-abbrev pub longest_mark : ℕ
-longest_mark = 255

@@ -7,8 +7,8 @@ use Rattle.aa_text_files.specs.Files.{File, name_at}
 use Rattle.aa_text_files.specs.declared.text_error.Place.{Place}
 use Rattle.aa_set_commands.specs.Refusal.{number_of, name_of}
 use Rattle.aa_set_commands.specs.declared.refusal.Refusal.{Refusal}
-use Rattle.aa_set.specs.declared.reply.Reply.{Reply}
-use Rattle.aa_set.specs.declared.reply.Reply.TheVariants.{Silent, Done, Refused, Answered}
+use Rattle.aa_set_manager.specs.declared.reply.Reply.{Reply}
+use Rattle.aa_set_manager.specs.declared.reply.Reply.TheVariants.{Silent, Done, Refused, Answered}
 
 -- how a place is written, behind a blank: the file's name and the offset in bytes
 abbrev pub place_text : List File → Option Place → List ℕ

@@ -1,3 +1,2 @@
 -- What is about the code: what the loop over pieces of an input keeps true.
-pub mod Making
 pub mod Session

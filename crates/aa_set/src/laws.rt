@@ -6,7 +6,7 @@ ghost use Rattle.aa_set.specs.Laws.{OtherLineLeavesAll, PiecesChangeNoReply, Ref
 ghost use Rattle.aa_set.specs.Laws.{SetsHaveDistinctNames, SoFarIsFront, StepsAdd, StepsReturn, UndoGivesBack};
 
 use aa_bytes::Sequence;
-use aa_decide::Entry;
+use aa_decide_slots::Entry;
 use aa_history::{
     how_machines_go_back_and_on, marks_lead_back, what_going_to_marks_keeps, what_machines_keep,
     what_marks_mark, where_machines_go_back_to,

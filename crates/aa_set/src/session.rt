@@ -8,16 +8,17 @@ ghost use Rattle.std.specs.Io.KnownBytes.{IsAtEnd, ReadConsumes};
 ghost use Rattle.aa_set_lines.specs.Lines.{is_line_feed};
 ghost use Rattle.aa_set.specs.Reply.{is_acceptance, is_refusal};
 ghost use Rattle.aa_set.specs.Limits.{most_reads};
+ghost use Rattle.aa_set_manager.specs.Manager.{new_manager, new_manager_in};
 ghost use Rattle.aa_set.specs.Run.{HasGiven, HoldsOfRead, IsAnsweredSoFar, IsFrontAnswered, IsLeftAnswered};
 ghost use Rattle.aa_set_lines.specs.Streams.{comes_to_end};
 ghost use Rattle.aa_set_answers.specs.Answers.{line_with};
 ghost use Rattle.aa_set.specs.code.Session.{AnswersLine, BreaksAfter, BreaksOff, BreaksOffEnd, BreaksOffLine, EndsInput};
 ghost use Rattle.aa_set.specs.code.Session.{EndsLine, Feeds, IsFresh, Serves, StopsAfter, counted, piece_size};
 
-use crate::manager::Manager;
-use crate::reply::{Reply, reply_to};
 use crate::writing::write_reply;
+use aa_profile_parsing::Language;
 use aa_set_lines::{Failed, LineBuffer, Sink, Source, first_line, flush};
+use aa_set_manager::{Manager, Reply, reply_to};
 use aa_text_files::Files;
 use std::alloc::{AllocError, Global};
 use thiserror::Error;
@@ -60,6 +61,7 @@ pub const MOST_READS: u32 = 2_147_483_648;
 const PIECE: usize = 65_536;
 
 /// Answers the command lines of a reader, one after another, and writes the replies: `run_with` with 2,147,483,648 reads.
+/// Files are read by the language of AppArmor 3.
 ///
 /// The run begins with the empty policy set. A line ends at a line feed, the last one at the input's end too; one of more
 /// than 65,536 bytes is refused when it ends. The replies to all lines that were read are written before the next read.
@@ -84,7 +86,7 @@ pub fn run<S: Source, W: Sink>(
     requires reads { S.reads reader.old ≤ 2 ^ 63 }
 
     // The replies are those of the machine that keeps whole policy sets, to all that was read.
-    ensures answered { IfOk result (IsLeftAnswered files.now force_complain (S.left reader.old) (W.written writer.old) (W.written writer.new)) }
+    ensures answered { IfOk result (IsLeftAnswered files.now (new_manager force_complain) (S.left reader.old) (W.written writer.old) (W.written writer.new)) }
     ensures ended { OnOk result (IsAtEnd (S.left reader.new)) }
     ensures end { OnOk result (S.ended reader.new ≡ true) }
     ensures whole { OnOk result ((S.failed reader.new ≡ false) × (W.failed writer.new ≡ false)) }
@@ -100,12 +102,62 @@ pub fn run<S: Source, W: Sink>(
 
     // What stands after each.
     ensures so_far { IsErrOf result RunFault.Read → HoldsOfRead (S.left reader.old) (S.left reader.new)
-        (IsAnsweredSoFar files.now force_complain (W.written writer.old) (W.written writer.new)) }
+        (IsAnsweredSoFar files.now (new_manager force_complain) (W.written writer.old) (W.written writer.new)) }
     ensures front { IsErrOf result RunFault.Write → HoldsOfRead (S.left reader.old) (S.left reader.new)
-        (IsFrontAnswered files.now force_complain (W.written writer.old) (W.written writer.new)) }
+        (IsFrontAnswered files.now (new_manager force_complain) (W.written writer.old) (W.written writer.new)) }
     ensures memory { IsErrOf result RunFault.Memory → (reader.new ≡ reader.old) × (writer.new ≡ writer.old) }
 {
     run_with(alloc, files, force_complain, MOST_READS, reader, writer)
+}
+
+/// Answers the command lines of a reader as `run` does, over files that are read by a language: `run_with_in` with 2,147,483,648 reads.
+///
+/// # Errors
+///
+/// Those of `run`.
+pub fn run_in<S: Source, W: Sink>(
+    alloc: Global,
+    language: Language,
+    files: &Files,
+    force_complain: bool,
+    reader: &mut S,
+    writer: &mut W,
+) -> Result<Summary, RunFault>
+    requires whole_reader { S.failed reader.old ≡ false }
+    requires whole_writer { W.failed writer.old ≡ false }
+    requires reads { S.reads reader.old ≤ 2 ^ 63 }
+
+    // The replies are those of the machine that keeps whole policy sets, to all that was read.
+    ensures answered { IfOk result (IsLeftAnswered files.now (new_manager_in language force_complain) (S.left reader.old) (W.written writer.old) (W.written writer.new)) }
+    ensures ended { OnOk result (IsAtEnd (S.left reader.new)) }
+    ensures end { OnOk result (S.ended reader.new ≡ true) }
+    ensures whole { OnOk result ((S.failed reader.new ≡ false) × (W.failed writer.new ≡ false)) }
+
+    // It reads no more often than it may.
+    ensures bound { S.reads reader.new ≤ S.reads reader.old + most_reads }
+
+    // When each fault comes.
+    ensures read { IsErrOf result RunFault.Read → (S.failed reader.new ≡ true) ⊎ (S.reads reader.new ≡ S.reads reader.old + most_reads) }
+    ensures going { IsErrOf result RunFault.Read → S.failed reader.new ≡ false → S.ended reader.new ≡ S.ended reader.old }
+    ensures given { IsErrOf result RunFault.Read → S.failed reader.new ≡ false → HasGiven most_reads (S.left reader.old) (S.left reader.new) }
+    ensures write { IsErrOf result RunFault.Write → W.failed writer.new ≡ true }
+
+    // What stands after each.
+    ensures so_far { IsErrOf result RunFault.Read → HoldsOfRead (S.left reader.old) (S.left reader.new)
+        (IsAnsweredSoFar files.now (new_manager_in language force_complain) (W.written writer.old) (W.written writer.new)) }
+    ensures front { IsErrOf result RunFault.Write → HoldsOfRead (S.left reader.old) (S.left reader.new)
+        (IsFrontAnswered files.now (new_manager_in language force_complain) (W.written writer.old) (W.written writer.new)) }
+    ensures memory { IsErrOf result RunFault.Memory → (reader.new ≡ reader.old) × (writer.new ≡ writer.old) }
+{
+    run_with_in(
+        alloc,
+        language,
+        files,
+        force_complain,
+        MOST_READS,
+        reader,
+        writer,
+    )
 }
 
 /// Answers the command lines of a reader as `run` does, by at most so many reads: the end of the input must be seen within them.
@@ -126,7 +178,7 @@ pub fn run_with<S: Source, W: Sink>(
     requires reads { S.reads reader.old ≤ 2 ^ 63 }
 
     // The replies are those of the machine that keeps whole policy sets, to all that was read.
-    ensures answered { IfOk result (IsLeftAnswered files.now force_complain (S.left reader.old) (W.written writer.old) (W.written writer.new)) }
+    ensures answered { IfOk result (IsLeftAnswered files.now (new_manager force_complain) (S.left reader.old) (W.written writer.old) (W.written writer.new)) }
     ensures ended { OnOk result (IsAtEnd (S.left reader.new)) }
     ensures end { OnOk result (S.ended reader.new ≡ true) }
     ensures whole { OnOk result ((S.failed reader.new ≡ false) × (W.failed writer.new ≡ false)) }
@@ -142,12 +194,63 @@ pub fn run_with<S: Source, W: Sink>(
 
     // What stands after each.
     ensures so_far { IsErrOf result RunFault.Read → HoldsOfRead (S.left reader.old) (S.left reader.new)
-        (IsAnsweredSoFar files.now force_complain (W.written writer.old) (W.written writer.new)) }
+        (IsAnsweredSoFar files.now (new_manager force_complain) (W.written writer.old) (W.written writer.new)) }
     ensures front { IsErrOf result RunFault.Write → HoldsOfRead (S.left reader.old) (S.left reader.new)
-        (IsFrontAnswered files.now force_complain (W.written writer.old) (W.written writer.new)) }
+        (IsFrontAnswered files.now (new_manager force_complain) (W.written writer.old) (W.written writer.new)) }
     ensures memory { IsErrOf result RunFault.Memory → (reader.new ≡ reader.old) × (writer.new ≡ writer.old) }
 {
-    let Ok((mut session, mut held, mut piece)) = prepared(alloc, force_complain) else {
+    run_with_in(
+        alloc,
+        Language::Three,
+        files,
+        force_complain,
+        reads,
+        reader,
+        writer,
+    )
+}
+
+/// Answers the command lines of a reader as `run_in` does, by at most so many reads: the end of the input must be seen within them.
+///
+/// # Errors
+///
+/// Those of `run`, with `reads` in place of 2,147,483,648. With none no read is made, and the fault is `Read`.
+pub fn run_with_in<S: Source, W: Sink>(
+    alloc: Global,
+    language: Language,
+    files: &Files,
+    force_complain: bool,
+    reads: u32,
+    reader: &mut S,
+    writer: &mut W,
+) -> Result<Summary, RunFault>
+    requires whole_reader { S.failed reader.old ≡ false }
+    requires whole_writer { W.failed writer.old ≡ false }
+    requires reads { S.reads reader.old ≤ 2 ^ 63 }
+
+    // The replies are those of the machine that keeps whole policy sets, to all that was read.
+    ensures answered { IfOk result (IsLeftAnswered files.now (new_manager_in language force_complain) (S.left reader.old) (W.written writer.old) (W.written writer.new)) }
+    ensures ended { OnOk result (IsAtEnd (S.left reader.new)) }
+    ensures end { OnOk result (S.ended reader.new ≡ true) }
+    ensures whole { OnOk result ((S.failed reader.new ≡ false) × (W.failed writer.new ≡ false)) }
+
+    // It reads no more often than it may.
+    ensures bound { S.reads reader.new ≤ S.reads reader.old + reads }
+
+    // When each fault comes.
+    ensures read { IsErrOf result RunFault.Read → (S.failed reader.new ≡ true) ⊎ (S.reads reader.new ≡ S.reads reader.old + reads) }
+    ensures going { IsErrOf result RunFault.Read → S.failed reader.new ≡ false → S.ended reader.new ≡ S.ended reader.old }
+    ensures given { IsErrOf result RunFault.Read → S.failed reader.new ≡ false → HasGiven reads (S.left reader.old) (S.left reader.new) }
+    ensures write { IsErrOf result RunFault.Write → W.failed writer.new ≡ true }
+
+    // What stands after each.
+    ensures so_far { IsErrOf result RunFault.Read → HoldsOfRead (S.left reader.old) (S.left reader.new)
+        (IsAnsweredSoFar files.now (new_manager_in language force_complain) (W.written writer.old) (W.written writer.new)) }
+    ensures front { IsErrOf result RunFault.Write → HoldsOfRead (S.left reader.old) (S.left reader.new)
+        (IsFrontAnswered files.now (new_manager_in language force_complain) (W.written writer.old) (W.written writer.new)) }
+    ensures memory { IsErrOf result RunFault.Memory → (reader.new ≡ reader.old) × (writer.new ≡ writer.old) }
+{
+    let Ok((mut session, mut held, mut piece)) = prepared(alloc, language, force_complain) else {
         return Err(RunFault::Memory);
     };
     serve(
@@ -230,15 +333,16 @@ fn read_piece<S: Source>(reader: &mut S, waiting: &[u8], piece: &mut [u8]) -> Re
 // A session of the empty policy set, an empty line buffer, and a buffer for a piece of the input.
 fn prepared(
     alloc: Global,
+    language: Language,
     force_complain: bool,
 ) -> Result<(Session, LineBuffer, Vec<u8>), AllocError>
-    ensures session { IfOk result (λ made. IsFresh force_complain made.0 made.1) }
+    ensures session { IfOk result (λ made. IsFresh (new_manager_in language force_complain) made.0 made.1) }
     ensures counted { IfOk result (λ made. counted made.0 ≡ 0) }
     ensures nothing_waits { IfOk result (λ made. made.0.waiting.items ≡ []) }
     ensures piece { IfOk result (λ made. vec_len made.2 ≡ piece_size) }
 {
     let session = Session {
-        manager: Manager::new(alloc, force_complain),
+        manager: Manager::new_in(alloc, language, force_complain),
         waiting: Vec::with_capacity(alloc, PIECE)?,
         summary: Summary {
             accepted: 0,

@@ -1,5 +1,6 @@
 -- Answers: what a policy set says to a question, or of one of its profiles, and the lines that tell it (docs/commands.md).
 use Rattle.std.specs.Prelude.{ℕ, Bool, if◌then◌else◌, List, [], ◌∷◌, ◌++◌, Option, None, Some, Result, Ok, Err, codes, is_none}
+use Rattle.std.specs.Option.{option_map}
 use Rattle.aa_bytes.specs.Bytes.{line_feed}
 use Rattle.aa_profile_access.specs.Request.{Request}
 use Rattle.aa_set_commands.specs.Question.{OfAccess, OfExec, Question}
@@ -7,9 +8,9 @@ use Rattle.aa_set_commands.specs.Refusal.{plain}
 use Rattle.aa_set_commands.specs.declared.refusal.Refusal.{Refusal}
 use Rattle.aa_set_commands.specs.declared.refusal.RefusalKind.TheVariants.{Absent}
 use Rattle.aa_decide_audit.specs.Answer.{answer_word}
-use Rattle.aa_decide_slots.specs.Confinement.{By, Confinement, Unconfined}
+use Rattle.aa_decide_slots.specs.Confinement.{By, ByName, Confinement, Unconfined}
 use Rattle.aa_decide_slots.specs.Entries.{Loaded}
-use Rattle.aa_decide.specs.Exec.{Asker, ExecAnswer, Nowhere, Null, Started, Unconfined as Free, Under, exec_answer, named_asker}
+use Rattle.aa_decide.specs.Exec.{Asker, Base, ExecAnswer, Nowhere, Null, OnProfile, OnUnconfined, Stacked, Started, Unconfined as Free, Under, exec_answer, named_asker}
 use Rattle.aa_decide_audit.specs.LogLines.{exec_line, log_line}
 use Rattle.aa_decide_ready.specs.Sections.{decided_by}
 use Rattle.aa_decide_audit.specs.declared.verdict.Answer.{Answer}
@@ -20,18 +21,20 @@ use Rattle.aa_profile_access.specs.FullNames.{full_name}
 use Rattle.aa_set_answers.specs.ProfileNames.{full_name_at}
 use Rattle.aa_set_answers.specs.declared.answers.Answered.{Answered}
 use Rattle.aa_set_answers.specs.Show.{show_lines}
+use Rattle.aa_set_answers.specs.StackNames.{stack_name}
 use Rattle.aa_set_answers.specs.Askers.{asker, confinement}
 
 -- a line: a text, and a line feed
 abbrev pub line_with : List ℕ → List ℕ
 line_with text = text ++ line_feed ∷ []
 
--- the verdict on a request, by what confines who asks; where nothing does, there is none
+-- the verdict on a request, by what confines who asks; where nothing does, or a name alone, there is none
 abbrev pub confined_answer : Confinement → Request → Option Verdict
 confined_answer Unconfined request = None
-confined_answer (By section mode) request = Some (decided_by section mode request)
+confined_answer ByName request = None
+confined_answer (By section mediation) request = Some (decided_by section mediation request)
 
--- what a request is answered by a verdict: its word, and the line that logs it, where it is logged; where nothing confines who asks, the word says so
+-- what a request is answered by a verdict: its word, and the line that logs it, where it is logged; where there is none, the word is `unconfined`
 abbrev pub told_verdict : List ℕ → Request → Option Verdict → Answered
 told_verdict who request None = record { answer = None; text = codes "unconfined"; logged = [] }
 told_verdict who request (Some verdict) = record {
@@ -52,6 +55,15 @@ scrub_text scrub = if scrub then codes " scrub" else []
 abbrev pub under_text : Profile → Option ℕ → Bool → List ℕ
 under_text profile child scrub = codes "allow to " ++ written_text (full_name_at profile child) ++ scrub_text scrub
 
+-- the name of what a stack is on
+abbrev pub base_name : Base → List ℕ
+base_name (OnProfile entry child) = full_name_at entry.profile child
+base_name OnUnconfined = codes "unconfined"
+
+-- how it is told that it runs under a stack of these members, on what has this name, if it is on something
+abbrev pub stack_text : Option (List ℕ) → List (List ℕ) → Bool → List ℕ
+stack_text base members scrub = codes "allow to " ++ written_text (stack_name base members) ++ scrub_text scrub
+
 -- how it is told that it runs under no profile
 abbrev pub unconfined_text : Bool → List ℕ
 unconfined_text scrub = codes "allow unconfined" ++ scrub_text scrub
@@ -60,6 +72,7 @@ unconfined_text scrub = codes "allow unconfined" ++ scrub_text scrub
 abbrev pub started_text : Answer → Started → Bool → List ℕ
 started_text answer (Under entry child) scrub = under_text entry.profile child scrub
 started_text answer Free scrub = unconfined_text scrub
+started_text answer (Stacked base members) scrub = stack_text (option_map base_name base) members scrub
 started_text answer Null scrub = codes "complain null"
 started_text answer Nowhere scrub = answer_word answer
 

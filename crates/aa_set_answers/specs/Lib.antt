@@ -7,4 +7,5 @@ pub mod List
 pub mod ProfileNames
 pub mod RuleLines
 pub mod Show
+pub mod StackNames
 pub mod States

@@ -1,14 +1,16 @@
 -- The lines that show rules (docs/commands.md, "What is loaded"). What is written before a rule is told behind its first word: that it is
--- audited, that it denies, and that it is about the owner's files alone.
+-- audited, that it denies, that it is about the owner's files alone, and that it is the last to say where a program goes.
 use Rattle.std.specs.Prelude.{ℕ, Bool, false, ◌+◌, ◌-◌, ◌^◌, ◌==◌, if◌then◌else◌, List, [], ◌∷◌, ◌++◌, Option, None, Some, bit_and, codes}
 use Rattle.aa_profile_access.specs.Access.{letters_of}
 use Rattle.aa_profile_access.specs.ExecWords.{row}
 use Rattle.aa_bytes.specs.Bytes.{line_feed}
 use Rattle.aa_profile_data.specs.Cover.{has_number}
+use Rattle.aa_profile_data.specs.Ranks.{same_rank}
 use Rattle.aa_profile_data.specs.declared.profile.CapRule.{CapRule}
 use Rattle.aa_profile_data.specs.declared.profile.FileRule.{FileRule}
 use Rattle.aa_profile_data.specs.declared.profile.NetRule.{NetRule}
 use Rattle.aa_profile_data.specs.declared.profile.OtherRule.{OtherRule}
+use Rattle.aa_profile_data.specs.declared.profile.Rank.TheVariants.{Last}
 use Rattle.aa_profile_data.specs.declared.profile.Rule.{Rule}
 use Rattle.aa_profile_data.specs.declared.profile.Rule.TheVariants.{Cap, File, Net, Other}
 use Rattle.aa_profile_data.specs.declared.profile.Transition.{Transition}
@@ -40,9 +42,13 @@ exec_text (Some transition) = (row transition.word).text ++ target_text transiti
 abbrev pub access_text : FileRule → List ℕ
 access_text rule = letters_of rule.access.0 ++ exec_text rule.exec ++ target_text rule.link
 
+-- the words before a rule on files: also that it decides after all others where a program goes
+abbrev pub file_qualifiers : FileRule → List ℕ
+file_qualifiers rule = qualifiers rule.audit rule.deny rule.owner ++ text_if (same_rank rule.rank Last) (codes " last")
+
 -- a rule on files: its pattern, and its access
 abbrev pub file_text : FileRule → List ℕ
-file_text rule = codes "file" ++ qualifiers rule.audit rule.deny rule.owner ++ codes " " ++ written_text rule.pattern ++ codes " " ++ access_text rule
+file_text rule = codes "file" ++ file_qualifiers rule ++ codes " " ++ written_text rule.pattern ++ codes " " ++ access_text rule
 
 -- the set of all capabilities
 abbrev pub all_capabilities : ℕ

@@ -1,7 +1,7 @@
 -- The states of loaded profiles, as they are written (docs/commands.md, "What is loaded").
 use Rattle.std.specs.Prelude.{ℕ, List, ◌++◌, Option, codes}
 use Rattle.aa_profile_data.specs.declared.profile.Mode.{Mode}
-use Rattle.aa_profile_data.specs.declared.profile.Mode.TheVariants.{Complain, Enforce}
+use Rattle.aa_profile_data.specs.declared.profile.Mode.TheVariants.{Complain, Enforce, Unconfined}
 use Rattle.aa_bytes.specs.Quoting.{written_text}
 use Rattle.aa_decide_slots.specs.Confinement.{mode_at}
 use Rattle.aa_decide_slots.specs.Entries.{Loaded}
@@ -13,6 +13,7 @@ use Rattle.aa_set_answers.specs.ProfileNames.{full_name_at}
 abbrev pub mode_word : Mode → List ℕ
 mode_word Enforce = codes "enforce"
 mode_word Complain = codes "complain"
+mode_word Unconfined = codes "unconfined"
 
 -- the word of a profile's state, or of that of its child or hat at a place: its mode, or `disabled` where the profile is
 abbrev pub state_word : State → Option ℕ → List ℕ

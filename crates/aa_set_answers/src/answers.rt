@@ -9,16 +9,19 @@ ghost use Rattle.aa_decide_slots.specs.Confinement.{found};
 ghost use Rattle.aa_profile_access.specs.SeenRequests.{request_of};
 ghost use Rattle.aa_decide_audit.specs.LogLines.{exec_line};
 ghost use Rattle.aa_set_answers.specs.Answers.{answered, asks_absent, confined_told, lines_of, told_verdict};
-ghost use Rattle.aa_set_answers.specs.Answers.{scrub_text, shown, shows_absent, unconfined_text, under_text};
-ghost use Rattle.aa_set_answers.specs.code.SeenTexts.{seen_text};
+ghost use Rattle.aa_set_answers.specs.Answers.{scrub_text, shown, shows_absent, stack_text, unconfined_text, under_text};
+ghost use Rattle.aa_set_answers.specs.code.SeenTexts.{seen_stack_text, seen_text};
+ghost use Rattle.aa_profile_access.specs.Stacks.{parts_of};
+ghost use Rattle.std.specs.Option.{option_copied};
 
 use crate::asker::{confinement, find_asker};
 use crate::names::full_name;
 use crate::show::show_lines;
+use crate::stacks::stack_name;
 use aa_bytes::{Sequence, push_text};
 use aa_decide::{
-    Answer, Confinement, ExecTo, ExecVerdict, IndexedSlots, Request, Steps, Verdict, entry_at,
-    exec_by, exec_line, find_loaded, log_line,
+    Answer, Confinement, ExecTo, ExecVerdict, IndexedSlots, Request, StackBase, Steps, Verdict,
+    entry_at, exec_by, exec_line, find_loaded, log_line,
 };
 use aa_profile_data::Profile;
 use aa_set_commands::{Refusal, RefusalKind, plain};
@@ -27,7 +30,8 @@ use std::alloc::{AllocError, Global};
 /// What a question is answered.
 #[derive(Drop)]
 pub struct Answered {
-    /// The answer of the verdict on what is asked; none where nothing confines who asks for something else than the start of a program.
+    /// The answer of the verdict on what is asked; none where nothing confines who asks for something else than the start of a program, or a name
+    /// alone.
     pub answer: Option<Answer>,
     /// What is told of it, in one line without its line feed: the answer's word, `unconfined`, or under what a program runs that is started.
     pub text: Sequence<u8>,
@@ -35,7 +39,7 @@ pub struct Answered {
     pub logged: Sequence<u8>,
 }
 
-// What anything is answered where nothing confines who asks.
+// What anything is answered where no rule is asked.
 fn unconfined(alloc: Global) -> Result<Answered, AllocError>
     ensures { IfOk result (λ told. told ≡ record { answer = None; text = codes "unconfined"; logged = [] }) }
 {
@@ -75,8 +79,9 @@ fn confined_told(
 {
     match confinement {
         Confinement::Unconfined => unconfined(alloc),
-        Confinement::By { section, mode } => {
-            let verdict = section.decide(alloc, mode, request, &mut Steps::new())?;
+        Confinement::ByName => unconfined(alloc),
+        Confinement::By { section, mediation } => {
+            let verdict = section.decide(alloc, mediation, request, &mut Steps::new())?;
             told_verdict(alloc, who, request, &verdict)
         }
     }
@@ -130,6 +135,60 @@ fn under_text(
     Ok(text)
 }
 
+// How it is told that a program runs under a stack of these members, on what has this name, if it is on something.
+fn stack_text(
+    alloc: Global,
+    base: Option<&[u8]>,
+    members: &[u8],
+    scrub: bool,
+) -> Result<Vec<u8>, AllocError>
+    ensures { IfOk result (λ text. text.items ≡ stack_text (option_copied base.entry) (parts_of members.now) scrub) }
+{
+    let name = stack_name(alloc, base, members)?;
+    let mut text = Vec::from_slice(alloc, b"allow to ")?;
+    push_text(&mut text, name.as_slice())?;
+    push_scrub(&mut text, scrub)?;
+    Ok(text)
+}
+
+// The same of a stack that is on something, by slot; nothing, where the slot of that isn't filled.
+fn based_text(
+    alloc: Global,
+    slots: &IndexedSlots<'_>,
+    base: StackBase,
+    members: &[u8],
+    scrub: bool,
+) -> Result<Vec<u8>, AllocError>
+    ensures { IfOk result (λ text. text.items ≡ seen_stack_text slots.now (Some base) (parts_of members.now) scrub) }
+{
+    match base {
+        StackBase::Unconfined => stack_text(alloc, Some(b"unconfined".as_slice()), members, scrub),
+        StackBase::Profile { slot, child } => match entry_at(slots.as_slice(), slot) {
+            None => Ok(Vec::new(alloc)),
+            Some(entry) => {
+                let name = full_name(alloc, entry.profile(), child)?;
+                stack_text(alloc, Some(name.as_slice()), members, scrub)
+            }
+        },
+    }
+}
+
+// The same of any stack.
+fn stacked_text(
+    alloc: Global,
+    slots: &IndexedSlots<'_>,
+    base: Option<StackBase>,
+    members: &[u8],
+    scrub: bool,
+) -> Result<Vec<u8>, AllocError>
+    ensures { IfOk result (λ text. text.items ≡ seen_stack_text slots.now base (parts_of members.now) scrub) }
+{
+    match base {
+        None => stack_text(alloc, None, members, scrub),
+        Some(base) => based_text(alloc, slots, base, members, scrub),
+    }
+}
+
 // How it is told that a program runs under no profile.
 fn unconfined_text(alloc: Global, scrub: bool) -> Result<Vec<u8>, AllocError>
     ensures { IfOk result (λ text. text.items ≡ unconfined_text scrub) }
@@ -143,7 +202,7 @@ fn unconfined_text(alloc: Global, scrub: bool) -> Result<Vec<u8>, AllocError>
 fn started_text(
     alloc: Global,
     slots: &IndexedSlots<'_>,
-    verdict: &ExecVerdict,
+    verdict: &ExecVerdict<'_>,
 ) -> Result<Vec<u8>, AllocError>
     ensures { IfOk result (λ text. text.items ≡ seen_text slots.now verdict.now) }
 {
@@ -153,6 +212,9 @@ fn started_text(
             Some(entry) => under_text(alloc, entry.profile(), child, verdict.scrub),
         },
         ExecTo::Unconfined => unconfined_text(alloc, verdict.scrub),
+        ExecTo::Stack { base, members } => {
+            stacked_text(alloc, slots, base, members, verdict.scrub)
+        }
         ExecTo::Null => Vec::from_slice(alloc, b"complain null"),
         ExecTo::Nowhere => Vec::from_slice(alloc, verdict.verdict.answer.word().as_bytes()),
     }
@@ -164,7 +226,7 @@ fn exec_told(
     slots: &IndexedSlots<'_>,
     who: &[u8],
     path: &[u8],
-    verdict: &ExecVerdict,
+    verdict: &ExecVerdict<'_>,
 ) -> Result<Answered, AllocError>
     ensures { IfOk result (λ told. told ≡ record {
       answer = Some verdict.now.verdict.answer;

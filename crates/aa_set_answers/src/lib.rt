@@ -9,6 +9,7 @@ mod list;
 mod names;
 mod rule_lines;
 mod show;
+mod stacks;
 mod states;
 
 pub use answers::{Answered, access_answer, exec_answer, lines_of, shown_lines};
@@ -18,4 +19,5 @@ pub use list::list_lines;
 pub use names::full_name;
 pub use rule_lines::{push_exec_transition, push_rule};
 pub use show::push_attachment;
+pub use stacks::stack_name;
 pub use states::mode_word;

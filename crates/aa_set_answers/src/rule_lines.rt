@@ -2,7 +2,8 @@
 
 ghost use Rattle.std.specs.Prelude.{◌≡◌, ◌≤◌, ◌++◌, OnOk, codes, length, map};
 ghost use Rattle.std.specs.Option.{option_map};
-ghost use Rattle.aa_set_answers.specs.RuleLines.{access_text, capabilities_text, capability_text, domain_word, exec_text, file_text};
+ghost use Rattle.aa_set_answers.specs.RuleLines.{access_text, capabilities_text, capability_text, domain_word, exec_text};
+ghost use Rattle.aa_set_answers.specs.RuleLines.{file_qualifiers, file_text};
 ghost use Rattle.aa_set_answers.specs.RuleLines.{has_all, kind_word, names_from, network_text, other_text, qualifiers, rule_line};
 ghost use Rattle.aa_set_answers.specs.RuleLines.{rule_text, target_text, text_if};
 ghost use Rattle.aa_bytes.specs.Quoting.{written_text};
@@ -10,7 +11,7 @@ ghost use Rattle.aa_profile_tables.specs.Names.{name_or_none};
 
 use aa_bytes::{SharedBytes, push_text};
 use aa_glob_pattern::Pattern;
-use aa_profile_data::{CapRule, FileRule, NetRule, OtherRule, Rule, Transition};
+use aa_profile_data::{CapRule, FileRule, NetRule, OtherRule, Rank, Rule, Transition};
 use aa_profile_tables::{CAPABILITIES, domain_name, kind_name, which_names_tables_hold};
 use std::alloc::AllocError;
 
@@ -95,12 +96,20 @@ fn push_pattern(text: &mut Vec<u8>, pattern: &Pattern) -> Result<(), AllocError>
     Ok(())
 }
 
+// Puts the words before a rule on files behind a text.
+fn push_file_qualifiers(text: &mut Vec<u8>, rule: &FileRule) -> Result<(), AllocError>
+    ensures { OnOk result (text.new.items ≡ text.old.items ++ file_qualifiers rule.now) }
+{
+    push_qualifiers(text, rule.audit, rule.deny, rule.owner)?;
+    push_if(text, rule.rank.is_same(Rank::Last), " last")
+}
+
 // Puts a rule on files behind a text.
 fn push_file(text: &mut Vec<u8>, rule: &FileRule) -> Result<(), AllocError>
     ensures { OnOk result (text.new.items ≡ text.old.items ++ file_text rule.now) }
 {
     text.extend_from_slice(b"file")?;
-    push_qualifiers(text, rule.audit, rule.deny, rule.owner)?;
+    push_file_qualifiers(text, rule)?;
     push_pattern(text, &rule.pattern)?;
     push_access(text, rule)
 }

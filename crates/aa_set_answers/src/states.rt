@@ -5,6 +5,7 @@ ghost use Rattle.aa_set_answers.specs.States.{mode_word, state_word, written_sta
 
 use crate::names::full_name;
 use aa_bytes::push_text;
+use aa_decide::Mediation;
 use aa_decide_slots::{Confinement, Entry};
 use aa_profile_data::Mode;
 use std::alloc::{AllocError, Global};
@@ -16,6 +17,7 @@ pub fn mode_word(mode: Mode) -> &'static str
     match mode {
         Mode::Enforce => "enforce",
         Mode::Complain => "complain",
+        Mode::Unconfined => "unconfined",
     }
 }
 
@@ -25,7 +27,11 @@ fn state_word(entry: &Entry, child: Option<usize>) -> &'static str
 {
     match entry.confinement(child) {
         Confinement::Unconfined => "disabled",
-        Confinement::By { mode, .. } => mode_word(mode),
+        Confinement::ByName => mode_word(Mode::Unconfined),
+        Confinement::By { mediation, .. } => match mediation {
+            Mediation::Enforcing => mode_word(Mode::Enforce),
+            Mediation::Complaining => mode_word(Mode::Complain),
+        },
     }
 }
 

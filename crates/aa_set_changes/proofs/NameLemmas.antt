@@ -16,7 +16,8 @@ use Rattle.aa_profile_data.specs.declared.profile.Profile.{Profile}
 use Rattle.aa_profile_data.specs.declared.profile.Mode.TheVariants.{Complain as ComplainMode, Enforce as EnforceMode}
 use Rattle.aa_text_files.specs.Files.{File}
 use Rattle.aa_decide_slots.specs.Entries.{is_in_force}
-use Rattle.aa_profile.specs.FileReading.{file_profiles}
+use Rattle.aa_profile_parsing.specs.declared.language.Language.{Language}
+use Rattle.aa_profile.specs.FileReading.{file_profiles_in}
 use Rattle.aa_profile_errors.specs.declared.profile_error.ProfileError.{ProfileError}
 use Rattle.aa_set_commands.specs.Command.{Add, Replace, Remove, Enforce, Complain, Disable}
 use Rattle.aa_set_commands.specs.Refusal.{plain}
@@ -185,22 +186,22 @@ with_disabled-distinct entries name h = by (entry_named name entries)
     by (Some entry) = by_state entry (is_in_force entry.state)
 
 -- no change gives two entries one name, as no file gives two profiles one
-pub changes-keep : ((files : List File) (name : List ℕ) → IfOk (file_profiles files name) (λ profiles. are_distinct profiles ≡ true)) → ChangesKeepNamesApart
-changes-keep named files force entries (Add file) h =
-    by_file-distinct (with_added force entries) (file_profiles files file) (named files file)
-    (λ profiles own. refused_or (are_there profiles entries) (plain Exists) (entries ++ map (loaded force) profiles)
-    (λ apart. distinct_with_all (forced force) entries profiles h apart own) (are_there profiles entries) refl)
-changes-keep named files force entries (Replace file) h =
-    by_file-distinct (with_replaced force entries) (file_profiles files file) (named files file)
-    (λ profiles own. refused_or (some_are_disabled profiles entries) (plain Disabled) (put_all (forced force) entries profiles)
-    (λ none. put_all-distinct (forced force) profiles entries h) (some_are_disabled profiles entries) refl)
-changes-keep named files force entries (Remove file) h =
-    by_file-distinct (with_removed entries) (file_profiles files file) (named files file)
+pub changes-keep : ((language : Language) (files : List File) (name : List ℕ) → IfOk (file_profiles_in language files name) (λ profiles. are_distinct profiles ≡ true)) → ChangesKeepNamesApart
+changes-keep named files settings entries (Add file) h =
+    by_file-distinct (with_added settings.force_complain entries) (file_profiles_in settings.language files file) (named settings.language files file)
+    (λ profiles own. refused_or (are_there profiles entries) (plain Exists) (entries ++ map (loaded settings.force_complain) profiles)
+    (λ apart. distinct_with_all (forced settings.force_complain) entries profiles h apart own) (are_there profiles entries) refl)
+changes-keep named files settings entries (Replace file) h =
+    by_file-distinct (with_replaced settings.force_complain entries) (file_profiles_in settings.language files file) (named settings.language files file)
+    (λ profiles own. refused_or (some_are_disabled profiles entries) (plain Disabled) (put_all (forced settings.force_complain) entries profiles)
+    (λ none. put_all-distinct (forced settings.force_complain) profiles entries h) (some_are_disabled profiles entries) refl)
+changes-keep named files settings entries (Remove file) h =
+    by_file-distinct (with_removed entries) (file_profiles_in settings.language files file) (named settings.language files file)
     (λ profiles own. refused_or (some_are_absent profiles entries) (plain Absent) (without profiles entries)
     (λ none. without-distinct profiles entries h) (some_are_absent profiles entries) refl)
-changes-keep named files force entries (Enforce name) h = with_mode-distinct EnforceMode entries name h
-changes-keep named files force entries (Complain name) h = with_mode-distinct ComplainMode entries name h
-changes-keep named files force entries (Disable name) h = with_disabled-distinct entries name h
+changes-keep named files settings entries (Enforce name) h = with_mode-distinct EnforceMode entries name h
+changes-keep named files settings entries (Complain name) h = with_mode-distinct ComplainMode entries name h
+changes-keep named files settings entries (Disable name) h = with_disabled-distinct entries name h
 
 -- an entry whose name isn't there comes behind all
 pub put_absent-end : (entry : Loaded) (entries : List Loaded) → has_name entry.profile.name entries ≡ false → put entry entries ≡ entries ++ entry ∷ []

@@ -10,8 +10,9 @@ use Rattle.aa_profile_data.specs.declared.profile.Profile.{Profile}
 use Rattle.aa_decide_slots.specs.Entries.{Loaded, is_in_force}
 use Rattle.aa_decide_slots.specs.declared.entry.State.TheVariants.{Disabled as DisabledState, Modes}
 use Rattle.aa_decide_slots.specs.Named.{entry_named, has_name, is_named}
-use Rattle.aa_profile.specs.FileReading.{file_profiles}
+use Rattle.aa_profile.specs.FileReading.{file_profiles_in}
 use Rattle.aa_profile_errors.specs.declared.profile_error.ProfileError.{ProfileError}
+use Rattle.aa_set_changes.specs.declared.settings.Settings.{Settings}
 use Rattle.aa_set_commands.specs.Command.{PolicyChange, Add, Replace, Remove, Enforce, Complain, Disable}
 use Rattle.aa_set_commands.specs.Refusal.{plain, refusal_of_profile}
 use Rattle.aa_set_commands.specs.declared.refusal.Refusal.{Refusal}
@@ -105,13 +106,13 @@ by_file change (Err error) = Err (refusal_of_profile error)
 by_file change (Ok profiles) = change profiles
 
 -- The policy set after a change, or its refusal.
-abbrev pub changed : List File → Bool → List Loaded → PolicyChange → Result (List Loaded) Refusal
-changed files force_complain entries (Add file) = by_file (with_added force_complain entries) (file_profiles files file)
-changed files force_complain entries (Replace file) = by_file (with_replaced force_complain entries) (file_profiles files file)
-changed files force_complain entries (Remove file) = by_file (with_removed entries) (file_profiles files file)
-changed files force_complain entries (Enforce name) = with_mode EnforceMode entries name
-changed files force_complain entries (Complain name) = with_mode ComplainMode entries name
-changed files force_complain entries (Disable name) = with_disabled entries name
+abbrev pub changed : List File → Settings → List Loaded → PolicyChange → Result (List Loaded) Refusal
+changed files settings entries (Add file) = by_file (with_added settings.force_complain entries) (file_profiles_in settings.language files file)
+changed files settings entries (Replace file) = by_file (with_replaced settings.force_complain entries) (file_profiles_in settings.language files file)
+changed files settings entries (Remove file) = by_file (with_removed entries) (file_profiles_in settings.language files file)
+changed files settings entries (Enforce name) = with_mode EnforceMode entries name
+changed files settings entries (Complain name) = with_mode ComplainMode entries name
+changed files settings entries (Disable name) = with_disabled entries name
 
 -- how many profiles a file has, if it is read
 abbrev pub profile_count : Result (List Profile) ProfileError → ℕ
@@ -119,13 +120,13 @@ profile_count (Ok profiles) = length profiles
 profile_count (Err error) = 0
 
 -- how many parts a change has: one for each profile of its file, or one for a switch
-abbrev pub parts_of : List File → PolicyChange → ℕ
-parts_of files (Add file) = profile_count (file_profiles files file)
-parts_of files (Replace file) = profile_count (file_profiles files file)
-parts_of files (Remove file) = profile_count (file_profiles files file)
-parts_of files (Enforce name) = 1
-parts_of files (Complain name) = 1
-parts_of files (Disable name) = 1
+abbrev pub parts_of : List File → Settings → PolicyChange → ℕ
+parts_of files settings (Add file) = profile_count (file_profiles_in settings.language files file)
+parts_of files settings (Replace file) = profile_count (file_profiles_in settings.language files file)
+parts_of files settings (Remove file) = profile_count (file_profiles_in settings.language files file)
+parts_of files settings (Enforce name) = 1
+parts_of files settings (Complain name) = 1
+parts_of files settings (Disable name) = 1
 
 -- the entry of a name is there
 abbrev pub is_loaded : List ℕ → List Loaded → Bool

@@ -7,7 +7,9 @@ mod loading;
 mod modes;
 mod places;
 mod policy;
+mod settings;
 
 pub use changes::{adding, disabling, removing, replacing, switching};
 pub use laws::what_changes_keep;
 pub use policy::PolicySet;
+pub use settings::Settings;

@@ -14,7 +14,7 @@ ghost use Rattle.aa_set_parts.specs.declared.parts.Content.TheVariants.{InState,
 
 use crate::modes::in_force;
 use crate::places::places;
-use aa_decide::{Entry, Ready, State};
+use aa_decide_slots::{Entry, Ready, State};
 use aa_profile_data::{Mode, Profile};
 use aa_set_parts::{Content, Exchange, Part, Slots};
 use std::alloc::{AllocError, Global};

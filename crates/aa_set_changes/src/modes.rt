@@ -4,7 +4,7 @@ ghost use Rattle.std.specs.Prelude.{◌≡◌, IfOk};
 ghost use Rattle.aa_set_changes.specs.Changes.{forced, in_force, mode_of, modes_of};
 
 use aa_bytes::Sequence;
-use aa_decide::{Entry, Ready, State};
+use aa_decide_slots::{Entry, Ready, State};
 use aa_profile_data::{Mode, Profile};
 use std::alloc::{AllocError, Global};
 

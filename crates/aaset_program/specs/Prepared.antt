@@ -1,11 +1,12 @@
 -- What is ready before the first command is read, or why nothing is.
-use Rattle.std.specs.Prelude.{◌≡◌, ℕ, List, Option, Result, Ok, Err, Vec, String, drop, All}
+use Rattle.std.specs.Prelude.{◌≡◌, List, Result, Ok, Err, Vec, String, drop, All}
 use Rattle.aa_text_files.specs.Files.{File}
 use Rattle.aaset_program.specs.declared.fault.Fault.{Fault}
 use Rattle.aaset_program.specs.declared.fault.Fault.TheVariants.{BadArguments, NoMemory, Untaken}
 use Rattle.aaset_program.specs.declared.stop.Stop.{Stop}
 use Rattle.aaset_program.specs.declared.stop.Stop.TheVariants.{Failed, Shown}
 use Rattle.aaset_program.specs.declared.ready.Ready.{Ready}
+use Rattle.aa_profile_parsing.specs.Languages.{word_of}
 use Rattle.aaset_start.specs.Arguments.{Asked, ForHelp, ForRun, ForVersion, Nothing, Run, asked}
 use Rattle.aaset_start.specs.Gathering.{IsFirstFault, IsReadBelow, IsTakable, names_of, texts_of}
 use Rattle.aaset_start.specs.Known.{Known}
@@ -19,10 +20,11 @@ pub record AreFilesOf (known : Known) (run : Run) (files : List File) : Type 0 w
   pub takable : All IsTakable files
   pub read : All (IsReadBelow known run.base) files
 
--- What is asked for is prepared: of a run its files and its mode, or its first name that can't be taken; help and the version are texts to be
+-- What is asked for is prepared: of a run its files, its language and its mode, or its first name that can't be taken; help and the version are texts to be
 -- shown, and all else is bad. Memory may run out at any time.
 abbrev pub IsPrepared : Known → Asked → Result Ready Stop → Type 0
-IsPrepared known (ForRun run) (Ok ready) = AreFilesOf known run ready.files × (ready.force_complain ≡ run.force_complain)
+IsPrepared known (ForRun run) (Ok ready) =
+    AreFilesOf known run ready.files × (word_of ready.language ≡ run.language) × (ready.force_complain ≡ run.force_complain)
 IsPrepared known (ForRun run) (Err (Failed (Untaken name))) = IsFirstFault known run.base run.names (files.Untaken name)
 IsPrepared known ForHelp (Err (Shown text)) = Unit {0}
 IsPrepared known ForVersion (Err (Shown text)) = Unit {0}

@@ -2,6 +2,7 @@
 use Rattle.std.specs.Prelude.{◌≡◌, ◌+◌, ◌==◌, ◌⊎◌, ℕ, false, true, List, ◌++◌, Result, Ok, Err, codes, string_bytes, if◌then◌else◌}
 use Rattle.std.specs.Io.KnownBytes.{Appends, IsAtEnd}
 use Rattle.aa_set.specs.Limits.{most_reads}
+use Rattle.aa_set_manager.specs.Manager.{Managed, new_manager_in}
 use Rattle.aa_set.specs.Run.{HasGiven, HoldsOfRead, IsAnsweredSoFar, IsFrontAnswered, IsLeftAnswered}
 use Rattle.aa_set.specs.declared.session.RunFault.{RunFault}
 use Rattle.aa_set.specs.declared.session.RunFault.TheVariants as run
@@ -33,11 +34,15 @@ pub record IsWhole (text : List ℕ) (output errors : Writes) (status : ℕ) : T
 abbrev pub IsShown : List ℕ → Writes → Writes → ℕ → Type 0
 IsShown text output errors status = IsWhole text output errors status ⊎ ((output.failed ≡ true) × IsReported Write errors status)
 
--- All commands of standard input were answered, by the machine that keeps whole policy sets, over the files and in the mode that are ready. The
--- status tells whether some command was refused.
+-- the manager that a run begins with: of no profile, by the language and in the mode that are ready
+abbrev pub begun : Ready → Managed
+begun ready = new_manager_in ready.language ready.force_complain
+
+-- All commands of standard input were answered, by the machine that keeps whole policy sets, over the files, by the language and in the mode that are
+-- ready. The status tells whether some command was refused.
 pub record AreAnswered (ready : Ready) (input : Reads) (output errors : Writes) (status : ℕ) : Type 0 where
   pub summary : Summary
-  pub answered : IsLeftAnswered ready.files ready.force_complain input.before output.before output.after summary
+  pub answered : IsLeftAnswered ready.files (begun ready) input.before output.before output.after summary
   pub ended : IsAtEnd input.after
   pub seen : input.ended_after ≡ true
   pub whole : (input.failed ≡ false) × (output.failed ≡ false)
@@ -58,8 +63,8 @@ IsCause run.Memory input output = IsUnread input × IsUnwritten output
 
 -- What stands on standard output after a fault: the replies to the whole lines that were read, a front of the replies to what was read, or nothing.
 abbrev pub StandsAfter : RunFault → Ready → Reads → Writes → Type 0
-StandsAfter run.Read ready input output = HoldsOfRead input.before input.after (IsAnsweredSoFar ready.files ready.force_complain output.before output.after)
-StandsAfter run.Write ready input output = HoldsOfRead input.before input.after (IsFrontAnswered ready.files ready.force_complain output.before output.after)
+StandsAfter run.Read ready input output = HoldsOfRead input.before input.after (IsAnsweredSoFar ready.files (begun ready) output.before output.after)
+StandsAfter run.Write ready input output = HoldsOfRead input.before input.after (IsFrontAnswered ready.files (begun ready) output.before output.after)
 StandsAfter run.Memory ready input output = IsUnwritten output
 
 -- a fault ended the run, and is reported

@@ -32,7 +32,14 @@ fn answer<S: Source, W: Sink, E: Sink>(
         (written_to (W.written output.old) (W.written output.new) (W.failed output.new))
         (written_to (E.written errors.old) (E.written errors.new) (E.failed errors.new)) result }
 {
-    let outcome = aa_set::run(alloc, &ready.files, ready.force_complain, input, output);
+    let outcome = aa_set::run_in(
+        alloc,
+        ready.language,
+        &ready.files,
+        ready.force_complain,
+        input,
+        output,
+    );
     match &outcome {
         Ok(_) => status(&outcome),
         Err(fault) => report(errors, &Fault::from(*fault)),

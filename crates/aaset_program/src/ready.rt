@@ -6,6 +6,7 @@ ghost use Rattle.aaset_start.specs.Plan.{run_of};
 
 use crate::fault::Fault;
 use crate::stop::Stop;
+use aa_set::Language;
 use aa_text_files::Files;
 use aaset_start::{FileSystem, Plan};
 use std::alloc::Global;
@@ -15,6 +16,8 @@ use std::alloc::Global;
 pub struct Ready {
     /// The files that commands may name.
     pub files: Files,
+    /// The language by which they are read.
+    pub language: Language,
     /// Whether each profile is taken as one in complain mode, whatever its flags say.
     pub force_complain: bool,
 }
@@ -24,6 +27,7 @@ fn gather<D: FileSystem>(alloc: Global, plan: Plan, disk: &D) -> Result<Ready, S
     ensures { IsPrepared (D.known disk.now) (ForRun (run_of plan)) result }
 {
     let Plan {
+        language,
         force_complain,
         base,
         names,
@@ -31,6 +35,7 @@ fn gather<D: FileSystem>(alloc: Global, plan: Plan, disk: &D) -> Result<Ready, S
     let files = aaset_start::gather(disk, alloc, base.as_str(), names)?;
     Ok(Ready {
         files,
+        language,
         force_complain,
     })
 }

@@ -1,10 +1,14 @@
 -- What `clap` makes of the words is what they ask for.
 use Rattle.std.proofs.Common.{◌≡◌, ◌∙◌, ◌≤◌, ℕ, Bool, true, false, List, [], ◌∷◌, length, Option, Some, None, append-nil, append_assoc, inl, inr, refl, sym, ap, ap₂, subst, arith, codes}
-use Rattle.std.specs.Prelude.{◌==◌, drop, find, fold, is_some, option_and_then, unwrap_or}
+use Rattle.std.specs.Prelude.{◌==◌, Err, drop, find, fold, if◌then◌else◌, is_some, option_and_then, unwrap_or}
+use Rattle.std.proofs.lemmas.Slice.Eq.{bytes_eq-Decides}
 use Rattle.std.specs.Option.{option_map_or}
 use Rattle.std.specs.Char.{encode_utf8}
 use Rattle.std.specs.Str.{bytes_eq}
 use Rattle.std.proofs.lemmas.Bool.Decides.{eqb_tells}
+use Rattle.aa_options.specs.Given.{IsGivenFor}
+use Rattle.aa_options.specs.declared.fault.ArgumentFault.{ArgumentFault}
+use Rattle.aa_options.specs.declared.fault.ArgumentFault.TheVariants.{Bad, Help, Memory, Version}
 use Rattle.aa_options.specs.Lines.{GoesOn, IsDoneBy, Reads, TakesValue}
 use Rattle.aa_options.specs.Options as words
 use Rattle.aa_options.specs.Options.{Open, base_letter, default_base, help_letter, version_letter}
@@ -25,8 +29,12 @@ use Rattle.clap.specs.declared.builder.value_parser.Reading.TheVariants.{AsWritt
 use Rattle.clap.specs.declared.error.kind.ErrorKind.TheVariants as kind
 use Rattle.clap.specs.declared.parser.matches.ValueSource.TheVariants.{DefaultValue}
 use Rattle.clap.proofs.OnLiterals.{clap_on_literals}
-use Rattle.aaset_start.specs.Arguments.{ForRun, Run, asked, asked_at_end, asked_with, bare_run, below, complain_letter, forced, run_options, with_names}
-use Rattle.aaset_start.specs.CommandLine.{base_rule, command_line, complain_rule, name_rule}
+use Rattle.aa_profile_parsing.specs.Languages.{language_named, word_of}
+use Rattle.aa_profile_parsing.specs.declared.language.Language.{Language}
+use Rattle.aa_profile_parsing.specs.declared.language.Language.TheVariants.{Four, Three}
+use Rattle.aaset_start.specs.Arguments.{ForRun, Run, asked, asked_at_end, asked_by_language, asked_in, asked_with, bare_run, below, complain_letter, forced, language_name, read_by, run_options, with_names}
+use Rattle.aaset_start.specs.Plan.{run_of}
+use Rattle.aaset_start.specs.CommandLine.{base_rule, command_line, complain_rule, language_rule, name_rule}
 
 abbrev complain_id : Text
 complain_id = codes "COMPLAIN"
@@ -36,6 +44,9 @@ base_id = codes "DIR"
 
 abbrev name_id : Text
 name_id = codes "NAME"
+
+abbrev language_id : Text
+language_id = codes "LANGUAGE"
 
 -- the rules as `clap` builds them
 abbrev rules : List Rule
@@ -50,10 +61,17 @@ base_built = with_index 1 (filled base_rule)
 abbrev complain_built : Rule
 complain_built = with_index 1 (filled complain_rule)
 
+abbrev language_built : Rule
+language_built = with_index 1 (filled language_rule)
+
 -- the rows are those of the run
+abbrev pub default_language : Text
+default_language = word_of Three
+
 abbrev Shows : Run → List Row → Type 0
 Shows run rows = ShowsWords name_id run.names rows × ShowsFlag complain_id run.force_complain rows
     × ((base : Option Text) × ShowsValue base_id base rows × (run.base ≡ unwrap_or base default_base))
+    × ((language : Option Text) × ShowsValue language_id language rows × (run.language ≡ unwrap_or language default_language))
 
 pub is_free : is_simple_and_free command_line ≡ true
 unfolding clap_on_literals
@@ -73,11 +91,21 @@ takes_base = record {
   none = λ rows. refl;
 }
 
+takes_language : TakesValue rules name_built language_built
+takes_language = record {
+  most = refl;
+  found = refl;
+  other = refl;
+  one = λ word rows. let again = repeat_passes language_id rows in rw again refl;
+  none = λ rows. refl;
+}
+
 shows_forced : (run : Run) (rows : List Row) → Shows run rows → Shows (forced run) (replaced complain_id (codes "true") rows)
 shows_forced run rows h = (
   other_replaced complain_id name_id (codes "true") rows refl ∙ h.0,
   flag_replaced complain_id run.force_complain rows h.1,
   (h.2.0, other_replaced complain_id base_id (codes "true") rows refl ∙ h.2.1, h.2.2),
+  (h.3.0, other_replaced complain_id language_id (codes "true") rows refl ∙ h.3.1, h.3.2),
 )
 
 shows_below : (folder : Text) (run : Run) (rows : List Row) → Shows run rows → Shows (below folder run) (replaced base_id folder rows)
@@ -85,6 +113,15 @@ shows_below folder run rows h = (
   other_replaced base_id name_id folder rows refl ∙ h.0,
   other_replaced base_id complain_id folder rows refl ∙ h.1,
   (Some folder, value_replaced base_id h.2.0 folder rows h.2.1, refl),
+  (h.3.0, other_replaced base_id language_id folder rows refl ∙ h.3.1, h.3.2),
+)
+
+shows_read_by : (word : Text) (run : Run) (rows : List Row) → Shows run rows → Shows (read_by word run) (replaced language_id word rows)
+shows_read_by word run rows h = (
+  other_replaced language_id name_id word rows refl ∙ h.0,
+  other_replaced language_id complain_id word rows refl ∙ h.1,
+  (h.2.0, other_replaced language_id base_id word rows refl ∙ h.2.1, h.2.2),
+  (Some word, value_replaced language_id h.3.0 word rows h.3.1, refl),
 )
 
 shows_named : (name : Text) (run : Run) (rows : List Row) → Shows run rows → Shows (with_names (name ∷ []) run) (appended name_id name rows)
@@ -92,6 +129,7 @@ shows_named name run rows h = (
   words_appended name_id run.names name rows h.0,
   other_appended name_id complain_id name rows refl ∙ h.1,
   (h.2.0, other_appended name_id base_id name rows refl ∙ h.2.1, h.2.2),
+  (h.3.0, other_appended name_id language_id name rows refl ∙ h.3.1, h.3.2),
 )
 
 by_letter : (x : ℕ) → IsDoneBy Shows rules name_built (run_options.by_letter x) (arg_by_short rules x)
@@ -106,13 +144,14 @@ by_letter x = by (complain_letter == x) refl (base_letter == x) refl (help_lette
     by false c false b false h false v = rw (c, b, h, v) tt
 
 by_name : (name : Text) → IsDoneBy Shows rules name_built (run_options.by_name name) (arg_by_long rules name)
-by_name name = by (bytes_eq (codes "help") name) refl (bytes_eq (codes "version") name) refl
+by_name name = by (bytes_eq language_name name) refl (bytes_eq (codes "help") name) refl (bytes_eq (codes "version") name) refl
   where
-    by : (h : Bool) → bytes_eq (codes "help") name ≡ h → (v : Bool) → bytes_eq (codes "version") name ≡ v
+    by : (l : Bool) → bytes_eq language_name name ≡ l → (h : Bool) → bytes_eq (codes "help") name ≡ h → (v : Bool) → bytes_eq (codes "version") name ≡ v
         → IsDoneBy Shows rules name_built (run_options.by_name name) (arg_by_long rules name)
-    by true h v vv = rw h (refl, λ rows. refl)
-    by false h true v = rw (h, v) (refl, λ rows. refl)
-    by false h false v = rw (h, v) tt
+    by true l h hh v vv = rw l (takes_language, shows_read_by)
+    by false l true h v vv = rw (l, h) (refl, λ rows. refl)
+    by false l false h true v = rw (l, h, v) (refl, λ rows. refl)
+    by false l false h false v = rw (l, h, v) tt
 
 one_byte : (x : ℕ) → GoesOn (run_options.by_letter x) → length (encode_utf8 x) ≡ 1
 unfolding encode_utf8
@@ -154,7 +193,7 @@ mode_default_passes rows = by (has_row complain_id rows) refl
     by false e = rw e refl
 
 no_more_defaults : (rows : List Row) → (fold with_default rows rest_built ≡ rows) × (defaults_fault rows rest_built ≡ [])
-no_more_defaults rows = no_defaults rest_built rows (refl, (refl, (refl, (refl, tt))))
+no_more_defaults rows = no_defaults rest_built rows (refl, (refl, (refl, (refl, (refl, tt)))))
 
 defaults_pass : (rows : List Row) → defaults_fault rows rules ≡ []
 unfolding defaults_fault
@@ -231,7 +270,7 @@ reads = record {
   free_words = refl;
   passes = λ first more rows fits. ap₂ or_else (range_fits (length (first ∷ more)) (omega arith) fits) (texts_pass (first ∷ more));
   in_turn = λ first more last rows. values_twice name_id AsWritten (first ∷ more) (last ∷ []) rows;
-  shows_bare = (refl, refl, (None, refl, refl));
+  shows_bare = (refl, refl, (None, refl, refl), (None, refl, refl));
   shows_word = shows_named;
   none_more = no_names;
   one_more = names_in_turn;
@@ -251,15 +290,57 @@ fault_at_end : (given : List Text) (run : Run) (rows : List Row) → Shows run r
 fault_at_end given run rows shows is =
     is ∙ ap (λ rows. check_fault (built command_line).top rows false) (defaults_are rows) ∙ check_names run.names rows shows.0
 
+-- what words ask for, whatever their language is
+abbrev pub asked_anyhow : List Text → words.Asked Run
+asked_anyhow given = words.asked_then (λ run. asked_with run.names run) (given_by given)
+
+-- it is asked for by a language
+pub asked_is : (given : List Text) → asked given ≡ words.asked_then asked_by_language (asked_anyhow given)
+asked_is given = by (given_by given)
+  where
+    by : (a : words.Asked Run) → words.asked_then asked_at_end a ≡ words.asked_then asked_by_language (words.asked_then (λ run. asked_with run.names run) a)
+    by (words.ForThis run) = refl
+    by words.ForHelp = refl
+    by words.ForVersion = refl
+    by words.Nothing = refl
+
+-- a fault of what is asked for is one of it by a language
+pub fault_by_language : (a : words.Asked Run) (fault : ArgumentFault) → IsGivenFor run_of a (Err fault) → IsGivenFor run_of (words.asked_then asked_by_language a) (Err fault)
+fault_by_language (words.ForThis run) Memory is = by (language_named run.language)
+  where
+    by : (language : Option Language) → IsGivenFor run_of (asked_in language run) (Err Memory)
+    by None = tt
+    by (Some language) = tt
+fault_by_language (words.ForThis run) (Help text) is = absurd is
+fault_by_language (words.ForThis run) (Version text) is = absurd is
+fault_by_language (words.ForThis run) Bad is = absurd is
+fault_by_language words.ForHelp fault is = is
+fault_by_language words.ForVersion fault is = is
+fault_by_language words.Nothing fault is = is
+
+-- the word of the language of a word is that word
+pub word_named : (word : Text) (language : Language) → language_named word ≡ Some language → word_of language ≡ word
+word_named word language is = by (bytes_eq word (word_of Three)) refl (bytes_eq word (word_of Four)) refl is
+  where
+    by : (three : Bool) → bytes_eq word (word_of Three) ≡ three → (four : Bool) → bytes_eq word (word_of Four) ≡ four
+        → (if three then Some Three else if four then Some Four else None) ≡ Some language → word_of language ≡ word
+    by true e four f h =
+        let same : Three ≡ language = cc in
+        ap word_of (sym same) ∙ sym ((bytes_eq-Decides word (word_of Three)).0 e)
+    by false e true f h =
+        let same : Four ≡ language = cc in
+        ap word_of (sym same) ∙ sym ((bytes_eq-Decides word (word_of Four)).0 f)
+    by false e false f h = absurd (cc)
+
 -- the kinds of error are those for what is asked for
-pub kinds_for : (given : List Text) → length given ≤ usize_max → AreKindsFor (asked given) (fault_of command_line given)
+pub kinds_for : (given : List Text) → length given ≤ usize_max → AreKindsFor (asked_anyhow given) (fault_of command_line given)
 kinds_for given fits = by (given_by given) (given_read given fits)
   where
     at_end : (ns : List Text) (run : Run) → fault_of command_line given ≡ missing ns → AreKindsFor (asked_with ns run) (fault_of command_line given)
     at_end [] run is = (kind.MissingRequiredArgument, is, refl)
     at_end (n ∷ ns) run is = is
 
-    by : (a : words.Asked Run) → IsReadAs command_line Shows given a → AreKindsFor (words.asked_then asked_at_end a) (fault_of command_line given)
+    by : (a : words.Asked Run) → IsReadAs command_line Shows given a → AreKindsFor (words.asked_then (λ run. asked_with run.names run) a) (fault_of command_line given)
     by (words.ForThis run) is = at_end run.names run (fault_at_end given run is.0 is.1 is.3)
     by words.ForHelp is = is
     by words.ForVersion is = is
@@ -270,6 +351,7 @@ abbrev pub Matched : Run → List Text → Type 0
 Matched run given = (unwrap_or (all_of name_id (matches_of command_line given)) [] ≡ run.names)
     × (one_of complain_id (matches_of command_line given) ≡ Some (truth run.force_complain))
     × (unwrap_or (first_of base_id (matches_of command_line given)) default_base ≡ run.base)
+    × (unwrap_or (first_of language_id (matches_of command_line given)) default_language ≡ run.language)
 
 run_matched : (run : Run) (given : List Text) (rows : List Row) → Shows run rows → matches_of command_line given ≡ with_mode rows → Matched run given
 run_matched run given rows shows is = (
@@ -277,10 +359,12 @@ run_matched run given rows shows is = (
   ap (one_of complain_id) is ∙ mode_shown run.force_complain rows shows.1,
   ap (λ rows. unwrap_or (first_of base_id rows) default_base) is
       ∙ ap (λ base. unwrap_or base default_base) (value_shown base_id shows.2.0 (with_mode rows) (other_mode base_id rows refl ∙ shows.2.1)) ∙ sym shows.2.2,
+  ap (λ rows. unwrap_or (first_of language_id rows) default_language) is
+      ∙ ap (λ word. unwrap_or word default_language) (value_shown language_id shows.3.0 (with_mode rows) (other_mode language_id rows refl ∙ shows.3.1)) ∙ sym shows.3.2,
 )
 
 -- where there is no fault, the matches are those of the run that is asked for
-pub matched : (given : List Text) → length given ≤ usize_max → fault_of command_line given ≡ [] → (run : Run) × (asked given ≡ ForRun run) × Matched run given
+pub matched : (given : List Text) → length given ≤ usize_max → fault_of command_line given ≡ [] → (run : Run) × (asked_anyhow given ≡ ForRun run) × Matched run given
 matched given fits none = by (given_by given) (given_read given fits)
   where
     at_end : (ns : List Text) (at : Run) → fault_of command_line given ≡ missing ns → Matched at given
@@ -288,7 +372,7 @@ matched given fits none = by (given_by given) (given_read given fits)
     at_end [] at is m = absurd (let bad : kind.MissingRequiredArgument ∷ [] ≡ [] = sym is ∙ none in cc)
     at_end (n ∷ ns) at is m = (at, refl, m)
 
-    by : (a : words.Asked Run) → IsReadAs command_line Shows given a → (run : Run) × (words.asked_then asked_at_end a ≡ ForRun run) × Matched run given
+    by : (a : words.Asked Run) → IsReadAs command_line Shows given a → (run : Run) × (words.asked_then (λ run. asked_with run.names run) a ≡ ForRun run) × Matched run given
     by (words.ForThis run) is =
         at_end run.names run (fault_at_end given run is.0 is.1 is.3) (run_matched run given is.0 is.1 (is.2 ∙ defaults_are is.0))
     by words.ForHelp is = absurd (let bad : kind.DisplayHelp ∷ [] ≡ [] = sym is ∙ none in cc)

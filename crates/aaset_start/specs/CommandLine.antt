@@ -1,10 +1,14 @@
 -- The command line, as `clap` is told of it.
 use Rattle.std.specs.Prelude.{true, codes}
-use Rattle.aa_options.specs.Lines.{bare_line, flag_rule, value_rule, with_version, words_rule}
+use Rattle.aa_options.specs.Lines.{bare_line, flag_rule, named_value_rule, value_rule, with_version, words_rule}
 use Rattle.aa_options.specs.Options.{base_letter}
-use Rattle.aaset_start.specs.Arguments.{complain_letter}
+use Rattle.aaset_start.specs.Arguments.{complain_letter, language_name}
 use Rattle.clap.specs.Words.{App, Rule, with_rule}
 use Rattle.clap.specs.Simple.{on_top}
+
+-- the word of the language by which files are read
+abbrev pub language_rule : Rule
+language_rule = named_value_rule (codes "LANGUAGE") language_name
 
 -- whether every profile is taken in complain mode
 abbrev pub complain_rule : Rule
@@ -24,4 +28,4 @@ versioned_line = on_top with_version (bare_line (codes "aaset"))
 
 -- the command line, with its arguments
 abbrev pub command_line : App
-command_line = with_rule (with_rule (with_rule versioned_line complain_rule) base_rule) name_rule
+command_line = with_rule (with_rule (with_rule (with_rule versioned_line complain_rule) language_rule) base_rule) name_rule

@@ -1,6 +1,6 @@
 //! The command line, as `clap` is told of it.
 ghost use Rattle.std.specs.Prelude.{◌≡◌, false, IfOk};
-ghost use Rattle.aaset_start.specs.CommandLine.{base_rule, command_line, complain_rule, name_rule, versioned_line};
+ghost use Rattle.aaset_start.specs.CommandLine.{base_rule, command_line, complain_rule, language_rule, name_rule, versioned_line};
 ghost use Rattle.clap.specs.Words.{app_of, rule_of};
 
 use aa_options::{VERSION, with_argument};
@@ -41,6 +41,19 @@ Exit status:
   1  Some command was refused
   2  The arguments are bad, or a NAME can't be taken
   3  Reading or writing failed, or there was no memory to begin";
+
+// The option for the language by which files are read.
+fn language_argument<'a>(alloc: Global) -> Arg<'a>
+    ensures rule { rule_of result ≡ language_rule }
+    ensures local { result.global ≡ false }
+{
+    aa_options::named_value(
+        alloc,
+        "LANGUAGE",
+        "language",
+        "The language of policy: 3, which is meant without this option, or 4",
+    )
+}
 
 // The option for complain mode.
 fn complain_argument<'a>(alloc: Global) -> Arg<'a>
@@ -100,6 +113,7 @@ pub fn command<'a>(alloc: Global) -> Result<Command<'a>, AllocError>
     ensures { IfOk result (λ command. app_of command ≡ command_line) }
 {
     let complaining = with_argument(bare_command(alloc), complain_argument(alloc))?;
-    let below = with_argument(complaining, base_argument(alloc))?;
+    let reading = with_argument(complaining, language_argument(alloc))?;
+    let below = with_argument(reading, base_argument(alloc))?;
     with_argument(below, name_argument(alloc))
 }

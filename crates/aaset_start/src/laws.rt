@@ -3,11 +3,12 @@
 ghost use Rattle.std.specs.Prelude.{◌≡◌, ◌<◌, ℕ, false, true, List, [], ◌∷◌, codes, length};
 ghost use Rattle.std.specs.List.{list_all};
 ghost use Rattle.aa_options.specs.Options.{Open, is_name, is_option};
-ghost use Rattle.aaset_start.specs.Arguments.{ForRun, Run, asked, asked_at_end, asked_behind, below, forced, with_names};
+ghost use Rattle.aa_profile_parsing.specs.declared.language.Language.TheVariants.{Three};
+ghost use Rattle.aaset_start.specs.Arguments.{ForRun, Run, asked, asked_at_end, asked_behind, below, forced, read_by, with_names};
 ghost use Rattle.aaset_start.specs.Plan.{run_with};
 
 /// Each run has at least one NAME. Words that are no options are its NAMEs, all of them and in their order. Behind `-C` each word asks for what it
-/// would ask for without it, in complain mode, and behind `-b` and a folder for the same below that folder.
+/// would ask for without it, in complain mode, behind `-b` and a folder for the same below that folder, and behind `--language` and a word for the same by that language.
 pub fn what_runs_have()
     ensures names { (words : List (List ℕ)) (run : Run) → asked words ≡ ForRun run → 0 < length run.names }
     ensures plain { (words : List (List ℕ)) (run : Run)
@@ -18,5 +19,8 @@ pub fn what_runs_have()
     ensures base { (words : List (List ℕ)) (folder : List ℕ) (run : Run)
         → is_option folder ≡ false
         → asked_behind (Open run) (codes "-b" ∷ folder ∷ words) ≡ asked_behind (Open (below folder run)) words }
-    ensures both { asked (codes "-C" ∷ codes "-b" ∷ codes "/srv" ∷ codes "x" ∷ []) ≡ ForRun (run_with true (codes "/srv") (codes "x" ∷ [])) }
+    ensures language { (words : List (List ℕ)) (word : List ℕ) (run : Run)
+        → is_option word ≡ false
+        → asked_behind (Open run) (codes "--language" ∷ word ∷ words) ≡ asked_behind (Open (read_by word run)) words }
+    ensures both { asked (codes "-C" ∷ codes "-b" ∷ codes "/srv" ∷ codes "x" ∷ []) ≡ ForRun (run_with Three true (codes "/srv") (codes "x" ∷ [])) }
 {}

@@ -3,3 +3,4 @@ mod CheckLemmas
 mod DiffLawLemmas
 mod DiffLemmas
 mod LawLemmas
+pub mod LanguageLemmas

@@ -1,23 +1,23 @@
--- In which form is told what a command finds.
-use Rattle.std.specs.Prelude.{ℕ, Bool, false, ◌||◌, if◌then◌else◌, List, [], ◌∷◌, codes}
+-- In which form is told what a command finds, and by which language it reads policy.
+use Rattle.std.specs.Prelude.{ℕ, Bool, false, ◌||◌, if◌then◌else◌, List, [], ◌∷◌, None, Some, codes}
 use Rattle.std.specs.Str.{bytes_eq}
 use Rattle.aatry_arguments.specs.Arguments.{CommandAsked, ForSession, ForTest, asked}
 use Rattle.aa_options.specs.Options.{Asked, ForThis, Nothing, asked_as, asked_then}
+use Rattle.aa_profile_parsing.specs.declared.language.Language.{Language}
+use Rattle.aa_profile_parsing.specs.declared.language.Language.TheVariants.{Four}
+use Rattle.aatry_arguments.specs.Languages.{by_language, ends_options}
 use Rattle.aatry_report.specs.declared.form.Form.{Form}
 use Rattle.aatry_report.specs.declared.form.Form.TheVariants.{Lines, Records}
 
--- a command that is asked for, and the form in which it tells
+-- a command that is asked for, the language by which it reads policy, and the form in which it tells
 pub record CallAsked : Type 0 where
+  pub language : Language
   pub form : Form
   pub command : CommandAsked
 
--- a call, by its two parts
-abbrev pub call_with : Form → CommandAsked → CallAsked
-call_with form command = record { form = form; command = command }
-
--- behind this word none is an option
-abbrev pub ends_options : List ℕ → Bool
-ends_options word = bytes_eq word (codes "--")
+-- a call, by its parts
+abbrev pub call_with : Language → Form → CommandAsked → CallAsked
+call_with language form command = record { language = language; form = form; command = command }
 
 -- this word asks for records
 abbrev pub is_json_word : List ℕ → Bool
@@ -35,12 +35,18 @@ without_json (word ∷ words) =
     if ends_options word then word ∷ words else if is_json_word word then without_json words else word ∷ without_json words
 
 -- a command that is to tell in records: a test and a session alone have none
-abbrev pub in_records : CommandAsked → Asked CallAsked
-in_records (ForTest test) = Nothing
-in_records (ForSession session) = Nothing
-in_records command = ForThis (call_with Records command)
+abbrev pub in_records : Language → CommandAsked → Asked CallAsked
+in_records language (ForTest test) = Nothing
+in_records language (ForSession session) = Nothing
+in_records language command = ForThis (call_with language Records command)
 
--- what the words of all arguments ask for, and in which form
+-- what words ask for by a language, and in which form
+abbrev pub asked_in : Language → List (List ℕ) → Asked CallAsked
+asked_in language words =
+    if wants_records words
+    then asked_then (in_records language) (asked (without_json words))
+    else asked_as (call_with language Lines) (asked words)
+
+-- what the words of all arguments ask for: by language 4, where they name no other
 abbrev pub asked_call : List (List ℕ) → Asked CallAsked
-asked_call words =
-    if wants_records words then asked_then in_records (asked (without_json words)) else asked_as (call_with Lines) (asked words)
+asked_call words = elim (by_language (Some Four) words) [ None ↦ Nothing | Some read ↦ asked_in read.language read.words ]

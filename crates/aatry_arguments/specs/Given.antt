@@ -57,7 +57,7 @@ meant_command (command.Session session) = ForSession (meant_session session)
 
 -- the call that is meant
 abbrev pub meant_call : Call → CallAsked
-meant_call call = call_with call.form (meant_command call.command)
+meant_call call = call_with call.language call.form (meant_command call.command)
 
 -- help is given, if memory allows
 abbrev pub IsHelp : ArgumentFault → Type 0

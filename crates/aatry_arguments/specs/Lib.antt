@@ -6,5 +6,7 @@ pub mod DiffLine
 pub mod DiffWords
 pub mod Forms
 pub mod Given
+pub mod Languages
 pub mod SessionWords
 pub mod TestWords
+pub mod code

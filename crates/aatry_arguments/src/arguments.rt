@@ -1,10 +1,13 @@
 //! What the arguments ask for.
 
+use aa_profile_parsing::Language;
 use aatry_report::Form;
 
-/// A command, and the form in which it tells what it finds.
+/// A command, the language by which it reads policy, and the form in which it tells what it finds.
 #[derive(Drop)]
 pub struct Call {
+    /// The language: 4, unless another is named.
+    pub language: Language,
     /// The form: lines, unless records are asked for.
     pub form: Form,
     /// The command.

@@ -12,7 +12,7 @@ fn log_argument<'a>(alloc: Global) -> Arg<'a>
     ensures rule { rule_of result ≡ log_rule }
     ensures local { result.global ≡ false }
 {
-    aa_options::named_value(alloc, "LOG", "log")
+    aa_options::named_value(alloc, "LOG", "log", "A log")
 }
 
 // The option for a file of questions.
@@ -20,7 +20,7 @@ fn questions_argument<'a>(alloc: Global) -> Arg<'a>
     ensures rule { rule_of result ≡ questions_rule }
     ensures local { result.global ≡ false }
 {
-    aa_options::named_value(alloc, "QUESTIONS", "questions")
+    aa_options::named_value(alloc, "QUESTIONS", "questions", "A file of questions")
 }
 
 // The argument for the folders: how many there have to be is tested behind the parse.

@@ -1,25 +1,20 @@
 //! In which form is told what a command finds.
 
-ghost use Rattle.std.specs.Prelude.{◌≡◌, ◌++◌, IfOk, OnOk, drop, map, string_bytes};
+ghost use Rattle.std.specs.Prelude.{◌≡◌, IfOk, drop, map, string_bytes};
 ghost use Rattle.aatry_arguments.specs.Arguments.{asked};
 ghost use Rattle.aa_options.specs.Options.{asked_as, asked_then};
-ghost use Rattle.aatry_arguments.specs.Forms.{asked_call, call_with, ends_options, in_records, is_json_word, wants_records, without_json};
+ghost use Rattle.aatry_arguments.specs.Forms.{asked_call, asked_in, call_with, in_records, is_json_word, wants_records, without_json};
 ghost use Rattle.aa_options.specs.Given.{IsGivenFor};
 ghost use Rattle.aatry_arguments.specs.Given.{meant_call, meant_command};
 ghost use Rattle.aatry_report.specs.declared.form.Form.TheVariants as form;
 
 use crate::arguments::{Call, Command};
+use crate::languages::{by_language, ends_options, push_words};
 use crate::reading::command_behind;
 use aa_options::ArgumentFault;
+use aa_profile_parsing::Language;
 use aatry_report::Form;
 use std::alloc::{AllocError, Global};
-
-// Whether behind a word none is an option.
-fn ends_options(word: &str) -> bool
-    ensures { result ≡ ends_options word.now }
-{
-    word == "--"
-}
 
 // Whether a word asks for records.
 fn is_json_word(word: &str) -> bool
@@ -45,16 +40,6 @@ fn wants_records(words: &[String]) -> bool
     false
 }
 
-// Puts copies of words behind others.
-fn push_words(alloc: Global, words: &[String], out: &mut Vec<String>) -> Result<(), AllocError>
-    ensures { OnOk result (map string_bytes out.new.items ≡ map string_bytes out.old.items ++ map string_bytes words.now) }
-{
-    for word in words {
-        out.push(String::from_str(alloc, word.as_str())?)?;
-    }
-    Ok(())
-}
-
 // The words without those that ask for records.
 fn without_json(alloc: Global, words: &[String]) -> Result<Vec<String>, AllocError>
     ensures { IfOk result (λ others. map string_bytes others.items ≡ without_json (map string_bytes words.now)) }
@@ -75,22 +60,24 @@ fn without_json(alloc: Global, words: &[String]) -> Result<Vec<String>, AllocErr
 }
 
 // A command that is to tell in lines.
-fn in_lines(command: Command) -> Call
-    ensures { meant_call result ≡ call_with form.Lines (meant_command command) }
+fn in_lines(language: Language, command: Command) -> Call
+    ensures { meant_call result ≡ call_with language form.Lines (meant_command command) }
 {
     Call {
+        language,
         form: Form::Lines,
         command,
     }
 }
 
 // A command that is to tell in records: a test and a session alone have none.
-fn in_records(command: Command) -> Result<Call, ArgumentFault>
-    ensures { IsGivenFor meant_call (in_records (meant_command command)) result }
+fn in_records(language: Language, command: Command) -> Result<Call, ArgumentFault>
+    ensures { IsGivenFor meant_call (in_records language (meant_command command)) result }
 {
     match command {
         Command::Test(_) | Command::Session(_) => Err(ArgumentFault::Bad),
         command => Ok(Call {
+            language,
             form: Form::Records,
             command,
         }),
@@ -98,22 +85,39 @@ fn in_records(command: Command) -> Result<Call, ArgumentFault>
 }
 
 // The call that words ask for, none of which asks for records.
-fn call_in_lines(alloc: Global, words: &[String]) -> Result<Call, ArgumentFault>
-    ensures { IsGivenFor meant_call (asked_as (call_with form.Lines) (asked (map string_bytes words.now))) result }
+fn call_in_lines(alloc: Global, language: Language, words: &[String]) -> Result<Call, ArgumentFault>
+    ensures { IsGivenFor meant_call (asked_as (call_with language form.Lines) (asked (map string_bytes words.now))) result }
 {
     match command_behind(alloc, words) {
-        Ok(command) => Ok(in_lines(command)),
+        Ok(command) => Ok(in_lines(language, command)),
         Err(fault) => Err(fault),
     }
 }
 
 // The call that words ask for beside one that asks for records.
-fn call_in_records(alloc: Global, words: &[String]) -> Result<Call, ArgumentFault>
-    ensures { IsGivenFor meant_call (asked_then in_records (asked (map string_bytes words.now))) result }
+fn call_in_records(
+    alloc: Global,
+    language: Language,
+    words: &[String],
+) -> Result<Call, ArgumentFault>
+    ensures { IsGivenFor meant_call (asked_then (in_records language) (asked (map string_bytes words.now))) result }
 {
     match command_behind(alloc, words) {
-        Ok(command) => in_records(command),
+        Ok(command) => in_records(language, command),
         Err(fault) => Err(fault),
+    }
+}
+
+// The call that words ask for by a language.
+fn call_in(alloc: Global, language: Language, words: &[String]) -> Result<Call, ArgumentFault>
+    ensures { IsGivenFor meant_call (asked_in language (map string_bytes words.now)) result }
+{
+    if !wants_records(words) {
+        return call_in_lines(alloc, language, words);
+    }
+    match without_json(alloc, words) {
+        Ok(others) => call_in_records(alloc, language, &others),
+        Err(_) => Err(ArgumentFault::Memory),
     }
 }
 
@@ -121,16 +125,15 @@ fn call_in_records(alloc: Global, words: &[String]) -> Result<Call, ArgumentFaul
 fn call_behind(alloc: Global, words: &[String]) -> Result<Call, ArgumentFault>
     ensures { IsGivenFor meant_call (asked_call (map string_bytes words.now)) result }
 {
-    if !wants_records(words) {
-        return call_in_lines(alloc, words);
-    }
-    match without_json(alloc, words) {
-        Ok(others) => call_in_records(alloc, &others),
+    match by_language(alloc, words) {
+        Ok(Some(read)) => call_in(alloc, read.language, &read.words),
+        Ok(None) => Err(ArgumentFault::Bad),
         Err(_) => Err(ArgumentFault::Memory),
     }
 }
 
-/// The command that is asked for by the words that the program was started with, and the form in which it is to tell.
+/// The command that is asked for by the words that the program was started with, the language by which it is to read policy, and the form in which it
+/// is to tell.
 ///
 /// The first word is the program's own name, whatever it is, and the second is the command's name. Behind `check` a word is a NAME, behind `test`
 /// a FILE, behind `who` and `why` a word of the question, and behind `diff` a folder, unless it is an option: a hyphen and more behind it. Behind
@@ -140,7 +143,9 @@ fn call_behind(alloc: Global, words: &[String]) -> Result<Call, ArgumentFault>
 /// stands behind the option in its word, without one `=` between behind `-b` and with it behind the others, or else it is the next word, which then
 /// is no option and no `--`. Such an option may stand before, between and behind the other words, and where it is given again, the last counts.
 ///
-/// The word `--json`, ahead of the first `--`, asks for records, and is none of the words above: the command is the one that the others ask for.
+/// The word `--json`, ahead of the first `--`, asks for records, and is none of the words above: the command is the one that the others ask for. Nor are
+/// the word `--language` and the one behind it, or a word that begins with `--language=`, ahead of the first `--`: they name a language by its number, 3
+/// or 4. Where one is named again, the last counts, and where none is, policy is read by language 4 (docs/policy.md, "Languages").
 ///
 /// # Errors
 ///
@@ -150,7 +155,7 @@ fn call_behind(alloc: Global, words: &[String]) -> Result<Call, ArgumentFault>
 /// - `Bad` where the second word is any other. Behind a command, where the first option that takes no path is any other, or where one that takes a
 ///   path comes before it without one. Behind `test`, where there is no FILE. Behind `who`, where the words of the question aren't three, and behind
 ///   `why`, where there is none. Behind `diff`, where the folders aren't two, or both `--log` and `--questions` are given. Behind `session`, where
-///   there is a word that is no option. Where records are asked for of `test` or `session`.
+///   there is a word that is no option. Where records are asked for of `test` or `session`, or a word that has to name a language names none.
 /// - `Memory` where memory ran out.
 pub fn call_of(alloc: Global, words: &[String]) -> Result<Call, ArgumentFault>
     ensures { IsGivenFor meant_call (asked_call (drop 1 (map string_bytes words.now))) result }

@@ -10,6 +10,9 @@ ghost use Rattle.aatry_arguments.specs.CheckWords.{CheckAsked, asked_behind, bel
 ghost use Rattle.aa_options.specs.Options as diff;
 ghost use Rattle.aatry_arguments.specs.DiffWords.{DiffGiven, LogAt, OfLog, OfQuestions, QuestionsAt};
 ghost use Rattle.aatry_arguments.specs.DiffWords.{comparison_with, given_behind, with_folders, with_path};
+ghost use Rattle.aa_profile_parsing.specs.Languages.{language_named, word_of};
+ghost use Rattle.aa_profile_parsing.specs.declared.language.Language.{Language};
+ghost use Rattle.aatry_arguments.specs.Languages.{by_language};
 ghost use Rattle.aatry_arguments.specs.SessionWords.{session_with};
 ghost use Rattle.aatry_arguments.specs.TestWords.{test_with};
 
@@ -131,4 +134,19 @@ pub fn what_comparisons_have()
         → given_behind (diff.Open given) words ≡ ForThis (with_folders words given) }
     ensures dashes { (words : List (List ℕ)) (given : DiffGiven)
         → given_behind (diff.Open given) (codes "--" ∷ words) ≡ ForThis (with_folders words given) }
+{}
+
+/// Words name a language by `--language` and its number, in the next word or behind a `=` in the same, and of two the last counts. Behind `--` none is
+/// named. Where a number is no language's, or none follows, the words ask for nothing that there is.
+pub fn how_languages_are_named()
+    ensures next { (so_far language : Language) (words : List (List ℕ))
+        → by_language (Some so_far) (codes "--language" ∷ word_of language ∷ words) ≡ by_language (Some language) words }
+    ensures in_word { (so_far language : Language) (words : List (List ℕ))
+        → by_language (Some so_far) ((codes "--language=" ++ word_of language) ∷ words) ≡ by_language (Some language) words }
+    ensures none { (so_far : Language) (word : List ℕ) (words : List (List ℕ))
+        → language_named word ≡ None
+        → by_language (Some so_far) (codes "--language" ∷ word ∷ words) ≡ None }
+    ensures missing { (so_far : Language) → by_language (Some so_far) (codes "--language" ∷ []) ≡ None }
+    ensures dashes { (so_far : Language) (words : List (List ℕ))
+        → by_language (Some so_far) (codes "--" ∷ words) ≡ Some (record { language = so_far; words = codes "--" ∷ words }) }
 {}

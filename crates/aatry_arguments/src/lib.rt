@@ -9,6 +9,7 @@ mod diff_line;
 mod diff_words;
 mod faults;
 mod forms;
+mod languages;
 mod laws;
 mod reading;
 mod session_words;
@@ -18,5 +19,6 @@ pub use aa_options::ArgumentFault;
 pub use arguments::{Asking, Call, Check, Command, Comparison, RequestSource, Session, Test};
 pub use forms::call_of;
 pub use laws::{
-    what_askings_have, what_checks_have, what_comparisons_have, what_sessions_have, what_tests_have,
+    how_languages_are_named, what_askings_have, what_checks_have, what_comparisons_have,
+    what_sessions_have, what_tests_have,
 };

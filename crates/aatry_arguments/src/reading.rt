@@ -29,9 +29,10 @@ Commands:
   test     Runs transcripts of commands over a folder of policy, and tells each reply that differs
 
 Options:
-  --json         Behind check, why, who and diff: tells in records of JSON, one a line
-  -h, --help     Prints help, and behind a COMMAND help on it
-  -V, --version  Prints the version
+  --json          Behind check, why, who and diff: tells in records of JSON, one a line
+  --language <N>  Reads policy by language N, 3 or 4; 4 if none is named
+  -h, --help      Prints help, and behind a COMMAND help on it
+  -V, --version   Prints the version
 ";
 
 // The line that tells the version.

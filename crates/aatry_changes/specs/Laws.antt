@@ -3,6 +3,7 @@ use Rattle.std.specs.Prelude.{◌≡◌, ◌<◌, ◌^◌, ℕ, Bool, true, List
 use Rattle.std.specs.List.{All}
 use Rattle.aa_decide_exec_rules.specs.Choices.{choice}
 use Rattle.aa_decide_rules.specs.Verdict.{verdict}
+use Rattle.aa_decide_rules.specs.declared.verdict.Mediation.{Mediation}
 use Rattle.aa_explain_diff.specs.Features.{are_alike}
 use Rattle.aa_profile_access.specs.Request.{Request}
 use Rattle.aa_profile_data.specs.ConflictLaws.{HasReadPattern}
@@ -18,10 +19,14 @@ abbrev pub HaveAlike : List Part → List Part → Type 0
 HaveAlike others [] = Unit
 HaveAlike others (part ∷ parts) = HasAlike others part × HaveAlike others parts
 
--- Two parts decide alike, whatever is asked: each verdict is the same, with its tag and its mask; and so is what their rules say together of the start of
--- a program, where those of one agree (as the rules of a file that was read do), their patterns read, and its path is a list of bytes.
+-- Two parts decide alike, whatever is asked: they are in one mode; each verdict is the same, with its tag and its mask, whatever becomes of what the rules
+-- don't allow; and so is what their rules say together of the start of a program, where those of one agree (as the rules of a file that was read do), their
+-- patterns read, and its path is a list of bytes.
 pub record AnswerAlike (part other : Part) : Type 0 where
-  pub verdicts : (request : Request) → verdict part.section.mode part.section.audit part.section.rules request ≡ verdict other.section.mode other.section.audit other.section.rules request
+  pub mode : part.section.mode ≡ other.section.mode
+  pub verdicts :
+      (mediation : Mediation) (request : Request)
+      → verdict mediation part.section.audit part.section.rules request ≡ verdict mediation other.section.audit other.section.rules request
   pub choices :
       (owned : Bool) (path : List ℕ)
       → agree part.section.rules ≡ true → All HasReadPattern part.section.rules → All (λ b. b < 2 ^ 8) path

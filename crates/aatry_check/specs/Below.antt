@@ -1,5 +1,6 @@
 -- What a check of a folder of policy comes to.
 use Rattle.std.specs.Prelude.{◌≡◌, ◌==◌, ℕ, List, if◌then◌else◌, length}
+use Rattle.aa_profile_parsing.specs.declared.language.Language.{Language}
 use Rattle.aa_text_files.specs.Files.{File}
 use Rattle.aaset_start.specs.Gathering.{names_of}
 use Rattle.aaset_start.specs.Known.{Known}
@@ -16,9 +17,9 @@ given_or others given = if length given == 0 then others else given
 abbrev pub meant : List (List ℕ) → List (List ℕ) → List (List ℕ)
 meant names given = given_or (top_names names) given
 
--- The files that are meant were checked over all that lies below the folder, the text tells each of them, and so many were refused.
-pub record IsChecked (form : Form) (folders : ToldFolders) (known : Known) (base : List ℕ) (given : List (List ℕ)) (text : List ℕ) (refused : ℕ) : Type 0 where
+-- The files that are meant were checked over all that lies below the folder, by a language, the text tells each of them, and so many were refused.
+pub record IsChecked (form : Form) (language : Language) (folders : ToldFolders) (known : Known) (base : List ℕ) (given : List (List ℕ)) (text : List ℕ) (refused : ℕ) : Type 0 where
   pub files : List File
   pub below : AreBelow folders known base files
-  pub told : TellsEach form files base (meant (names_of files) given) text
-  pub counted : refused ≡ refused_count files (meant (names_of files) given)
+  pub told : TellsEach form language files base (meant (names_of files) given) text
+  pub counted : refused ≡ refused_count language files (meant (names_of files) given)

@@ -5,10 +5,11 @@ use Rattle.serde_json.specs.Data.{Members}
 use Rattle.aa_bytes.specs.Bytes.{line_feed}
 use Rattle.aa_text_files.specs.Files.{File, bytes_at, name_at}
 use Rattle.aa_text_files.specs.declared.text_error.Place.{Place}
-use Rattle.aa_profile.specs.FileReading.{file_profiles}
+use Rattle.aa_profile.specs.FileReading.{file_profiles_in}
 use Rattle.aa_profile_data.specs.declared.profile.Profile.{Profile}
 use Rattle.aa_profile_errors.specs.ProfileError.{number_of}
 use Rattle.aa_profile_errors.specs.declared.profile_error.ProfileError.{ProfileError}
+use Rattle.aa_profile_parsing.specs.declared.language.Language.{Language}
 use Rattle.aatry_report.specs.Faults.{with_fault}
 use Rattle.aatry_report.specs.FilePlaces.{path_below}
 use Rattle.aatry_report.specs.Records.{record_line, record_of, with_text}
@@ -54,21 +55,21 @@ TellsReading form files base name (Ok profiles) lines = lines ≡ taken_line for
 TellsReading form files base name (Err error) lines =
     (words : List ℕ) × (lines ≡ refusal_lines form words files base name (number_of error.refusal) error.place)
 
--- lines tell a file: that it was taken, or why it is refused, exactly as its reading says
-abbrev pub Tells : Form → List File → List ℕ → List ℕ → List ℕ → Type 0
-Tells form files base name lines = TellsReading form files base name (file_profiles files name) lines
+-- lines tell a file: that it was taken, or why it is refused, exactly as its reading by a language says
+abbrev pub Tells : Form → Language → List File → List ℕ → List ℕ → List ℕ → Type 0
+Tells form language files base name lines = TellsReading form files base name (file_profiles_in language files name) lines
 
 -- one file is refused, or none: its reading gives no profiles
-abbrev pub refused_in : List File → List ℕ → ℕ
-refused_in files name = elim (file_profiles files name) [ Ok _ ↦ 0 | Err _ ↦ 1 ]
+abbrev pub refused_in : Language → List File → List ℕ → ℕ
+refused_in language files name = elim (file_profiles_in language files name) [ Ok _ ↦ 0 | Err _ ↦ 1 ]
 
 -- how many of these files are refused
-abbrev pub refused_count : List File → List (List ℕ) → ℕ
-refused_count files [] = 0
-refused_count files (name ∷ names) = refused_in files name + refused_count files names
+abbrev pub refused_count : Language → List File → List (List ℕ) → ℕ
+refused_count language files [] = 0
+refused_count language files (name ∷ names) = refused_in language files name + refused_count language files names
 
 -- lines tell each of these files in turn
-abbrev pub TellsEach : Form → List File → List ℕ → List (List ℕ) → List ℕ → Type 0
-TellsEach form files base [] lines = lines ≡ []
-TellsEach form files base (name ∷ names) lines =
-    (first rest : List ℕ) × (lines ≡ first ++ rest) × Tells form files base name first × TellsEach form files base names rest
+abbrev pub TellsEach : Form → Language → List File → List ℕ → List (List ℕ) → List ℕ → Type 0
+TellsEach form language files base [] lines = lines ≡ []
+TellsEach form language files base (name ∷ names) lines =
+    (first rest : List ℕ) × (lines ≡ first ++ rest) × Tells form language files base name first × TellsEach form language files base names rest

@@ -6,7 +6,7 @@ ghost use Rattle.aatry_check.specs.Checks.{Tells, TellsEach, refused_count, refu
 ghost use Rattle.aatry_report.specs.FilePlaces.{path_below};
 
 use crate::refusal::push_refusal;
-use aa_profile::{Profile, ProfileRefusal, read_file};
+use aa_profile::{Language, Profile, ProfileRefusal, read_file_in};
 use aa_text_files::Files;
 use aatry_report::{Teller, path_below, push_taken};
 use std::alloc::{AllocError, Global};
@@ -37,16 +37,17 @@ fn push_profiles(
 // Checks a file, puts what is told of it behind a text, and says how many are refused: one or none.
 fn check_file(
     teller: Teller,
+    language: Language,
     files: &Files,
     base: &[u8],
     name: &[u8],
     out: &mut Vec<u8>,
 ) -> Result<usize, AllocError>
-    ensures refused { IfOk result (λ refused. refused ≡ refused_in files.now name.now) }
+    ensures refused { IfOk result (λ refused. refused ≡ refused_in language files.now name.now) }
     ensures few { IfOk result (λ refused. refused ≤ 1) }
-    ensures told { OnOk result ((lines : List ℕ) × (out.new.items ≡ out.old.items ++ lines) × Tells teller.form files.now base.now name.now lines) }
+    ensures told { OnOk result ((lines : List ℕ) × (out.new.items ≡ out.old.items ++ lines) × Tells teller.form language files.now base.now name.now lines) }
 {
-    match read_file(teller.alloc, files, name) {
+    match read_file_in(teller.alloc, language, files, name) {
         Ok(read) => {
             push_profiles(teller, base, name, &read.profiles, out)?;
             Ok(0)
@@ -61,9 +62,9 @@ fn check_file(
     }
 }
 
-/// Checks files of policy, each by itself, with the files that they include, and puts what is told of each behind a text, in their order: that it was
-/// taken, or why it is refused and where. `base` is the folder that `files` were taken from, without a `/` at its end; each file is told by its path
-/// below that. A name that no file has is told as such.
+/// Checks files of policy by a language, each by itself, with the files that they include, and puts what is told of each behind a text, in their
+/// order: that it was taken, or why it is refused and where. `base` is the folder that `files` were taken from, without a `/` at its end; each file
+/// is told by its path below that. A name that no file has is told as such.
 ///
 /// The record of a file that was taken is that of `aatry_report::push_taken`. That of one that is refused is of the kind `refused`, with the file that the
 /// fault stands in and the fault as `aatry_report::put_fault_at` puts it, or `put_fault` where it has no place; and with `included_from`, the file that is
@@ -74,18 +75,26 @@ fn check_file(
 /// Where memory runs out. What is told of some files may have been put then.
 pub fn check(
     teller: Teller,
+    language: Language,
     files: &Files,
     base: &str,
     names: &[String],
     out: &mut Vec<u8>,
 ) -> Result<Checked, AllocError>
     ensures all { IfOk result (λ checked. checked.taken + checked.refused ≡ length names.now) }
-    ensures refused { IfOk result (λ checked. checked.refused ≡ refused_count files.now (map string_bytes names.now)) }
-    ensures told { OnOk result ((lines : List ℕ) × (out.new.items ≡ out.old.items ++ lines) × TellsEach teller.form files.now base.now (map string_bytes names.now) lines) }
+    ensures refused { IfOk result (λ checked. checked.refused ≡ refused_count language files.now (map string_bytes names.now)) }
+    ensures told { OnOk result ((lines : List ℕ) × (out.new.items ≡ out.old.items ++ lines) × TellsEach teller.form language files.now base.now (map string_bytes names.now) lines) }
 {
     let mut refused = 0;
     for name in names {
-        refused += check_file(teller, files, base.as_bytes(), name.as_bytes(), out)?;
+        refused += check_file(
+            teller,
+            language,
+            files,
+            base.as_bytes(),
+            name.as_bytes(),
+            out,
+        )?;
     }
     Ok(Checked {
         taken: names.len() - refused,

@@ -6,23 +6,27 @@ use Rattle.std.specs.List.{All}
 use Rattle.std.specs.Option.{option_map}
 use Rattle.std.specs.Str.{bytes_eq}
 use Rattle.aa_bytes.specs.Quoting.{written_text}
-use Rattle.aa_decide.specs.Exec.{Asker, ExecAnswer, Nowhere, Null, Started, Unconfined, Under, exec_answer, named_asker}
+use Rattle.aa_decide.specs.Exec.{Asker, Base, ExecAnswer, Nowhere, Null, OnProfile, OnUnconfined, Stacked, Started, Unconfined, Under, exec_answer, named_asker}
 use Rattle.aa_decide_audit.specs.LogLines.{exec_line}
 use Rattle.aa_decide_audit.specs.declared.verdict.Answer.{Answer}
 use Rattle.aa_decide_audit.specs.declared.verdict.Verdict.{Verdict}
-use Rattle.aa_decide_slots.specs.Confinement.{in_state, mode_at}
+use Rattle.aa_decide_rules.specs.declared.verdict.Mediation.{Mediation}
+use Rattle.aa_decide_rules.specs.declared.verdict.Mediation.TheVariants.{Complaining, Enforcing}
+use Rattle.aa_decide_slots.specs.Confinement.{confined, in_state, mode_at}
 use Rattle.aa_decide_slots.specs.Entries.{Loaded}
 use Rattle.aa_decide_ready.specs.Ready.{decided}
+use Rattle.aa_decide_ready.specs.Sections.{section_at}
 use Rattle.aa_decide_slots.specs.declared.entry.State.{State}
 use Rattle.aa_decide_slots.specs.declared.entry.State.TheVariants.{Disabled, Modes}
 use Rattle.aa_explain.specs.AlikePolicies.{AreAlikePolicies, AreConfinedAlike, AreThereAlike, AskAlike, HaveOneName, HaveReadRules, RunAlike}
-use Rattle.aa_explain.specs.AlikePolicies.{StartAlike, mode_in}
+use Rattle.aa_explain.specs.AlikePolicies.{StandAlike, StartAlike, mode_in}
 use Rattle.aa_explain.specs.NamedAskers.{IsChildNamed, IsNamed}
 use Rattle.aa_profile_access.specs.FullNames.{FullName, full_name}
 use Rattle.aa_profile_access.specs.Request.{Request}
 use Rattle.aa_profile_data.specs.declared.profile.Mode.{Mode}
+use Rattle.aa_profile_data.specs.declared.profile.Mode.TheVariants.{Complain as InComplain, Enforce as InEnforce, Unconfined as InUnconfined}
 use Rattle.aa_profile_data.specs.declared.profile.Profile.{Profile}
-use Rattle.aa_set_answers.specs.Answers.{answered, confined_answer, exec_told, scrub_text, started_text, told_by, told_verdict, who_asks}
+use Rattle.aa_set_answers.specs.Answers.{answered, base_name, confined_answer, exec_told, scrub_text, stack_text, started_text, told_by, told_verdict, who_asks}
 use Rattle.aa_set_answers.specs.Askers.{asker}
 use Rattle.aa_set_answers.specs.ProfileNames.{behind_profile, full_name_at}
 use Rattle.aa_set_answers.specs.declared.answers.Answered.{Answered}
@@ -38,8 +42,8 @@ NameLaw = (entries : List Loaded) (name : FullName) (who : Asker) → named_aske
 
 abbrev pub VerdictLaw : Type 0
 VerdictLaw =
-    (one other : Asker) (mode : Mode) (request : Request) → AreConfinedAlike one other
-    → decided one.entry.profile one.child mode request ≡ decided other.entry.profile other.child mode request
+    (one other : Asker) (mediation : Mediation) (request : Request) → AreConfinedAlike one other
+    → decided one.entry.profile one.child mediation request ≡ decided other.entry.profile other.child mediation request
 
 abbrev pub StartLaw : Type 0
 StartLaw =
@@ -71,6 +75,17 @@ module _ (law : NameLaw) (entries others : List Loaded) where
       let there = law others same.name other same.there in
       children-told one.entry.profile other.entry.profile one.child other.child same.name.child (here.profile ∙ sym there.profile) here.child there.child
 
+  -- what a stack is on is named alike
+  base-named : (base other : Option Base) → StandAlike entries others base other → option_map base_name base ≡ option_map base_name other
+  base-named None None same = refl
+  base-named (Some (OnProfile entry child)) (Some (OnProfile other place)) same =
+      ap (λ (name : List ℕ). Some name) (name-told (record { entry = entry; child = child }) (record { entry = other; child = place }) same)
+  base-named (Some OnUnconfined) (Some OnUnconfined) same = refl
+  base-named (Some (OnProfile entry child)) (Some OnUnconfined) same = absurd same
+  base-named (Some OnUnconfined) (Some (OnProfile other place)) same = absurd same
+  base-named None (Some other) same = absurd same
+  base-named (Some base) None same = absurd same
+
   -- where a program runs is told alike
   run-told : (answer : Answer) (scrub : Bool) (one other : Started) → RunAlike entries others one other
       → started_text answer one scrub ≡ started_text answer other scrub
@@ -78,6 +93,9 @@ module _ (law : NameLaw) (entries others : List Loaded) where
       ap (λ name. codes "allow to " ++ written_text name ++ scrub_text scrub)
       (name-told (record { entry = entry; child = child }) (record { entry = other; child = place }) same)
   run-told answer scrub Unconfined Unconfined same = refl
+  run-told answer scrub (Stacked base members) (Stacked other names) (bases, same) =
+      let named = base-named base other bases in
+      λ i. stack_text (named i) (same i) scrub
   run-told answer scrub Null Null same = refl
   run-told answer scrub Nowhere Nowhere same = refl
   run-told answer scrub one other same = absurd same
@@ -95,6 +113,16 @@ module _ (law : NameLaw) (entries others : List Loaded) where
 abbrev pub answer_in : Asker → Request → State → Option Verdict
 answer_in who request state = confined_answer (in_state who.entry.profile state who.child) request
 
+-- the same by the mode
+abbrev pub answer_in_mode : Asker → Request → Mode → Option Verdict
+answer_in_mode who request mode = confined_answer (confined (section_at who.entry.profile who.child) mode) request
+
+confined-in-mode : VerdictLaw → (one other : Asker) (request : Request) → AreConfinedAlike one other
+    → (mode : Mode) → answer_in_mode one request mode ≡ answer_in_mode other request mode
+confined-in-mode law one other request alike InEnforce = ap (λ verdict. Some verdict) (law one other Enforcing request alike)
+confined-in-mode law one other request alike InComplain = ap (λ verdict. Some verdict) (law one other Complaining request alike)
+confined-in-mode law one other request alike InUnconfined = refl
+
 confined-same : VerdictLaw → (one other : Asker) (request : Request) → AreConfinedAlike one other
     → answer_in one request one.entry.state ≡ answer_in other request other.entry.state
 confined-same law one other request alike = by one.entry.state other.entry.state alike.mode
@@ -105,7 +133,7 @@ confined-same law one other request alike = by one.entry.state other.entry.state
     by (Modes modes) Disabled mode = absurd (cc)
     by (Modes modes) (Modes more) mode =
         let same : mode_at modes one.child ≡ mode_at more other.child = cc in
-        ap (λ verdict. Some verdict) (law one other (mode_at modes one.child) request alike ∙ ap (λ mode. decided other.entry.profile other.child mode request) same)
+        confined-in-mode law one other request alike (mode_at modes one.child) ∙ ap (answer_in_mode other request) same
 
 -- those that have one full name in policy sets that are alike are confined alike
 one-confined : (entries others : List Loaded) → AreAlikePolicies entries others → (one other : Asker) → HaveOneName entries others one other

@@ -1,5 +1,6 @@
 -- What a comparison of two folders of policy on a disk comes to.
 use Rattle.std.specs.Prelude.{◌≡◌, ℕ, List, [], ◌∷◌, Option, None, Some}
+use Rattle.aa_profile_parsing.specs.declared.language.Language.{Language}
 use Rattle.aa_text_files.specs.Files.{File}
 use Rattle.aaset_start.specs.Known.{Known}
 use Rattle.aatry_arguments.specs.DiffWords.{ComparisonAsked, LogAt, QuestionsAt, SourceAsked}
@@ -30,14 +31,15 @@ IsGathered known None requests = requests ≡ None
 IsGathered known (Some source) requests =
     (bytes : List ℕ) × IsFileAt known (path_of source) ((path_of source, bytes) ∷ []) × (requests ≡ Some (gathered (form_of source) bytes))
 
--- The two folders, each with all that lies below it, were compared, by what the file of requests tells of too, if there is one, and the text tells how
--- they differ. One failed where something differs.
-pub record IsComparedBelow (form : Form) (folders : ToldFolders) (known : Known) (asked : ComparisonAsked) (text : List ℕ) (failed : ℕ) : Type 0 where
+-- The two folders, each with all that lies below it and both by one language, were compared, by what the file of requests tells of too, if there is one, and
+-- the text tells how they differ. One failed where something differs.
+pub record IsComparedBelow
+    (form : Form) (language : Language) (folders : ToldFolders) (known : Known) (asked : ComparisonAsked) (text : List ℕ) (failed : ℕ) : Type 0 where
   pub old_files : List File
   pub new_files : List File
   pub old_below : AreBelow folders known asked.old old_files
   pub new_below : AreBelow folders known asked.new new_files
   pub requests : Option Gathered
   pub gathered : IsGathered known asked.source requests
-  pub told : text ≡ diff_text form (folder_at asked.old old_files) (folder_at asked.new new_files) requests
-  pub counted : failed ≡ failed_by (are_alike (folder_at asked.old old_files) (folder_at asked.new new_files) requests)
+  pub told : text ≡ diff_text form (folder_at language asked.old old_files) (folder_at language asked.new new_files) requests
+  pub counted : failed ≡ failed_by (are_alike (folder_at language asked.old old_files) (folder_at language asked.new new_files) requests)

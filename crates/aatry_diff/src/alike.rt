@@ -15,7 +15,7 @@ use aatry_policy::{what_folders_load, which_rules_parts_have};
 
 /// Where two folders are alike, their policy sets are: by each full name both have a profile, child or hat, and these are confined alike and attached
 /// to the same patterns, or neither has one. And no question is answered otherwise, whoever asks and whatever is asked: the answer, what is told of
-/// it, which names the profile, child or hat under which a program runs, and the line that logs it are the same. The path of a program that is
+/// it, which names the profile, child, hat or stack under which a program runs, and the line that logs it are the same. The path of a program that is
 /// started is a list of bytes.
 pub fn alike_folders_answer_alike()
     ensures policies { (old new : Folder) (requests : Option Gathered)

@@ -5,7 +5,8 @@ ghost use Rattle.aa_set_commands.specs.Question.{IsWellFormed, seen_question};
 ghost use Rattle.aatry_diff.specs.Answers.{answer};
 
 use aa_bytes::Sequence;
-use aa_set::{Manager, Question, RefusalKind};
+use aa_set_commands::{Question, RefusalKind};
+use aa_set_manager::Manager;
 use std::alloc::{AllocError, Global};
 
 /// The answer of a policy set to a question, as it is told, or `absent` where who asks isn't there. What the policy set remembers of the question changes

@@ -10,7 +10,7 @@ use crate::differences::push_differences;
 use crate::finding::{Difference, find_differences};
 use crate::folders::BothFolders;
 use crate::summary::push_summary;
-use aa_set::Manager;
+use aa_set_manager::Manager;
 use aatry_report::Teller;
 use aatry_requests::{Requests, Source, gather};
 use std::alloc::{AllocError, Global};

@@ -8,6 +8,7 @@ ghost use Rattle.aatry_diff.specs.Sources.{seen_source};
 ghost use Rattle.aatry_diff.specs.code.Requests.{gathered_of};
 
 use crate::comparing::diff;
+use aa_profile_parsing::Language;
 use aa_text_files::Files;
 use aaset_start::FileSystem;
 use aatry_arguments::{Comparison, RequestSource};
@@ -65,8 +66,8 @@ fn source_of(found: &Option<(Source, Files)>) -> Option<(Source, &[u8])>
     }
 }
 
-/// Compares two folders of policy, and by the requests of a log or the questions of a file too, where one is given: reads each folder as
-/// `aatry_folder::policy_below` does. Told are the files of either that are left out; the profiles, children and hats that are gone, changed or new, with
+/// Compares two folders of policy, both by one language, and by the requests of a log or the questions of a file too, where one is given: reads each folder
+/// as `aatry_folder::policy_below` does. Told are the files of either that are left out; the profiles, children and hats that are gone, changed or new, with
 /// what differs of them (`aatry_changes::push_changes`); and what the folders answer otherwise, and what sums up. One failed where something differs: a
 /// profile, child or hat, or an answer.
 ///
@@ -77,17 +78,18 @@ fn source_of(found: &Option<(Source, Files)>) -> Option<(Source, &[u8])>
 /// - `NoMemory` where memory ran out.
 pub fn diff_folders<F: Folders, D: FileSystem>(
     teller: Teller,
+    language: Language,
     folders: &F,
     disk: &D,
     asked: Comparison,
 ) -> Result<Report, Fault>
-    ensures told { IfOk result (λ report. IsComparedBelow teller.form (F.told folders.now) (D.known disk.now) (meant_comparison asked)
+    ensures told { IfOk result (λ report. IsComparedBelow teller.form language (F.told folders.now) (D.known disk.now) (meant_comparison asked)
         report.text.items report.failed) }
     ensures fault { IfErr result (IsEndOfDiff (F.told folders.now) (D.known disk.now) (meant_comparison asked)) }
 {
     let Comparison { old, new, source } = asked;
-    let before = policy_below(teller.alloc, folders, disk, old.as_str())?;
-    let after = policy_below(teller.alloc, folders, disk, new.as_str())?;
+    let before = policy_below(teller.alloc, language, folders, disk, old.as_str())?;
+    let after = policy_below(teller.alloc, language, folders, disk, new.as_str())?;
     let found = requests_at(teller.alloc, disk, source)?;
     Ok(diff(teller, &before, &after, source_of(&found))?)
 }

@@ -8,7 +8,7 @@ ghost use Rattle.aatry_requests.specs.SeenTallies.{seen_tally};
 
 use crate::answers::answer;
 use aa_bytes::Sequence;
-use aa_set::Manager;
+use aa_set_manager::Manager;
 use aatry_requests::{Tallies, Tally};
 use std::alloc::{AllocError, Global};
 

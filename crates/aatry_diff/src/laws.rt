@@ -39,7 +39,7 @@ pub fn what_is_alike_is_not_told()
 }
 
 /// So where two folders are alike, each profile, child and hat of the old one has one of its full name in the new one that decides as it does, whatever is
-/// asked: no verdict is another one, and no line that logs one; and their rules say the same together of the start of a program.
+/// asked: it is in the same mode, no verdict is another one, and no line that logs one; and their rules say the same together of the start of a program.
 pub fn what_alike_folders_answer()
     ensures { (old new : Folder) (requests : Option Gathered) (part : Part)
         → are_alike old new requests ≡ true

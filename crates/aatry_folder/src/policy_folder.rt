@@ -11,6 +11,7 @@ use crate::fault::Fault;
 use crate::folders::Folders;
 use crate::policy_files::PolicyFiles;
 use aa_bytes::has_byte;
+use aa_profile_parsing::Language;
 use aa_text_files::Files;
 use aaset_start::{FileSystem, gather};
 use std::alloc::{AllocError, Global};
@@ -18,6 +19,8 @@ use std::alloc::{AllocError, Global};
 /// A folder of policy that was read.
 #[derive(Drop)]
 pub struct PolicyFolder<'a> {
+    /// The language by which its files are read.
+    pub language: Language,
     /// Its path.
     pub base: &'a str,
     /// All files and folders below it, by their names in it.
@@ -66,8 +69,9 @@ fn top_names(alloc: Global, names: &[String]) -> Result<Vec<String>, AllocError>
     Ok(top)
 }
 
-/// A folder of policy, of which all files and folders are found, as `names_below` does, and read, as `aaset_start::gather` does. So nothing that an include
-/// asks for is missing where it stands in the folder and isn't passed over.
+/// A folder of policy, of which all files and folders are found, as `names_below` does, and their bytes read, as `aaset_start::gather` does. So
+/// nothing that an include asks for is missing where it stands in the folder and isn't passed over. The language is the one by which they are to be
+/// read as policy.
 ///
 /// # Errors
 ///
@@ -76,10 +80,12 @@ fn top_names(alloc: Global, names: &[String]) -> Result<Vec<String>, AllocError>
 /// - `NoMemory` where memory ran out.
 pub fn policy_below<'a, F: Folders, D: FileSystem>(
     alloc: Global,
+    language: Language,
     folders: &F,
     disk: &D,
     base: &'a str,
 ) -> Result<PolicyFolder<'a>, Fault>
+    ensures language { IfOk result (λ policy. policy.language ≡ language) }
     ensures base { IfOk result (λ policy. policy.base.now ≡ base.now) }
     ensures below { IfOk result (λ policy. AreBelow (F.told folders.now) (D.known disk.now) base.now policy.files) }
     ensures top { IfOk result (λ policy. texts_of policy.top ≡ top_names (names_of policy.files)) }
@@ -88,5 +94,10 @@ pub fn policy_below<'a, F: Folders, D: FileSystem>(
     let names = names_below(folders, alloc, base)?;
     let top = top_names(alloc, &names)?;
     let files = gather(disk, alloc, base, names)?;
-    Ok(PolicyFolder { base, files, top })
+    Ok(PolicyFolder {
+        language,
+        base,
+        files,
+        top,
+    })
 }

@@ -6,11 +6,12 @@ use Rattle.std.proofs.lemmas.List.Elements.{All-append, All-cons, All-contains, 
 use Rattle.std.specs.List.{All, Contains, list_all}
 use Rattle.aa_decide_slots.specs.Entries.{Loaded}
 use Rattle.aa_decide_slots.specs.Named.{have_distinct_names}
-use Rattle.aa_profile.specs.FileReading.{file_profiles}
+use Rattle.aa_profile.specs.FileReading.{file_profiles_in}
 use Rattle.aa_profile.specs.ProfileNames.{has_distinct_children, is_named_well}
 use Rattle.aa_profile_data.specs.declared.profile.Profile.{Profile}
 use Rattle.aa_profile_errors.specs.declared.profile_error.ProfileError.{ProfileError}
-use Rattle.aa_set.specs.Manager.{new_manager}
+use Rattle.aa_profile_parsing.specs.declared.language.Language.{Language}
+use Rattle.aa_set_manager.specs.Manager.{new_manager_in}
 use Rattle.aa_set_answers.specs.Laws.{HasFileNames}
 use Rattle.aa_set_changes.specs.ChangeLaws.{ChangesKeepNamesApart}
 use Rattle.aa_set_changes.specs.Changes.{loaded as taken_by}
@@ -32,35 +33,35 @@ each-passes test (x ∷ xs) passes =
 
 -- the files of a folder that are taken, with their profiles
 abbrev pub read_in : Folder → List FileProfiles
-read_in folder = read_profiles folder.files folder.names (outcomes_in folder)
+read_in folder = read_profiles folder.language folder.files folder.names (outcomes_in folder)
 
 -- what holds of all profiles holds of all that are loaded
 module _ (Fit : Loaded → Type 0) (folder : Folder) where
   pub all-loaded : All (λ profile. Fit (taken profile)) (profiles_in (read_in folder)) → (entry : Loaded) → Contains (policy_in folder) entry
       → Fit entry
   all-loaded fit entry there =
-      let is : policy_in folder ≡ map taken (profiles_in (read_in folder)) = loads folder.files folder.names (new_manager false) in
+      let is : policy_in folder ≡ map taken (profiles_in (read_in folder)) = loads folder.files folder.names (new_manager_in folder.language false) in
       All-contains Fit (policy_in folder) entry (subst (All Fit) (sym is) (All-map Fit taken (profiles_in (read_in folder)) fit)) there
 
 -- so it is of what holds of the profiles of each file
-module _ (Fit : Profile → Type 0) (law : (files : List File) (name : List ℕ) → IfOk (file_profiles files name) (All Fit)) where
-  all-fit : (files : List File) (read : List FileProfiles) → All (IsRead files) read → All Fit (profiles_in read)
-  all-fit files [] is = All-nil Fit
-  all-fit files (file ∷ read) is =
+module _ (Fit : Profile → Type 0) (law : (language : Language) (files : List File) (name : List ℕ) → IfOk (file_profiles_in language files name) (All Fit)) where
+  all-fit : (language : Language) (files : List File) (read : List FileProfiles) → All (IsRead language files) read → All Fit (profiles_in read)
+  all-fit language files [] is = All-nil Fit
+  all-fit language files (file ∷ read) is =
       All-append Fit file.profiles (profiles_in read)
-      (subst (λ r. IfOk r (All Fit)) (All-head (IsRead files) file read is).0 (law files file.name))
-      (all-fit files read (All-tail (IsRead files) file read is))
+      (subst (λ r. IfOk r (All Fit)) (All-head (IsRead language files) file read is).0 (law language files file.name))
+      (all-fit language files read (All-tail (IsRead language files) file read is))
 
   pub loaded-fit : (folder : Folder) (entry : Loaded) → Contains (policy_in folder) entry → Fit entry.profile
-  loaded-fit folder = all-loaded (λ entry. Fit entry.profile) folder (all-fit folder.files (read_in folder) (all-read folder.files folder.names (outcomes_in folder)))
+  loaded-fit folder = all-loaded (λ entry. Fit entry.profile) folder (all-fit folder.language folder.files (read_in folder) (all-read folder.language folder.files folder.names (outcomes_in folder)))
 
 -- and of what a test says of them
 pub loaded-passes : (test : Profile → Bool) → HaveNames test → (folder : Folder) (entry : Loaded) → Contains (policy_in folder) entry
     → test entry.profile ≡ true
 loaded-passes test law = loaded-fit (λ profile. test profile ≡ true) each
   where
-    each : (files : List File) (name : List ℕ) → IfOk (file_profiles files name) (All (λ profile. test profile ≡ true))
-    each files name = by (file_profiles files name) (law files name)
+    each : (language : Language) (files : List File) (name : List ℕ) → IfOk (file_profiles_in language files name) (All (λ profile. test profile ≡ true))
+    each language files name = by (file_profiles_in language files name) (law language files name)
       where
         by : (read : Result (List Profile) ProfileError) → IfOk read (λ profiles. list_all test profiles ≡ true)
             → IfOk read (All (λ profile. test profile ≡ true))
@@ -69,13 +70,13 @@ loaded-passes test law = loaded-fit (λ profile. test profile ≡ true) each
 
 -- no two have one name
 pub loaded-apart : ChangesKeepNamesApart → (folder : Folder) → have_distinct_names (policy_in folder) ≡ true
-loaded-apart keeps folder = distinct folder.files folder.names (new_manager false) keeps refl
+loaded-apart keeps folder = distinct folder.files folder.names (new_manager_in folder.language false) keeps refl
 
 pub loaded-named : HaveNames is_named_well → HaveNames has_distinct_children → (folder : Folder) (entry : Loaded) → Contains (policy_in folder) entry
     → HasFileNames entry.profile
 loaded-named well apart folder =
     all-loaded (λ entry. HasFileNames entry.profile) folder
-    (all-named folder.files (read_in folder) well apart (all-read folder.files folder.names (outcomes_in folder)))
+    (all-named folder.language folder.files (read_in folder) well apart (all-read folder.language folder.files folder.names (outcomes_in folder)))
 
 -- each is in force, in the modes of its own flags
 all-taken : (profiles : List Profile) → All (λ profile. taken profile ≡ taken_by false profile) profiles

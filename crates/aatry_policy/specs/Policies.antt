@@ -3,7 +3,7 @@ use Rattle.std.specs.Prelude.{ℕ, List, [], ◌∷◌, Option, None, Some, Resu
 use Rattle.aa_text_files.specs.Files.{File}
 use Rattle.aa_set_commands.specs.Command.{Add}
 use Rattle.aa_set_commands.specs.declared.refusal.Refusal.{Refusal}
-use Rattle.aa_set.specs.Manager.{Managed, made}
+use Rattle.aa_set_manager.specs.Manager.{Managed, made}
 
 -- what a change left: what was made, or all as it was before
 abbrev pub made_or : Managed → Result Managed Refusal → Managed

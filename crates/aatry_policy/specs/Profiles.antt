@@ -1,8 +1,9 @@
 -- The profiles of the files of a folder that are taken, and where they have what they have.
 use Rattle.std.specs.Prelude.{ℕ, List, [], ◌∷◌, ◌++◌, Option, None, Some, Ok, Err}
-use Rattle.aa_profile.specs.FilePlaces.{file_places}
-use Rattle.aa_profile.specs.FileReading.{file_profiles}
+use Rattle.aa_profile.specs.FilePlaces.{file_places_in}
+use Rattle.aa_profile.specs.FileReading.{file_profiles_in}
 use Rattle.aa_profile_data.specs.declared.profile.Profile.{Profile}
+use Rattle.aa_profile_parsing.specs.declared.language.Language.{Language}
 use Rattle.aa_profile_patterns.specs.declared.places.ProfilePlaces.{ProfilePlaces}
 use Rattle.aa_set_commands.specs.declared.refusal.Refusal.{Refusal}
 use Rattle.aa_text_files.specs.Files.{File}
@@ -13,22 +14,22 @@ pub record FileProfiles : Type 0 where
   pub profiles : List Profile
   pub places : List ProfilePlaces
 
--- those of a file of this name; there is none where the file isn't read
-abbrev pub file_at : List File → List ℕ → List FileProfiles
-file_at files name = elim (file_profiles files name) [
+-- those of a file of this name, read by a language; there is none where the file isn't read
+abbrev pub file_at : Language → List File → List ℕ → List FileProfiles
+file_at language files name = elim (file_profiles_in language files name) [
   | Err error ↦ []
-  | Ok profiles ↦ elim (file_places files name) [
+  | Ok profiles ↦ elim (file_places_in language files name) [
     | None ↦ []
     | Some places ↦ record { name = name; profiles = profiles; places = places } ∷ []
   ]
 ]
 
 -- the same where the file is taken; of one that is left out there are none
-abbrev pub file_if_taken : List File → List ℕ → Option Refusal → List FileProfiles
-file_if_taken files name None = file_at files name
-file_if_taken files name (Some refusal) = []
+abbrev pub file_if_taken : Language → List File → List ℕ → Option Refusal → List FileProfiles
+file_if_taken language files name None = file_at language files name
+file_if_taken language files name (Some refusal) = []
 
 -- those of files, by how each came out
-abbrev pub read_profiles : List File → List (List ℕ) → List (Option Refusal) → List FileProfiles
-read_profiles files (name ∷ names) (outcome ∷ outcomes) = file_if_taken files name outcome ++ read_profiles files names outcomes
-read_profiles files _ _ = []
+abbrev pub read_profiles : Language → List File → List (List ℕ) → List (Option Refusal) → List FileProfiles
+read_profiles language files (name ∷ names) (outcome ∷ outcomes) = file_if_taken language files name outcome ++ read_profiles language files names outcomes
+read_profiles language files _ _ = []

@@ -32,8 +32,8 @@ pub fn by_parts<'a>(folder: &'a PolicyFolder<'_>, parts: &'a [Part<'a>]) -> Fold
     }
 }
 
-/// Loads the files at the top of a folder, as `load` does, and appends what is told of those that are left out to a text: a line of each with its path,
-/// the number and the name of its refusal, or a record `left_out` with `file`, `number` and `refusal`.
+/// Loads the files at the top of a folder, as `load` does by the folder's language, and appends what is told of those that are left out to a text: a
+/// line of each with its path, the number and the name of its refusal, or a record `left_out` with `file`, `number` and `refusal`.
 ///
 /// # Errors
 ///
@@ -49,7 +49,7 @@ pub fn load_folder<'a>(
     ensures origins { IfOk result (λ loaded. loaded.policy.origins.items ≡ origins_in (seen_folder folder.now)) }
     ensures told { OnOk result (out.new.items ≡ out.old.items ++ left_out_in teller.form (seen_folder folder.now)) }
 {
-    let policy = load(teller.alloc, &folder.files, &folder.top)?;
+    let policy = load(teller.alloc, folder.language, &folder.files, &folder.top)?;
     push_left_out(
         teller,
         folder.base.as_bytes(),

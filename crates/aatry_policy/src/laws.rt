@@ -6,8 +6,9 @@ ghost use Rattle.aa_decide.specs.Exec.{Asker};
 ghost use Rattle.aa_decide_slots.specs.Entries.{Loaded};
 ghost use Rattle.aa_decide_slots.specs.Named.{entry_named};
 ghost use Rattle.aa_decide_ready.specs.Ready.{rules_at};
-ghost use Rattle.aa_profile.specs.FileReading.{file_profiles};
+ghost use Rattle.aa_profile.specs.FileReading.{file_profiles_in};
 ghost use Rattle.aa_profile_data.specs.declared.profile.Profile.{Profile};
+ghost use Rattle.aa_profile_parsing.specs.declared.language.Language.{Language};
 ghost use Rattle.aa_set_answers.specs.Askers.{asker};
 ghost use Rattle.aa_set_answers.specs.Laws.{IsListed, StandsAt};
 ghost use Rattle.aa_set_answers.specs.ProfileNames.{full_name_at};
@@ -43,17 +44,17 @@ pub fn which_rules_parts_have()
 /// the set: the file of the origin spells that profile, and the origin has the places that the file has for it. So the first origin of a name is that
 /// of the loaded profile of this name.
 pub fn where_loaded_profiles_are_read()
-    ensures of_a_file { (files : List File) (name : List ℕ) (profiles : List Profile) (force_complain : Bool)
-        → file_profiles files name ≡ Ok profiles
-        → AreReadAt files (map (loaded force_complain) profiles) (origins_of (file_at files name)) }
-    ensures of_each_name { (files : List File) (name : List ℕ) (entries : List Loaded) (origins : List Origin) (entry : Loaded)
-        → AreReadAt files entries origins
+    ensures of_a_file { (language : Language) (files : List File) (name : List ℕ) (profiles : List Profile) (force_complain : Bool)
+        → file_profiles_in language files name ≡ Ok profiles
+        → AreReadAt language files (map (loaded force_complain) profiles) (origins_of (file_at language files name)) }
+    ensures of_each_name { (language : Language) (files : List File) (name : List ℕ) (entries : List Loaded) (origins : List Origin) (entry : Loaded)
+        → AreReadAt language files entries origins
         → entry_named name entries ≡ Some entry
-        → IsFoundAt files origins name entry.profile }
-    ensures each { (folder : Folder) → AreReadAt folder.files (policy_in folder) (origins_in folder) }
+        → IsFoundAt language files origins name entry.profile }
+    ensures each { (folder : Folder) → AreReadAt folder.language folder.files (policy_in folder) (origins_in folder) }
     ensures by_name { (folder : Folder) (name : List ℕ) (entry : Loaded)
         → entry_named name (policy_in folder) ≡ Some entry
-        → IsFoundAt folder.files (origins_in folder) name entry.profile }
+        → IsFoundAt folder.language folder.files (origins_in folder) name entry.profile }
 {
     where_rules_are_made();
 }
@@ -62,11 +63,11 @@ pub fn where_loaded_profiles_are_read()
 /// each of them is made by a rule of its own block in the file, with the file's variables, that is written at the place beside it. So it is of all
 /// parts of a folder, by which `who` and `diff` tell rules.
 pub fn where_loaded_rules_are_written()
-    ensures of_profiles { (files : List File) (profile : Profile) (origin : Origin) (child : Option ℕ)
-        → IsReadAt files profile origin
+    ensures of_profiles { (language : Language) (files : List File) (profile : Profile) (origin : Origin) (child : Option ℕ)
+        → IsReadAt language files profile origin
         → StandsAt profile child
-        → AreWrittenIn files origin.file child (rules_at profile child) (rule_places (Some origin) child) }
-    ensures of_parts { (folder : Folder) → All (IsPartWritten folder.files) (parts_in folder) }
+        → AreWrittenIn language files origin.file child (rules_at profile child) (rule_places (Some origin) child) }
+    ensures of_parts { (folder : Folder) → All (IsPartWritten folder.language folder.files) (parts_in folder) }
 {
     where_rules_are_made();
 }

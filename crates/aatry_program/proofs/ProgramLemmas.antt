@@ -1,5 +1,6 @@
 -- What is done is what the words ask for.
 use Rattle.std.proofs.Common.{◌≡◌, ◌⊎◌, ℕ, List, Result, Ok, Err, IfErr, IfOk, MatchResult, OnOk, inl, inr, string_bytes, subst}
+use Rattle.aa_profile_parsing.specs.declared.language.Language.{Language}
 use Rattle.aatry_arguments.specs.Arguments.{CommandAsked, ForCheck, ForDiff, ForSession, ForTest, ForWho, ForWhy}
 use Rattle.aa_options.specs.Options.{Asked, ForHelp, ForThis, ForVersion, Nothing}
 use Rattle.aatry_arguments.specs.Forms.{CallAsked}
@@ -26,10 +27,10 @@ command_done Tells Ends output status (Err fault) told ends shown = inr (fault, 
 
 -- the call that is given is the one that is asked for
 pub done_by_command : (folders : ToldFolders) (known : Known) (input : Input) (asked : Asked CallAsked) (call : Call) (output : Output)
-    (status : ℕ) → IsGivenFor meant_call asked (Ok call) → IsDoneBy call.form folders known input (meant_command call.command) output status
+    (status : ℕ) → IsGivenFor meant_call asked (Ok call) → IsDoneBy call.language call.form folders known input (meant_command call.command) output status
     → IsDone folders known input asked output status
 done_by_command folders known input (ForThis asked) call output status given done =
-    subst (λ a. IsDoneBy a.form folders known input a.command output status) given done
+    subst (λ a. IsDoneBy a.language a.form folders known input a.command output status) given done
 done_by_command folders known input ForHelp call output status given done = absurd given
 done_by_command folders known input ForVersion call output status given done = absurd given
 done_by_command folders known input Nothing call output status given done = absurd given
@@ -42,14 +43,14 @@ session_done Had Broken status (Ok done) had broken is = inl (had, is)
 session_done Had Broken status (Err fault) had broken is = inr (fault, broken, is)
 
 -- want of memory may keep the program from any command
-no_memory_done : (form : Form) (folders : ToldFolders) (known : Known) (input : Input) (command : CommandAsked) (output : Output)
-    (status : ℕ) → IsReported fault.NoMemory output status → IsDoneBy form folders known input command output status
-no_memory_done form folders known input (ForCheck check) output status is = inr (fault.NoMemory, tt, is)
-no_memory_done form folders known input (ForTest test) output status is = inr (fault.NoMemory, inl tt, is)
-no_memory_done form folders known input (ForWho asking) output status is = inr (fault.NoMemory, inl tt, is)
-no_memory_done form folders known input (ForWhy asking) output status is = inr (fault.NoMemory, inl tt, is)
-no_memory_done form folders known input (ForDiff comparison) output status is = inr (fault.NoMemory, inl tt, is)
-no_memory_done form folders known input (ForSession session) output status is = inr (fault.NoMemory, inl (tt, is.0), is.1)
+no_memory_done : (language : Language) (form : Form) (folders : ToldFolders) (known : Known) (input : Input) (command : CommandAsked) (output : Output)
+    (status : ℕ) → IsReported fault.NoMemory output status → IsDoneBy language form folders known input command output status
+no_memory_done language form folders known input (ForCheck check) output status is = inr (fault.NoMemory, tt, is)
+no_memory_done language form folders known input (ForTest test) output status is = inr (fault.NoMemory, inl tt, is)
+no_memory_done language form folders known input (ForWho asking) output status is = inr (fault.NoMemory, inl tt, is)
+no_memory_done language form folders known input (ForWhy asking) output status is = inr (fault.NoMemory, inl tt, is)
+no_memory_done language form folders known input (ForDiff comparison) output status is = inr (fault.NoMemory, inl tt, is)
+no_memory_done language form folders known input (ForSession session) output status is = inr (fault.NoMemory, inl (tt, is.0), is.1)
 
 -- where no command is given, a text is shown that was asked for, or the status tells why
 pub done_by_fault : (folders : ToldFolders) (known : Known) (input : Input) (asked : Asked CallAsked) (told : ArgumentFault) (output : Output)
@@ -58,7 +59,7 @@ done_by_fault folders known input (ForThis command) (Help text) output status gi
 done_by_fault folders known input (ForThis command) (Version text) output status given shown = absurd given
 done_by_fault folders known input (ForThis command) Bad output status given shown = absurd given
 done_by_fault folders known input (ForThis call) Memory output status given shown =
-    no_memory_done call.form folders known input call.command output status shown
+    no_memory_done call.language call.form folders known input call.command output status shown
 done_by_fault folders known input ForHelp (Help text) output status given shown = inl (string_bytes text, shown)
 done_by_fault folders known input ForHelp (Version text) output status given shown = absurd given
 done_by_fault folders known input ForHelp Bad output status given shown = absurd given

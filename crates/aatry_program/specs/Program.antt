@@ -2,6 +2,7 @@
 use Rattle.std.specs.Prelude.{◌≡◌, ◌⊎◌, ℕ, Bool, true, List, Option, Result, Ok, Err, String, Vec, drop, map, string_bytes}
 use Rattle.std.specs.Io.KnownBytes.{Appends}
 use Rattle.aa_set_lines.specs.Streams.{AppendsFront}
+use Rattle.aa_profile_parsing.specs.declared.language.Language.{Language}
 use Rattle.aatry_arguments.specs.Arguments.{CommandAsked, ForCheck, ForDiff, ForSession, ForTest, ForWho, ForWhy}
 use Rattle.aa_options.specs.Options.{Asked, ForHelp, ForThis, ForVersion, Nothing}
 use Rattle.aatry_arguments.specs.Forms.{CallAsked, asked_call}
@@ -67,25 +68,25 @@ IsCommandDone Tells Ends output status =
     ((text : List ℕ) × (failed : ℕ) × Tells text failed × IsShown text (failure_status failed) output status)
     ⊎ ((fault : Fault) × Ends fault × IsReported fault output status)
 
--- A session over a folder was had to its end, and the status is 0; or some fault ended it, a beginning of what a session writes stands on standard output,
+-- A session over a folder was had by a language to its end, and the status is 0; or some fault ended it, a beginning of what a session writes stands on standard output,
 -- and the status is that of the fault.
-abbrev pub IsSessionDone : ToldFolders → Known → List ℕ → Input → Output → ℕ → Type 0
-IsSessionDone folders known base input output status =
-    (IsSession folders known base input.prompt input.left output.before output.after × (status ≡ 0))
-    ⊎ ((fault : Fault) × IsBrokenSession folders known base input.prompt input.left output.before output.after fault × (status ≡ status_of fault))
+abbrev pub IsSessionDone : Language → ToldFolders → Known → List ℕ → Input → Output → ℕ → Type 0
+IsSessionDone language folders known base input output status =
+    (IsSession language folders known base input.prompt input.left output.before output.after × (status ≡ 0))
+    ⊎ ((fault : Fault) × IsBrokenSession language folders known base input.prompt input.left output.before output.after fault × (status ≡ status_of fault))
 
--- A command is done: what it comes to is shown in a form, of a test in lines alone; and a session is had.
-abbrev pub IsDoneBy : Form → ToldFolders → Known → Input → CommandAsked → Output → ℕ → Type 0
-IsDoneBy form folders known input (ForCheck check) output status = IsCommandDone (IsChecked form folders known check.base check.names) (IsEndOfCheck folders known check.base) output status
-IsDoneBy form folders known input (ForTest test) output status = IsCommandDone (IsTestedBelow folders known test.base test.paths) (IsEndOfTest folders known test.base test.paths) output status
-IsDoneBy form folders known input (ForWho asking) output status = IsCommandDone (IsWhoToldBelow form folders known asking.base asking.words) (IsEndOfWho folders known asking.base asking.words) output status
-IsDoneBy form folders known input (ForWhy asking) output status = IsCommandDone (IsWhyToldBelow form folders known asking.base asking.words) (IsEndOfWhy folders known asking.base asking.words) output status
-IsDoneBy form folders known input (ForDiff comparison) output status = IsCommandDone (IsComparedBelow form folders known comparison) (IsEndOfDiff folders known comparison) output status
-IsDoneBy form folders known input (ForSession session) output status = IsSessionDone folders known session.base input output status
+-- A command is done by a language: what it comes to is shown in a form, of a test in lines alone; and a session is had.
+abbrev pub IsDoneBy : Language → Form → ToldFolders → Known → Input → CommandAsked → Output → ℕ → Type 0
+IsDoneBy language form folders known input (ForCheck check) output status = IsCommandDone (IsChecked form language folders known check.base check.names) (IsEndOfCheck folders known check.base) output status
+IsDoneBy language form folders known input (ForTest test) output status = IsCommandDone (IsTestedBelow language folders known test.base test.paths) (IsEndOfTest folders known test.base test.paths) output status
+IsDoneBy language form folders known input (ForWho asking) output status = IsCommandDone (IsWhoToldBelow form language folders known asking.base asking.words) (IsEndOfWho folders known asking.base asking.words) output status
+IsDoneBy language form folders known input (ForWhy asking) output status = IsCommandDone (IsWhyToldBelow form language folders known asking.base asking.words) (IsEndOfWhy folders known asking.base asking.words) output status
+IsDoneBy language form folders known input (ForDiff comparison) output status = IsCommandDone (IsComparedBelow form language folders known comparison) (IsEndOfDiff folders known comparison) output status
+IsDoneBy language form folders known input (ForSession session) output status = IsSessionDone language folders known session.base input output status
 
 -- What is asked for is done: a command, or help or the version is shown, if memory allows; all else is reported as bad arguments.
 abbrev pub IsDone : ToldFolders → Known → Input → Asked CallAsked → Output → ℕ → Type 0
-IsDone folders known input (ForThis call) output status = IsDoneBy call.form folders known input call.command output status
+IsDone folders known input (ForThis call) output status = IsDoneBy call.language call.form folders known input call.command output status
 IsDone folders known input ForHelp output status = ((text : List ℕ) × IsShown text 0 output status) ⊎ IsReported NoMemory output status
 IsDone folders known input ForVersion output status = ((text : List ℕ) × IsShown text 0 output status) ⊎ IsReported NoMemory output status
 IsDone folders known input Nothing output status = IsReported BadArguments output status ⊎ IsReported NoMemory output status

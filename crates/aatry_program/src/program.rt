@@ -9,6 +9,7 @@ ghost use Rattle.aatry_program.specs.Status.{status_of};
 use crate::reporting::report;
 use crate::status::failure_status;
 use crate::streams::Streams;
+use aa_profile_parsing::Language;
 use aa_set_lines::{Sink, Source, write_all};
 use aaset_start::FileSystem;
 use aatry_arguments::{ArgumentFault, Call, Command, Session, call_of};
@@ -67,6 +68,7 @@ fn session_status<E: Sink>(alloc: Global, outcome: Result<(), Fault>, errors: &m
 // Has the session that is asked for, and gives the exit status.
 fn have_session<F: Folders, D: FileSystem, S: Source, W: Sink, E: Sink>(
     alloc: Global,
+    language: Language,
     asked: Session,
     folders: &F,
     disk: &D,
@@ -74,11 +76,12 @@ fn have_session<F: Folders, D: FileSystem, S: Source, W: Sink, E: Sink>(
     streams: &mut Streams<S, W, E>,
 ) -> u8
     requires { S.reads streams.old.input ≤ 2 ^ 62 }
-    ensures { IsSessionDone (F.told folders.now) (D.known disk.now) (string_bytes asked.base) (input_of (S.left streams.old.input) prompt.now)
+    ensures { IsSessionDone language (F.told folders.now) (D.known disk.now) (string_bytes asked.base) (input_of (S.left streams.old.input) prompt.now)
         (output_of (W.written streams.old.output) (W.written streams.new.output) (W.failed streams.new.output)) result }
 {
     let outcome = session_folder(
         alloc,
+        language,
         folders,
         disk,
         asked,
@@ -99,29 +102,55 @@ fn perform<F: Folders, D: FileSystem, S: Source, W: Sink, E: Sink>(
     streams: &mut Streams<S, W, E>,
 ) -> u8
     requires { S.reads streams.old.input ≤ 2 ^ 62 }
-    ensures { IsDoneBy call.form (F.told folders.now) (D.known disk.now) (input_of (S.left streams.old.input) prompt.now)
+    ensures { IsDoneBy call.language call.form (F.told folders.now) (D.known disk.now) (input_of (S.left streams.old.input) prompt.now)
         (meant_command call.command)
         (output_of (W.written streams.old.output) (W.written streams.new.output) (W.failed streams.new.output)) result }
 {
-    let Call { form, command } = call;
+    let Call {
+        language,
+        form,
+        command,
+    } = call;
     let teller = Teller { alloc, form };
     match command {
         Command::Check(asked) => {
-            show_outcome(alloc, check_folder(teller, folders, disk, asked), streams)
+            show_outcome(
+                alloc,
+                check_folder(teller, language, folders, disk, asked),
+                streams,
+            )
         }
         Command::Test(asked) => {
-            show_outcome(alloc, test_folder(alloc, folders, disk, asked), streams)
+            show_outcome(
+                alloc,
+                test_folder(alloc, language, folders, disk, asked),
+                streams,
+            )
         }
         Command::Who(asked) => {
-            show_outcome(alloc, who_folder(teller, folders, disk, asked), streams)
+            show_outcome(
+                alloc,
+                who_folder(teller, language, folders, disk, asked),
+                streams,
+            )
         }
         Command::Why(asked) => {
-            show_outcome(alloc, why_folder(teller, folders, disk, asked), streams)
+            show_outcome(
+                alloc,
+                why_folder(teller, language, folders, disk, asked),
+                streams,
+            )
         }
         Command::Diff(asked) => {
-            show_outcome(alloc, diff_folders(teller, folders, disk, asked), streams)
+            show_outcome(
+                alloc,
+                diff_folders(teller, language, folders, disk, asked),
+                streams,
+            )
         }
-        Command::Session(asked) => have_session(alloc, asked, folders, disk, prompt, streams),
+        Command::Session(asked) => have_session(
+            alloc, language, asked, folders, disk, prompt, streams,
+        ),
     }
 }
 

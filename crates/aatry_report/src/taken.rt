@@ -3,15 +3,15 @@
 ghost use Rattle.std.specs.Prelude.{◌≡◌, ◌+◌, ◌++◌, IfOk, OnOk, codes, map};
 ghost use Rattle.aatry_report.specs.Records.{with_number, with_texts};
 ghost use Rattle.aatry_report.specs.SeenRecord.{seen_record};
-ghost use Rattle.aatry_report.specs.Taken.{counted, is_kept, kept_in, kept_in_children, kept_rules, kept_text, kept_words, names_text};
-ghost use Rattle.aatry_report.specs.Taken.{profile_names, taken_line, taken_record};
+ghost use Rattle.aatry_report.specs.Taken.{count_text, count_words, counted, is_kept, is_unconfined, kept_in, kept_in_children, kept_rules, kept_text};
+ghost use Rattle.aatry_report.specs.Taken.{names_text, profile_names, taken_line, taken_record, unconfined_in, unconfined_text, with_unconfined};
 ghost use Rattle.aatry_report.specs.declared.form.Form.TheVariants as form;
 
 use crate::form::{Form, Teller};
 use crate::numbers::push_number;
 use crate::record::Record;
 use crate::shown::push_shown;
-use aa_profile_data::{Child, Profile, Rule};
+use aa_profile_data::{Child, Mode, Profile, Rule};
 use std::alloc::{AllocError, Global};
 
 // Whether a rule is kept as it is written, and decides nothing here.
@@ -62,6 +62,26 @@ fn kept_rules(profiles: &[Profile]) -> usize
     sum
 }
 
+// Whether no rule is asked in a mode.
+fn is_unconfined(mode: Mode) -> bool
+    ensures { result ≡ is_unconfined mode }
+{
+    matches!(mode, Mode::Unconfined)
+}
+
+// How many of these profiles confine nothing.
+fn unconfined_in(profiles: &[Profile]) -> usize
+    ensures { result ≡ unconfined_in profiles.now }
+{
+    let mut count = 0;
+    for profile in profiles {
+        if is_unconfined(profile.mode) {
+            count += 1;
+        }
+    }
+    count
+}
+
 // Puts the names of profiles behind a text, each behind a blank.
 fn push_names(out: &mut Vec<u8>, profiles: &[Profile]) -> Result<(), AllocError>
     ensures { OnOk result (out.new.items ≡ out.old.items ++ names_text profiles.now) }
@@ -73,26 +93,43 @@ fn push_names(out: &mut Vec<u8>, profiles: &[Profile]) -> Result<(), AllocError>
     Ok(())
 }
 
+// What stands behind the number of profiles that confine nothing.
+const UNCONFINED: &str = " of its profiles confine nothing";
+
 // What stands behind the number of rules that decide nothing here.
 const KEPT: &str = " of its rules decide nothing here";
 
-// Puts how many rules decide nothing here behind a text.
-fn push_kept_words(out: &mut Vec<u8>, kept: usize) -> Result<(), AllocError>
-    ensures { OnOk result (out.new.items ≡ out.old.items ++ kept_words kept) }
+// Puts how many of something there are behind a text, in these words.
+fn push_count_words(out: &mut Vec<u8>, count: usize, words: &str) -> Result<(), AllocError>
+    ensures { OnOk result (out.new.items ≡ out.old.items ++ count_words count words.now) }
 {
-    push_number(out, "; ", kept)?;
-    out.extend_from_slice(KEPT.as_bytes())?;
+    push_number(out, "; ", count)?;
+    out.extend_from_slice(words.as_bytes())?;
     Ok(())
 }
 
 // Puts it there where there are any.
+fn push_count(out: &mut Vec<u8>, count: usize, words: &str) -> Result<(), AllocError>
+    ensures { OnOk result (out.new.items ≡ out.old.items ++ count_text count words.now) }
+{
+    if count == 0 {
+        return Ok(());
+    }
+    push_count_words(out, count, words)
+}
+
+// Puts how many profiles confine nothing behind a text, where there are any.
+fn push_unconfined(out: &mut Vec<u8>, unconfined: usize) -> Result<(), AllocError>
+    ensures { OnOk result (out.new.items ≡ out.old.items ++ unconfined_text unconfined) }
+{
+    push_count(out, unconfined, UNCONFINED)
+}
+
+// Puts how many rules decide nothing here behind a text, where there are any.
 fn push_kept(out: &mut Vec<u8>, kept: usize) -> Result<(), AllocError>
     ensures { OnOk result (out.new.items ≡ out.old.items ++ kept_text kept) }
 {
-    if kept == 0 {
-        return Ok(());
-    }
-    push_kept_words(out, kept)
+    push_count(out, kept, KEPT)
 }
 
 // The names of profiles.
@@ -106,13 +143,24 @@ fn profile_names(alloc: Global, profiles: &[Profile]) -> Result<Vec<&[u8]>, Allo
     Ok(names)
 }
 
-// Puts the names of profiles into a record, and how many of their rules decide nothing here.
+// Puts how many profiles confine nothing into a record, where there are any.
+fn put_unconfined(alloc: Global, unconfined: usize, into: &mut Record) -> Result<(), AllocError>
+    ensures { OnOk result (seen_record into.new ≡ with_unconfined unconfined (seen_record into.old)) }
+{
+    if unconfined == 0 {
+        return Ok(());
+    }
+    into.put_number(alloc, "unconfined", unconfined)
+}
+
+// Puts the names of profiles into a record, how many of them confine nothing, if any, and how many of their rules decide nothing here.
 fn put_profiles(alloc: Global, profiles: &[Profile], into: &mut Record) -> Result<(), AllocError>
     ensures { OnOk result (seen_record into.new ≡ with_number (codes "ignored") (counted (kept_rules profiles.now))
-        (with_texts (codes "profiles") (profile_names profiles.now) (seen_record into.old))) }
+        (with_unconfined (unconfined_in profiles.now) (with_texts (codes "profiles") (profile_names profiles.now) (seen_record into.old)))) }
 {
     let names = profile_names(alloc, profiles)?;
     into.put_texts(alloc, "profiles", &names)?;
+    put_unconfined(alloc, unconfined_in(profiles), into)?;
     into.put_number(alloc, "ignored", kept_rules(profiles))
 }
 
@@ -123,6 +171,7 @@ fn push_line(path: &[u8], profiles: &[Profile], out: &mut Vec<u8>) -> Result<(),
     push_shown(out, path)?;
     out.extend_from_slice(b": taken:")?;
     push_names(out, profiles)?;
+    push_unconfined(out, unconfined_in(profiles))?;
     push_kept(out, kept_rules(profiles))?;
     out.push(b'\n')?;
     Ok(())
@@ -139,8 +188,8 @@ fn taken_record(alloc: Global, path: &[u8], profiles: &[Profile]) -> Result<Reco
 }
 
 /// Puts what is told of a file that was taken behind a text. As a line: `PATH: taken: NAME..`, with the names of its profiles, and behind that how many
-/// of their rules decide nothing here (`docs/policy.md`, "Rules that are kept"), where there are any. As a record: of the kind `taken`, with the members
-/// `file`, `profiles` and `ignored`.
+/// of them confine nothing (`docs/policy.md`, "The mode unconfined") and how many of their rules decide nothing here ("Rules that are kept"), where there
+/// are any. As a record: of the kind `taken`, with the members `file`, `profiles` and `ignored`, and `unconfined` where profiles confine nothing.
 ///
 /// # Errors
 ///

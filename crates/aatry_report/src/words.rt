@@ -24,6 +24,7 @@ fn words_of_grammar(refusal: GrammarRefusal) -> &'static str {
         GrammarRefusal::LateAssignment => "a variable is assigned behind the first profile",
         GrammarRefusal::NoProfile => "the file has no profile",
         GrammarRefusal::BadName => "no profile, child, hat or target can have this name",
+        GrammarRefusal::LeftOut => "AppArmor has this; here it isn't read",
         GrammarRefusal::Memory => "memory ran out",
     }
 }

@@ -16,16 +16,16 @@ use Rattle.aa_decide_slots.specs.Named.{entry_named, is_named}
 use Rattle.aa_history.specs.Machine.{Machine, MarksItsSets, accepted, all_sets, can_go_back, can_go_on, gone_back, gone_on, gone_to_mark, is_marked, with_mark}
 use Rattle.aa_history.specs.MachineLaws.{BackKeepsSets, OnKeepsSets}
 use Rattle.aa_history.specs.MarkLaws.{MarkKeepsAll}
-use Rattle.aa_profile.specs.FileReading.{file_profiles}
+use Rattle.aa_profile.specs.FileReading.{file_profiles_in}
 use Rattle.aa_profile_data.specs.Profile.{are_distinct, is_named as is_profile_named}
 use Rattle.aa_profile_data.specs.declared.profile.Mode.{Mode}
 use Rattle.aa_profile_data.specs.declared.profile.Mode.TheVariants.{Complain as ComplainMode, Enforce as EnforceMode}
 use Rattle.aa_profile_data.specs.declared.profile.Profile.{Profile}
 use Rattle.aa_profile_errors.specs.declared.profile_error.ProfileError.{ProfileError}
+use Rattle.aa_profile_parsing.specs.declared.language.Language.{Language}
 use Rattle.aa_profile_patterns.specs.declared.places.ProfilePlaces.{ProfilePlaces}
-use Rattle.aa_set.specs.Laws.{command_in}
-use Rattle.aa_set.specs.Manager.{after_change, back_at, is_mark_name, marking, redone, undone}
-use Rattle.aa_set.specs.Run.{Outcome, answered, changed as changed_outcome, command_outcome, line_outcome, obeyed, refused, takes_memory}
+use Rattle.aa_set_manager.specs.Outcomes.{Outcome, answered, changed as changed_outcome, command_in, command_outcome, line_outcome, obeyed, refused, takes_memory}
+use Rattle.aa_set_manager.specs.Manager.{after_change, back_at, is_mark_name, marking, redone, undone}
 use Rattle.aa_set_answers.specs.Answers.{reply_lines, shown}
 use Rattle.aa_set_answers.specs.List.{list_lines}
 use Rattle.aa_set_changes.specs.Changes.{are_there, by_file, changed, disabled, forced, in_force, loaded, parts_of, put, put_all, some_are_absent, some_are_disabled, with_added, with_removed, with_replaced, without}
@@ -48,11 +48,13 @@ use Rattle.aatry_session.proofs.NamedLemmas.{Before, Came, Own, came-put, has-na
 
 -- what is known of files and of machines
 pub record Laws : Type 0 where
-  pub file : (files : List File) (name : List ℕ) (profiles : List Profile) (force_complain : Bool)
-      → file_profiles files name ≡ Ok profiles → AreReadAt files (map (loaded force_complain) profiles) (origins_at files name)
-  pub named : (files : List File) (name : List ℕ) (entries : List Loaded) (origins : List Origin) (entry : Loaded)
-      → AreReadAt files entries origins → entry_named name entries ≡ Some entry → IsFoundAt files origins name entry.profile
-  pub distinct : (files : List File) (name : List ℕ) → IfOk (file_profiles files name) (λ profiles. are_distinct profiles ≡ true)
+  pub file : (language : Language) (files : List File) (name : List ℕ) (profiles : List Profile) (force_complain : Bool)
+      → file_profiles_in language files name ≡ Ok profiles
+      → AreReadAt language files (map (loaded force_complain) profiles) (origins_at language files name)
+  pub named : (language : Language) (files : List File) (name : List ℕ) (entries : List Loaded) (origins : List Origin) (entry : Loaded)
+      → AreReadAt language files entries origins → entry_named name entries ≡ Some entry → IsFoundAt language files origins name entry.profile
+  pub distinct : (language : Language) (files : List File) (name : List ℕ)
+      → IfOk (file_profiles_in language files name) (λ profiles. are_distinct profiles ≡ true)
   pub back : BackKeepsSets (List Loaded)
   pub on : OnKeepsSets (List Loaded)
   pub keep : MarkKeepsAll (List Loaded)
@@ -62,23 +64,23 @@ if-some P None p = tt
 if-some P (Some places) p = p
 
 -- what is known of a profile after a change
-newer : (files : List File) (entries : List Loaded) (own : List Origin) (name : List ℕ) (profile : Profile) (before : Option Origin)
-    → ((old : Loaded) → entry_named name entries ≡ Some old → IsKnown files old.profile before)
-    → Came files entries own name profile → IsKnown files profile (newer_origin name before own)
-newer files entries own name profile before known (Own origin found read) =
-    subst (λ (o : Option Origin). IsKnown files profile (elim o [ None ↦ before | Some origin ↦ Some origin ])) (sym found)
-    (if-some (IsReadAt files profile origin) origin.places read)
-newer files entries own name profile before known (Before old none found same) =
-    subst (λ (o : Option Origin). IsKnown files profile (elim o [ None ↦ before | Some origin ↦ Some origin ])) (sym none)
-    (subst (λ p. IsKnown files p before) same (known old found))
+newer : (language : Language) (files : List File) (entries : List Loaded) (own : List Origin) (name : List ℕ) (profile : Profile) (before : Option Origin)
+    → ((old : Loaded) → entry_named name entries ≡ Some old → IsKnown language files old.profile before)
+    → Came language files entries own name profile → IsKnown language files profile (newer_origin name before own)
+newer language files entries own name profile before known (Own origin found read) =
+    subst (λ (o : Option Origin). IsKnown language files profile (elim o [ None ↦ before | Some origin ↦ Some origin ])) (sym found)
+    (if-some (IsReadAt language files profile origin) origin.places read)
+newer language files entries own name profile before known (Before old none found same) =
+    subst (λ (o : Option Origin). IsKnown language files profile (elim o [ None ↦ before | Some origin ↦ Some origin ])) (sym none)
+    (subst (λ p. IsKnown language files p before) same (known old found))
 
 -- a profile that is switched was there before
-switched : (files : List File) (entries : List Loaded) (name other : List ℕ) (old new entry : Loaded) → entry_named other entries ≡ Some old
-    → new.profile ≡ old.profile → entry_named name (put new entries) ≡ Some entry → Came files entries [] name entry.profile
-switched files entries name other old new entry there same is = by (bytes_eq new.profile.name name) refl (sym (named-put new entries name) ∙ is)
+switched : (language : Language) (files : List File) (entries : List Loaded) (name other : List ℕ) (old new entry : Loaded) → entry_named other entries ≡ Some old
+    → new.profile ≡ old.profile → entry_named name (put new entries) ≡ Some entry → Came language files entries [] name entry.profile
+switched language files entries name other old new entry there same is = by (bytes_eq new.profile.name name) refl (sym (named-put new entries name) ∙ is)
   where
     by : (own : Bool) → bytes_eq new.profile.name name ≡ own → cond own (Some new) (entry_named name entries) ≡ Some entry
-        → Came files entries [] name entry.profile
+        → Came language files entries [] name entry.profile
     by true e one =
         let first : new ≡ entry = cc in
         let named : other ≡ name =
@@ -87,55 +89,55 @@ switched files entries name other old new entry there same is = by (bytes_eq new
     by false e one = Before entry refl one refl
 
 -- where the profile of a name comes from that a change leaves
-module _ (laws : Laws) (files : List File) (force_complain : Bool) (entries set : List Loaded) (name : List ℕ) (entry : Loaded)
+module _ (laws : Laws) (language : Language) (files : List File) (force_complain : Bool) (entries set : List Loaded) (name : List ℕ) (entry : Loaded)
     (there : entry_named name set ≡ Some entry) where
-  came-added : (file : List ℕ) (profiles : List Profile) → file_profiles files file ≡ Ok profiles
-      → with_added force_complain entries profiles ≡ Ok set → Came files entries (origins_at files file) name entry.profile
+  came-added : (file : List ℕ) (profiles : List Profile) → file_profiles_in language files file ≡ Ok profiles
+      → with_added force_complain entries profiles ≡ Ok set → Came language files entries (origins_at language files file) name entry.profile
   came-added file profiles read is = by (are_there profiles entries) refl is
     where
-      all : AreReadAt files (map (loaded force_complain) profiles) (origins_at files file)
-      all = laws.file files file profiles force_complain read
+      all : AreReadAt language files (map (loaded force_complain) profiles) (origins_at language files file)
+      all = laws.file language files file profiles force_complain read
 
       found : (first : Option Loaded) → entry_named name entries ≡ first → are_there profiles entries ≡ false
           → option_or first (entry_named name (map (loaded force_complain) profiles)) ≡ Some entry
-          → Came files entries (origins_at files file) name entry.profile
+          → Came language files entries (origins_at language files file) name entry.profile
       found (Some old) e none one =
           let same : old ≡ entry = cc in
           Before old
-          (none-named files force_complain profiles (origins_at files file) name all
+          (none-named language files force_complain profiles (origins_at language files file) name all
           (none-there profiles entries name none (has-named name entries old e)))
           e (ap (λ (o : Loaded). o.profile) same)
       found None e none one =
-          let (origin, first, own) = laws.named files name (map (loaded force_complain) profiles) (origins_at files file) entry all one in
+          let (origin, first, own) = laws.named language files name (map (loaded force_complain) profiles) (origins_at language files file) entry all one in
           Own origin first own
 
       by : (exist : Bool) → are_there profiles entries ≡ exist
           → cond exist (Err (plain Exists)) (Ok (entries ++ map (loaded force_complain) profiles)) ≡ Ok set
-          → Came files entries (origins_at files file) name entry.profile
+          → Came language files entries (origins_at language files file) name entry.profile
       by true e one = absurd (cc)
       by false e one =
           let same : entries ++ map (loaded force_complain) profiles ≡ set = cc in
           found (entry_named name entries) refl e
           (sym (find-append (is_named name) entries (map (loaded force_complain) profiles)) ∙ ap (entry_named name) same ∙ there)
 
-  came-replaced : (file : List ℕ) (profiles : List Profile) → file_profiles files file ≡ Ok profiles
-      → with_replaced force_complain entries profiles ≡ Ok set → Came files entries (origins_at files file) name entry.profile
+  came-replaced : (file : List ℕ) (profiles : List Profile) → file_profiles_in language files file ≡ Ok profiles
+      → with_replaced force_complain entries profiles ≡ Ok set → Came language files entries (origins_at language files file) name entry.profile
   came-replaced file profiles read is = by (some_are_disabled profiles entries) is
     where
       by : (off : Bool) → cond off (Err (plain Disabled)) (Ok (put_all (forced force_complain) entries profiles)) ≡ Ok set
-          → Came files entries (origins_at files file) name entry.profile
+          → Came language files entries (origins_at language files file) name entry.profile
       by true one = absurd (cc)
       by false one =
           let same : put_all (forced force_complain) entries profiles ≡ set = cc in
-          came-put files force_complain (forced force_complain) profiles (origins_at files file) entries name entry
-          (laws.file files file profiles force_complain read)
-          (subst (λ r. IfOk r (λ profiles. are_distinct profiles ≡ true)) read (laws.distinct files file))
+          came-put language files force_complain (forced force_complain) profiles (origins_at language files file) entries name entry
+          (laws.file language files file profiles force_complain read)
+          (subst (λ r. IfOk r (λ profiles. are_distinct profiles ≡ true)) read (laws.distinct language files file))
           (ap (entry_named name) same ∙ there)
 
-  came-removed : (profiles : List Profile) → with_removed entries profiles ≡ Ok set → Came files entries [] name entry.profile
+  came-removed : (profiles : List Profile) → with_removed entries profiles ≡ Ok set → Came language files entries [] name entry.profile
   came-removed profiles is = by (some_are_absent profiles entries) is
     where
-      by : (missing : Bool) → cond missing (Err (plain Absent)) (Ok (without profiles entries)) ≡ Ok set → Came files entries [] name entry.profile
+      by : (missing : Bool) → cond missing (Err (plain Absent)) (Ok (without profiles entries)) ≡ Ok set → Came language files entries [] name entry.profile
       by true one = absurd (cc)
       by false one =
           let same : without profiles entries ≡ set = cc in
@@ -145,11 +147,11 @@ module _ (laws : Laws) (files : List File) (force_complain : Bool) (entries set 
   came-in-mode : (mode : Mode) (other : List ℕ) (found : Option Loaded) → entry_named other entries ≡ found
       → ◌≡◌ {A = Result (List Loaded) Refusal}
       (elim found [ None ↦ Err (plain Absent) | Some old ↦ Ok (put (in_force (Some mode) old.profile) entries) ]) (Ok set)
-      → Came files entries [] name entry.profile
+      → Came language files entries [] name entry.profile
   came-in-mode mode other None e is = absurd (cc)
   came-in-mode mode other (Some old) e is =
       let same : put (in_force (Some mode) old.profile) entries ≡ set = cc in
-      switched files entries name other old (in_force (Some mode) old.profile) entry e refl (ap (entry_named name) same ∙ there)
+      switched language files entries name other old (in_force (Some mode) old.profile) entry e refl (ap (entry_named name) same ∙ there)
 
   came-disabled : (other : List ℕ) (found : Option Loaded) → entry_named other entries ≡ found
       → ◌≡◌ {A = Result (List Loaded) Refusal}
@@ -157,27 +159,27 @@ module _ (laws : Laws) (files : List File) (force_complain : Bool) (entries set 
         | None ↦ Err (plain Absent)
         | Some old ↦ cond (is_in_force old.state) (Ok (put (disabled old.profile) entries)) (Err (plain Disabled))
       ]) (Ok set)
-      → Came files entries [] name entry.profile
+      → Came language files entries [] name entry.profile
   came-disabled other None e is = absurd (cc)
   came-disabled other (Some old) e is = by (is_in_force old.state) is
     where
-      by : (on : Bool) → cond on (Ok (put (disabled old.profile) entries)) (Err (plain Disabled)) ≡ Ok set → Came files entries [] name entry.profile
+      by : (on : Bool) → cond on (Ok (put (disabled old.profile) entries)) (Err (plain Disabled)) ≡ Ok set → Came language files entries [] name entry.profile
       by true one =
           let same : put (disabled old.profile) entries ≡ set = cc in
-          switched files entries name other old (disabled old.profile) entry e refl (ap (entry_named name) same ∙ there)
+          switched language files entries name other old (disabled old.profile) entry e refl (ap (entry_named name) same ∙ there)
       by false one = absurd (cc)
 
   by-read : (own : List Origin) (change : List Profile → Result (List Loaded) Refusal) (read : Result (List Profile) ProfileError)
-      → ((profiles : List Profile) → read ≡ Ok profiles → change profiles ≡ Ok set → Came files entries own name entry.profile)
-      → by_file change read ≡ Ok set → Came files entries own name entry.profile
+      → ((profiles : List Profile) → read ≡ Ok profiles → change profiles ≡ Ok set → Came language files entries own name entry.profile)
+      → by_file change read ≡ Ok set → Came language files entries own name entry.profile
   by-read own change (Err error) each is = absurd (cc)
   by-read own change (Ok profiles) each is = each profiles refl is
 
-  came : (change : PolicyChange) → changed files force_complain entries change ≡ Ok set
-      → Came files entries (change_origins files change) name entry.profile
-  came (Add file) is = by-read (origins_at files file) (with_added force_complain entries) (file_profiles files file) (came-added file) is
-  came (Replace file) is = by-read (origins_at files file) (with_replaced force_complain entries) (file_profiles files file) (came-replaced file) is
-  came (Remove file) is = by-read [] (with_removed entries) (file_profiles files file) (λ profiles read. came-removed profiles) is
+  came : (change : PolicyChange) → changed files (record { language = language; force_complain = force_complain }) entries change ≡ Ok set
+      → Came language files entries (change_origins language files change) name entry.profile
+  came (Add file) is = by-read (origins_at language files file) (with_added force_complain entries) (file_profiles_in language files file) (came-added file) is
+  came (Replace file) is = by-read (origins_at language files file) (with_replaced force_complain entries) (file_profiles_in language files file) (came-replaced file) is
+  came (Remove file) is = by-read [] (with_removed entries) (file_profiles_in language files file) (λ profiles read. came-removed profiles) is
   came (Enforce other) is = came-in-mode EnforceMode other (entry_named other entries) refl is
   came (Complain other) is = came-in-mode ComplainMode other (entry_named other entries) refl is
   came (Disable other) is = came-disabled other (entry_named other entries) refl is
@@ -199,12 +201,12 @@ take-fewer k n xs few within =
     sym (take-append-le k (take n xs) (drop n xs) (omega (arith, size, few))) ∙ ap (take k) (take-append-drop n xs)
 
 -- an accepted change to a set of which each profile is known
-accepted-knows : (files : List File) (machine : Machine (List Loaded)) (set : List Loaded) (origins : List (List Origin)) (own : List Origin)
-    → length machine.earlier ≤ length origins → KnowsEach files (all_sets machine) origins
+accepted-knows : (language : Language) (files : List File) (machine : Machine (List Loaded)) (set : List Loaded) (origins : List (List Origin)) (own : List Origin)
+    → length machine.earlier ≤ length origins → KnowsEach language files (all_sets machine) origins
     → ((name : List ℕ) (entry : Loaded) → entry_named name set ≡ Some entry
-    → IsKnown files entry.profile (newer_origin name (origin_among name (length machine.earlier) origins) own))
-    → KnowsEach files (all_sets (accepted machine set)) (take (length machine.earlier) origins ++ own ∷ [])
-accepted-knows files machine set origins own within knows new done of name entry at named = by (leb (suc done) (length front)) refl
+    → IsKnown language files entry.profile (newer_origin name (origin_among name (length machine.earlier) origins) own))
+    → KnowsEach language files (all_sets (accepted machine set)) (take (length machine.earlier) origins ++ own ∷ [])
+accepted-knows language files machine set origins own within knows new done of name entry at named = by (leb (suc done) (length front)) refl
   where
     front : List (List Loaded)
     front = machine.earlier ++ machine.now ∷ []
@@ -244,24 +246,25 @@ accepted-knows files machine set origins own within knows new done of name entry
         ∙ ap (last_origin name) (take-append-add kept (own ∷ []) 1)
         ∙ fold-append (newer_origin name) None kept (own ∷ [])
 
-    by : (earlier : Bool) → leb (suc done) (length front) ≡ earlier → IsKnown files entry.profile (origin_among name done (kept ++ own ∷ []))
+    by : (earlier : Bool) → leb (suc done) (length front) ≡ earlier → IsKnown language files entry.profile (origin_among name done (kept ++ own ∷ []))
     by true e =
         let less : done < length front = leb-true (suc done) (length front) e in
-        subst (λ l. IsKnown files entry.profile (last_origin name l)) (sym (earlier-origins (omega (arith, less, front-size))))
+        subst (λ l. IsKnown language files entry.profile (last_origin name l)) (sym (earlier-origins (omega (arith, less, front-size))))
         (knows done of name entry (earlier-set less) named)
     by false e =
         let most : length front < suc done = leb-false (suc done) (length front) e in
         let same : done ≡ length front = omega (arith, most, here, size) in
-        subst (IsKnown files entry.profile) (sym (last-origins same))
+        subst (IsKnown language files entry.profile) (sym (last-origins same))
         (new name entry (subst (λ l. entry_named name l ≡ Some entry) (last-set same) named))
 
 -- what is known after an outcome
 abbrev Keeps : List File → Kept → Option PolicyChange → Outcome → Type 0
 Keeps files kept change outcome =
-    KnowsEach files (all_sets outcome.managed.machine) (origins_behind files (depth kept.managed) change outcome.reply kept.origins)
+    KnowsEach outcome.managed.settings.language files (all_sets outcome.managed.machine)
+    (origins_behind kept.managed.settings.language files (depth kept.managed) change outcome.reply kept.origins)
 
 abbrev IsKept : List File → Kept → Type 0
-IsKept files kept = KnowsEach files (all_sets kept.managed.machine) kept.origins
+IsKept files kept = KnowsEach kept.managed.settings.language files (all_sets kept.managed.machine) kept.origins
 
 either_keeps : (t : Bool) (files : List File) (kept : Kept) (change : Option PolicyChange) (a b : Outcome) → Keeps files kept change a
     → Keeps files kept change b → Keeps files kept change (cond t a b)
@@ -278,16 +281,17 @@ answered_keeps files kept (Ok lines) h = h
 answered_keeps files kept (Err refusal) h = h
 
 change_keeps : Laws → (files : List File) (kept : Kept) (change : PolicyChange) (size : ℕ) (r : Result (List Loaded) Refusal)
-    → changed files kept.managed.force_complain kept.managed.machine.now change ≡ r → depth kept.managed ≤ length kept.origins
+    → changed files kept.managed.settings kept.managed.machine.now change ≡ r → depth kept.managed ≤ length kept.origins
     → IsKept files kept → Keeps files kept (Some change) (changed_outcome kept.managed (after_change kept.managed size r))
 change_keeps laws files kept change size (Err refusal) is within h = h
 change_keeps laws files kept change size (Ok set) is within h =
     let machine = kept.managed.machine in
-    accepted-knows files machine set kept.origins (change_origins files change) within h
+    let language = kept.managed.settings.language in
+    accepted-knows language files machine set kept.origins (change_origins language files change) within h
     (λ name entry there.
-    newer files machine.now (change_origins files change) name entry.profile (origin_among name (length machine.earlier) kept.origins)
+    newer language files machine.now (change_origins language files change) name entry.profile (origin_among name (length machine.earlier) kept.origins)
     (λ old named. h (length machine.earlier) machine.now name old (get-seam machine.earlier machine.now machine.later) named)
-    (came laws files kept.managed.force_complain machine.now set name entry there change is))
+    (came laws language files kept.managed.settings.force_complain machine.now set name entry there change is))
 
 undone_keeps : Laws → (files : List File) (kept : Kept) (n : ℕ) → IsKept files kept
     → Keeps files kept None (changed_outcome kept.managed (undone n kept.managed))
@@ -295,7 +299,7 @@ undone_keeps laws files kept n h = by (can_go_back n kept.managed.machine) refl
   where
     by : (t : Bool) → can_go_back n kept.managed.machine ≡ t
         → Keeps files kept None (changed_outcome kept.managed (cond t (Ok (record kept.managed { machine = gone_back n kept.managed.machine })) (Err (plain NothingToUndo))))
-    by true e = subst (λ sets. KnowsEach files sets kept.origins) (sym (laws.back n kept.managed.machine e)) h
+    by true e = subst (λ sets. KnowsEach kept.managed.settings.language files sets kept.origins) (sym (laws.back n kept.managed.machine e)) h
     by false e = h
 
 redone_keeps : Laws → (files : List File) (kept : Kept) (n : ℕ) → IsKept files kept
@@ -304,7 +308,7 @@ redone_keeps laws files kept n h = by (can_go_on n kept.managed.machine) refl
   where
     by : (t : Bool) → can_go_on n kept.managed.machine ≡ t
         → Keeps files kept None (changed_outcome kept.managed (cond t (Ok (record kept.managed { machine = gone_on n kept.managed.machine })) (Err (plain NothingToRedo))))
-    by true e = subst (λ sets. KnowsEach files sets kept.origins) (sym (laws.on n kept.managed.machine e)) h
+    by true e = subst (λ sets. KnowsEach kept.managed.settings.language files sets kept.origins) (sym (laws.on n kept.managed.machine e)) h
     by false e = h
 
 mark_keeps : (files : List File) (kept : Kept) (name : List ℕ) → IsKept files kept
@@ -320,7 +324,7 @@ back_keeps : Laws → (files : List File) (kept : Kept) (name : List ℕ) → Ma
 back_keeps laws files kept name marked h = by (is_marked name kept.managed.machine)
   where
     by : (t : Bool) → Keeps files kept None (changed_outcome kept.managed (cond t (Ok (record kept.managed { machine = gone_to_mark name kept.managed.machine })) (Err (plain NoMark))))
-    by true = subst (λ sets. KnowsEach files sets kept.origins) (sym (laws.keep name kept.managed.machine marked).0) h
+    by true = subst (λ sets. KnowsEach kept.managed.settings.language files sets kept.origins) (sym (laws.keep name kept.managed.machine marked).0) h
     by false = h
 
 flag_keeps : (files : List File) (kept : Kept) (flag : Bool) (command : Order) (change : Option PolicyChange) → IsKept files kept
@@ -340,7 +344,7 @@ command_keeps laws files kept flag (Err refusal) step h = h
 command_keeps laws files kept flag (Ok None) step h = h
 command_keeps laws files kept flag (Ok (Some (Make change))) step h =
     flag_keeps files kept flag (Make change) (Some change) h
-    (change_keeps laws files kept change (parts_of files change) (changed files kept.managed.force_complain kept.managed.machine.now change) refl (within kept step) h)
+    (change_keeps laws files kept change (parts_of files kept.managed.settings change) (changed files kept.managed.settings kept.managed.machine.now change) refl (within kept step) h)
 command_keeps laws files kept flag (Ok (Some (Undo n))) step h = flag_keeps files kept flag (Undo n) None h (undone_keeps laws files kept n h)
 command_keeps laws files kept flag (Ok (Some (Redo n))) step h = flag_keeps files kept flag (Redo n) None h (redone_keeps laws files kept n h)
 command_keeps laws files kept flag (Ok (Some (Mark name))) step h = flag_keeps files kept flag (Mark name) None h (mark_keeps files kept name h)
@@ -360,11 +364,11 @@ line_keeps laws files kept line flag step h =
     (refusal_keeps files kept (change_in (command_in line)) (plain LineTooLong) h)
 
 pub begins : BeginsKnowing
-begins files force_complain zero set name entry at named = let same : [] ≡ set = cc in by (subst (λ l. entry_named name l ≡ Some entry) (sym same) named)
+begins files language force_complain zero set name entry at named = let same : [] ≡ set = cc in by (subst (λ l. entry_named name l ≡ Some entry) (sym same) named)
   where
-    by : entry_named name [] ≡ Some entry → IsKnown files entry.profile (origin_among name 0 [])
+    by : entry_named name [] ≡ Some entry → IsKnown language files entry.profile (origin_among name 0 [])
     by none = absurd (cc)
-begins files force_complain (suc done) set name entry at named = absurd (cc)
+begins files language force_complain (suc done) set name entry at named = absurd (cc)
 
 pub stays : Laws → StaysKnowing
 stays laws files base words kept line flag step h = by (saying_in line)
@@ -426,14 +430,15 @@ last-forgotten name (suc done) (own ∷ origins) before =
     ap (λ (o : Option Origin). fold (newer_origin name) o (take done (map (map unplaced_origin) origins))) (newer-forgotten name before own)
     ∙ last-forgotten name done origins (newer_origin name before own)
 
-known-forgotten : (files others : List File) (profile : Profile) (origin : Option Origin) → IsKnown files profile origin → IsKnown others profile (forgotten origin)
-known-forgotten files others profile None known = known
-known-forgotten files others profile (Some origin) known = tt
+known-forgotten : (language : Language) (files others : List File) (profile : Profile) (origin : Option Origin) → IsKnown language files profile origin → IsKnown language others profile (forgotten origin)
+known-forgotten language files others profile None known = known
+known-forgotten language files others profile (Some origin) known = tt
 
 pub forgets : ForgetsForAnyFiles
 forgets files others kept knows done set name entry at named =
-    subst (IsKnown others entry.profile) (sym (last-forgotten name done kept.origins None))
-    (known-forgotten files others entry.profile (origin_among name done kept.origins) (knows done set name entry at named))
+    let language = kept.managed.settings.language in
+    subst (IsKnown language others entry.profile) (sym (last-forgotten name done kept.origins None))
+    (known-forgotten language files others entry.profile (origin_among name done kept.origins) (knows done set name entry at named))
 
 pub loaded-is-known : KnowsTheLoaded
 loaded-is-known files kept name entry knows named =

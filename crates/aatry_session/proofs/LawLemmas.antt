@@ -5,11 +5,12 @@ use Rattle.std.proofs.lemmas.Bool.{true≢false}
 use Rattle.std.proofs.lemmas.List.{length-map}
 use Rattle.aa_decide_slots.specs.Entries.{Loaded}
 use Rattle.aa_history.specs.MarkLaws.{StartedMarksItsSets}
-use Rattle.aa_set.specs.Laws.{RefusedLineLeavesAll, command_in}
+use Rattle.aa_profile_parsing.specs.declared.language.Language.{Language}
+use Rattle.aa_set.specs.Laws.{RefusedLineLeavesAll}
+use Rattle.aa_set_manager.specs.Outcomes.{Outcome as Obeyed, command_in, command_outcome as machine_outcome, line_outcome, refused as left_as}
 use Rattle.aa_set.specs.Reply.{is_refusal}
-use Rattle.aa_set.specs.Run.{Outcome as Obeyed, command_outcome as machine_outcome, line_outcome, refused as left_as}
-use Rattle.aa_set.specs.declared.reply.Reply.{Reply}
-use Rattle.aa_set.specs.declared.reply.Reply.TheVariants.{Answered, Done, Refused, Silent}
+use Rattle.aa_set_manager.specs.declared.reply.Reply.{Reply}
+use Rattle.aa_set_manager.specs.declared.reply.Reply.TheVariants.{Answered, Done, Refused, Silent}
 use Rattle.aa_set_commands.specs.Command.{Add, Command as Order, Make, PolicyChange}
 use Rattle.aa_set_commands.specs.Refusal.{plain}
 use Rattle.aa_set_commands.specs.declared.refusal.Refusal.{Refusal}
@@ -25,14 +26,14 @@ use Rattle.aatry_session.specs.Turns.{Kept, command_outcome, depth, file_added, 
 use Rattle.aatry_session.proofs.StepLemmas.{Keeps, Known, command_keeps, known_keeps, line_keeps}
 
 pub begins : StartedMarksItsSets (List Loaded) → BeginsInStep
-begins started force_complain = record { counted = refl; known = refl; marked = started [] }
+begins started language force_complain = record { counted = refl; known = refl; marked = started [] }
 
 -- what the machine made of a command leaves a session in step
 in_step : (files : List File) (kept : Kept) (change : Option PolicyChange) (obeyed : Obeyed) → IsInStep kept → Keeps kept change obeyed
     → IsInStep (kept_after files kept change obeyed)
 in_step files kept change obeyed h after = record {
   counted = after.0;
-  known = known_keeps files (depth kept.managed) change obeyed.reply kept.texts kept.origins h.known;
+  known = known_keeps kept.managed.settings.language files (depth kept.managed) change obeyed.reply kept.texts kept.origins h.known;
   marked = after.1;
 }
 
@@ -86,13 +87,13 @@ texts_stay done (Some change) Done texts h = absurd (true≢false (sym h))
 texts_stay done (Some change) (Refused refusal) texts h = refl
 texts_stay done (Some change) (Answered lines) texts h = refl
 
-origins_stay : (files : List File) (done : ℕ) (change : Option PolicyChange) (reply : Reply) (origins : List (List Origin)) → is_refusal reply ≡ true
-    → origins_behind files done change reply origins ≡ origins
-origins_stay files done None reply origins h = refl
-origins_stay files done (Some change) Silent origins h = refl
-origins_stay files done (Some change) Done origins h = absurd (true≢false (sym h))
-origins_stay files done (Some change) (Refused refusal) origins h = refl
-origins_stay files done (Some change) (Answered lines) origins h = refl
+origins_stay : (language : Language) (files : List File) (done : ℕ) (change : Option PolicyChange) (reply : Reply) (origins : List (List Origin)) → is_refusal reply ≡ true
+    → origins_behind language files done change reply origins ≡ origins
+origins_stay language files done None reply origins h = refl
+origins_stay language files done (Some change) Silent origins h = refl
+origins_stay language files done (Some change) Done origins h = absurd (true≢false (sym h))
+origins_stay language files done (Some change) (Refused refusal) origins h = refl
+origins_stay language files done (Some change) (Answered lines) origins h = refl
 
 pub refused : RefusedLineLeavesAll → RefusedTurnLeavesAll
 refused leaves files base words kept line flag h = by (saying_in line)
@@ -106,7 +107,7 @@ refused leaves files base words kept line flag h = by (saying_in line)
         ∙ ap (λ texts. record { managed = kept.managed; texts = texts; origins = (kept_after files kept change obeyed).origins })
         (texts_stay (depth kept.managed) change obeyed.reply kept.texts h)
         ∙ ap (λ origins. record { managed = kept.managed; texts = kept.texts; origins = origins })
-        (origins_stay files (depth kept.managed) change obeyed.reply kept.origins h)
+        (origins_stay kept.managed.settings.language files (depth kept.managed) change obeyed.reply kept.origins h)
     by Help = refl
     by History = refl
     by Quit = refl

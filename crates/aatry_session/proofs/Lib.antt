@@ -4,5 +4,6 @@ pub mod MakeLemmas
 pub mod NamedLemmas
 pub mod ObeyLemmas
 pub mod OriginLemmas
+pub mod ReadingLemmas
 pub mod StepLemmas
 pub mod TurnLemmas

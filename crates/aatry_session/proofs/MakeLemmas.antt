@@ -3,16 +3,16 @@ use Rattle.std.proofs.Common.{◌≡◌, ◌≢◌, ◌⊎◌, ◌∙◌, ℕ, B
 use Rattle.std.specs.Prelude.{nat_le}
 use Rattle.std.specs.Result.{IfErr, IfOk, MatchResult, OnErr, OnOk}
 use Rattle.std.proofs.lemmas.List.{append-nil}
-use Rattle.aa_profile.specs.FilePlaces.{file_places}
-use Rattle.aa_profile.specs.FileReading.{file_profiles}
+use Rattle.aa_profile.specs.FilePlaces.{file_places_in}
+use Rattle.aa_profile.specs.FileReading.{file_profiles_in}
 use Rattle.aa_profile_data.specs.declared.profile.Profile.{Profile}
 use Rattle.aa_profile_errors.specs.declared.profile_error.ProfileError.{ProfileError}
+use Rattle.aa_profile_parsing.specs.declared.language.Language.{Language}
 use Rattle.aa_profile_patterns.specs.declared.places.ProfilePlaces.{ProfilePlaces}
-use Rattle.aa_set.specs.Laws.{command_in}
-use Rattle.aa_set.specs.Manager.{Managed, added, after_change, made, replaced}
-use Rattle.aa_set.specs.Run.{command_outcome, line_outcome, obeyed_flagged, refused}
-use Rattle.aa_set.specs.declared.reply.Reply.{Reply}
-use Rattle.aa_set.specs.declared.reply.Reply.TheVariants.{Done, Refused}
+use Rattle.aa_set_manager.specs.Outcomes.{command_in, command_outcome, line_outcome, obeyed_flagged, refused}
+use Rattle.aa_set_manager.specs.Manager.{Managed, added, after_change, made, replaced}
+use Rattle.aa_set_manager.specs.declared.reply.Reply.{Reply}
+use Rattle.aa_set_manager.specs.declared.reply.Reply.TheVariants.{Done, Refused}
 use Rattle.aa_set_changes.specs.Changes.{by_file, change_takes_memory, profile_count, with_added, with_replaced}
 use Rattle.aa_set_commands.specs.Command.{Add, Ask, Back, Command, Listed, Make, Mark, PolicyChange, Redo, Replace, Show, Undo}
 use Rattle.aa_set_commands.specs.Refusal.{IsRefusalOf, plain}
@@ -28,25 +28,27 @@ use Rattle.aatry_session.specs.History.{change_in}
 use Rattle.aatry_session.specs.Origins.{origins_at}
 
 -- the profiles of a file are added as they are made a change of, and put in their places
-pub added-of-file : (files : List File) (name : List ℕ) (managed : Managed) (profiles : List Profile) → file_profiles files name ≡ Ok profiles
+pub added-of-file : (files : List File) (name : List ℕ) (managed : Managed) (profiles : List Profile)
+    → file_profiles_in managed.settings.language files name ≡ Ok profiles
     → added managed profiles ≡ made files managed (Add name)
-added-of-file files name managed profiles h = sym (ap (λ read. after_change managed (profile_count read) (by_file (with_added managed.force_complain managed.machine.now) read)) h)
+added-of-file files name managed profiles h = sym (ap (λ read. after_change managed (profile_count read) (by_file (with_added managed.settings.force_complain managed.machine.now) read)) h)
 
-pub replaced-of-file : (files : List File) (name : List ℕ) (managed : Managed) (profiles : List Profile) → file_profiles files name ≡ Ok profiles
+pub replaced-of-file : (files : List File) (name : List ℕ) (managed : Managed) (profiles : List Profile)
+    → file_profiles_in managed.settings.language files name ≡ Ok profiles
     → replaced managed profiles ≡ made files managed (Replace name)
-replaced-of-file files name managed profiles h = sym (ap (λ read. after_change managed (profile_count read) (by_file (with_replaced managed.force_complain managed.machine.now) read)) h)
+replaced-of-file files name managed profiles h = sym (ap (λ read. after_change managed (profile_count read) (by_file (with_replaced managed.settings.force_complain managed.machine.now) read)) h)
 
 -- where the profiles of a file are read that is read
-pub origins-of-file : (files : List File) (name : List ℕ) (profiles : List Profile) (places : List ProfilePlaces)
-    → file_profiles files name ≡ Ok profiles → file_places files name ≡ Some places
-    → file_origins name profiles places ≡ origins_at files name
-origins-of-file files name profiles places read there = sym (ap origins_of is ∙ append-nil (file_origins name profiles places))
+pub origins-of-file : (language : Language) (files : List File) (name : List ℕ) (profiles : List Profile) (places : List ProfilePlaces)
+    → file_profiles_in language files name ≡ Ok profiles → file_places_in language files name ≡ Some places
+    → file_origins name profiles places ≡ origins_at language files name
+origins-of-file language files name profiles places read there = sym (ap origins_of is ∙ append-nil (file_origins name profiles places))
   where
-    is : file_at files name ≡ record { name = name; profiles = profiles; places = places } ∷ []
+    is : file_at language files name ≡ record { name = name; profiles = profiles; places = places } ∷ []
     is =
         ap (λ (own : Result (List Profile) ProfileError). elim own [
           | Err error ↦ []
-          | Ok profiles ↦ elim (file_places files name) [ None ↦ [] | Some places ↦ record { name = name; profiles = profiles; places = places } ∷ [] ]
+          | Ok profiles ↦ elim (file_places_in language files name) [ None ↦ [] | Some places ↦ record { name = name; profiles = profiles; places = places } ∷ [] ]
         ]) read
         ∙ ap (λ (own : Option (List ProfilePlaces)). elim own [
           | None ↦ []

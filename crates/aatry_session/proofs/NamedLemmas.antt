@@ -9,6 +9,7 @@ use Rattle.aa_decide_slots.specs.Named.{entry_named, has_name}
 use Rattle.aa_profile_data.specs.Profile.{are_distinct, is_named as is_profile_named}
 use Rattle.aa_profile_data.specs.declared.profile.Mode.{Mode}
 use Rattle.aa_profile_data.specs.declared.profile.Profile.{Profile}
+use Rattle.aa_profile_parsing.specs.declared.language.Language.{Language}
 use Rattle.aa_set_changes.specs.Changes.{are_there, in_force, loaded, put, put_all}
 use Rattle.aa_text_files.specs.Files.{File}
 use Rattle.aatry_policy.specs.Origins.{origin_in}
@@ -112,13 +113,13 @@ named-kept keeps name (other ∷ entries) entry is = by (keeps other.profile.nam
     by false e one rest = dropped (bytes_eq other.profile.name name) refl e (rest one)
 
 -- a name has no origin among those of profiles of which none has it
-pub none-named : (files : List File) (force_complain : Bool) (profiles : List Profile) (origins : List Origin) (name : List ℕ)
-    → AreReadAt files (map (loaded force_complain) profiles) origins → list_any (is_profile_named name) profiles ≡ false → origin_in name origins ≡ None
-none-named files force_complain [] [] name all none = refl
-none-named files force_complain [] (origin ∷ origins) name all none = absurd all
-none-named files force_complain (profile ∷ profiles) [] name all none = absurd all
-none-named files force_complain (profile ∷ profiles) (origin ∷ origins) name all none =
-    by (bytes_eq profile.name name) (ap (λ n. bytes_eq n name) all.0.named) (none-named files force_complain profiles origins name all.1) none
+pub none-named : (language : Language) (files : List File) (force_complain : Bool) (profiles : List Profile) (origins : List Origin) (name : List ℕ)
+    → AreReadAt language files (map (loaded force_complain) profiles) origins → list_any (is_profile_named name) profiles ≡ false → origin_in name origins ≡ None
+none-named language files force_complain [] [] name all none = refl
+none-named language files force_complain [] (origin ∷ origins) name all none = absurd all
+none-named language files force_complain (profile ∷ profiles) [] name all none = absurd all
+none-named language files force_complain (profile ∷ profiles) (origin ∷ origins) name all none =
+    by (bytes_eq profile.name name) (ap (λ n. bytes_eq n name) all.0.named) (none-named language files force_complain profiles origins name all.1) none
   where
     by : (same : Bool) → bytes_eq origin.profile name ≡ same → (list_any (is_profile_named name) profiles ≡ false → origin_in name origins ≡ None)
         → (same || list_any (is_profile_named name) profiles) ≡ false → origin_in name (origin ∷ origins) ≡ None
@@ -141,20 +142,20 @@ none-there (profile ∷ profiles) entries name none there =
     by false e false f rest missing = rest missing
 
 -- what a change has for a profile: an origin of its own, or none, and the profile was there before
-pub data Came (files : List File) (entries : List Loaded) (own : List Origin) (name : List ℕ) (profile : Profile) : Type 0 where
-  Own : (origin : Origin) → origin_in name own ≡ Some origin → IsReadAt files profile origin → Came files entries own name profile
-  Before : (old : Loaded) → origin_in name own ≡ None → entry_named name entries ≡ Some old → old.profile ≡ profile → Came files entries own name profile
+pub data Came (language : Language) (files : List File) (entries : List Loaded) (own : List Origin) (name : List ℕ) (profile : Profile) : Type 0 where
+  Own : (origin : Origin) → origin_in name own ≡ Some origin → IsReadAt language files profile origin → Came language files entries own name profile
+  Before : (old : Loaded) → origin_in name own ≡ None → entry_named name entries ≡ Some old → old.profile ≡ profile → Came language files entries own name profile
 
 -- each profile in the place of the one of its name
-pub came-put : (files : List File) (force_complain : Bool) (set : Option Mode) (profiles : List Profile) (origins : List Origin) (entries : List Loaded)
-    (name : List ℕ) (entry : Loaded) → AreReadAt files (map (loaded force_complain) profiles) origins → are_distinct profiles ≡ true
-    → entry_named name (put_all set entries profiles) ≡ Some entry → Came files entries origins name entry.profile
-came-put files force_complain set [] [] entries name entry all distinct is = Before entry refl is refl
-came-put files force_complain set [] (origin ∷ origins) entries name entry all distinct is = absurd all
-came-put files force_complain set (profile ∷ profiles) [] entries name entry all distinct is = absurd all
-came-put files force_complain set (profile ∷ profiles) (origin ∷ origins) entries name entry all distinct is =
+pub came-put : (language : Language) (files : List File) (force_complain : Bool) (set : Option Mode) (profiles : List Profile) (origins : List Origin) (entries : List Loaded)
+    (name : List ℕ) (entry : Loaded) → AreReadAt language files (map (loaded force_complain) profiles) origins → are_distinct profiles ≡ true
+    → entry_named name (put_all set entries profiles) ≡ Some entry → Came language files entries origins name entry.profile
+came-put language files force_complain set [] [] entries name entry all distinct is = Before entry refl is refl
+came-put language files force_complain set [] (origin ∷ origins) entries name entry all distinct is = absurd all
+came-put language files force_complain set (profile ∷ profiles) [] entries name entry all distinct is = absurd all
+came-put language files force_complain set (profile ∷ profiles) (origin ∷ origins) entries name entry all distinct is =
     let (single, others) = and_parts (not (list_any (is_profile_named profile.name) profiles)) (are_distinct profiles) distinct in
-    by (bytes_eq profile.name name) refl (came-put files force_complain set profiles origins (put (in_force set profile) entries) name entry all.1 others is) single
+    by (bytes_eq profile.name name) refl (came-put language files force_complain set profiles origins (put (in_force set profile) entries) name entry all.1 others is) single
   where
     tested : (same : Bool) → bytes_eq profile.name name ≡ same → origin_in name (origin ∷ origins) ≡ cond same (Some origin) (origin_in name origins)
     tested same e = ap (λ b. cond b (Some origin) (origin_in name origins)) (ap (λ n. bytes_eq n name) all.0.named ∙ e)
@@ -168,16 +169,16 @@ came-put files force_complain set (profile ∷ profiles) (origin ∷ origins) en
     placed same e =
         named-put (in_force set profile) entries name ∙ ap (λ b. cond b (Some (in_force set profile)) (entry_named name entries)) e
 
-    by : (same : Bool) → bytes_eq profile.name name ≡ same → Came files (put (in_force set profile) entries) origins name entry.profile
-        → not (list_any (is_profile_named profile.name) profiles) ≡ true → Came files entries (origin ∷ origins) name entry.profile
+    by : (same : Bool) → bytes_eq profile.name name ≡ same → Came language files (put (in_force set profile) entries) origins name entry.profile
+        → not (list_any (is_profile_named profile.name) profiles) ≡ true → Came language files entries (origin ∷ origins) name entry.profile
     by true e (Own other found read) single =
         let none : origin_in name origins ≡ None =
-        none-named files force_complain profiles origins name all.1
+        none-named language files force_complain profiles origins name all.1
         (subst (λ n. list_any (is_profile_named n) profiles ≡ false) ((bytes_eq-Decides profile.name name).0 e)
         (not-later (list_any (is_profile_named profile.name) profiles) single)) in
         absurd (cc)
     by true e (Before old none found same) single =
         let first : in_force set profile ≡ old = ap (λ (o : Option Loaded). elim o [ None ↦ old | Some one ↦ one ]) (sym (placed true e) ∙ found) in
-        Own origin (tested true e) (subst (λ p. IsReadAt files p origin) (ap (λ (o : Loaded). o.profile) first ∙ same) all.0)
+        Own origin (tested true e) (subst (λ p. IsReadAt language files p origin) (ap (λ (o : Loaded). o.profile) first ∙ same) all.0)
     by false e (Own other found read) single = Own other (tested false e ∙ found) read
     by false e (Before old none found same) single = Before old (tested false e ∙ none) (sym (placed false e) ∙ found) same

@@ -1,8 +1,9 @@
 -- What obeying a command comes to, from what the machine says of it.
 use Rattle.std.proofs.Common.{◌≡◌, ◌∙◌, ◌++◌, ℕ, Bool, List, None, OnErr, OnOk, Option, Result, Ok, Err, Some, ap, inr, refl, subst}
-use Rattle.aa_set.specs.Run.{Outcome as Obeyed}
-use Rattle.aa_set.specs.declared.reply.Reply.{Reply}
-use Rattle.aa_set.specs.declared.reply.Reply.TheVariants.{Answered, Done, Refused, Silent}
+use Rattle.aa_profile_parsing.specs.declared.language.Language.{Language}
+use Rattle.aa_set_manager.specs.Outcomes.{Outcome as Obeyed}
+use Rattle.aa_set_manager.specs.declared.reply.Reply.{Reply}
+use Rattle.aa_set_manager.specs.declared.reply.Reply.TheVariants.{Answered, Done, Refused, Silent}
 use Rattle.aa_set_commands.specs.Command.{PolicyChange}
 use Rattle.aa_text_files.specs.Files.{File}
 use Rattle.aatry_policy.specs.declared.origins.Origin.{Origin}
@@ -14,7 +15,7 @@ use Rattle.aatry_session.specs.Turns.{Kept, LeavesAs, ObeysAs, depth, done_behin
 kept_by : (files : List File) (before after : Kept) (change : Option PolicyChange) (obeyed : Obeyed) (reply : Reply)
     → ◌≡◌ {A = Obeyed} (record { reply = reply; managed = after.managed }) obeyed
     → after.texts ≡ texts_behind (depth before.managed) change reply before.texts
-    → after.origins ≡ origins_behind files (depth before.managed) change reply before.origins
+    → after.origins ≡ origins_behind before.managed.settings.language files (depth before.managed) change reply before.origins
     → after ≡ kept_after files before change obeyed
 kept_by files before after change obeyed reply is texts origins =
     subst (λ o. after ≡ kept_after files before change o) is
@@ -73,13 +74,13 @@ left-other r files before after obeyed flag reply is texts origins =
     at-err r (LeavesAs files before after None obeyed) (inr (flag, kept_by files before after None (obeyed flag) reply is texts origins))
 
 -- where an accepted change was kept so, it was kept with its own
-own_by : (files : List File) (done : ℕ) (change : PolicyChange) (reply : Reply) (own : List Origin) (origins : List (List Origin))
-    → (reply ≡ Done → own ≡ change_origins files change)
-    → kept_with done own reply origins ≡ kept_with done (change_origins files change) reply origins
-own_by files done change Done own origins h = ap (λ o. kept_with done o Done origins) (h refl)
-own_by files done change Silent own origins h = refl
-own_by files done change (Refused refusal) own origins h = refl
-own_by files done change (Answered lines) own origins h = refl
+own_by : (language : Language) (files : List File) (done : ℕ) (change : PolicyChange) (reply : Reply) (own : List Origin) (origins : List (List Origin))
+    → (reply ≡ Done → own ≡ change_origins language files change)
+    → kept_with done own reply origins ≡ kept_with done (change_origins language files change) reply origins
+own_by language files done change Done own origins h = ap (λ o. kept_with done o Done origins) (h refl)
+own_by language files done change Silent own origins h = refl
+own_by language files done change (Refused refusal) own origins h = refl
+own_by language files done change (Answered lines) own origins h = refl
 
 -- How a command that makes a change came out, and what was kept of it: its reply, with where its profiles were read, the text of the change and how many
 -- changes were done before it, over what there was room for.
@@ -90,7 +91,7 @@ pub record IsMade (files : List File) (before after : Kept) (change : PolicyChan
   pub done : ℕ
   pub text : List ℕ
   pub is : ◌≡◌ {A = Obeyed} (record { reply = reply; managed = after.managed }) (obeyed flag)
-  pub loaded : reply ≡ Done → own ≡ change_origins files change
+  pub loaded : reply ≡ Done → own ≡ change_origins before.managed.settings.language files change
   pub first : done ≡ depth before.managed
   pub named : text ≡ change_text change
   pub texts : after.texts ≡ kept_with done text reply before.texts
@@ -106,8 +107,8 @@ kept_made : (files : List File) (before after : Kept) (change : PolicyChange) (o
     → after ≡ kept_after files before (Some change) (obeyed made.flag)
 kept_made files before after change obeyed made =
     kept_by files before after (Some change) (obeyed made.flag) made.reply made.is (texts_made files before after change obeyed made)
-    (subst (λ n. after.origins ≡ kept_with n (change_origins files change) made.reply before.origins) made.first
-    (made.origins ∙ own_by files made.done change made.reply made.own before.origins made.loaded))
+    (subst (λ n. after.origins ≡ kept_with n (change_origins before.managed.settings.language files change) made.reply before.origins) made.first
+    (made.origins ∙ own_by before.managed.settings.language files made.done change made.reply made.own before.origins made.loaded))
 
 -- a command that makes a change was obeyed
 pub obeyed-change : {A E : Type 0} (r : Result A E) (files : List File) (base : List ℕ) (before after : Kept) (change : PolicyChange) (obeyed : Bool → Obeyed)

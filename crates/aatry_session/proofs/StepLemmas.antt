@@ -5,9 +5,9 @@ use Rattle.aa_history.specs.Machine.{Machine, MarksItsSets, accepted, can_go_bac
 use Rattle.aa_history.specs.MachineLaws.{LengthsAfterBack, LengthsAfterOn}
 use Rattle.aa_history.specs.MarkLaws.{Accept, Mark as MarkStep, MarkKeepsAll, Redo as RedoStep, Return, StepsMarkTheirSets, Undo as UndoStep}
 use Rattle.aa_decide_slots.specs.Entries.{Loaded}
-use Rattle.aa_set.specs.Laws.{command_in}
-use Rattle.aa_set.specs.Manager.{after_change, back_at, is_mark_name, marking, redone, undone}
-use Rattle.aa_set.specs.Run.{Outcome, answered, changed, command_outcome, line_outcome, obeyed, refused, takes_memory}
+use Rattle.aa_profile_parsing.specs.declared.language.Language.{Language}
+use Rattle.aa_set_manager.specs.Outcomes.{Outcome, answered, changed, command_in, command_outcome, line_outcome, obeyed, refused, takes_memory}
+use Rattle.aa_set_manager.specs.Manager.{after_change, back_at, is_mark_name, marking, redone, undone}
 use Rattle.aa_set_answers.specs.Answers.{reply_lines, shown}
 use Rattle.aa_set_changes.specs.Changes.{changed as change_of_set, parts_of}
 use Rattle.aa_set_commands.specs.Command.{Ask, Back, Command, Listed, Make, Mark, PolicyChange, Redo, Show, Undo}
@@ -17,8 +17,8 @@ use Rattle.aa_set_commands.specs.declared.refusal.RefusalKind.TheVariants.{BadRe
 use Rattle.aa_set_lines.specs.Limits.{longest_line}
 use Rattle.aa_set_answers.specs.List.{list_lines}
 use Rattle.aa_text_files.specs.Files.{File}
-use Rattle.aa_set.specs.declared.reply.Reply.{Reply}
-use Rattle.aa_set.specs.declared.reply.Reply.TheVariants.{Answered, Done, Refused, Silent}
+use Rattle.aa_set_manager.specs.declared.reply.Reply.{Reply}
+use Rattle.aa_set_manager.specs.declared.reply.Reply.TheVariants.{Answered, Done, Refused, Silent}
 use Rattle.aatry_policy.specs.declared.origins.Origin.{Origin}
 use Rattle.aatry_session.specs.History.{change_in, change_text, kept_with}
 use Rattle.aatry_session.specs.Origins.{change_origins}
@@ -122,7 +122,7 @@ command_keeps known files kept flag (Err refusal) h = h
 command_keeps known files kept flag (Ok None) h = h
 command_keeps known files kept flag (Ok (Some (Make change))) h =
     flag_keeps files kept flag (Make change) (Some change) h
-    (change_keeps known.marks kept change (parts_of files change) (change_of_set files kept.managed.force_complain kept.managed.machine.now change) h)
+    (change_keeps known.marks kept change (parts_of files kept.managed.settings change) (change_of_set files kept.managed.settings kept.managed.machine.now change) h)
 command_keeps known files kept flag (Ok (Some (Undo n))) h = flag_keeps files kept flag (Undo n) None h (undone_keeps known.back known.marks kept n h)
 command_keeps known files kept flag (Ok (Some (Redo n))) h = flag_keeps files kept flag (Redo n) None h (redone_keeps known.on known.marks kept n h)
 command_keeps known files kept flag (Ok (Some (Mark name))) h = flag_keeps files kept flag (Mark name) None h (mark_keeps known.marks kept name h)
@@ -161,7 +161,7 @@ kept_alike done x y (Refused refusal) xs ys h = h
 kept_alike done x y (Answered lines) xs ys h = h
 
 -- it is kept of as many changes where profiles were read as there are texts
-pub known_keeps : (files : List File) (done : ℕ) (change : Option PolicyChange) (reply : Reply) (texts : List (List ℕ)) (origins : List (List Origin))
-    → length origins ≡ length texts → length (origins_behind files done change reply origins) ≡ length (texts_behind done change reply texts)
-known_keeps files done None reply texts origins h = h
-known_keeps files done (Some change) reply texts origins h = kept_alike done (change_origins files change) (change_text change) reply origins texts h
+pub known_keeps : (language : Language) (files : List File) (done : ℕ) (change : Option PolicyChange) (reply : Reply) (texts : List (List ℕ)) (origins : List (List Origin))
+    → length origins ≡ length texts → length (origins_behind language files done change reply origins) ≡ length (texts_behind done change reply texts)
+known_keeps language files done None reply texts origins h = h
+known_keeps language files done (Some change) reply texts origins h = kept_alike done (change_origins language files change) (change_text change) reply origins texts h

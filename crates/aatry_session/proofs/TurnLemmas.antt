@@ -1,7 +1,6 @@
 -- What a turn comes to, from what its line says.
 use Rattle.std.proofs.Common.{◌≡◌, ◌∙◌, ℕ, Bool, List, [], Option, ap, inl, inr, subst}
-use Rattle.aa_set.specs.Laws.{command_in}
-use Rattle.aa_set.specs.Run.{Outcome as Obeyed, line_outcome}
+use Rattle.aa_set_manager.specs.Outcomes.{Outcome as Obeyed, command_in, line_outcome}
 use Rattle.aa_set_commands.specs.Command.{PolicyChange}
 use Rattle.aa_text_files.specs.Files.{File}
 use Rattle.aatry_session.specs.History.{change_in}

@@ -4,8 +4,8 @@ use Rattle.std.specs.Prelude.{ℕ, ◌+◌, List, [], ◌∷◌, ◌++◌, Optio
 use Rattle.std.specs.Prelude.{codes, drop, flat_map, if◌then◌else◌, nat_eq, nat_lt, reverse, take}
 use Rattle.std.specs.Fmt.{decimal}
 use Rattle.aa_bytes.specs.Bytes.{line_feed}
-use Rattle.aa_set.specs.declared.reply.Reply.{Reply}
-use Rattle.aa_set.specs.declared.reply.Reply.TheVariants.{Done}
+use Rattle.aa_set_manager.specs.declared.reply.Reply.{Reply}
+use Rattle.aa_set_manager.specs.declared.reply.Reply.TheVariants.{Done}
 use Rattle.aa_set_commands.specs.Command.{Command, Make, PolicyChange, Add, Replace, Remove, Enforce, Complain, Disable}
 use Rattle.aa_set_commands.specs.declared.refusal.Refusal.{Refusal}
 use Rattle.aatry_report.specs.Shown.{shown}

@@ -1,9 +1,9 @@
 -- What holds of a session whatever it is told.
 use Rattle.std.specs.Prelude.{◌≡◌, ℕ, ◌+◌, Bool, true, nat_le, List, length, Some, Ok}
 use Rattle.aa_history.specs.Machine.{MarksItsSets}
-use Rattle.aa_set.specs.Laws.{command_in}
+use Rattle.aa_profile_parsing.specs.declared.language.Language.{Language}
+use Rattle.aa_set_manager.specs.Outcomes.{command_in, line_outcome}
 use Rattle.aa_set.specs.Reply.{is_refusal}
-use Rattle.aa_set.specs.Run.{line_outcome}
 use Rattle.aa_set_commands.specs.Command.{Add, Make}
 use Rattle.aa_set_lines.specs.Limits.{longest_line}
 use Rattle.aa_text_files.specs.Files.{File}
@@ -19,7 +19,7 @@ pub record IsInStep (kept : Kept) : Type 0 where
 
 -- a session begins in step
 abbrev pub BeginsInStep : Type 0
-BeginsInStep = (force_complain : Bool) → IsInStep (begun force_complain)
+BeginsInStep = (language : Language) (force_complain : Bool) → IsInStep (begun language force_complain)
 
 -- and any line leaves it in step
 abbrev pub StaysInStep : Type 0

@@ -4,6 +4,7 @@ use Rattle.aa_decide_slots.specs.Entries.{Loaded}
 use Rattle.aa_decide_slots.specs.Named.{entry_named}
 use Rattle.aa_history.specs.Machine.{all_sets}
 use Rattle.aa_profile_data.specs.declared.profile.Profile.{Profile}
+use Rattle.aa_profile_parsing.specs.declared.language.Language.{Language}
 use Rattle.aa_text_files.specs.Files.{File}
 use Rattle.aatry_policy.specs.PlaceLaws.{IsReadAt}
 use Rattle.aatry_policy.specs.declared.origins.Origin.{Origin}
@@ -11,26 +12,26 @@ use Rattle.aatry_session.specs.Laws.{IsInStep}
 use Rattle.aatry_session.specs.Origins.{origin_among}
 use Rattle.aatry_session.specs.Turns.{IsLeft, IsLeftAdding, Kept, add_outcome, begun, origin_of, turn_outcome, unplaced}
 
--- A profile has an origin, and where its places are known still, its file spells the profile at these.
-abbrev pub IsKnown : List File → Profile → Option Origin → Type 0
-IsKnown files profile None = ⊥
-IsKnown files profile (Some origin) = IfSome origin.places (λ _. IsReadAt files profile origin)
+-- A profile has an origin, and where its places are known still, its file spells the profile at these by a language.
+abbrev pub IsKnown : Language → List File → Profile → Option Origin → Type 0
+IsKnown language files profile None = ⊥
+IsKnown language files profile (Some origin) = IfSome origin.places (λ _. IsReadAt language files profile origin)
 
 -- so it is of each profile of each policy set, by the changes that led to that set
-abbrev pub KnowsEach : List File → List (List Loaded) → List (List Origin) → Type 0
-KnowsEach files sets origins =
+abbrev pub KnowsEach : Language → List File → List (List Loaded) → List (List Origin) → Type 0
+KnowsEach language files sets origins =
     (done : ℕ) (set : List Loaded) (name : List ℕ) (entry : Loaded)
     → slice_get sets done ≡ Some set
     → entry_named name set ≡ Some entry
-    → IsKnown files entry.profile (origin_among name done origins)
+    → IsKnown language files entry.profile (origin_among name done origins)
 
--- a session knows of each profile of each of its policy sets where it was read
+-- a session knows of each profile of each of its policy sets where it was read by its language
 abbrev pub Knows : List File → Kept → Type 0
-Knows files kept = KnowsEach files (all_sets kept.managed.machine) kept.origins
+Knows files kept = KnowsEach kept.managed.settings.language files (all_sets kept.managed.machine) kept.origins
 
 -- a session begins so
 abbrev pub BeginsKnowing : Type 0
-BeginsKnowing = (files : List File) (force_complain : Bool) → Knows files (begun force_complain)
+BeginsKnowing = (files : List File) (language : Language) (force_complain : Bool) → Knows files (begun language force_complain)
 
 -- and any line leaves it so
 abbrev pub StaysKnowing : Type 0
@@ -72,4 +73,4 @@ KnowsTheLoaded =
     (files : List File) (kept : Kept) (name : List ℕ) (entry : Loaded)
     → Knows files kept
     → entry_named name kept.managed.machine.now ≡ Some entry
-    → IsKnown files entry.profile (origin_of kept name)
+    → IsKnown kept.managed.settings.language files entry.profile (origin_of kept name)

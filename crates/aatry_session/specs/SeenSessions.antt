@@ -1,5 +1,5 @@
 -- Sessions of the code.
-use Rattle.aa_set.specs.Manager.{Managed}
+use Rattle.aa_set_manager.specs.Manager.{Managed}
 use Rattle.aatry_session.specs.Turns.{Kept}
 use Rattle.aatry_session.specs.declared.changes.Changes.{Changes}
 

@@ -1,10 +1,10 @@
 -- The turns of a session: what a line is answered, and the session after it.
 use Rattle.std.specs.Prelude.{◌≡◌, ◌⊎◌, ℕ, Bool, List, [], ◌++◌, length, map, Option, None, Some}
-use Rattle.aa_set.specs.Laws.{command_in}
-use Rattle.aa_set.specs.Manager.{Managed, new_manager}
-use Rattle.aa_set.specs.Run.{Outcome as Obeyed, line_outcome, obeyed_flagged}
-use Rattle.aa_set.specs.declared.reply.Reply.{Reply}
-use Rattle.aa_set.specs.declared.reply.Reply.TheVariants.{Silent, Done, Refused, Answered}
+use Rattle.aa_profile_parsing.specs.declared.language.Language.{Language}
+use Rattle.aa_set_manager.specs.Outcomes.{Outcome as Obeyed, command_in, line_outcome, obeyed_flagged}
+use Rattle.aa_set_manager.specs.Manager.{Managed, new_manager_in}
+use Rattle.aa_set_manager.specs.declared.reply.Reply.{Reply}
+use Rattle.aa_set_manager.specs.declared.reply.Reply.TheVariants.{Silent, Done, Refused, Answered}
 use Rattle.aa_set_commands.specs.Command.{Add, Make, PolicyChange}
 use Rattle.aa_set_commands.specs.Question.{Question}
 use Rattle.aa_text_files.specs.Files.{File}
@@ -23,9 +23,9 @@ pub record Kept : Type 0 where
   pub texts : List (List ℕ)
   pub origins : List (List Origin)
 
--- a session that has made no change yet
-abbrev pub begun : Bool → Kept
-begun force_complain = record { managed = new_manager force_complain; texts = []; origins = [] }
+-- a session that has made no change yet, of files that are read by a language
+abbrev pub begun : Language → Bool → Kept
+begun language force_complain = record { managed = new_manager_in language force_complain; texts = []; origins = [] }
 
 -- how many changes of a manager are done
 abbrev pub depth : Managed → ℕ
@@ -51,10 +51,10 @@ abbrev pub texts_behind : ℕ → Option PolicyChange → Reply → List (List �
 texts_behind done None reply texts = texts
 texts_behind done (Some change) reply texts = kept_with done (change_text change) reply texts
 
--- and where profiles were read
-abbrev pub origins_behind : List File → ℕ → Option PolicyChange → Reply → List (List Origin) → List (List Origin)
-origins_behind files done None reply origins = origins
-origins_behind files done (Some change) reply origins = kept_with done (change_origins files change) reply origins
+-- and where profiles were read by a language
+abbrev pub origins_behind : Language → List File → ℕ → Option PolicyChange → Reply → List (List Origin) → List (List Origin)
+origins_behind language files done None reply origins = origins
+origins_behind language files done (Some change) reply origins = kept_with done (change_origins language files change) reply origins
 
 -- how many changes are done behind a command, as far as it tells of those that it undid or redid: a change that it makes is none of them
 abbrev pub done_behind : Managed → Option PolicyChange → Managed → ℕ
@@ -66,7 +66,7 @@ abbrev pub kept_after : List File → Kept → Option PolicyChange → Obeyed �
 kept_after files kept change obeyed = record {
   managed = obeyed.managed;
   texts = texts_behind (depth kept.managed) change obeyed.reply kept.texts;
-  origins = origins_behind files (depth kept.managed) change obeyed.reply kept.origins;
+  origins = origins_behind kept.managed.settings.language files (depth kept.managed) change obeyed.reply kept.origins;
 }
 
 -- what is told of it

@@ -5,7 +5,7 @@ ghost use Rattle.aatry_session.specs.History.{kept_with};
 
 use crate::origins::Origins;
 use aa_bytes::Sequence;
-use aa_set::Reply;
+use aa_set_manager::Reply;
 use std::alloc::{AllocError, Global};
 
 /// What a session keeps of its changes: of those that are done, oldest first, and then of those that are undone, the next to redo first.

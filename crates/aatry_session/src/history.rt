@@ -3,13 +3,13 @@
 ghost use Rattle.std.specs.Prelude.{◌≡◌, ◌+◌, ◌<◌, ◌^◌, ◌++◌, IfOk, OnOk};
 ghost use Rattle.std.specs.Option.{option_map};
 ghost use Rattle.aa_history.specs.SeenMarks.{seen_marks};
-ghost use Rattle.aa_set.specs.Laws.{command_in};
+ghost use Rattle.aa_set_manager.specs.Outcomes.{command_in};
 ghost use Rattle.aa_set_commands.specs.Command.{seen_change};
 ghost use Rattle.aatry_report.specs.Shown.{shown};
 ghost use Rattle.aatry_session.specs.History.{behind_number, change_in, change_line, change_text, history_lines, mark_line, mark_lines};
 
 use aa_bytes::Sequence;
-use aa_set::Mark;
+use aa_history::Mark;
 use aa_set_commands::{Command, PolicyChange, read};
 use aatry_report::push_shown;
 use itoa::Buffer;

@@ -9,6 +9,7 @@ mod making;
 mod moves;
 mod obeying;
 mod origins;
+mod reading_manager;
 mod refusals;
 mod sayings;
 mod session;

@@ -1,10 +1,9 @@
 //! Changes made, each file read once: what the machine answers, and where the profiles were read that it loaded.
 
 ghost use Rattle.std.specs.Prelude.{◌≡◌, Bool, [], Ok, Some, IfErr, IfOk, MatchResult, OnErr, OnOk};
-ghost use Rattle.aa_set.specs.Laws.{command_in};
-ghost use Rattle.aa_set.specs.Manager.{made};
-ghost use Rattle.aa_set.specs.Run.{line_outcome, obeyed_flagged};
-ghost use Rattle.aa_set.specs.declared.reply.Reply.TheVariants.{Done, Refused};
+ghost use Rattle.aa_set_manager.specs.Outcomes.{command_in, line_outcome, obeyed_flagged};
+ghost use Rattle.aa_set_manager.specs.Manager.{made};
+ghost use Rattle.aa_set_manager.specs.declared.reply.Reply.TheVariants.{Done, Refused};
 ghost use Rattle.aa_set_commands.specs.Command.{Add, Make, Replace, seen_change};
 ghost use Rattle.aa_set_commands.specs.Refusal.{IsRefusalOf};
 ghost use Rattle.aatry_session.specs.History.{change_in};
@@ -12,10 +11,11 @@ ghost use Rattle.aatry_session.specs.Origins.{change_origins, origins_at};
 ghost use Rattle.aatry_session.specs.Turns.{file_added};
 
 use crate::origins::Origins;
-use aa_profile::{FileProfiles, read_file};
-use aa_set::{Manager, Refusal, RefusalKind, Reply, reply_to};
-use aa_set_commands::{PolicyChange, plain};
+use crate::reading_manager::ReadingManager;
+use aa_profile::FileProfiles;
+use aa_set_commands::{PolicyChange, Refusal, RefusalKind, plain};
 use aa_set_lines::LONGEST_LINE;
+use aa_set_manager::Reply;
 use aa_text_files::Files;
 use aatry_policy::origins_of;
 use std::alloc::Global;
@@ -33,15 +33,15 @@ pub struct Made {
 fn add_file(
     alloc: Global,
     files: &Files,
-    manager: &mut Manager,
+    manager: &mut ReadingManager,
     name: &[u8],
 ) -> Result<Origins, Refusal>
     ensures ok { OnOk result (made files.now manager.old (Add name.now) ≡ Ok manager.new) }
     ensures refused { IfErr result (IsRefusalOf (made files.now manager.old (Add name.now))) }
     ensures unchanged { OnErr result (manager.new ≡ manager.old) }
-    ensures origins { IfOk result (λ origins. origins ≡ origins_at files.now name.now) }
+    ensures origins { IfOk result (λ origins. origins ≡ origins_at manager.old.settings.language files.now name.now) }
 {
-    let FileProfiles { profiles, places } = read_file(alloc, files, name)?;
+    let FileProfiles { profiles, places } = manager.read(alloc, files, name)?;
     let own = origins_of(alloc, name, &profiles, places)?;
     manager.add_read(profiles)?;
     Ok(Origins::of(own))
@@ -51,15 +51,15 @@ fn add_file(
 fn replace_file(
     alloc: Global,
     files: &Files,
-    manager: &mut Manager,
+    manager: &mut ReadingManager,
     name: &[u8],
 ) -> Result<Origins, Refusal>
     ensures ok { OnOk result (made files.now manager.old (Replace name.now) ≡ Ok manager.new) }
     ensures refused { IfErr result (IsRefusalOf (made files.now manager.old (Replace name.now))) }
     ensures unchanged { OnErr result (manager.new ≡ manager.old) }
-    ensures origins { IfOk result (λ origins. origins ≡ origins_at files.now name.now) }
+    ensures origins { IfOk result (λ origins. origins ≡ origins_at manager.old.settings.language files.now name.now) }
 {
-    let FileProfiles { profiles, places } = read_file(alloc, files, name)?;
+    let FileProfiles { profiles, places } = manager.read(alloc, files, name)?;
     let own = origins_of(alloc, name, &profiles, places)?;
     manager.replace_read(profiles)?;
     Ok(Origins::of(own))
@@ -90,29 +90,29 @@ fn refused(alloc: Global, refusal: Refusal) -> Made
 }
 
 /// Adds the profiles of a file.
-pub fn add(alloc: Global, files: &Files, manager: &mut Manager, name: &[u8]) -> Made
+pub fn add(alloc: Global, files: &Files, manager: &mut ReadingManager, name: &[u8]) -> Made
     ensures reply { (flag : Bool) × (record { reply = result.reply; managed = manager.new } ≡ file_added files.now manager.old name.now flag) }
-    ensures origins { result.reply ≡ Done → result.origins ≡ origins_at files.now name.now }
+    ensures origins { result.reply ≡ Done → result.origins ≡ origins_at manager.old.settings.language files.now name.now }
 {
     answered(alloc, add_file(alloc, files, manager, name))
 }
 
 // Puts the profiles of a file in the places of those of their names.
-fn replace(alloc: Global, files: &Files, manager: &mut Manager, name: &[u8]) -> Made
+fn replace(alloc: Global, files: &Files, manager: &mut ReadingManager, name: &[u8]) -> Made
     ensures reply { (flag : Bool) × (record { reply = result.reply; managed = manager.new }
         ≡ obeyed_flagged files.now manager.old flag (Make (Replace name.now))) }
-    ensures origins { result.reply ≡ Done → result.origins ≡ origins_at files.now name.now }
+    ensures origins { result.reply ≡ Done → result.origins ≡ origins_at manager.old.settings.language files.now name.now }
 {
     answered(alloc, replace_file(alloc, files, manager, name))
 }
 
 // Has the machine obey a line that makes a change which loads no profiles.
-fn by_line(alloc: Global, files: &Files, manager: &mut Manager, line: &[u8]) -> Made
+fn by_line(alloc: Global, files: &Files, manager: &mut ReadingManager, line: &[u8]) -> Made
     ensures reply { (flag : Bool) × (record { reply = result.reply; managed = manager.new } ≡ line_outcome files.now manager.old line.now flag) }
     ensures origins { result.origins ≡ [] }
 {
     Made {
-        reply: reply_to(files, manager, line),
+        reply: manager.reply_to(files, line),
         origins: Origins::of(Vec::new(alloc)),
     }
 }
@@ -121,13 +121,13 @@ fn by_line(alloc: Global, files: &Files, manager: &mut Manager, line: &[u8]) -> 
 pub fn make(
     alloc: Global,
     files: &Files,
-    manager: &mut Manager,
+    manager: &mut ReadingManager,
     change: PolicyChange<'_>,
     line: &[u8],
 ) -> Made
     requires { change_in (command_in line.now) ≡ Some (seen_change change) }
     ensures reply { (flag : Bool) × (record { reply = result.reply; managed = manager.new } ≡ line_outcome files.now manager.old line.now flag) }
-    ensures origins { result.reply ≡ Done → result.origins ≡ change_origins files.now (seen_change change.entry) }
+    ensures origins { result.reply ≡ Done → result.origins ≡ change_origins manager.old.settings.language files.now (seen_change change.entry) }
 {
     if line.len() > LONGEST_LINE {
         return refused(alloc, plain(RefusalKind::LineTooLong));

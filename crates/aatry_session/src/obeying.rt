@@ -1,8 +1,7 @@
 //! A line for the machine over commands, obeyed, and what is told of it.
 
 ghost use Rattle.std.specs.Prelude.{◌≡◌, ◌<◌, ◌++◌, ℕ, List, OnErr, OnOk, None, Some, length, vec_capacity};
-ghost use Rattle.aa_set.specs.Laws.{command_in};
-ghost use Rattle.aa_set.specs.Run.{line_outcome};
+ghost use Rattle.aa_set_manager.specs.Outcomes.{command_in, line_outcome};
 ghost use Rattle.aa_set_commands.specs.Command.{seen_change};
 ghost use Rattle.aatry_session.specs.History.{change_in, kept_with};
 ghost use Rattle.aatry_session.specs.SeenSessions.{seen_session};
@@ -12,10 +11,11 @@ use crate::changes::{Changes, keep, make_room};
 use crate::history::{change_in, text_of};
 use crate::making::{Made, add, make};
 use crate::moves::push_moves;
+use crate::reading_manager::ReadingManager;
 use crate::refusals::push_refusal;
 use aa_bytes::Sequence;
-use aa_set::{Manager, Reply, reply_to};
 use aa_set_commands::PolicyChange;
+use aa_set_manager::Reply;
 use aa_text_files::Files;
 use aatry_report::push_shown_lines;
 use std::alloc::{AllocError, Global};
@@ -69,7 +69,7 @@ fn obey_change(
     alloc: Global,
     files: &Files,
     base: &[u8],
-    manager: &mut Manager,
+    manager: &mut ReadingManager,
     changes: &mut Changes,
     change: PolicyChange<'_>,
     line: &[u8],
@@ -98,7 +98,7 @@ pub fn obey_add(
     alloc: Global,
     files: &Files,
     base: &[u8],
-    manager: &mut Manager,
+    manager: &mut ReadingManager,
     changes: &mut Changes,
     name: &[u8],
     out: &mut Vec<u8>,
@@ -119,7 +119,7 @@ fn obey_other(
     alloc: Global,
     files: &Files,
     base: &[u8],
-    manager: &mut Manager,
+    manager: &mut ReadingManager,
     changes: &Changes,
     line: &[u8],
     out: &mut Vec<u8>,
@@ -130,7 +130,7 @@ fn obey_other(
         (line_outcome files.now manager.old line.now)) }
 {
     let from = manager.depth();
-    let reply = reply_to(files, manager, line);
+    let reply = manager.reply_to(files, line);
     let to = manager.depth();
     push_reply(alloc, files, base, &changes.texts, from, to, &reply, out)
 }
@@ -145,7 +145,7 @@ pub fn obey(
     alloc: Global,
     files: &Files,
     base: &[u8],
-    manager: &mut Manager,
+    manager: &mut ReadingManager,
     changes: &mut Changes,
     line: &[u8],
     out: &mut Vec<u8>,

@@ -11,10 +11,13 @@ use crate::help::push_help;
 use crate::history::push_history;
 use crate::obeying::{obey, obey_add};
 use crate::origins::{forget_all, origin_among};
+use crate::reading_manager::ReadingManager;
 use crate::refusals::push_refusal;
 use crate::sayings::{Saying, saying_in};
 use aa_bytes::Sequence;
-use aa_set::{Manager, Question};
+use aa_profile_parsing::Language;
+use aa_set_commands::Question;
+use aa_set_manager::Manager;
 use aa_text_files::Files;
 use aatry_policy::Origin;
 use std::alloc::{AllocError, Global};
@@ -39,7 +42,7 @@ pub enum Turn<'a> {
 /// undone, the next to redo first.
 #[derive(Drop)]
 pub struct Session {
-    manager: Manager,
+    manager: ReadingManager,
     changes: Changes,
 }
 
@@ -53,12 +56,13 @@ impl Model for Session {
 }
 
 impl Session {
-    /// A session of the empty policy set, which no change has made yet. With `force_complain` each profile is loaded in complain mode. It takes no memory.
-    pub fn new(alloc: Global, force_complain: bool) -> Session
-        ensures { result ≡ begun force_complain }
+    /// A session of the empty policy set, which no change has made yet, of files that are read by a language. With `force_complain` each profile is
+    /// loaded in complain mode. It takes no memory.
+    pub fn new(alloc: Global, language: Language, force_complain: bool) -> Session
+        ensures { result ≡ begun language force_complain }
     {
         Session {
-            manager: Manager::new(alloc, force_complain),
+            manager: ReadingManager::new(alloc, language, force_complain),
             changes: no_changes(alloc),
         }
     }
@@ -67,7 +71,7 @@ impl Session {
     pub fn manager(&self) -> &Manager
         ensures { result.now ≡ self.now.managed }
     {
-        &self.manager
+        self.manager.manager()
     }
 
     /// Remembers what a question passes (`Manager::remember`), so that it is answered quicker from now on. Nothing of the session changes by it.
@@ -181,7 +185,7 @@ impl Session {
         push_history(
             &mut out,
             self.manager.depth(),
-            self.manager.marks(),
+            self.manager.manager().marks(),
             &self.changes.texts,
         )?;
         Ok(Turn::Told(Sequence::from_vec(out)))

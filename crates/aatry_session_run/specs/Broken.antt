@@ -1,6 +1,7 @@
 -- What is written of a session over a folder of policy that a fault ends: a beginning of what a session writes.
 use Rattle.std.specs.Prelude.{◌≡◌, ◌⊎◌, ℕ, Bool, true, List, Option, length}
 use Rattle.std.specs.Io.KnownBytes.{Appends}
+use Rattle.aa_profile_parsing.specs.declared.language.Language.{Language}
 use Rattle.aa_set_lines.specs.Streams.{AppendsFront}
 use Rattle.aatry_folder.specs.Unread.{IsOfFolder}
 use Rattle.aatry_folder.specs.declared.fault.Fault.{Fault}
@@ -41,10 +42,10 @@ IsBrokenRun folders known base prompt first after fault =
 
 -- A fault ended a session over a folder: nothing was written, since the folder couldn't be loaded; or a front of what is told of that; or all of that, and
 -- then the lines of the input were answered until the fault came.
-abbrev pub IsBrokenSession : ToldFolders → Known → (base prompt : List ℕ) → (left before after : Option (List ℕ)) → Fault → Type 0
-IsBrokenSession folders known base prompt left before after fault =
+abbrev pub IsBrokenSession : Language → ToldFolders → Known → (base prompt : List ℕ) → (left before after : Option (List ℕ)) → Fault → Type 0
+IsBrokenSession language folders known base prompt left before after fault =
     (IsOfFolder folders known base fault × (after ≡ before))
-    ⊎ ((state : State) × (text : List ℕ) × IsLoaded folders known base state text
+    ⊎ ((state : State) × (text : List ℕ) × IsLoaded language folders known base state text
     × (((fault ≡ Write) × AppendsFront before after text)
     ⊎ ((written : Option (List ℕ)) × Appends before written text
     × IsBrokenRun folders known base prompt (at_first_line left written state) after fault)))

@@ -4,6 +4,7 @@ use Rattle.std.specs.Io.KnownBytes.{Appends}
 use Rattle.std.specs.Str.{bytes_eq}
 use Rattle.aa_bytes.specs.Bytes.{line_feed}
 use Rattle.aa_profile_access.specs.FullNames.{full_name}
+use Rattle.aa_profile_parsing.specs.declared.language.Language.{Language}
 use Rattle.aa_set_answers.specs.Answers.{who_asks}
 use Rattle.aa_set_commands.specs.Question.{Question}
 use Rattle.aa_text_files.specs.Files.{File}
@@ -119,20 +120,20 @@ IsRun folders known base prompt first last =
     (lines : List (List ℕ)) × (before : Standing)
     × Answers folders known base prompt first lines before × IsLastStep folders known base prompt before last
 
--- All that lies below a folder was read, the profiles of the files at its top were added in their order, and the text tells of that.
-pub record IsLoaded (folders : ToldFolders) (known : Known) (base : List ℕ) (state : State) (text : List ℕ) : Type 0 where
+-- All that lies below a folder was read, the profiles of the files at its top were added in their order, by a language, and the text tells of that.
+pub record IsLoaded (language : Language) (folders : ToldFolders) (known : Known) (base : List ℕ) (state : State) (text : List ℕ) : Type 0 where
   pub below : AreBelow folders known base state.files
-  pub each : LoadsEach state.files base (begun false) (top_names (names_of state.files)) state.kept text
+  pub each : LoadsEach state.files base (begun language false) (top_names (names_of state.files)) state.kept text
 
 -- where a session stands that has read no line
 abbrev pub at_first_line : Option (List ℕ) → Option (List ℕ) → State → Standing
 at_first_line left written state = record { left = left; waits = []; written = written; state = state }
 
 -- A session over a folder was had: it was loaded, what is told of that was written, and then the lines of the input were answered to the session's end.
-pub record IsSession (folders : ToldFolders) (known : Known) (base prompt : List ℕ) (left before after : Option (List ℕ)) : Type 0 where
+pub record IsSession (language : Language) (folders : ToldFolders) (known : Known) (base prompt : List ℕ) (left before after : Option (List ℕ)) : Type 0 where
   pub state : State
   pub text : List ℕ
-  pub loaded : IsLoaded folders known base state text
+  pub loaded : IsLoaded language folders known base state text
   pub written : Option (List ℕ)
   pub told : Appends before written text
   pub last : Standing

@@ -21,6 +21,7 @@ ghost use Rattle.aatry_session.specs.Turns.{Told};
 use crate::faults::push_told;
 use crate::input::LineInput;
 use aa_profile_access::cut_full_name;
+use aa_profile_parsing::Language;
 use aa_set_commands::Question;
 use aa_set_lines::{LineBuffer, Sink, Source, write_all};
 use aa_text_files::Files;
@@ -38,9 +39,10 @@ const MOST_LINES: u32 = 1_073_741_824;
 // What is told of a file that is taken, as it is loaded.
 const TAKEN: &[u8] = b"ok\n";
 
-// What stays the same through a session: its folder of policy on disk, and what is written before a line is read.
+// What stays the same through a session: the language by which it reads policy, its folder of policy on disk, and what is written before a line is read.
 #[derive(Drop)]
 struct Setting<'a, F, D> {
+    language: Language,
     folders: &'a F,
     disk: &'a D,
     base: &'a str,
@@ -130,7 +132,13 @@ fn reload<F: Folders, D: FileSystem>(
         × IsReadAnew (F.told setting.now.folders.now) (D.known setting.now.disk.now) setting.now.base.now
         (seen_table table.old) (seen_table table.new) text) }
 {
-    match policy_below(alloc, setting.folders, setting.disk, setting.base) {
+    match policy_below(
+        alloc,
+        setting.language,
+        setting.folders,
+        setting.disk,
+        setting.base,
+    ) {
         Ok(read) => {
             table.files = read.files;
             table.session.forget_places();
@@ -318,17 +326,18 @@ fn begin<F: Folders, D: FileSystem>(
     out: &mut Vec<u8>,
 ) -> Result<Table, Fault>
     ensures loaded { IfOk result (λ table. (text : List ℕ) × (out.new.items ≡ out.old.items ++ text)
-        × IsLoaded (F.told setting.now.folders.now) (D.known setting.now.disk.now) setting.now.base.now
+        × IsLoaded setting.now.language (F.told setting.now.folders.now) (D.known setting.now.disk.now) setting.now.base.now
         (seen_table table) text) }
     ensures fault { IfErr result (IsOfFolder (F.told setting.now.folders.now) (D.known setting.now.disk.now) setting.now.base.now) }
 {
     let PolicyFolder { files, top, .. } = policy_below(
         alloc,
+        setting.language,
         setting.folders,
         setting.disk,
         setting.base,
     )?;
-    let mut session = Session::new(alloc, false);
+    let mut session = Session::new(alloc, setting.language, false);
     load_each(alloc, &files, setting.base, &mut session, &top, out)?;
     Ok(Table { files, session })
 }
@@ -350,9 +359,9 @@ fn have_session<F: Folders, D: FileSystem, S: Source, W: Sink>(
     writer: &mut W,
 ) -> Result<(), Fault>
     requires { S.reads reader.old ≤ 2 ^ 62 }
-    ensures had { OnOk result (IsSession (F.told setting.now.folders.now) (D.known setting.now.disk.now) setting.now.base.now setting.now.prompt.now
+    ensures had { OnOk result (IsSession setting.now.language (F.told setting.now.folders.now) (D.known setting.now.disk.now) setting.now.base.now setting.now.prompt.now
         (S.left reader.old) (W.written writer.old) (W.written writer.new)) }
-    ensures broken { IfErr result (IsBrokenSession (F.told setting.now.folders.now) (D.known setting.now.disk.now) setting.now.base.now setting.now.prompt.now
+    ensures broken { IfErr result (IsBrokenSession setting.now.language (F.told setting.now.folders.now) (D.known setting.now.disk.now) setting.now.base.now setting.now.prompt.now
         (S.left reader.old) (W.written writer.old) (W.written writer.new)) }
     ensures fault { IfErr result (IsEndOfSession (F.told setting.now.folders.now) (D.known setting.now.disk.now) setting.now.base.now) }
     ensures failed { IsErrOf result Fault.Write → W.failed writer.new ≡ true }
@@ -364,7 +373,7 @@ fn have_session<F: Folders, D: FileSystem, S: Source, W: Sink>(
     run(alloc, setting, &mut table, reader, &mut lines, writer)
 }
 
-/// Has a session over the folder of policy that is asked for: reads it as `aatry_folder::policy_below` does, adds the profiles of those at its top, each
+/// Has a session by a language over the folder of policy that is asked for: reads it as `aatry_folder::policy_below` does, adds the profiles of those at its top, each
 /// file in its turn, and tells those that are refused. Then each line of the input is answered as `aatry_session::Session::answer` answers it, until a
 /// line ends the session, or the input does. `prompt` is written before each line is read. `reload` reads all below the folder again: the policy set and
 /// its history stay, and where in the files the loaded profiles have their rules isn't known any more. `why` is answered with the rules of the loaded
@@ -379,6 +388,7 @@ fn have_session<F: Folders, D: FileSystem, S: Source, W: Sink>(
 /// - `NoMemory` where memory ran out: nothing is written then, or what is told of the lines so far, and the prompt behind it.
 pub fn session_folder<F: Folders, D: FileSystem, S: Source, W: Sink>(
     alloc: Global,
+    language: Language,
     folders: &F,
     disk: &D,
     asked: aatry_arguments::Session,
@@ -387,15 +397,16 @@ pub fn session_folder<F: Folders, D: FileSystem, S: Source, W: Sink>(
     writer: &mut W,
 ) -> Result<(), Fault>
     requires { S.reads reader.old ≤ 2 ^ 62 }
-    ensures had { OnOk result (IsSession (F.told folders.now) (D.known disk.now) (string_bytes asked.base) prompt.now
+    ensures had { OnOk result (IsSession language (F.told folders.now) (D.known disk.now) (string_bytes asked.base) prompt.now
         (S.left reader.old) (W.written writer.old) (W.written writer.new)) }
-    ensures broken { IfErr result (IsBrokenSession (F.told folders.now) (D.known disk.now) (string_bytes asked.base) prompt.now
+    ensures broken { IfErr result (IsBrokenSession language (F.told folders.now) (D.known disk.now) (string_bytes asked.base) prompt.now
         (S.left reader.old) (W.written writer.old) (W.written writer.new)) }
     ensures fault { IfErr result (IsEndOfSession (F.told folders.now) (D.known disk.now) (string_bytes asked.base)) }
     ensures failed { IsErrOf result Fault.Write → W.failed writer.new ≡ true }
 {
     let aatry_arguments::Session { base } = asked;
     let setting = Setting {
+        language,
         folders,
         disk,
         base: base.as_str(),

@@ -1,5 +1,6 @@
 -- What a test of transcripts over a folder of policy comes to.
 use Rattle.std.specs.Prelude.{◌≡◌, ◌+◌, ℕ, Bool, List, [], ◌∷◌, ◌++◌}
+use Rattle.aa_profile_parsing.specs.declared.language.Language.{Language}
 use Rattle.aa_text_files.specs.Files.{File}
 use Rattle.aaset_start.specs.Known.{Known}
 use Rattle.aatry_folder.specs.OneFile.{IsFileAt}
@@ -8,20 +9,20 @@ use Rattle.aatry_folder.specs.Told.{ToldFolders}
 use Rattle.aatry_folder.specs.Reports.{failed_by}
 use Rattle.aatry_test.specs.Tests.{IsTested}
 
--- The transcript of this path was tested, the text tells how it came out, and so many failed: one or none.
-abbrev pub IsFileTested : Known → List File → List ℕ → List ℕ → ℕ → Type 0
-IsFileTested known files path text failed =
-    (bytes : List ℕ) × (passed : Bool) × IsFileAt known path ((path, bytes) ∷ []) × IsTested files path bytes passed text × (failed ≡ failed_by passed)
+-- The transcript of this path was tested by a language, the text tells how it came out, and so many failed: one or none.
+abbrev pub IsFileTested : Language → Known → List File → List ℕ → List ℕ → ℕ → Type 0
+IsFileTested language known files path text failed =
+    (bytes : List ℕ) × (passed : Bool) × IsFileAt known path ((path, bytes) ∷ []) × IsTested language files path bytes passed text × (failed ≡ failed_by passed)
 
 -- a text tells each of these transcripts in turn, and so many failed
-abbrev pub TestsEach : Known → List File → List (List ℕ) → List ℕ → ℕ → Type 0
-TestsEach known files [] text failed = (text ≡ []) × (failed ≡ 0)
-TestsEach known files (path ∷ paths) text failed =
+abbrev pub TestsEach : Language → Known → List File → List (List ℕ) → List ℕ → ℕ → Type 0
+TestsEach language known files [] text failed = (text ≡ []) × (failed ≡ 0)
+TestsEach language known files (path ∷ paths) text failed =
     (first rest : List ℕ) × (one left : ℕ) × (text ≡ first ++ rest) × (failed ≡ one + left)
-    × IsFileTested known files path first one × TestsEach known files paths rest left
+    × IsFileTested language known files path first one × TestsEach language known files paths rest left
 
--- The transcripts were tested over all that lies below the folder, the text tells each of them, and so many failed.
-pub record IsTestedBelow (folders : ToldFolders) (known : Known) (base : List ℕ) (paths : List (List ℕ)) (text : List ℕ) (failed : ℕ) : Type 0 where
+-- The transcripts were tested over all that lies below the folder, read by a language, the text tells each of them, and so many failed.
+pub record IsTestedBelow (language : Language) (folders : ToldFolders) (known : Known) (base : List ℕ) (paths : List (List ℕ)) (text : List ℕ) (failed : ℕ) : Type 0 where
   pub files : List File
   pub below : AreBelow folders known base files
-  pub each : TestsEach known files paths text failed
+  pub each : TestsEach language known files paths text failed

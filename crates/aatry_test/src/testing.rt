@@ -3,6 +3,7 @@
 ghost use Rattle.std.specs.Prelude.{◌≡◌, ◌++◌, ℕ, Bool, List, IfOk, false};
 ghost use Rattle.aa_set.specs.Run.{output};
 ghost use Rattle.aa_set_lines.specs.Lines.{lines};
+ghost use Rattle.aa_set_manager.specs.Manager.{new_manager_in};
 ghost use Rattle.aatry_test.specs.Tests.{IsTested};
 ghost use Rattle.aatry_test.specs.Differences.{are_same, comparison};
 ghost use Rattle.aatry_test.specs.Transcripts.{input_of, texts, wanted_in};
@@ -10,28 +11,39 @@ ghost use Rattle.aatry_test.specs.Transcripts.{input_of, texts, wanted_in};
 use crate::comparing::compare;
 use crate::lines::lines_of;
 use crate::transcripts::input_of;
-use aa_set::{FromRead, ToWrite, run};
+use aa_set::{FromRead, Language, ToWrite, run_in};
 use aa_text_files::Files;
 use std::alloc::{AllocError, Global};
 
-// What a run over these files writes for an input. Where none can be had memory ran out, as neither the input nor the output can fail otherwise.
-fn output_for(alloc: Global, files: &Files, input: &[u8]) -> Result<Vec<u8>, AllocError>
-    ensures { IfOk result (λ told. (flags : List Bool) × (told.items ≡ output files.now false input.now flags)) }
+// What a run over these files, read by a language, writes for an input. Where none can be had memory ran out, as neither the input nor the output can
+// fail otherwise.
+fn output_for(
+    alloc: Global,
+    language: Language,
+    files: &Files,
+    input: &[u8],
+) -> Result<Vec<u8>, AllocError>
+    ensures { IfOk result (λ told. (flags : List Bool) × (told.items ≡ output files.now (new_manager_in language false) input.now flags)) }
 {
     let mut reader = FromRead::new(input);
     let mut writer = ToWrite::new(Vec::new(alloc));
-    match run(alloc, files, false, &mut reader, &mut writer) {
+    match run_in(alloc, language, files, false, &mut reader, &mut writer) {
         Ok(_) => Ok(writer.into_inner()),
         Err(_) => Err(AllocError),
     }
 }
 
 // What a run over these files writes for the commands of a transcript, by its lines.
-fn output_for_lines(alloc: Global, files: &Files, lines: &[&[u8]]) -> Result<Vec<u8>, AllocError>
-    ensures { IfOk result (λ told. (flags : List Bool) × (told.items ≡ output files.now false (input_of (texts lines.now)) flags)) }
+fn output_for_lines(
+    alloc: Global,
+    language: Language,
+    files: &Files,
+    lines: &[&[u8]],
+) -> Result<Vec<u8>, AllocError>
+    ensures { IfOk result (λ told. (flags : List Bool) × (told.items ≡ output files.now (new_manager_in language false) (input_of (texts lines.now)) flags)) }
 {
     let input = input_of(alloc, lines)?;
-    output_for(alloc, files, &input)
+    output_for(alloc, language, files, &input)
 }
 
 // Compares a transcript, by its lines, with what a run writes, and puts what is found behind a text.
@@ -49,25 +61,26 @@ fn compare_with(
     compare(alloc, path, wanted, &told, out)
 }
 
-/// Runs the commands of a transcript over these files, from the empty policy set on, compares what is told with what the transcript wants, puts
-/// what is found behind a text, and says whether the transcript passed: whether all that is told is what it wants. It is told by `path`. In a
-/// transcript a line that begins with `> ` holds a command, a line that begins with `#` and one of blanks are left out, and each other line is
-/// wanted.
+/// Runs the commands of a transcript over these files, read by a language, from the empty policy set on, compares what is told with what the
+/// transcript wants, puts what is found behind a text, and says whether the transcript passed: whether all that is told is what it wants. It is told
+/// by `path`. In a transcript a line that begins with `> ` holds a command, a line that begins with `#` and one of blanks are left out, and each
+/// other line is wanted.
 ///
 /// # Errors
 ///
-/// Where memory runs out. A beginning may have been put then. A command that finds no memory is answered so, as `aa_set::run` says.
+/// Where memory runs out. A beginning may have been put then. A command that finds no memory is answered so, as `aa_set::run_in` says.
 pub fn test(
     alloc: Global,
+    language: Language,
     files: &Files,
     path: &[u8],
     transcript: &[u8],
     out: &mut Vec<u8>,
 ) -> Result<bool, AllocError>
     ensures { IfOk result (λ passed. (text : List ℕ) × (out.new.items ≡ out.old.items ++ text)
-        × IsTested files.now path.now transcript.now passed text) }
+        × IsTested language files.now path.now transcript.now passed text) }
 {
     let wanted = lines_of(alloc, transcript)?;
-    let told = output_for_lines(alloc, files, &wanted)?;
+    let told = output_for_lines(alloc, language, files, &wanted)?;
     compare_with(alloc, path, &wanted, &told, out)
 }

@@ -30,14 +30,14 @@ lets_through Complain = true
 lets_through Deny = false
 lets_through Refuse = false
 
--- a record of who gives an answer that lets a request through: its full name and the answer's word
-abbrev pub let_record : List ℕ → Answer → Members
-let_record name answer = with_text (codes "answer") (answer_word answer) (with_text (codes "name") name (record_of (codes "let")))
+-- a record of who lets a request through: its full name and the word of its answer
+abbrev pub let_record : List ℕ → List ℕ → Members
+let_record name word = with_text (codes "answer") word (with_text (codes "name") name (record_of (codes "let")))
 
 -- what is told of it: a line of both, or the record
-abbrev pub let_line : Form → List ℕ → Answer → List ℕ
-let_line Lines name answer = shown name ++ codes ": " ++ answer_word answer ++ line_feed ∷ []
-let_line Records name answer = record_line (let_record name answer)
+abbrev pub let_line : Form → List ℕ → List ℕ → List ℕ
+let_line Lines name word = shown name ++ codes ": " ++ word ++ line_feed ∷ []
+let_line Records name word = record_line (let_record name word)
 
 -- the rules of a part of a folder, with where they are written
 abbrev pub written_of : FolderParts → Part → Written
@@ -62,15 +62,15 @@ by_rules form folder request name _ = []
 -- what is told of who gives an answer, and by which rules. Nothing is told where the answer doesn't let the request through.
 abbrev pub answer_lines : Form → FolderParts → Request → List ℕ → Answer → List ℕ
 answer_lines form folder request name answer =
-    if lets_through answer then let_line form name answer ++ by_rules form folder request name answer else []
+    if lets_through answer then let_line form name (answer_word answer) ++ by_rules form folder request name answer else []
 
 -- the answer of a verdict, if there is one
 abbrev pub answer_of : Option Verdict → Option Answer
 answer_of verdict = option_map (λ v. v.answer) verdict
 
--- the lines of who has a name, by its answer, if it confines at all
+-- the lines of who has a name, by its answer; where there is none, no rule is asked, and all is let through
 abbrev pub lines_by : Form → FolderParts → Request → List ℕ → Option Answer → List ℕ
-lines_by form folder request name None = []
+lines_by form folder request name None = let_line form name (codes "unconfined")
 lines_by form folder request name (Some answer) = answer_lines form folder request name answer
 
 -- the lines of a profile, or of its child or hat at a place

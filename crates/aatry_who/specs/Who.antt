@@ -1,6 +1,7 @@
 -- What is told of who would be let through by the policy of a folder (docs/aatry.md).
 use Rattle.std.specs.Prelude.{◌≡◌, ℕ, Bool, not, List, ◌++◌, Ok}
 use Rattle.aa_bytes.specs.Texts.{is_empty}
+use Rattle.aa_profile_parsing.specs.declared.language.Language.{Language}
 use Rattle.aa_set_commands.specs.Question.{Question, question_of}
 use Rattle.aa_text_files.specs.Files.{File}
 use Rattle.aaset_start.specs.Known.{Known}
@@ -29,11 +30,11 @@ IsWhoTold form folder words text found =
     × (text ≡ left_out_in form folder ++ let_by form folder question)
     × (found ≡ is_let (let_by form folder question))
 
--- The files at the top of the folder, with all that lies below it, were asked for, and the text tells who would be let through. It failed where nobody
+-- The files at the top of the folder, with all that lies below it, were asked for by a language, and the text tells who would be let through. It failed where nobody
 -- would.
-pub record IsWhoToldBelow (form : Form) (folders : ToldFolders) (known : Known) (base : List ℕ) (words : List (List ℕ)) (text : List ℕ) (failed : ℕ) : Type 0 where
+pub record IsWhoToldBelow (form : Form) (language : Language) (folders : ToldFolders) (known : Known) (base : List ℕ) (words : List (List ℕ)) (text : List ℕ) (failed : ℕ) : Type 0 where
   pub files : List File
   pub below : AreBelow folders known base files
   pub found : Bool
-  pub told : IsWhoTold form (folder_at base files) words text found
+  pub told : IsWhoTold form (folder_at language base files) words text found
   pub counted : failed ≡ failed_by found

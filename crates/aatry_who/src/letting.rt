@@ -34,39 +34,34 @@ fn lets_through(answer: Answer) -> bool
     }
 }
 
-// Appends the line of who gives an answer to a text.
-fn push_let_line(text: &mut Vec<u8>, name: &[u8], answer: Answer) -> Result<(), AllocError>
-    ensures { OnOk result (text.new.items ≡ text.old.items ++ let_line form.Lines name.now answer) }
+// Appends the line of who lets a request through to a text, with the word of its answer.
+fn push_let_line(text: &mut Vec<u8>, name: &[u8], word: &[u8]) -> Result<(), AllocError>
+    ensures { OnOk result (text.new.items ≡ text.old.items ++ let_line form.Lines name.now word.now) }
 {
     push_shown(text, name)?;
     text.extend_from_slice(b": ")?;
-    text.extend_from_slice(answer.word().as_bytes())?;
+    text.extend_from_slice(word)?;
     text.push(b'\n')?;
     Ok(())
 }
 
-// The record of who gives an answer.
-fn let_record(alloc: Global, name: &[u8], answer: Answer) -> Result<Record, AllocError>
-    ensures { IfOk result (λ made. seen_record made ≡ let_record name.now answer) }
+// The record of who lets a request through.
+fn let_record(alloc: Global, name: &[u8], word: &[u8]) -> Result<Record, AllocError>
+    ensures { IfOk result (λ made. seen_record made ≡ let_record name.now word.now) }
 {
     let mut made = Record::new(alloc, "let")?;
     made.put_text(alloc, "name", name)?;
-    made.put_text(alloc, "answer", answer.word().as_bytes())?;
+    made.put_text(alloc, "answer", word)?;
     Ok(made)
 }
 
-// Appends what is told of who gives an answer to a text.
-fn push_let(
-    text: &mut Vec<u8>,
-    teller: Teller,
-    name: &[u8],
-    answer: Answer,
-) -> Result<(), AllocError>
-    ensures { OnOk result (text.new.items ≡ text.old.items ++ let_line teller.form name.now answer) }
+// Appends what is told of who lets a request through to a text.
+fn push_let(text: &mut Vec<u8>, teller: Teller, name: &[u8], word: &[u8]) -> Result<(), AllocError>
+    ensures { OnOk result (text.new.items ≡ text.old.items ++ let_line teller.form name.now word.now) }
 {
     match teller.form {
-        Form::Lines => push_let_line(text, name, answer),
-        Form::Records => let_record(teller.alloc, name, answer)?.push(teller.alloc, text),
+        Form::Lines => push_let_line(text, name, word),
+        Form::Records => let_record(teller.alloc, name, word)?.push(teller.alloc, text),
     }
 }
 
@@ -138,11 +133,11 @@ fn push_answer(
     if !lets_through(answer) {
         return Ok(());
     }
-    push_let(text, teller, name, answer)?;
+    push_let(text, teller, name, answer.word().as_bytes())?;
     push_by_rules(text, teller, folder, request, name, answer)
 }
 
-// The answer of what confines a task; none where nothing does.
+// The answer of what confines a task; none where no rule is asked.
 fn answer_by(
     alloc: Global,
     request: &Request<'_>,
@@ -151,9 +146,9 @@ fn answer_by(
     ensures { IfOk result (λ answer. answer ≡ answer_of (confined_answer (found confinement.entry) (request_of request.entry.now))) }
 {
     match confinement {
-        Confinement::Unconfined => Ok(None),
-        Confinement::By { section, mode } => {
-            let verdict = section.decide(alloc, mode, request, &mut Steps::new())?;
+        Confinement::Unconfined | Confinement::ByName => Ok(None),
+        Confinement::By { section, mediation } => {
+            let verdict = section.decide(alloc, mediation, request, &mut Steps::new())?;
             Ok(Some(verdict.answer))
         }
     }
@@ -170,11 +165,11 @@ fn push_lines(
 ) -> Result<(), AllocError>
     ensures { OnOk result (text.new.items ≡ text.old.items ++ lines_of teller.form (seen_folder folder.now) (request_of request.entry.now) entry.now child) }
 {
-    if let Some(answer) = answer_by(teller.alloc, request, entry.confinement(child))? {
-        let name = full_name(teller.alloc, entry.profile(), child)?;
-        push_answer(text, teller, folder, request, &name, answer)?;
+    let name = full_name(teller.alloc, entry.profile(), child)?;
+    match answer_by(teller.alloc, request, entry.confinement(child))? {
+        None => push_let(text, teller, &name, b"unconfined"),
+        Some(answer) => push_answer(text, teller, folder, request, &name, answer),
     }
-    Ok(())
 }
 
 // Appends the lines of these children and hats of a profile to a text.

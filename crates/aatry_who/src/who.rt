@@ -11,6 +11,7 @@ ghost use Rattle.aatry_who.specs.Ends.{IsEndOfWho};
 ghost use Rattle.aatry_who.specs.Who.{IsWhoTold, IsWhoToldBelow, is_let, let_by};
 
 use crate::letting::who_lines;
+use aa_profile_parsing::Language;
 use aa_set_commands::Question;
 use aaset_start::FileSystem;
 use aatry_arguments::Asking;
@@ -80,8 +81,8 @@ fn told_of(teller: Teller, folder: &PolicyFolder<'_>, words: &[String]) -> Resul
     })
 }
 
-/// Which profiles, children and hats of a folder would let a request for a file through, by its access, its owner's word and its path, told in a form: reads
-/// the folder as `aatry_folder::policy_below` does. First come the files that are left out (`aatry_policy::load_folder`). Then comes a line for each, with
+/// Which profiles, children and hats of a folder, read by a language, would let a request for a file through, by its access, its owner's word and its path,
+/// told in a form: reads the folder as `aatry_folder::policy_below` does. First come the files that are left out (`aatry_policy::load_folder`). Then comes a line for each, with
 /// its full name and the word of its answer, `allow` or, in complain mode, `complain`; and below one that allows it the rules that allow something of it
 /// (`aatry_why_lines::push_allowing`). They stand in the order of the set, children and hats behind their profile. Disabled profiles confine nobody and have
 /// no line. One failed where nobody is told.
@@ -96,15 +97,16 @@ fn told_of(teller: Teller, folder: &PolicyFolder<'_>, words: &[String]) -> Resul
 /// - `NoMemory` where memory ran out.
 pub fn who_folder<F: Folders, D: FileSystem>(
     teller: Teller,
+    language: Language,
     folders: &F,
     disk: &D,
     asked: Asking,
 ) -> Result<Report, Fault>
-    ensures told { IfOk result (λ report. IsWhoToldBelow teller.form (F.told folders.now) (D.known disk.now) (string_bytes asked.base) (texts_of asked.words)
+    ensures told { IfOk result (λ report. IsWhoToldBelow teller.form language (F.told folders.now) (D.known disk.now) (string_bytes asked.base) (texts_of asked.words)
         report.text.items report.failed) }
     ensures fault { IfErr result (IsEndOfWho (F.told folders.now) (D.known disk.now) (string_bytes asked.base) (texts_of asked.words)) }
 {
     let Asking { base, words } = asked;
-    let folder = policy_below(teller.alloc, folders, disk, base.as_str())?;
+    let folder = policy_below(teller.alloc, language, folders, disk, base.as_str())?;
     told_of(teller, &folder, &words)
 }

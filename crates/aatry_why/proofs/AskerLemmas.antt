@@ -19,6 +19,7 @@ use Rattle.aa_text_files.specs.Files.{File}
 use Rattle.aatry_why.specs.Why.{sources_in}
 use Rattle.aatry_why.specs.Laws.{AreOwnRules}
 use Rattle.aatry_why.specs.Sources.{written_by}
+use Rattle.aa_profile_parsing.specs.declared.language.Language.{Language}
 use Rattle.aatry_policy.specs.Folders.{Folder, origins_in, policy_in}
 use Rattle.aatry_policy.specs.Origins.{file_of, rule_places}
 use Rattle.aatry_policy.specs.PlaceLaws.{AreWrittenIn, IsFoundAt, IsReadAt}
@@ -79,13 +80,13 @@ by-word entries word who is = by (bytes_eq word (codes "unconfined")) (named_ask
 abbrev pub NamesAreFound : Type 0
 NamesAreFound =
     (folder : Folder) (name : List ℕ) (entry : Loaded) → entry_named name (policy_in folder) ≡ Some entry
-    → IsFoundAt folder.files (origins_in folder) name entry.profile
+    → IsFoundAt folder.language folder.files (origins_in folder) name entry.profile
 
 -- and of what was read
 abbrev pub RulesAreWritten : Type 0
 RulesAreWritten =
-    (files : List File) (profile : Profile) (origin : Origin) (child : Option ℕ) → IsReadAt files profile origin → StandsAt profile child
-    → AreWrittenIn files origin.file child (rules_at profile child) (rule_places (Some origin) child)
+    (language : Language) (files : List File) (profile : Profile) (origin : Origin) (child : Option ℕ) → IsReadAt language files profile origin → StandsAt profile child
+    → AreWrittenIn language files origin.file child (rules_at profile child) (rule_places (Some origin) child)
 
 pub own-rules : NamesAreFound → RulesAreWritten → (folder : Folder) (question : Question) (who : Asker)
     → asker (policy_in folder) (who_asks question) ≡ Some (Some who) → AreOwnRules folder who (written_by (sources_in folder question) who)
@@ -94,6 +95,6 @@ own-rules names rules folder question who is =
     let (origin, first, read) = names folder (full_name (who_asks question)).profile who.entry named in (
       refl,
       refl,
-      subst (λ (o : Option Origin). AreWrittenIn folder.files (file_of o) who.child (rules_at who.entry.profile who.child) (rule_places o who.child)) (sym first)
-          (rules folder.files who.entry.profile origin who.child read stands),
+      subst (λ (o : Option Origin). AreWrittenIn folder.language folder.files (file_of o) who.child (rules_at who.entry.profile who.child) (rule_places o who.child)) (sym first)
+          (rules folder.language folder.files who.entry.profile origin who.child read stands),
     )

@@ -1,10 +1,10 @@
 -- What is told of how the answer to the start of a program came about, behind the rules that decide.
-use Rattle.std.specs.Prelude.{ℕ, Bool, if◌then◌else◌, List, [], ◌∷◌, ◌++◌, codes, Option, None, Some}
+use Rattle.std.specs.Prelude.{ℕ, Bool, true, false, if◌then◌else◌, List, [], ◌∷◌, ◌++◌, codes, Option, None, Some}
 use Rattle.serde_json.specs.Data.{Members}
-use Rattle.aa_bytes.specs.Bytes.{line_feed}
-use Rattle.aa_bytes.specs.Texts.{is_empty}
+use Rattle.aa_bytes.specs.Bytes.{ampersand, line_feed}
+use Rattle.aa_bytes.specs.Texts.{begins_with_byte, is_empty}
 use Rattle.aa_decide.specs.Exec.{Asker}
-use Rattle.aa_decide_slots.specs.Confinement.{By, Confinement, Unconfined, in_state}
+use Rattle.aa_decide_slots.specs.Confinement.{By, ByName, Confinement, Unconfined, in_state}
 use Rattle.aa_decide_slots.specs.Entries.{Loaded}
 use Rattle.aa_profile_access.specs.ExecWords.{row}
 use Rattle.aa_profile_access.specs.declared.exec_word.Destination.{Destination}
@@ -23,9 +23,16 @@ use Rattle.aatry_why.specs.Transitions.{transition_lines}
 abbrev pub own_children : Asker → List Candidate
 own_children asker = elim asker.child [ None ↦ child_candidates asker.entry | Some place ↦ [] ]
 
--- those among which the path's attachment decides where a destination leads: without a target, the profiles, or the children of who asks
+-- those among which the path's attachment decides what a stack is on: where a profile would be taken that isn't named, the profiles
+abbrev pub base_candidates : Bool → List Loaded → Destination → List Candidate
+base_candidates true entries to.Profile = profile_candidates entries
+base_candidates true entries _ = []
+base_candidates false entries destination = []
+
+-- those among which the path's attachment decides where a destination leads: without a target, the profiles, or the children of who asks; with one that
+-- is a stack on whatever profile that would be, the profiles
 abbrev pub asked_candidates : Option (List ℕ) → List Loaded → Asker → Destination → List Candidate
-asked_candidates (Some name) entries asker destination = []
+asked_candidates (Some name) entries asker destination = base_candidates (begins_with_byte ampersand name) entries destination
 asked_candidates None entries asker to.Profile = profile_candidates entries
 asked_candidates None entries asker to.Child = own_children asker
 asked_candidates None entries asker to.Inherit = []
@@ -59,10 +66,11 @@ lines_or_none form lines = if is_empty lines then none_attached form else lines
 abbrev pub profile_lines : Form → List ℕ → List Loaded → List ℕ
 profile_lines form path entries = lines_or_none form (attachment_lines form path (profile_candidates entries))
 
--- by what confines who asks: where nothing does, the path's attachment decides alone, and else what the rules say together
+-- by what confines who asks: where no rule is asked, the path's attachment decides alone, and else what the rules say together
 abbrev pub confined_lines : Form → Bool → List ℕ → List Loaded → Asker → Confinement → List ℕ
 confined_lines form owned path entries asker Unconfined = profile_lines form path entries
-confined_lines form owned path entries asker (By section mode) = led_lines form path entries asker (lead_of owned path entries asker)
+confined_lines form owned path entries asker ByName = profile_lines form path entries
+confined_lines form owned path entries asker (By section mediation) = led_lines form path entries asker (lead_of owned path entries asker)
 
 -- what confines who asks
 abbrev pub confinement_of : Asker → Confinement

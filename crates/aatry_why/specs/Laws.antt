@@ -11,4 +11,4 @@ abbrev pub AreOwnRules : Folder → Asker → Written → Type 0
 AreOwnRules folder who written =
     (written.rules ≡ rules_at who.entry.profile who.child)
     × (written.audit ≡ audits who.entry.profile who.child)
-    × AreWrittenIn folder.files written.name who.child written.rules written.places
+    × AreWrittenIn folder.language folder.files written.name who.child written.rules written.places

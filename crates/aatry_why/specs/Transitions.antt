@@ -1,17 +1,20 @@
 -- What is told of where a transition leads (docs/policy.md, "The start of a program").
-use Rattle.std.specs.Prelude.{ℕ, List, [], ◌∷◌, ◌++◌, Option, None, Some, codes}
+use Rattle.std.specs.Prelude.{ℕ, if◌then◌else◌, is_some, List, [], ◌∷◌, ◌++◌, Option, None, Some, codes}
 use Rattle.std.specs.Option.{option_map}
 use Rattle.serde_json.specs.Data.{Members}
 use Rattle.aa_bytes.specs.Bytes.{line_feed}
-use Rattle.aa_decide.specs.Exec.{Nowhere, Null, Started, Unconfined, Under}
+use Rattle.aa_decide.specs.Exec.{Nowhere, Null, Stacked, Started, Unconfined, Under}
 use Rattle.aa_explain.specs.Leads.{Lead}
 use Rattle.aa_profile_access.specs.ExecWords.{row}
 use Rattle.aa_profile_access.specs.declared.exec_word.Destination.{Destination}
 use Rattle.aa_profile_access.specs.declared.exec_word.Destination.TheVariants as to
 use Rattle.aa_profile_data.specs.declared.profile.Transition.{Transition}
 use Rattle.aa_bytes.specs.Quoting.{written_text}
+use Rattle.aa_profile_access.specs.Stacks.{stack_of}
+use Rattle.aa_set_answers.specs.Answers.{base_name}
 use Rattle.aa_set_answers.specs.ProfileNames.{full_name_at}
 use Rattle.aa_set_answers.specs.RuleLines.{exec_text}
+use Rattle.aa_set_answers.specs.StackNames.{stack_name}
 use Rattle.aatry_report.specs.Headings.{heading_line}
 use Rattle.aatry_report.specs.Records.{record_line, record_of, with_text}
 use Rattle.aatry_report.specs.declared.form.Form.{Form}
@@ -22,9 +25,20 @@ abbrev pub name_text : Form → List ℕ → List ℕ
 name_text Lines name = written_text name
 name_text Records name = name
 
+-- what a stack is on, if it is on something: a line says it, and in a record it stands in the name alone
+abbrev pub on_text : Form → Option (List ℕ) → List ℕ
+on_text Lines None = []
+on_text Lines (Some base) = codes ", on " ++ written_text base
+on_text Records base = []
+
+-- a stack of these members, on what has this name, if it is on something
+abbrev pub stacked_text : Form → Option (List ℕ) → List (List ℕ) → List ℕ
+stacked_text form base members = name_text form (stack_name base members) ++ on_text form base
+
 -- under what a program runs that is started: its full name, or the word where that is no profile, as none is named
 abbrev pub started_text : Form → Started → List ℕ
 started_text form (Under entry child) = name_text form (full_name_at entry.profile child)
+started_text form (Stacked base members) = stacked_text form (option_map base_name base) members
 started_text form Unconfined = codes "unconfined"
 started_text form Null = []
 started_text form Nowhere = []
@@ -33,14 +47,28 @@ started_text form Nowhere = []
 abbrev pub destination_text : Form → Option Started → Option (List ℕ)
 destination_text form to = option_map (started_text form) to
 
--- what isn't there, where a destination leads nowhere. Who asks is always there, and so is no profile.
+-- of a stack one of its names isn't there, or what it is on
+abbrev pub stack_lack : List ℕ → List ℕ
+stack_lack name = written_text name ++ codes " isn't in force as a whole"
+
+-- a name isn't there. Who asks is always there, and so is no profile.
+abbrev pub name_lack : List ℕ → Destination → List ℕ
+name_lack name to.Profile = written_text name ++ codes " isn't in force"
+name_lack name to.Child = written_text name ++ codes " is no child or hat of who asks"
+name_lack name to.Inherit = []
+name_lack name to.Unconfined = []
+
+-- nothing is attached
+abbrev pub attachment_lack : Destination → List ℕ
+attachment_lack to.Profile = codes "no profile in force is attached"
+attachment_lack to.Child = codes "no child is attached"
+attachment_lack to.Inherit = []
+attachment_lack to.Unconfined = []
+
+-- what isn't there, where a destination leads nowhere
 abbrev pub lack_text : Option (List ℕ) → Destination → List ℕ
-lack_text (Some name) to.Profile = written_text name ++ codes " isn't in force"
-lack_text None to.Profile = codes "no profile in force is attached"
-lack_text (Some name) to.Child = written_text name ++ codes " is no child or hat of who asks"
-lack_text None to.Child = codes "no child is attached"
-lack_text target to.Inherit = []
-lack_text target to.Unconfined = []
+lack_text None destination = attachment_lack destination
+lack_text (Some name) destination = if is_some (stack_of name) then stack_lack name else name_lack name destination
 
 -- where the fallback leads, if it leads somewhere
 abbrev pub fallback_text : Option (List ℕ) → List ℕ

@@ -8,6 +8,7 @@ use Rattle.aa_decide_audit.specs.declared.verdict.Answer.{Answer}
 use Rattle.aa_decide_audit.specs.declared.verdict.Answer.TheVariants.{Allow, Complain, Deny, Refuse}
 use Rattle.aa_decide_slots.specs.Entries.{Loaded}
 use Rattle.aa_profile_access.specs.Request.{Request}
+use Rattle.aa_profile_parsing.specs.declared.language.Language.{Language}
 use Rattle.aa_set_answers.specs.Answers.{answered, lines_of, who_asks}
 use Rattle.aa_set_answers.specs.Askers.{asker}
 use Rattle.aa_set_answers.specs.declared.answers.Answered.{Answered}
@@ -98,11 +99,11 @@ IsWhyTold form folder words text found =
     × (text ≡ left_out_in form folder ++ answered_text form (sources_in folder question) (policy_in folder) question)
     × (found ≡ has_answer (policy_in folder) question)
 
--- The question was asked of the files at the top of the folder, with all that lies below it, and the text tells its answer and the rules behind it. It
+-- The question was asked of the files at the top of the folder, with all that lies below it, by a language, and the text tells its answer and the rules behind it. It
 -- failed where nobody of the name is loaded.
-pub record IsWhyToldBelow (form : Form) (folders : ToldFolders) (known : Known) (base : List ℕ) (words : List (List ℕ)) (text : List ℕ) (failed : ℕ) : Type 0 where
+pub record IsWhyToldBelow (form : Form) (language : Language) (folders : ToldFolders) (known : Known) (base : List ℕ) (words : List (List ℕ)) (text : List ℕ) (failed : ℕ) : Type 0 where
   pub files : List File
   pub below : AreBelow folders known base files
   pub found : Bool
-  pub told : IsWhyTold form (folder_at base files) words text found
+  pub told : IsWhyTold form (folder_at language base files) words text found
   pub counted : failed ≡ failed_by found

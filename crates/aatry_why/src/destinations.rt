@@ -1,24 +1,24 @@
 //! How it is told under what a program runs.
 
-ghost use Rattle.std.specs.Prelude.{◌≡◌, IfOk};
-ghost use Rattle.std.specs.Option.{option_map};
-ghost use Rattle.aa_decide.specs.SeenExec.{seen_to};
+ghost use Rattle.std.specs.Prelude.{◌≡◌, ◌++◌, IfOk, OnOk, Some};
+ghost use Rattle.std.specs.Option.{option_copied, option_map};
+ghost use Rattle.aa_decide.specs.SeenExec.{seen_stacked, seen_to};
 ghost use Rattle.aa_explain.specs.Leads.{seen_destination};
+ghost use Rattle.aa_profile_access.specs.Stacks.{parts_of};
 ghost use Rattle.aa_set_answers.specs.ProfileNames.{full_name_at};
-ghost use Rattle.aatry_why.specs.Transitions.{destination_text, name_text, started_text};
+ghost use Rattle.aatry_why.specs.Transitions.{destination_text, name_text, on_text, stacked_text, started_text};
 
 use aa_bytes::push_text;
-use aa_decide::{ExecTo, IndexedSlots, entry_at};
+use aa_decide::{ExecTo, IndexedSlots, StackBase, entry_at};
 use aa_profile_data::Profile;
-use aa_set_answers::full_name;
+use aa_set_answers::{full_name, stack_name};
 use aatry_report::{Form, Teller};
 use std::alloc::{AllocError, Global};
 
-// The full name of a profile, or of its child or hat at a place, as a line writes names, or as it is.
-fn name_text(teller: Teller, profile: &Profile, child: Option<usize>) -> Result<Vec<u8>, AllocError>
-    ensures { IfOk result (λ text. text.items ≡ name_text teller.form (full_name_at profile.now child)) }
+// A name, as a line writes names, or as it is.
+fn written(teller: Teller, name: Vec<u8>) -> Result<Vec<u8>, AllocError>
+    ensures { IfOk result (λ text. text.items ≡ name_text teller.form name.items) }
 {
-    let name = full_name(teller.alloc, profile, child)?;
     match teller.form {
         Form::Lines => {
             let mut text = Vec::new(teller.alloc);
@@ -29,13 +29,69 @@ fn name_text(teller: Teller, profile: &Profile, child: Option<usize>) -> Result<
     }
 }
 
+// The full name of a profile, or of its child or hat at a place, as a line writes names, or as it is.
+fn name_text(teller: Teller, profile: &Profile, child: Option<usize>) -> Result<Vec<u8>, AllocError>
+    ensures { IfOk result (λ text. text.items ≡ name_text teller.form (full_name_at profile.now child)) }
+{
+    written(teller, full_name(teller.alloc, profile, child)?)
+}
+
+// What a stack is on, if it is on something.
+fn push_on(teller: Teller, base: Option<&[u8]>, out: &mut Vec<u8>) -> Result<(), AllocError>
+    ensures { OnOk result (out.new.items ≡ out.old.items ++ on_text teller.form (option_copied base.entry)) }
+{
+    match (teller.form, base) {
+        (Form::Lines, Some(base)) => {
+            out.extend_from_slice(b", on ")?;
+            push_text(out, base)
+        }
+        _ => Ok(()),
+    }
+}
+
+// The name of a stack of these members, on what has this name, if it is on something, as a line writes names, or as it is.
+fn stacked_text(teller: Teller, base: Option<&[u8]>, members: &[u8]) -> Result<Vec<u8>, AllocError>
+    ensures { IfOk result (λ text. text.items ≡ stacked_text teller.form (option_copied base.entry) (parts_of members.now)) }
+{
+    let name = stack_name(teller.alloc, base, members)?;
+    let mut text = written(teller, name)?;
+    push_on(teller, base, &mut text)?;
+    Ok(text)
+}
+
+// The same of a stack that is on something; nothing where the slot of that is empty.
+fn based_text(
+    teller: Teller,
+    slots: &IndexedSlots<'_>,
+    base: StackBase,
+    members: &[u8],
+) -> Result<Option<Vec<u8>>, AllocError>
+    ensures { IfOk result (λ text.
+        option_map (λ text. text.items) text ≡ option_map (started_text teller.form) (seen_stacked slots.now (parts_of members.now) (Some base))) }
+{
+    match base {
+        StackBase::Unconfined => Ok(Some(stacked_text(
+            teller,
+            Some(b"unconfined".as_slice()),
+            members,
+        )?)),
+        StackBase::Profile { slot, child } => match entry_at(slots.as_slice(), slot) {
+            None => Ok(None),
+            Some(entry) => {
+                let name = full_name(teller.alloc, entry.profile(), child)?;
+                Ok(Some(stacked_text(teller, Some(name.as_slice()), members)?))
+            }
+        },
+    }
+}
+
 // Under what a program runs that is started; nothing where the slot is empty.
 fn started_text(
     teller: Teller,
     slots: &IndexedSlots<'_>,
-    to: ExecTo,
+    to: ExecTo<'_>,
 ) -> Result<Option<Vec<u8>>, AllocError>
-    ensures { IfOk result (λ text. option_map (λ text. text.items) text ≡ option_map (started_text teller.form) (seen_to slots.now to)) }
+    ensures { IfOk result (λ text. option_map (λ text. text.items) text ≡ option_map (started_text teller.form) (seen_to slots.now to.entry)) }
 {
     match to {
         ExecTo::Profile { slot, child } => match entry_at(slots.as_slice(), slot) {
@@ -43,6 +99,10 @@ fn started_text(
             Some(entry) => Ok(Some(name_text(teller, entry.profile(), child)?)),
         },
         ExecTo::Unconfined => Ok(Some(Vec::from_slice(teller.alloc, b"unconfined")?)),
+        ExecTo::Stack { base, members } => match base {
+            None => Ok(Some(stacked_text(teller, None, members)?)),
+            Some(base) => based_text(teller, slots, base, members),
+        },
         ExecTo::Null => Ok(Some(Vec::new(teller.alloc))),
         ExecTo::Nowhere => Ok(Some(Vec::new(teller.alloc))),
     }
@@ -57,9 +117,9 @@ fn started_text(
 pub fn destination_text(
     teller: Teller,
     slots: &IndexedSlots<'_>,
-    to: Option<ExecTo>,
+    to: Option<ExecTo<'_>>,
 ) -> Result<Option<Vec<u8>>, AllocError>
-    ensures { IfOk result (λ text. option_map (λ text. text.items) text ≡ destination_text teller.form (seen_destination slots.now to)) }
+    ensures { IfOk result (λ text. option_map (λ text. text.items) text ≡ destination_text teller.form (seen_destination slots.now to.entry)) }
 {
     match to {
         None => Ok(None),

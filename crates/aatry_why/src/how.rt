@@ -12,7 +12,7 @@ ghost use Rattle.aatry_report.specs.SeenRecord.{seen_record};
 
 use crate::attachment::push_attachment;
 use crate::transition::push_transition;
-use aa_bytes::SharedBytes;
+use aa_bytes::{SharedBytes, begins_with};
 use aa_decide::{Asker, Confinement, IndexedSlots};
 use aa_explain::{Candidate, Lead, child_candidates, lead_of, profile_candidates};
 use aa_profile_access::Destination;
@@ -44,6 +44,9 @@ fn asked_candidates<'a>(
     match (target, destination) {
         (None, Destination::Profile) => profile_candidates(alloc, slots.as_slice()),
         (None, Destination::Child) => own_children(alloc, asker),
+        (Some(name), Destination::Profile) if begins_with(b"&", name.as_slice()) => {
+            profile_candidates(alloc, slots.as_slice())
+        }
         _ => Ok(Vec::new(alloc)),
     }
 }
@@ -140,7 +143,7 @@ fn push_asked_by(
         ++ confined_lines teller.form owned path.now (filled slots.now) (seen_asker asker.entry) (confinement_of (seen_asker asker.entry))) }
 {
     match asker.entry.confinement(asker.child) {
-        Confinement::Unconfined => push_profiles(teller, slots, path, out),
+        Confinement::Unconfined | Confinement::ByName => push_profiles(teller, slots, path, out),
         Confinement::By { .. } => {
             let lead = lead_of(teller.alloc, slots, asker, owned, path)?;
             push_led(teller, slots, asker, path, lead, out)

@@ -3,44 +3,54 @@
 ghost use Rattle.std.specs.Prelude.{◌≡◌, ◌++◌, IfOk, OnOk, Some};
 ghost use Rattle.std.specs.Option.{option_copied};
 ghost use Rattle.aa_explain.specs.Leads.{seen_lead};
-ghost use Rattle.aa_profile_access.specs.declared.exec_word.Destination.TheVariants as to;
+ghost use Rattle.aa_bytes.specs.Quoting.{written_text};
 ghost use Rattle.aatry_report.specs.declared.form.Form.TheVariants.{Lines};
-ghost use Rattle.aatry_why.specs.Transitions.{fallback_text, lack_of, lack_text, lead_text, line_of, transition_lines};
+ghost use Rattle.aatry_why.specs.Transitions.{attachment_lack, fallback_text, lack_of, lack_text, lead_text, line_of, name_lack, transition_lines};
 
 use crate::destinations::destination_text;
 use crate::records::transition_record;
 use aa_bytes::{SharedBytes, push_text};
 use aa_decide::IndexedSlots;
 use aa_explain::Lead;
-use aa_profile_access::Destination;
+use aa_profile_access::{Destination, stack_of};
 use aa_profile_data::Transition;
 use aa_set_answers::push_exec_transition;
 use aatry_report::{Form, Teller, push_heading};
 use std::alloc::{AllocError, Global};
 
-// Appends which profile isn't there.
-fn push_profile_lack(target: &Option<SharedBytes>, out: &mut Vec<u8>) -> Result<(), AllocError>
-    ensures { OnOk result (out.new.items ≡ out.old.items ++ lack_text target.now to.Profile) }
+// Appends that something of this name isn't there, in these words.
+fn push_missing(name: &[u8], words: &[u8], out: &mut Vec<u8>) -> Result<(), AllocError>
+    ensures { OnOk result (out.new.items ≡ out.old.items ++ written_text name.now ++ words.now) }
 {
-    match target {
-        None => out.extend_from_slice(b"no profile in force is attached"),
-        Some(name) => {
-            push_text(out, name.as_slice())?;
-            out.extend_from_slice(b" isn't in force")
-        }
+    push_text(out, name)?;
+    out.extend_from_slice(words)
+}
+
+// Appends that a name isn't there.
+fn push_name_lack(
+    name: &[u8],
+    destination: Destination,
+    out: &mut Vec<u8>,
+) -> Result<(), AllocError>
+    ensures { OnOk result (out.new.items ≡ out.old.items ++ name_lack name.now destination) }
+{
+    match destination {
+        Destination::Profile => push_missing(name, b" isn't in force", out),
+        Destination::Child => push_missing(name, b" is no child or hat of who asks", out),
+        Destination::Inherit => Ok(()),
+        Destination::Unconfined => Ok(()),
     }
 }
 
-// Appends which child isn't there.
-fn push_child_lack(target: &Option<SharedBytes>, out: &mut Vec<u8>) -> Result<(), AllocError>
-    ensures { OnOk result (out.new.items ≡ out.old.items ++ lack_text target.now to.Child) }
+// Appends that nothing is attached.
+fn push_attachment_lack(destination: Destination, out: &mut Vec<u8>) -> Result<(), AllocError>
+    ensures { OnOk result (out.new.items ≡ out.old.items ++ attachment_lack destination) }
 {
-    match target {
-        None => out.extend_from_slice(b"no child is attached"),
-        Some(name) => {
-            push_text(out, name.as_slice())?;
-            out.extend_from_slice(b" is no child or hat of who asks")
-        }
+    match destination {
+        Destination::Profile => out.extend_from_slice(b"no profile in force is attached"),
+        Destination::Child => out.extend_from_slice(b"no child is attached"),
+        Destination::Inherit => Ok(()),
+        Destination::Unconfined => Ok(()),
     }
 }
 
@@ -52,12 +62,13 @@ pub fn push_lack(
 ) -> Result<(), AllocError>
     ensures { OnOk result (out.new.items ≡ out.old.items ++ lack_text target.now destination) }
 {
-    match destination {
-        Destination::Profile => push_profile_lack(target, out),
-        Destination::Child => push_child_lack(target, out),
-        Destination::Inherit => Ok(()),
-        Destination::Unconfined => Ok(()),
+    let Some(name) = target else {
+        return push_attachment_lack(destination, out);
+    };
+    if stack_of(name.as_slice()).is_some() {
+        return push_missing(name.as_slice(), b" isn't in force as a whole", out);
     }
+    push_name_lack(name.as_slice(), destination, out)
 }
 
 // Appends where a fallback leads.

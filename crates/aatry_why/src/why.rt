@@ -17,9 +17,10 @@ ghost use Rattle.aatry_why.specs.Why.{IsWhyTold, IsWhyToldBelow, answered_text, 
 use crate::how::push_how;
 use crate::replies::{is_lacking, push_refused, push_reply};
 use crate::sources::{Sources, asked_origin, written_by};
-use aa_set::Manager;
+use aa_profile_parsing::Language;
 use aa_set_answers::{Answered, find_asker};
 use aa_set_commands::{Question, RefusalKind};
+use aa_set_manager::Manager;
 use aaset_start::FileSystem;
 use aatry_arguments::Asking;
 use aatry_folder::{Fault, Folders, PolicyFolder, Report, failed_by, policy_below};
@@ -174,7 +175,8 @@ fn told_of(teller: Teller, folder: &PolicyFolder<'_>, words: &[String]) -> Resul
     })
 }
 
-/// What the policy of a folder answers to a question, and the rules behind the answer, told in a form: reads the folder as `aatry_folder::policy_below` does.
+/// What the policy of a folder, read by a language, answers to a question, and the rules behind the answer, told in a form: reads the folder as
+/// `aatry_folder::policy_below` does.
 /// First come the files that are left out (`aatry_policy::load_folder`). Then comes what `ask` would be answered, and behind it the rules, each with the
 /// place where it is written (`aatry_why_lines`); where something isn't allowed, the rule that is missing and the nearest ones too; and of the start of a
 /// program where its transition leads and what its path may be attached to. Where nobody of the name is loaded, the refusal is told,
@@ -191,15 +193,16 @@ fn told_of(teller: Teller, folder: &PolicyFolder<'_>, words: &[String]) -> Resul
 /// - `NoMemory` where memory ran out.
 pub fn why_folder<F: Folders, D: FileSystem>(
     teller: Teller,
+    language: Language,
     folders: &F,
     disk: &D,
     asked: Asking,
 ) -> Result<Report, Fault>
-    ensures told { IfOk result (λ report. IsWhyToldBelow teller.form (F.told folders.now) (D.known disk.now) (string_bytes asked.base) (texts_of asked.words)
+    ensures told { IfOk result (λ report. IsWhyToldBelow teller.form language (F.told folders.now) (D.known disk.now) (string_bytes asked.base) (texts_of asked.words)
         report.text.items report.failed) }
     ensures fault { IfErr result (IsEndOfWhy (F.told folders.now) (D.known disk.now) (string_bytes asked.base) (texts_of asked.words)) }
 {
     let Asking { base, words } = asked;
-    let folder = policy_below(teller.alloc, folders, disk, base.as_str())?;
+    let folder = policy_below(teller.alloc, language, folders, disk, base.as_str())?;
     told_of(teller, &folder, &words)
 }

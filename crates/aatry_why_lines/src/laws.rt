@@ -3,10 +3,10 @@
 ghost use Rattle.std.specs.Prelude.{◌==◌, ◌≡◌, ◌||◌, Bool, List, is_some, not};
 ghost use Rattle.aa_bytes.specs.Texts.{is_empty};
 ghost use Rattle.aa_decide_rules.specs.Verdict.{missing, verdict};
+ghost use Rattle.aa_decide_rules.specs.declared.verdict.Mediation.{Mediation};
 ghost use Rattle.aa_explain_rules.specs.Logged.{is_denied};
 ghost use Rattle.aa_explain_rules.specs.Told.{told};
 ghost use Rattle.aa_profile_access.specs.Request.{Request};
-ghost use Rattle.aa_profile_data.specs.declared.profile.Mode.{Mode};
 ghost use Rattle.aa_profile_data.specs.declared.profile.Rule.{Rule};
 ghost use Rattle.aatry_why_lines.specs.Groups.{places_in};
 ghost use Rattle.aatry_why_lines.specs.declared.groups.Group.TheVariants.{Auditing};
@@ -15,8 +15,8 @@ use aa_explain_rules::what_is_logged;
 
 /// An answer is logged exactly where something of the request is missing, or some rule stands below `audited by`.
 pub fn what_is_told_as_audited()
-    ensures { (mode : Mode) (flag : Bool) (request : Request) (rules : List Rule)
-        → is_some (verdict mode flag rules request).tag
+    ensures { (mediation : Mediation) (flag : Bool) (request : Request) (rules : List Rule)
+        → is_some (verdict mediation flag rules request).tag
         ≡ (not (missing request rules == 0) || not (is_empty (places_in (Auditing (is_denied (told flag request rules))) (told flag request rules)))) }
 {
     what_is_logged();

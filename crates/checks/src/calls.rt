@@ -1,12 +1,12 @@
 //! Calls of the libraries whose answers no row can tell: the copy of a profile, the slots that may attach a path, the start of a program by one of whom
-//! the slot is known, and what a question is answered as values.
+//! the slot is known, what a question is answered as values, and the reading of a file by each language.
 
 ghost use Rattle.std.specs.Prelude.{◌≡◌, true, IfSome};
 ghost use Rattle.aa_profile_data.specs.Conflicts.{profile_agrees};
 
 use crate::given::{files, last_profile, managed};
 use aa_decide::{Answer, ExecTo, Who, exec, find_named};
-use aa_profile::Profile;
+use aa_profile::{GrammarRefusal, Language, Profile, ProfileRefusal, read_file, read_file_in};
 use aa_set::{Answered, Manager, Question};
 use std::alloc::Global;
 
@@ -168,4 +168,20 @@ fn answers(alloc: Global) -> Option<bool> {
 #[test]
 fn a_question_is_answered_as_values(rt: HostRuntime) {
     assert!(rt; answers(rt.alloc()) == Some(true));
+}
+
+// The flag of a mode that language 3 hasn't.
+const WIDER: &[u8] = b"profile p flags=(unconfined) { }";
+
+// Whether language 3 refuses what language 4 reads.
+fn goes_by_language(alloc: Global) -> Option<bool> {
+    let files = files(alloc, &[(b"p", WIDER)])?;
+    let narrow = read_file(alloc, &files, b"p");
+    let wide = read_file_in(alloc, Language::Four, &files, b"p");
+    Some(narrow.err()?.refusal == ProfileRefusal::from(GrammarRefusal::BadFlag) && wide.is_ok())
+}
+
+#[test]
+fn a_file_is_read_by_its_language(rt: HostRuntime) {
+    assert!(rt; goes_by_language(rt.alloc()) == Some(true));
 }

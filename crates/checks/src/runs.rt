@@ -1,7 +1,7 @@
 //! Runs over readers and writers of few bytes a call, and over some that fail.
 
 use crate::fakes::{Slow, Small, Undoing};
-use aa_set::{FromRead, RunFault, Sink, Source, Summary, ToWrite, run};
+use aa_set::{FromRead, RunFault, Sink, Source, Summary, ToWrite, run, run_with};
 use aa_text::Files;
 use std::alloc::Global;
 
@@ -97,4 +97,18 @@ fn fills_writers(alloc: Global) -> bool {
 #[test]
 fn writers_without_room_are_filled(rt: HostRuntime) {
     assert!(rt; fills_writers(rt.alloc()));
+}
+
+// Whether a run sees the end of its input by so many reads: the first gives a line, and the second ends it.
+fn ends_within(alloc: Global, reads: u32) -> bool {
+    let files = Files::new(alloc);
+    let mut writer = ToWrite::new(Vec::new(alloc));
+    let mut reader = FromRead::new(b"undo\n".as_slice());
+    run_with(alloc, &files, false, reads, &mut reader, &mut writer).is_ok()
+}
+
+#[test]
+fn a_run_reads_within_its_bound(rt: HostRuntime) {
+    assert!(rt; !ends_within(rt.alloc(), 1));
+    assert!(rt; ends_within(rt.alloc(), 2));
 }

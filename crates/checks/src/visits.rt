@@ -1,8 +1,8 @@
 //! How many visits a request takes that a pattern of many splits almost matches.
 
 use crate::given::{files, last_profile};
-use aa_decide::{Answer, Ready, ReadySection, Request, Steps};
-use aa_profile::{Mode, Perms};
+use aa_decide::{Answer, Mediation, Ready, ReadySection, Request, Steps};
+use aa_profile::Perms;
 use std::alloc::Global;
 
 // A profile of which such a pattern is the one rule and the one attachment.
@@ -38,7 +38,7 @@ fn refuses(alloc: Global, section: ReadySection<'_>, path: &[u8]) -> Option<bool
         owned: false,
         path,
     };
-    let verdict = section.decide(alloc, Mode::Enforce, &request, &mut steps);
+    let verdict = section.decide(alloc, Mediation::Enforcing, &request, &mut steps);
     Some(verdict.ok()?.answer == Answer::Refuse && are_many(&steps, section.states(alloc).ok()?))
 }
 

@@ -21,6 +21,8 @@ pub enum RowError {
     NoTimes,
     /// The file's rows are of no kind.
     NoSuchKind,
+    /// No language has this word.
+    NoSuchLanguage,
     /// No row of patterns is of this kind.
     NoSuchPatternRow,
     /// No row of variables is of this kind.
@@ -53,6 +55,7 @@ impl Display for RowError {
             RowError::NoNumber => "no number",
             RowError::NoTimes => "a repetition has no number",
             RowError::NoSuchKind => "no rows are of this kind",
+            RowError::NoSuchLanguage => "no language has this word",
             RowError::NoSuchPatternRow => "no such row of patterns",
             RowError::NoSuchVariableRow => "no such row of variables",
             RowError::NoSuchFileRow => "no such row of files",

@@ -38,6 +38,7 @@ impl Asks for Kinds {
             | "commands"
             | "profiles"
             | "grammar"
+            | "languages"
             | "decisions"
             | "documents"
             | "exec"

@@ -3,7 +3,7 @@
 use crate::outcome::outcome_of;
 use crate::streams::{Calls, Pieces, Takes};
 use crate::wanted::{Wanted, compare};
-use aa_set::{FromRead, ToWrite, run_with};
+use aa_set::{FromRead, ToWrite, run_with_in};
 use aa_text::Files;
 use row_texts::{RowError, Tally, number_of, split_at};
 
@@ -17,8 +17,9 @@ fn ask_reads(
 ) -> Result<(), RowError> {
     let mut writer = ToWrite::new(Vec::new(tally.alloc()));
     let mut reader = Pieces::new(wanted.input, calls);
-    let outcome = run_with(
+    let outcome = run_with_in(
         tally.alloc(),
+        wanted.language,
         files,
         wanted.force_complain,
         reads,
@@ -79,6 +80,7 @@ pub fn stopped<'a>(
 ) -> Result<Wanted<'a>, RowError> {
     match whole.output.get(..count) {
         Some(output) => Ok(Wanted {
+            language: whole.language,
             force_complain: whole.force_complain,
             input: whole.input,
             output,

@@ -1,16 +1,28 @@
 //! What a run reads, and what it is to write.
 
-use aa_set::{RunFault, Summary};
+use aa_set::{Language, RunFault, Summary};
 use row_texts::{Part, RowError, Tally, find, put_number};
 
 /// What a run reads, what it is to write, and how it is to end: its counts, or its fault.
 #[derive(Clone, Copy, Drop)]
 pub struct Wanted<'a> {
+    /// The language by which files are read.
+    pub language: Language,
     /// Whether profiles are loaded in complain mode.
     pub force_complain: bool,
     pub input: &'a [u8],
     pub output: &'a [u8],
     pub end: &'a str,
+}
+
+// The language of a paragraph: 3, where no line names another.
+fn language_of(parts: &[Part<'_>]) -> Result<Language, RowError> {
+    for part in parts {
+        if let Some(word) = part.head.strip_prefix("option --language ") {
+            return Language::named(word.as_bytes()).ok_or(RowError::NoSuchLanguage);
+        }
+    }
+    Ok(Language::Three)
 }
 
 /// What the run of a paragraph reads, and what is wanted.
@@ -20,6 +32,7 @@ pub fn read_wanted<'a>(parts: &'a [Part<'_>]) -> Result<Wanted<'a>, RowError> {
     let (end, _) = find(parts, "end ")?;
     let force_complain = parts.iter().any(|part| part.head == "option -C");
     Ok(Wanted {
+        language: language_of(parts)?,
         force_complain,
         input,
         output,

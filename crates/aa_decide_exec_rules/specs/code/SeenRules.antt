@@ -6,7 +6,7 @@ use Rattle.aa_decide_exec_rules.specs.declared.exec_rules.ExecRule.TheVariants a
 
 abbrev pub seen_rule : CodeRule → ExecRule
 seen_rule (code.Denying audited) = Denying audited
-seen_rule (code.Leading transition exact audited) = Leading transition.now exact audited
+seen_rule (code.Leading transition rank audited) = Leading transition.now rank audited
 
 abbrev pub seen_rules : List CodeRule → List ExecRule
 seen_rules rules = map seen_rule rules

@@ -6,7 +6,7 @@ use Rattle.std.specs.Cmp.{IsEquivalence, both_ways, on_equiv}
 use Rattle.std.specs.Prelude.{IsTrue}
 use Rattle.aa_profile_data.proofs.SameLemmas.{equal-rule, rule-equal}
 use Rattle.aa_profile_data.specs.declared.profile.Mode.{Mode}
-use Rattle.aa_profile_data.specs.declared.profile.Mode.TheVariants.{Complain, Enforce}
+use Rattle.aa_profile_data.specs.declared.profile.Mode.TheVariants.{Complain, Enforce, Unconfined}
 use Rattle.aa_profile_data.specs.declared.profile.Rule.{Rule}
 use Rattle.aa_explain_diff.specs.Features.{Feature, OfAttachment, OfAudit, OfFlag, OfHat, OfMode, OfRule, same_feature, same_mode, seen_feature}
 use Rattle.aa_explain_diff.specs.code.Keys.{hashed, same_key}
@@ -23,13 +23,19 @@ plain (OfRule rule number) = OfRule rule 0
 
 pub mode-equal : (one other : Mode) → same_mode one other ≡ true → one ≡ other
 mode-equal Enforce Enforce same = refl
-mode-equal Enforce Complain same = absurd (cc)
-mode-equal Complain Enforce same = absurd (cc)
 mode-equal Complain Complain same = refl
+mode-equal Unconfined Unconfined same = refl
+mode-equal Enforce Complain same = absurd (cc)
+mode-equal Enforce Unconfined same = absurd (cc)
+mode-equal Complain Enforce same = absurd (cc)
+mode-equal Complain Unconfined same = absurd (cc)
+mode-equal Unconfined Enforce same = absurd (cc)
+mode-equal Unconfined Complain same = absurd (cc)
 
 mode-same : (one : Mode) → same_mode one one ≡ true
 mode-same Enforce = refl
 mode-same Complain = refl
+mode-same Unconfined = refl
 
 pub same-plain : (one other : Feature) → same_feature one other ≡ true → plain one ≡ plain other
 same-plain (OfMode one) (OfMode other) same = ap OfMode (mode-equal one other same)

@@ -1,9 +1,18 @@
 -- The texts that tell what the code answered, by slots.
-use Rattle.std.specs.Prelude.{ℕ, List, [], Option, None, Some}
+use Rattle.std.specs.Prelude.{ℕ, Bool, List, [], Option, None, Some}
 use Rattle.aa_decide_slots.specs.Entries.{Loaded}
-use Rattle.aa_decide.specs.SeenExec.{seen_to}
+use Rattle.aa_decide.specs.SeenExec.{seen_base, seen_to}
 use Rattle.aa_decide_audit.specs.declared.exec_verdict.ExecVerdict.{ExecVerdict}
-use Rattle.aa_set_answers.specs.Answers.{started_text}
+use Rattle.aa_decide_audit.specs.declared.exec_verdict.StackBase.{StackBase}
+use Rattle.aa_set_answers.specs.Answers.{base_name, stack_text, started_text}
+
+-- under what stack a program runs; nothing, where the slot of what it is on isn't filled
+abbrev pub seen_stack_text : List (Option Loaded) → Option StackBase → List (List ℕ) → Bool → List ℕ
+seen_stack_text slots None members scrub = stack_text None members scrub
+seen_stack_text slots (Some base) members scrub = elim (seen_base slots base) [
+  | None ↦ []
+  | Some base ↦ stack_text (Some (base_name base)) members scrub
+]
 
 -- under what a program runs; nothing, where the slot of its profile isn't filled
 abbrev pub seen_text : List (Option Loaded) → ExecVerdict → List ℕ

@@ -1,7 +1,7 @@
 //! What a profile answers a request.
 
-use aa_decide::{Answer, IndexedSlots, Request, Steps, find_named};
-use aa_profile::{Mode, Perms};
+use aa_decide::{Answer, IndexedSlots, Mediation, Request, Steps, find_named};
+use aa_profile::Perms;
 use std::alloc::{AllocError, Global};
 
 /// Whether the profile `web` lets a file of another owner be written, in enforce mode, if it is loaded.
@@ -22,6 +22,6 @@ pub fn lets_write(
     let verdict = web
         .ready()
         .section(None)
-        .decide(alloc, Mode::Enforce, &request, &mut steps)?;
+        .decide(alloc, Mediation::Enforcing, &request, &mut steps)?;
     Ok(Some(verdict.answer == Answer::Allow))
 }

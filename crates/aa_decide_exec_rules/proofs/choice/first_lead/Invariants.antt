@@ -5,7 +5,7 @@ use Rattle.aa_decide_exec_rules.proofs.choice.first_lead.Given as goal
 
 -- none of the rules so far does
 abbrev pub invariant-loop-rest : goal.invariant-loop-rest
-invariant-loop-rest l = first_lead l.some_exact (seen_rules l.rest) ≡ first_lead l.some_exact (seen_rules l.rules)
+invariant-loop-rest l = first_lead l.rank (seen_rules l.rest) ≡ first_lead l.rank (seen_rules l.rules)
 
 abbrev pub decreases-loop-rest : goal.decreases-loop-rest
 decreases-loop-rest l = length l.rest

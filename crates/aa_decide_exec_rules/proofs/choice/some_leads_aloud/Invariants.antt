@@ -6,7 +6,7 @@ use Rattle.aa_decide_exec_rules.proofs.choice.some_leads_aloud.Given as goal
 
 -- none of the rules so far does
 abbrev pub invariant-loop-rest : goal.invariant-loop-rest
-invariant-loop-rest l = list_any (leads_aloud l.some_exact) (seen_rules l.rest) ≡ list_any (leads_aloud l.some_exact) (seen_rules l.rules)
+invariant-loop-rest l = list_any (leads_aloud l.rank) (seen_rules l.rest) ≡ list_any (leads_aloud l.rank) (seen_rules l.rules)
 
 abbrev pub decreases-loop-rest : goal.decreases-loop-rest
 decreases-loop-rest l = length l.rest

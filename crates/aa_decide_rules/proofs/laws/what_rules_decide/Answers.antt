@@ -16,4 +16,4 @@ pub returns-clause-deny_rule_allows_nothing_new : goal.returns-clause-deny_rule_
 returns-clause-deny_rule_allows_nothing_new c = verdict-deny
 
 pub returns-clause-order_changes_no_line : goal.returns-clause-order_changes_no_line
-returns-clause-order_changes_no_line c asker mode flag rules others request same = ap (log_line asker request) (verdict-order mode flag rules others request same)
+returns-clause-order_changes_no_line c asker mediation flag rules others request same = ap (log_line asker request) (verdict-order mediation flag rules others request same)

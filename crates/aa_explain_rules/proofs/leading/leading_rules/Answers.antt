@@ -1,10 +1,10 @@
 use Rattle.std.proofs.Common.{◌≡◌, ◌∙◌, ap, false, sym, true}
 use Rattle.std.proofs.lemmas.Result.{IfOk-weaker}
-use Rattle.aa_decide_exec_rules.specs.Choices.{denies, dominates, is_exact_lead}
+use Rattle.aa_decide_exec_rules.specs.Choices.{denies, dominates}
 use Rattle.aa_profile_access.specs.Access.{EXEC}
 use Rattle.aa_profile_access.specs.Request.{ForFile}
 use Rattle.aa_explain_rules.specs.Asked.{concerned, rules_of}
-use Rattle.aa_explain_rules.specs.Leading.{says}
+use Rattle.aa_explain_rules.specs.Leading.{highest_that, says}
 use Rattle.aa_explain_rules.specs.code.Among.{among, some_among}
 use Rattle.aa_explain_rules.proofs.AmongLemmas.{none-leads, some-lead}
 use Rattle.aa_explain_rules.proofs.leading.leading_rules.Goals as goal
@@ -33,14 +33,14 @@ returns c =
     ∙ ap (λ rules. some_among (says denies false owned path) rules c.deref.result.now) (sym is)
     ∙ sym c.some_denies.ensures
     ∙ c.if-some_denies.false in
-    let exact : c.some_is_exact-some_exact.result ≡ some_among (says is_exact_lead false owned path) rules all =
-    c.some_is_exact-some_exact.ensures
-    ∙ ap (λ rules. some_among (says is_exact_lead false owned path) rules c.deref-2.result.now) is
-    ∙ ap (some_among (says is_exact_lead false owned path) rules) (c.deref-2.ensures.value ∙ c.in_ok-places.ensures) in
+    let top : c.highest-rank.result ≡ highest_that (λ rank. some_among (says (dominates rank) false owned path) rules all) =
+    c.highest-rank.ensures
+    ∙ ap (λ rules. highest_that (λ rank. some_among (says (dominates rank) false owned path) rules c.deref-2.result.now)) is
+    ∙ ap (λ places. highest_that (λ rank. some_among (says (dominates rank) false owned path) rules places)) (c.deref-2.ensures.value ∙ c.in_ok-places.ensures) in
     IfOk-weaker c.dominating.result _ _
     (λ found it. it
-    ∙ ap (λ rules. among (says (dominates c.some_is_exact-some_exact.result) false owned path) rules c.deref-3.result.now) is
-    ∙ ap (among (says (dominates c.some_is_exact-some_exact.result) false owned path) rules) (c.deref-3.ensures.value ∙ c.in_ok-places.ensures)
-    ∙ ap (λ some_exact. among (says (dominates some_exact) false owned path) rules all) exact
+    ∙ ap (λ rules. among (says (dominates c.highest-rank.result) false owned path) rules c.deref-3.result.now) is
+    ∙ ap (among (says (dominates c.highest-rank.result) false owned path) rules) (c.deref-3.ensures.value ∙ c.in_ok-places.ensures)
+    ∙ ap (λ rank. among (says (dominates rank) false owned path) rules all) top
     ∙ some-lead EXEC owned path rules denied)
     c.dominating.ensures

@@ -9,4 +9,5 @@ returns-clause-rule c =
     let long : rule_of c.long.result ≡ record (new_rule c.args.id.now) { long = Some c.args.name.now } =
     ap rule_of c.long.ensures ∙ ap (λ (rule : Rule). record rule { long = Some c.args.name.now }) c.new.ensures.rule in
     let acted : rule_of c.action.result ≡ record (rule_of c.long.result) { action = Some Set } = ap rule_of c.action.ensures in
-    acted ∙ ap (λ (rule : Rule). record rule { action = Some Set }) long
+    let helped : rule_of c.help.result ≡ rule_of c.action.result = ap rule_of c.help.ensures in
+    helped ∙ acted ∙ ap (λ (rule : Rule). record rule { action = Some Set }) long

@@ -8,7 +8,7 @@ use Rattle.aa_profile.proofs.conflicts.conflict_in_rules.Given as goal
 -- no rule so far has the first conflict
 abbrev pub invariant-loop-rest : goal.invariant-loop-rest
 invariant-loop-rest l = record {
-  reached : ReachesRules l.fn.table (map seen_rule l.written) (map seen_rule l.rest) l.on;
+  reached : ReachesRules l.fn.language l.fn.table (map seen_rule l.written) (map seen_rule l.rest) l.on;
   counted : are_counted l.fn.table (of_rules (map seen_rule l.rest)) ≡ true;
   same : l.table ≡ l.fn.table;
 }

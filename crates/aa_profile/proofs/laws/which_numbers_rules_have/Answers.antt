@@ -6,4 +6,4 @@ use Rattle.aa_profile.proofs.ReadingLemmas.{file-fits}
 use Rattle.aa_profile.proofs.laws.which_numbers_rules_have.Goals as goal
 
 pub returns : goal.returns
-returns c files name = file-fits (λ profiles. list_all profile_has_known_numbers profiles ≡ true) (λ variables tokens written is fine. profiles-known c.which_numbers_rules_have.ensures variables tokens written is) files name
+returns c language files name = file-fits language (λ profiles. list_all profile_has_known_numbers profiles ≡ true) (λ variables tokens written is fine. profiles-known c.which_numbers_rules_have.ensures language variables tokens written is) files name

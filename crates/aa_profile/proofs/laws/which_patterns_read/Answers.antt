@@ -5,4 +5,4 @@ use Rattle.aa_profile.proofs.laws.which_patterns_read.Goals as goal
 use Rattle.aa_profile.specs.ReadPatterns.{HasReadPatterns}
 
 pub returns : goal.returns
-returns c files name = file-fits (All HasReadPatterns) read-patterns files name
+returns c language files name = file-fits language (All HasReadPatterns) (read-patterns language) files name

@@ -5,4 +5,4 @@ use Rattle.aa_profile_conflicts.proofs.classes.classes_of.Given as goal
 
 -- the rules so far have their classes
 abbrev pub invariant-loop-rule : goal.invariant-loop-rule
-invariant-loop-rule l = AreClassesOfLeads l.classes (leads l.exact (take l.rule-index l.rules))
+invariant-loop-rule l = AreClassesOfLeads l.classes (leads l.rank (take l.rule-index l.rules))

@@ -8,12 +8,12 @@ use Rattle.aa_profile_conflicts.proofs.conflicts.automaton_of.Goals as goal
 
 pub loop-rule-preserved : goal.loop-rule-preserved
 loop-rule-preserved c =
-    let exact = c.args.exact in
+    let rank = c.args.rank in
     let rules = c.args.rules.now in
     let at = c.loop-rule.rule-index in
     let rule = c.rule-item.result in
     subst (λ (l : List (List ℕ)). IsBuilt c.in_ok-builder-2.builder l)
-    (ap (λ r. patterns_by exact (take at rules) ++ patterns_by exact (r ∷ [])) c.rule-item.is
-    ∙ sym (patterns-append exact (take at rules) (get_or rules at rule ∷ []))
-    ∙ ap (patterns_by exact) (sym (take_more rules at rule c.loop-rule-test.true)))
-    (c.in_ok-builder-2.ensures (patterns_by exact (take at rules)) c.loop-rule.invariant)
+    (ap (λ r. patterns_by rank (take at rules) ++ patterns_by rank (r ∷ [])) c.rule-item.is
+    ∙ sym (patterns-append rank (take at rules) (get_or rules at rule ∷ []))
+    ∙ ap (patterns_by rank) (sym (take_more rules at rule c.loop-rule-test.true)))
+    (c.in_ok-builder-2.ensures (patterns_by rank (take at rules)) c.loop-rule.invariant)

@@ -5,4 +5,4 @@ use Rattle.aa_profile_conflicts.proofs.conflicts.automaton_of.Given as goal
 
 -- the patterns so far are built
 abbrev pub invariant-loop-rule : goal.invariant-loop-rule
-invariant-loop-rule l = IsBuilt l.builder (patterns_by l.exact (take l.rule-index l.rules))
+invariant-loop-rule l = IsBuilt l.builder (patterns_by l.rank (take l.rule-index l.rules))

@@ -7,7 +7,7 @@ use Rattle.aa_profile_conflicts.proofs.conflicts.place_of.Given as goal
 -- the one that is left among the other rules is the one that was asked for
 abbrev pub invariant-loop-rest : goal.invariant-loop-rest
 invariant-loop-rest l = record {
-  same : option_map place_of (slice_get (placed_from l.exact l.place l.rest) l.left) ≡ option_map place_of (slice_get (placed_from l.exact 0 l.rules) l.lead);
+  same : option_map place_of (slice_get (placed_from l.rank l.place l.rest) l.left) ≡ option_map place_of (slice_get (placed_from l.rank 0 l.rules) l.lead);
   count : l.place + length l.rest ≡ length l.rules;
 }
 

@@ -6,7 +6,7 @@ use Rattle.aa_profile_flags.proofs.flags.read_flags.Given as goal
 -- what was found, and the rest, decide
 abbrev pub invariant-loop-rest : goal.invariant-loop-rest
 invariant-loop-rest l = record {
-  flags : flags_behind l.found (seen_tokens l.rest) ≡ flags (seen_tokens l.tokens);
+  flags : flags_behind l.language l.found (seen_tokens l.rest) ≡ flags l.language (seen_tokens l.tokens);
   within : length l.rest ≤ length l.tokens;
 }
 

@@ -7,7 +7,7 @@ use Rattle.aa_profile_grammar.proofs.blocks.read_members.Given as goal
 -- those so far, and those of the rest, are all
 abbrev pub invariant-loop-members : goal.invariant-loop-members
 invariant-loop-members l = record {
-  so_far : IsSoFar next_member (map seen_member l.members.items.items) l.rest.tokens.now l.tokens;
+  so_far : IsSoFar (next_member l.language) (map seen_member l.members.items.items) l.rest.tokens.now l.tokens;
   within : length l.rest.tokens.now ≤ length l.tokens;
 }
 

@@ -7,7 +7,7 @@ use Rattle.aa_profile_grammar.proofs.blocks.read_profiles.Given as goal
 -- those so far, and those of the rest, are all
 abbrev pub invariant-loop-profiles : goal.invariant-loop-profiles
 invariant-loop-profiles l = record {
-  so_far : IsSoFar next_profile (map seen_profile l.profiles.items.items) l.rest.tokens.now l.tokens;
+  so_far : IsSoFar (next_profile l.language) (map seen_profile l.profiles.items.items) l.rest.tokens.now l.tokens;
   within : length l.rest.tokens.now ≤ length l.tokens;
 }
 

@@ -7,7 +7,7 @@ use Rattle.aa_profile_grammar.proofs.blocks.read_rules.Given as goal
 -- those so far, and those of the rest, are all
 abbrev pub invariant-loop-rules : goal.invariant-loop-rules
 invariant-loop-rules l = record {
-  so_far : IsSoFar (λ read. next_rule) (map seen_rule l.rules.items) l.rest.tokens.now l.tokens;
+  so_far : IsSoFar (λ read. next_rule l.language) (map seen_rule l.rules.items) l.rest.tokens.now l.tokens;
   within : length l.rest.tokens.now ≤ length l.tokens;
 }
 

@@ -10,8 +10,8 @@ abbrev pub invariant-loop-rest : goal.invariant-loop-rest
 invariant-loop-rest l = record {
   places : l.places.items ++ places_of_members l.fn.table (map seen_member l.rest)
       ≡ l.initial.places.items ++ places_of_members l.fn.table (map seen_member l.members);
-  children : l.children.items ++ places_in_members l.fn.table (map seen_member l.rest)
-      ≡ l.initial.children.items ++ places_in_members l.fn.table (map seen_member l.members);
+  children : l.children.items ++ places_in_members l.language l.fn.table (map seen_member l.rest)
+      ≡ l.initial.children.items ++ places_in_members l.language l.fn.table (map seen_member l.members);
   counted : are_counted l.fn.table (of_members (map seen_member l.rest)) ≡ true;
   same : l.table ≡ l.fn.table;
 }

@@ -8,7 +8,7 @@ use Rattle.aa_profile_patterns.proofs.reading.read_places.Given as goal
 -- the places so far, and those of the rest, are all
 abbrev pub invariant-loop-rest : goal.invariant-loop-rest
 invariant-loop-rest l = record {
-  places : l.places.items ++ map (places_of_profile l.fn.table) (map seen_profile l.rest) ≡ map (places_of_profile l.fn.table) (map seen_profile l.profiles);
+  places : l.places.items ++ map (places_of_profile l.language l.fn.table) (map seen_profile l.rest) ≡ map (places_of_profile l.language l.fn.table) (map seen_profile l.profiles);
   counted : are_counted l.fn.table (of_profiles (map seen_profile l.rest)) ≡ true;
   same : l.table ≡ l.fn.table;
 }

@@ -7,7 +7,7 @@ pub returns-clause-session : goal.returns-clause-session
 returns-clause-session c = λ files before. record {
   lines = [];
   after = record {
-    managed = c.new.ensures;
+    managed = c.new_in.ensures;
     written = subst (λ (waits : List ℕ). WritesBehind before before [] waits []) (sym c.in_ok-with_capacity.ensures.items) (WritesBehind-nil before []);
     summed = record { accepted = refl; refused = refl };
   };

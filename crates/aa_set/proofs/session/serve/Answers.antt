@@ -8,14 +8,14 @@ use Rattle.aa_set.proofs.BreakLemmas.{answered-so-far, front-answered}
 use Rattle.aa_set.proofs.session.serve.Goals as goal
 
 pub returns-then-count-eq0-clause-answered : goal.returns-then-count-eq0-clause-answered
-returns-then-count-eq0-clause-answered g c = λ force_complain before follows.
+returns-then-count-eq0-clause-answered g c = λ begin before follows.
     let so_far = c.loop-turn.invariant in
     let none = ap (λ (n : ℕ). take n c.read_piece.new.piece) c.if-count-eq0.true in
     let some : 0 < length c.read_piece.new.piece = omega (arith, c.read_piece.auto.piece, c.loop-turn.auto.piece, c.requires.piece) in
     let last = subst (Consumes (g.S.Source.left c.loop-turn.reader) (g.S.Source.left c.read_piece.new.reader)) none c.in-Ok.ensures.bytes.0 in
-    Consumes-whole _ _ _ (IsAnswered c.args.files.now force_complain before (g.W.Sink.written c.finish.new.writer) c.finish.new.session.summary) so_far.0
+    Consumes-whole _ _ _ (IsAnswered c.args.files.now begin before (g.W.Sink.written c.finish.new.writer) c.finish.new.session.summary) so_far.0
     so_far.1 last (c.in-Ok.ensures.bytes.1 c.if-count-eq0.true some)
-    (c.in-Ok-finish.ensures.ok force_complain before so_far.0 (so_far.3 force_complain before follows))
+    (c.in-Ok-finish.ensures.ok begin before so_far.0 (so_far.3 begin before follows))
 
 pub loop-turn-preserved : goal.loop-turn-preserved
 loop-turn-preserved g c =
@@ -28,7 +28,7 @@ loop-turn-preserved g c =
       so_far.0 ++ piece,
       Consumes-trans _ _ _ so_far.0 piece so_far.1 c.in-Ok.ensures.bytes.0,
       omega (arith, longer, some, so_far.2),
-      λ force_complain before follows. c.in-Ok-turn.ensures.ok force_complain before so_far.0 (so_far.3 force_complain before follows),
+      λ begin before follows. c.in-Ok-turn.ensures.ok begin before so_far.0 (so_far.3 begin before follows),
       omega (arith, c.in-Ok.ensures.counted, so_far.4),
       omega (arith, c.in-Ok-turn.ensures.counted, so_far.5, size),
       c.in-Ok.ensures.ok ∙ so_far.6,
@@ -38,30 +38,30 @@ loop-turn-preserved g c =
     )
 
 pub returns-in_default-clause-so_far : goal.returns-in_default-clause-so_far
-returns-in_default-clause-so_far g c = λ fault force_complain start follows.
+returns-in_default-clause-so_far g c = λ fault begin start follows.
     let so_far = c.loop-turn.invariant in
-    (so_far.0, Consumes-kept _ _ _ so_far.0 so_far.1 c.in_default.ensures.bytes, answered-so-far c.args.files.now force_complain (so_far.3 force_complain start follows) so_far.8)
+    (so_far.0, Consumes-kept _ _ _ so_far.0 so_far.1 c.in_default.ensures.bytes, answered-so-far c.args.files.now begin (so_far.3 begin start follows) so_far.8)
 
 pub returns-in_default-finish-clause-front : goal.returns-in_default-finish-clause-front
-returns-in_default-finish-clause-front g c = λ fault force_complain start follows.
+returns-in_default-finish-clause-front g c = λ fault begin start follows.
     let so_far = c.loop-turn.invariant in
     let none = ap (λ (n : ℕ). take n c.read_piece.new.piece) c.if-count-eq0.true in
     let last = subst (Consumes (g.S.Source.left c.loop-turn.reader) (g.S.Source.left c.read_piece.new.reader)) none c.in-Ok.ensures.bytes.0 in (
       so_far.0,
       subst (Consumes (g.S.Source.left c.args.reader.now) (g.S.Source.left c.read_piece.new.reader)) (append-nil so_far.0) (Consumes-trans _ _ _ so_far.0 [] so_far.1 last),
-      c.in_default-finish.ensures.err force_complain start so_far.0 (so_far.3 force_complain start follows),
+      c.in_default-finish.ensures.err begin start so_far.0 (so_far.3 begin start follows),
     )
 
 pub returns-in_default-turn-clause-front : goal.returns-in_default-turn-clause-front
-returns-in_default-turn-clause-front g c = λ fault force_complain start follows.
+returns-in_default-turn-clause-front g c = λ fault begin start follows.
     let so_far = c.loop-turn.invariant in
     let piece = take c.in-Ok.count c.read_piece.new.piece in (
       so_far.0 ++ piece,
       Consumes-trans _ _ _ so_far.0 piece so_far.1 c.in-Ok.ensures.bytes.0,
-      front-answered c.args.files.now force_complain (c.in_default-turn.ensures.err force_complain start so_far.0 (so_far.3 force_complain start follows)),
+      front-answered c.args.files.now begin (c.in_default-turn.ensures.err begin start so_far.0 (so_far.3 begin start follows)),
     )
 
 pub returns-clause-so_far : goal.returns-clause-so_far
-returns-clause-so_far g c = λ fault force_complain start follows.
+returns-clause-so_far g c = λ fault begin start follows.
     let so_far = c.loop-turn.invariant in
-    (so_far.0, so_far.1, answered-so-far c.args.files.now force_complain (so_far.3 force_complain start follows) so_far.8)
+    (so_far.0, so_far.1, answered-so-far c.args.files.now begin (so_far.3 begin start follows) so_far.8)

@@ -7,13 +7,13 @@ use Rattle.aa_set.proofs.session.turn.Goals as goal
 
 pub returns-clause-ok : goal.returns-clause-ok
 returns-clause-ok g c =
-    on_ok_weaker c.flush.result (λ flushed force_complain before input follows.
-    Follows-flushed c.args.files.now force_complain (c.in_ok-feed.ensures.ok force_complain before input follows) flushed refl refl c.flush.ensures.empty)
+    on_ok_weaker c.flush.result (λ flushed begin before input follows.
+    Follows-flushed c.args.files.now begin (c.in_ok-feed.ensures.ok begin before input follows) flushed refl refl c.flush.ensures.empty)
     c.flush.ensures.ok
 
 pub returns-clause-err : goal.returns-clause-err
 returns-clause-err g c =
-    weaker_err c.flush.result (λ broken force_complain before input follows.
-    let fed = c.in_ok-feed.ensures.ok force_complain before input follows in
-    front-cut c.args.files.now force_complain fed.cut (front-waiting c.args.files.now force_complain (g.W.Sink.written c.flush.new.writer) fed.after broken))
+    weaker_err c.flush.result (λ broken begin before input follows.
+    let fed = c.in_ok-feed.ensures.ok begin before input follows in
+    front-cut c.args.files.now begin fed.cut (front-waiting c.args.files.now begin (g.W.Sink.written c.flush.new.writer) fed.after broken))
     c.flush.ensures.err

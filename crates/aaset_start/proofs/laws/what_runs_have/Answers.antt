@@ -1,4 +1,4 @@
-use Rattle.aaset_start.proofs.LawLemmas.{base_word, both_words, each_run_is_named, mode_word, plain_words}
+use Rattle.aaset_start.proofs.LawLemmas.{base_word, both_words, each_run_is_named, language_word, mode_word, plain_words}
 use Rattle.aaset_start.proofs.laws.what_runs_have.Goals as goal
 
 pub returns-clause-names : goal.returns-clause-names
@@ -12,6 +12,9 @@ returns-clause-mode c words run = mode_word words run
 
 pub returns-clause-base : goal.returns-clause-base
 returns-clause-base c words folder run h = base_word words folder run h
+
+pub returns-clause-language : goal.returns-clause-language
+returns-clause-language c words word run h = language_word words word run h
 
 pub returns-clause-both : goal.returns-clause-both
 returns-clause-both c = both_words

@@ -8,7 +8,8 @@ returns-clause-of_a_part c form old new part none =
       other,
       found,
       record {
-        verdicts = λ request. law.same_verdict part.section other.section request alike;
+        mode = (law.head part.section other.section alike).mode;
+        verdicts = λ mediation request. law.same_verdict part.section other.section mediation request alike;
         choices = λ owned path agrees read bytes. law.same_choice part.section other.section owned path alike agrees read bytes;
       },
     )
@@ -20,7 +21,8 @@ returns-clause-of_all c form old new part none there =
       other,
       found,
       record {
-        verdicts = λ request. law.same_verdict part.section other.section request alike;
+        mode = (law.head part.section other.section alike).mode;
+        verdicts = λ mediation request. law.same_verdict part.section other.section mediation request alike;
         choices = λ owned path agrees read bytes. law.same_choice part.section other.section owned path alike agrees read bytes;
       },
     )

@@ -1,7 +1,7 @@
 use Rattle.std.proofs.Common.{◌≡◌, ◌+◌, ◌++◌, drop, sym, ap, ◌∙◌}
 use Rattle.std.specs.Prelude.{slice_get}
 use Rattle.std.proofs.lemmas.List.{append_assoc}
-use Rattle.aa_set.specs.Manager.{Managed}
+use Rattle.aa_set_manager.specs.Manager.{Managed}
 use Rattle.aatry_diff.specs.Differing.{differences}
 use Rattle.aatry_diff.specs.SeenDifferences.{seen_differences}
 use Rattle.aatry_diff.specs.code.Steps.{difference_at}

@@ -12,6 +12,6 @@ returns g c =
     let left = g.S.Source.left c.args.streams.now.input in
     let before = g.W.Sink.written c.args.streams.now.output in
     let after = g.W.Sink.written c.session_folder-outcome.new.writer in
-    session_done (IsSession folders known base c.args.prompt.now left before after)
-    (IsBrokenSession folders known base c.args.prompt.now left before after)
+    session_done (IsSession c.args.language folders known base c.args.prompt.now left before after)
+    (IsBrokenSession c.args.language folders known base c.args.prompt.now left before after)
     c.session_status.result c.session_folder-outcome.result c.session_folder-outcome.ensures.had c.session_folder-outcome.ensures.broken c.session_status.ensures

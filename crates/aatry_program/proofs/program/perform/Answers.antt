@@ -21,7 +21,7 @@ returns-in-Check g c =
     let known = g.D.FileSystem.known c.args.disk.now in
     let output = output_of (g.W.Sink.written c.args.streams.now.output) (g.W.Sink.written c.show_outcome.new.streams.output) (g.W.Sink.failed c.show_outcome.new.streams.output) in
     let asked = c.in-Check.asked in
-    rw c.in-Check.is (command_done (IsChecked c.args.call.form folders known (string_bytes asked.base) (texts_of asked.names)) (IsEndOfCheck folders known (string_bytes asked.base)) output
+    rw c.in-Check.is (command_done (IsChecked c.args.call.form c.args.call.language folders known (string_bytes asked.base) (texts_of asked.names)) (IsEndOfCheck folders known (string_bytes asked.base)) output
     c.show_outcome.result c.check_folder.result c.check_folder.ensures.checked c.check_folder.ensures.fault c.show_outcome.ensures)
 
 pub returns-in-Test : goal.returns-in-Test
@@ -30,7 +30,7 @@ returns-in-Test g c =
     let known = g.D.FileSystem.known c.args.disk.now in
     let output = output_of (g.W.Sink.written c.args.streams.now.output) (g.W.Sink.written c.show_outcome-in-Test.new.streams.output) (g.W.Sink.failed c.show_outcome-in-Test.new.streams.output) in
     let asked = c.in-Test.asked in
-    rw c.in-Test.is (command_done (IsTestedBelow folders known (string_bytes asked.base) (texts_of asked.paths)) (IsEndOfTest folders known (string_bytes asked.base) (texts_of asked.paths)) output
+    rw c.in-Test.is (command_done (IsTestedBelow c.args.call.language folders known (string_bytes asked.base) (texts_of asked.paths)) (IsEndOfTest folders known (string_bytes asked.base) (texts_of asked.paths)) output
     c.show_outcome-in-Test.result c.test_folder.result c.test_folder.ensures.tested c.test_folder.ensures.fault c.show_outcome-in-Test.ensures)
 
 pub returns-in-Who : goal.returns-in-Who
@@ -39,7 +39,7 @@ returns-in-Who g c =
     let known = g.D.FileSystem.known c.args.disk.now in
     let output = output_of (g.W.Sink.written c.args.streams.now.output) (g.W.Sink.written c.show_outcome-in-Who.new.streams.output) (g.W.Sink.failed c.show_outcome-in-Who.new.streams.output) in
     let asked = c.in-Who.asked in
-    rw c.in-Who.is (command_done (IsWhoToldBelow c.args.call.form folders known (string_bytes asked.base) (texts_of asked.words)) (IsEndOfWho folders known (string_bytes asked.base) (texts_of asked.words)) output
+    rw c.in-Who.is (command_done (IsWhoToldBelow c.args.call.form c.args.call.language folders known (string_bytes asked.base) (texts_of asked.words)) (IsEndOfWho folders known (string_bytes asked.base) (texts_of asked.words)) output
     c.show_outcome-in-Who.result c.who_folder.result c.who_folder.ensures.told c.who_folder.ensures.fault c.show_outcome-in-Who.ensures)
 
 pub returns-in-Why : goal.returns-in-Why
@@ -48,7 +48,7 @@ returns-in-Why g c =
     let known = g.D.FileSystem.known c.args.disk.now in
     let output = output_of (g.W.Sink.written c.args.streams.now.output) (g.W.Sink.written c.show_outcome-in-Why.new.streams.output) (g.W.Sink.failed c.show_outcome-in-Why.new.streams.output) in
     let asked = c.in-Why.asked in
-    rw c.in-Why.is (command_done (IsWhyToldBelow c.args.call.form folders known (string_bytes asked.base) (texts_of asked.words)) (IsEndOfWhy folders known (string_bytes asked.base) (texts_of asked.words)) output
+    rw c.in-Why.is (command_done (IsWhyToldBelow c.args.call.form c.args.call.language folders known (string_bytes asked.base) (texts_of asked.words)) (IsEndOfWhy folders known (string_bytes asked.base) (texts_of asked.words)) output
     c.show_outcome-in-Why.result c.why_folder.result c.why_folder.ensures.told c.why_folder.ensures.fault c.show_outcome-in-Why.ensures)
 
 pub returns-in-Diff : goal.returns-in-Diff
@@ -57,7 +57,7 @@ returns-in-Diff g c =
     let known = g.D.FileSystem.known c.args.disk.now in
     let output = output_of (g.W.Sink.written c.args.streams.now.output) (g.W.Sink.written c.show_outcome-in-Diff.new.streams.output) (g.W.Sink.failed c.show_outcome-in-Diff.new.streams.output) in
     let asked = c.in-Diff.asked in
-    rw c.in-Diff.is (command_done (IsComparedBelow c.args.call.form folders known (meant_comparison asked)) (IsEndOfDiff folders known (meant_comparison asked)) output
+    rw c.in-Diff.is (command_done (IsComparedBelow c.args.call.form c.args.call.language folders known (meant_comparison asked)) (IsEndOfDiff folders known (meant_comparison asked)) output
     c.show_outcome-in-Diff.result c.diff_folders.result c.diff_folders.ensures.told c.diff_folders.ensures.fault c.show_outcome-in-Diff.ensures)
 
 pub returns-in-Session : goal.returns-in-Session

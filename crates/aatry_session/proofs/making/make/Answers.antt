@@ -1,7 +1,7 @@
 use Rattle.std.proofs.Common.{◌≡◌, ◌∙◌, ap, arith, length, true, Some}
 use Rattle.std.specs.Prelude.{nat_le}
 use Rattle.std.proofs.lemmas.Bool.Decides.{nat_tests}
-use Rattle.aa_set.specs.Laws.{command_in}
+use Rattle.aa_set_manager.specs.Outcomes.{command_in}
 use Rattle.aa_set_commands.specs.Command.{Add, Replace, seen_change}
 use Rattle.aa_set_lines.specs.Limits.{longest_line}
 use Rattle.aatry_session.specs.History.{change_in}

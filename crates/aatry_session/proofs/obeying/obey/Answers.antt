@@ -1,5 +1,5 @@
 use Rattle.std.proofs.Common.{OnOk, subst}
-use Rattle.aa_set.specs.Run.{line_outcome}
+use Rattle.aa_set_manager.specs.Outcomes.{line_outcome}
 use Rattle.aatry_session.specs.SeenSessions.{seen_session}
 use Rattle.aatry_session.specs.Turns.{ObeysAs}
 use Rattle.aatry_session.proofs.obeying.obey.Goals as goal

@@ -1,5 +1,5 @@
 use Rattle.std.proofs.Common.{◌∙◌, ap}
-use Rattle.aa_set.specs.Run.{line_outcome}
+use Rattle.aa_set_manager.specs.Outcomes.{line_outcome}
 use Rattle.aa_set_commands.specs.Command.{seen_change}
 use Rattle.aatry_session.specs.History.{kept_with}
 use Rattle.aatry_session.specs.SeenSessions.{seen_session}

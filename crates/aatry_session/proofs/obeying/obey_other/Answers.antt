@@ -1,5 +1,5 @@
 use Rattle.std.proofs.Common.{◌≡◌, ◌++◌, ℕ, List, OnOk, refl, subst}
-use Rattle.aa_set.specs.Run.{line_outcome}
+use Rattle.aa_set_manager.specs.Outcomes.{line_outcome}
 use Rattle.aatry_session.specs.SeenSessions.{seen_session}
 use Rattle.aatry_session.specs.Turns.{reply_told}
 use Rattle.aatry_session.proofs.ObeyLemmas.{obeyed-other}
@@ -10,7 +10,7 @@ returns-clause-told c =
     let files = c.args.files.now in
     let base = c.args.base.now in
     let before = seen_session c.args.manager.now c.args.changes.now in
-    let after = seen_session c.reply_to-reply.new.manager c.args.changes.now in
+    let after = seen_session c.reply_to-reply.new.self c.args.changes.now in
     let old = c.args.out.now.items in
     let new = c.push_reply.new.out.items in
     let reply = c.reply_to-reply.result in

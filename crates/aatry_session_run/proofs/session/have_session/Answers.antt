@@ -47,7 +47,7 @@ returns-clause-broken g c =
     let left = g.S.Source.left c.args.reader.now in
     let told = subst (λ t. Appends before mid t) (c.deref.ensures.value ∙ put) c.in_ok-show.ensures.ok in
     let broken : List ℕ → Fault → Type 0 = λ waits fault. IsBrokenRun folders known base c.args.setting.now.prompt.now (record { left = left; waits = waits; written = mid; state = state }) after fault in
-    IfErr-weaker c.run.result (broken c.in_ok-lines.lines.input) (IsBrokenSession folders known base c.args.setting.now.prompt.now left before after)
+    IfErr-weaker c.run.result (broken c.in_ok-lines.lines.input) (IsBrokenSession c.args.setting.now.language folders known base c.args.setting.now.prompt.now left before after)
     (λ fault ended. inr (state, got.0, got.2, inr (mid, told, subst (λ waits. broken waits fault) c.in_ok-lines.ensures ended))) c.run.ensures.broken
 
 -- a front of what is told of the files was written

@@ -11,6 +11,7 @@ use Rattle.aatry_test.proofs.below.test_each.Goals as goal
 pub loop-path-preserved : goal.loop-path-preserved
 loop-path-preserved g c =
     let known = g.D.FileSystem.known c.args.disk.now in
+    let language = c.args.language in
     let files = c.args.files.now in
     let path = string_bytes c.in-Some.path in
     let behind = map string_bytes (into_iter_items c.next.new.self) in
@@ -24,8 +25,8 @@ loop-path-preserved g c =
         so_far.stands.0 ++ path ∷ [],
         so_far.stands.1 ∙ ap (λ left. so_far.stands.0 ++ left) next ∙ sym (append_assoc so_far.stands.0 (path ∷ []) behind),
       );
-      told = λ rest left tests. tests_one_more known files path behind all c.loop-path.text.items c.test_at.new.text.items own.0 rest c.loop-path.failed one left own.1 own.2
-          (λ r l t. so_far.told r l (subst (λ ps. TestsEach known files ps r l) (sym next) t)) tests;
+      told = λ rest left tests. tests_one_more language known files path behind all c.loop-path.text.items c.test_at.new.text.items own.0 rest c.loop-path.failed one left own.1 own.2
+          (λ r l t. so_far.told r l (subst (λ ps. TestsEach language known files ps r l) (sym next) t)) tests;
       few = omega (arith, so_far.few, c.in_ok-failed.ensures.few, ap length c.in-Some.ensures.steps.0);
     }
 
@@ -46,5 +47,5 @@ returns-in_err-failed-clause-fault g c =
 
 pub returns-clause-told : goal.returns-clause-told
 returns-clause-told g c =
-    tests_all (g.D.FileSystem.known c.args.disk.now) c.args.files.now (map string_bytes (into_iter_items c.loop-path.path-iterator)) (texts_of c.args.paths)
+    tests_all c.args.language (g.D.FileSystem.known c.args.disk.now) c.args.files.now (map string_bytes (into_iter_items c.loop-path.path-iterator)) (texts_of c.args.paths)
     c.loop-path.text.items c.loop-path.failed (length-map (into_iter_items c.loop-path.path-iterator) string_bytes ∙ (search rules)) c.loop-path.invariant.told

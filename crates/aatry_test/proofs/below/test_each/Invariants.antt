@@ -8,7 +8,7 @@ use Rattle.aatry_test.proofs.below.test_each.Given as goal
 abbrev pub invariant-loop-path : goal.invariant-loop-path
 invariant-loop-path g l = record {
   stands : (done : List (List ℕ)) × (texts_of l.fn.paths ≡ done ++ map string_bytes (into_iter_items l.path-iterator));
-  told : (rest : List ℕ) (left : ℕ) → TestsEach (g.D.FileSystem.known l.disk) l.files (map string_bytes (into_iter_items l.path-iterator)) rest left
-      → TestsEach (g.D.FileSystem.known l.disk) l.files (texts_of l.fn.paths) (l.text.items ++ rest) (l.failed + left);
+  told : (rest : List ℕ) (left : ℕ) → TestsEach l.language (g.D.FileSystem.known l.disk) l.files (map string_bytes (into_iter_items l.path-iterator)) rest left
+      → TestsEach l.language (g.D.FileSystem.known l.disk) l.files (texts_of l.fn.paths) (l.text.items ++ rest) (l.failed + left);
   few : l.failed + length (into_iter_items l.path-iterator) ≤ vec_len l.fn.paths;
 }

@@ -8,7 +8,7 @@ returns-in_ok-places-in-File-clause-verdict c =
     let flag = c.args.self.audit in
     let rules = c.args.self.rules.now in
     let places = c.in_ok-places-in-File.places.items in
-    let same = c.what_matching_rules_decide.ensures c.args.mode flag rules c.in-File.needs.0 c.in-File.owned c.in-File.path.now places c.in_ok-places-in-File.ensures.found c.in_ok-places-in-File.ensures.rise in
+    let same = c.what_matching_rules_decide.ensures c.args.mediation flag rules c.in-File.needs.0 c.in-File.owned c.in-File.path.now places c.in_ok-places-in-File.ensures.found c.in_ok-places-in-File.ensures.rise in
     rw (c.found_verdict.ensures, c.as_slice.ensures.value, c.in-File.is) same
 
 pub returns-in_ok-places-in-File-clause-steps : goal.returns-in_ok-places-in-File-clause-steps

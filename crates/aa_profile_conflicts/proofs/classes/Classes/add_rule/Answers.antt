@@ -8,11 +8,11 @@ use Rattle.aa_profile_conflicts.proofs.classes.Classes.add_rule.Goals as goal
 
 pub returns-in-None : goal.returns-in-None
 returns-in-None c rules are =
-    subst (λ (ls : List Lead). AreClassesOfLeads c.args.self.now ls) (sym (leads-none c.args.exact rules c.args.rule.now (sym c.in-None.ensures))) are
+    subst (λ (ls : List Lead). AreClassesOfLeads c.args.self.now ls) (sym (leads-none c.args.rank rules c.args.rule.now (sym c.in-None.ensures))) are
 
 pub returns-in-Some : goal.returns-in-Some
 returns-in-Some c =
     on_ok_weaker c.add.result (λ added rules are.
     subst (λ (ls : List Lead). AreClassesOfLeads c.add.new.self ls)
-    (sym (leads-some c.args.exact rules c.args.rule.now (seen_lead c.in-Some.lead) (sym c.in-Some.ensures)))
-    (added (leads c.args.exact rules) (seen_lead c.in-Some.lead) refl are)) c.add.ensures
+    (sym (leads-some c.args.rank rules c.args.rule.now (seen_lead c.in-Some.lead) (sym c.in-Some.ensures)))
+    (added (leads c.args.rank rules) (seen_lead c.in-Some.lead) refl are)) c.add.ensures

@@ -1,0 +1,11 @@
+-- Words that the laws on the start of programs are said in.
+use Rattle.std.specs.Prelude.{◌≡◌}
+use Rattle.aa_decide.specs.Exec.{Asker}
+use Rattle.aa_decide_ready.specs.Sections.{Section}
+use Rattle.aa_decide_rules.specs.declared.verdict.Mediation.{Mediation}
+use Rattle.aa_decide_slots.specs.Confinement.{By, in_state}
+
+-- the rules of who asks are asked: the profile is in force, and who asks isn't in mode unconfined
+abbrev pub AsksRules : Asker → Type 0
+AsksRules who =
+    (section : Section) × (mediation : Mediation) × (in_state who.entry.profile who.entry.state who.child ≡ By section mediation)

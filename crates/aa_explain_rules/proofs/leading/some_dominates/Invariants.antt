@@ -1,0 +1,12 @@
+use Rattle.std.proofs.Common.{◌≡◌, false, length}
+use Rattle.aa_decide_exec_rules.specs.Choices.{dominates}
+use Rattle.aa_explain_rules.specs.Leading.{says}
+use Rattle.aa_explain_rules.specs.code.Among.{some_among}
+use Rattle.aa_explain_rules.proofs.leading.some_dominates.Given as goal
+
+-- none of the rules so far does
+abbrev pub invariant-loop-rest : goal.invariant-loop-rest
+invariant-loop-rest l = let test = says (dominates l.rank) false l.owned l.path in some_among test l.rules l.rest ≡ some_among test l.rules l.places
+
+abbrev pub decreases-loop-rest : goal.decreases-loop-rest
+decreases-loop-rest l = length l.rest

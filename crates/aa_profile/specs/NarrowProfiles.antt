@@ -1,0 +1,30 @@
+-- Profiles as language 3 has them (docs/policy.md, "Languages").
+use Rattle.std.specs.Prelude.{◌≡◌, ◌≢◌, IfSome, None, Option}
+use Rattle.std.specs.List.{All}
+use Rattle.aa_profile_access.specs.Stacks.{stack_of}
+use Rattle.aa_profile_data.specs.declared.profile.Child.{Child}
+use Rattle.aa_profile_data.specs.declared.profile.Mode.TheVariants.{Unconfined}
+use Rattle.aa_profile_data.specs.declared.profile.Profile.{Profile}
+use Rattle.aa_profile_data.specs.declared.profile.Rank.TheVariants.{Last}
+use Rattle.aa_profile_data.specs.declared.profile.Rule.{Rule}
+use Rattle.aa_profile_data.specs.declared.profile.Rule.TheVariants.{Cap, File, Net, Other}
+use Rattle.aa_profile_data.specs.declared.profile.Transition.{Transition}
+
+-- a transition, if there is one, names no stack
+abbrev pub NamesNoStack : Option Transition → Type 0
+NamesNoStack exec = IfSome exec (λ transition. IfSome transition.target (λ target. stack_of target ≡ None))
+
+-- a rule doesn't have the last rank, and names no stack
+abbrev pub IsNarrowRule : Rule → Type 0
+IsNarrowRule (File rule) = (rule.rank ≢ Last) × NamesNoStack rule.exec
+IsNarrowRule (Cap rule) = Unit
+IsNarrowRule (Net rule) = Unit
+IsNarrowRule (Other rule) = Unit
+
+-- a child or a hat isn't in the mode unconfined, and its rules are such ones
+abbrev pub IsNarrowChild : Child → Type 0
+IsNarrowChild child = (child.mode ≢ Unconfined) × All IsNarrowRule child.rules
+
+-- a profile isn't in the mode unconfined, and its rules and its children and hats are such ones
+abbrev pub IsNarrow : Profile → Type 0
+IsNarrow profile = (profile.mode ≢ Unconfined) × All IsNarrowRule profile.rules × All IsNarrowChild profile.children

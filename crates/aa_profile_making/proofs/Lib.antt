@@ -1,0 +1,2 @@
+pub mod AllLemmas
+pub mod ProfileLemmas

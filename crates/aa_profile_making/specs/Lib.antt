@@ -1,0 +1,2 @@
+pub mod Plainness
+pub mod Profiles

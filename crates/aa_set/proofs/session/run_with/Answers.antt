@@ -1,7 +1,0 @@
-use Rattle.std.proofs.Common.{rules}
-use Rattle.aa_set.proofs.session.run_with.Goals as goal
-
-pub returns-in_err-serve-clause-so_far : goal.returns-in_err-serve-clause-so_far
-returns-in_err-serve-clause-so_far g c =
-    λ read. c.in_err-serve.ensures.so_far (search rules) c.args.force_complain (g.W.Sink.written c.args.writer.now)
-    (c.in-Ok.ensures.session c.args.files.now (g.W.Sink.written c.args.writer.now))

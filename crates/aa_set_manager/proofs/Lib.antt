@@ -1,0 +1,3 @@
+pub mod DistinctLemmas
+pub mod ManagerLemmas
+pub mod ReplyLemmas

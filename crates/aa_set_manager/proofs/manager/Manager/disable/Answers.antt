@@ -1,0 +1,55 @@
+use Rattle.std.proofs.Common.{◌≡◌, true, false, [], Ok, IfErr, OnOk, sym, ap, subst, ◌∙◌}
+use Rattle.aa_decide_slots.specs.Slots.{filled}
+use Rattle.aa_set_changes.specs.Changes.{is_disabled, is_loaded, with_disabled}
+use Rattle.aa_set_commands.specs.Command.{Disable}
+use Rattle.aa_set_commands.specs.Refusal.{IsRefusalOf, plain}
+use Rattle.aa_set_commands.specs.declared.refusal.RefusalKind.TheVariants.{Memory}
+use Rattle.aa_set_parts.specs.Parts.{after}
+use Rattle.aa_set_manager.specs.Manager.{disabled, managed_by}
+use Rattle.aa_set_manager.proofs.ManagerLemmas.{disabled-loaded, entries-seen, made-distinct, made-memory, made-ok, made-refused, now-distinct, of-err, of-ok, seen}
+use Rattle.aa_set_manager.proofs.manager.Manager.disable.Goals as goal
+
+pub invariant_of-self : goal.invariant_of-self
+invariant_of-self c =
+    made-distinct c.self.inside.journal c.make.new.journal c.state.result.now (with_disabled (filled c.self.inside.journal.machine.now) c.args.name.now) c.disabling-exchange.result c.make.result c.make.ensures c.state.ensures
+    (of-ok (λ exchange. with_disabled (filled c.state.result.now) c.args.name.now ≡ Ok (filled (after c.state.result.now exchange.parts)))
+    (λ exchange. with_disabled (filled c.self.inside.journal.machine.now) c.args.name.now ≡ Ok (filled (after c.state.result.now exchange.parts))) c.disabling-exchange.result c.disabling-exchange.ensures.ok
+    (λ exchange is. ap (λ entries. with_disabled entries c.args.name.now) (sym (entries-seen c.state.result.now c.self.inside.journal.machine.now c.state.ensures)) ∙ is))
+    c.self.invariant
+    (c.what_changes_keep.ensures [] c.self.inside.settings (filled c.self.inside.journal.machine.now) (Disable c.args.name.now) (now-distinct c.self.inside.journal c.self.invariant))
+
+pub returns-clause-ok : goal.returns-clause-ok
+returns-clause-ok c =
+    subst (λ managed. OnOk c.make.result (disabled managed c.args.name.now ≡ Ok (managed_by c.self.inside.settings (seen c.make.new.journal)))) c.self.view_is
+    (made-ok c.self.inside.settings c.self.inside.journal c.make.new.journal c.state.result.now 1 (with_disabled (filled c.self.inside.journal.machine.now) c.args.name.now) c.disabling-exchange.result c.make.result c.make.ensures c.state.ensures
+    (of-ok (λ exchange. with_disabled (filled c.state.result.now) c.args.name.now ≡ Ok (filled (after c.state.result.now exchange.parts)))
+    (λ exchange. with_disabled (filled c.self.inside.journal.machine.now) c.args.name.now ≡ Ok (filled (after c.state.result.now exchange.parts))) c.disabling-exchange.result c.disabling-exchange.ensures.ok
+    (λ exchange is. ap (λ entries. with_disabled entries c.args.name.now) (sym (entries-seen c.state.result.now c.self.inside.journal.machine.now c.state.ensures)) ∙ is))
+    c.disabling-exchange.ensures.parts)
+
+pub returns-clause-refused : goal.returns-clause-refused
+returns-clause-refused c =
+    subst (λ managed. IfErr c.make.result (IsRefusalOf (disabled managed c.args.name.now))) c.self.view_is
+    (made-refused (managed_by c.self.inside.settings (seen c.self.inside.journal)) c.self.inside.journal c.make.new.journal 1 (with_disabled (filled c.self.inside.journal.machine.now) c.args.name.now) c.disabling-exchange.result c.make.result c.make.ensures
+    (of-err (IsRefusalOf (with_disabled (filled c.state.result.now) c.args.name.now)) (IsRefusalOf (with_disabled (filled c.self.inside.journal.machine.now) c.args.name.now))
+    c.disabling-exchange.result c.disabling-exchange.ensures.refused (λ refusal is other. ap (λ entries. with_disabled entries c.args.name.now) (sym (entries-seen c.state.result.now c.self.inside.journal.machine.now c.state.ensures)) ∙ is other)))
+
+pub returns-clause-loaded : goal.returns-clause-loaded
+returns-clause-loaded c =
+    subst (λ managed. IfErr c.make.result (λ refusal. refusal ≡ plain Memory → is_loaded c.args.name.now managed.machine.now ≡ true)) c.self.view_is
+    (made-memory (is_loaded c.args.name.now (filled c.self.inside.journal.machine.now) ≡ true) c.self.inside.journal c.make.new.journal c.disabling-exchange.result c.make.result c.make.ensures
+    (of-err (λ refusal. refusal ≡ plain Memory → is_loaded c.args.name.now (filled c.state.result.now) ≡ true) (λ refusal. refusal ≡ plain Memory → is_loaded c.args.name.now (filled c.self.inside.journal.machine.now) ≡ true)
+    c.disabling-exchange.result c.disabling-exchange.ensures.loaded (λ refusal is memory. ap (is_loaded c.args.name.now) (sym (entries-seen c.state.result.now c.self.inside.journal.machine.now c.state.ensures)) ∙ is memory))
+    (of-ok (λ exchange. with_disabled (filled c.state.result.now) c.args.name.now ≡ Ok (filled (after c.state.result.now exchange.parts))) (λ exchange. is_loaded c.args.name.now (filled c.self.inside.journal.machine.now) ≡ true)
+    c.disabling-exchange.result c.disabling-exchange.ensures.ok
+    (λ exchange is. ap (is_loaded c.args.name.now) (sym (entries-seen c.state.result.now c.self.inside.journal.machine.now c.state.ensures)) ∙ (disabled-loaded (filled c.state.result.now) (filled (after c.state.result.now exchange.parts)) c.args.name.now is).0)))
+
+pub returns-clause-in_force : goal.returns-clause-in_force
+returns-clause-in_force c =
+    subst (λ managed. IfErr c.make.result (λ refusal. refusal ≡ plain Memory → is_disabled c.args.name.now managed.machine.now ≡ false)) c.self.view_is
+    (made-memory (is_disabled c.args.name.now (filled c.self.inside.journal.machine.now) ≡ false) c.self.inside.journal c.make.new.journal c.disabling-exchange.result c.make.result c.make.ensures
+    (of-err (λ refusal. refusal ≡ plain Memory → is_disabled c.args.name.now (filled c.state.result.now) ≡ false) (λ refusal. refusal ≡ plain Memory → is_disabled c.args.name.now (filled c.self.inside.journal.machine.now) ≡ false)
+    c.disabling-exchange.result c.disabling-exchange.ensures.in_force (λ refusal is memory. ap (is_disabled c.args.name.now) (sym (entries-seen c.state.result.now c.self.inside.journal.machine.now c.state.ensures)) ∙ is memory))
+    (of-ok (λ exchange. with_disabled (filled c.state.result.now) c.args.name.now ≡ Ok (filled (after c.state.result.now exchange.parts))) (λ exchange. is_disabled c.args.name.now (filled c.self.inside.journal.machine.now) ≡ false)
+    c.disabling-exchange.result c.disabling-exchange.ensures.ok
+    (λ exchange is. ap (is_disabled c.args.name.now) (sym (entries-seen c.state.result.now c.self.inside.journal.machine.now c.state.ensures)) ∙ (disabled-loaded (filled c.state.result.now) (filled (after c.state.result.now exchange.parts)) c.args.name.now is).1)))

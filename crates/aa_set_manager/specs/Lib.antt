@@ -1,0 +1,4 @@
+pub mod Limits
+pub mod Manager
+pub mod Outcomes
+pub mod code

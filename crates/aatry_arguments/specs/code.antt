@@ -1,0 +1,2 @@
+-- What is about the code: how far the reading of words has come.
+pub mod WordsSoFar
