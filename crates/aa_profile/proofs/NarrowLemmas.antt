@@ -1,6 +1,6 @@
--- What language 3 reads: no mode unconfined, no last rank and no stacks.
+-- What language 3 reads: no mode unconfined, ranks by own patterns and no stacks.
 use Rattle.std.proofs.Common.{◌≡◌, ℕ, Bool, true, false, List, [], ◌∷◌, Option, None, Some, Ok, map, refl}
-use Rattle.std.specs.Prelude.{◌≢◌, IfOk, IfSome, if◌then◌else◌, is_some}
+use Rattle.std.specs.Prelude.{◌≢◌, ◌&&◌, IfOk, IfSome, if◌then◌else◌, is_some}
 use Rattle.std.specs.List.{All}
 use Rattle.std.proofs.lemmas.List.Elements.{All-cons, All-nil}
 use Rattle.aa_glob_syntax.specs.Exactness.{is_exact}
@@ -21,7 +21,7 @@ use Rattle.aa_profile_rules.specs.declared.qualifiers.Qualifiers.{Qualifiers}
 use Rattle.aa_profile_grammar.specs.Files.{File, file}
 use Rattle.aa_profile_data.specs.declared.profile.Mode.{Mode}
 use Rattle.aa_profile_data.specs.declared.profile.Mode.TheVariants.{Enforce, Unconfined}
-use Rattle.aa_profile_data.specs.declared.profile.Rank.TheVariants.{Last, Loose, Plain}
+use Rattle.aa_profile_data.specs.declared.profile.Rank.TheVariants.{Loose, Plain}
 use Rattle.aa_profile_data.specs.declared.profile.Transition.{Transition}
 use Rattle.aa_profile_patterns.specs.Patterns.{patterns_at}
 use Rattle.aa_profile_making.specs.Profiles.{file_rule, mode_of, mode_of_flag, profile_of, rank_of, rules_of_rule, text_of_target, transition_of}
@@ -42,14 +42,20 @@ mode-narrow flags h = by flags.mode h
     by (Some flag.Unconfined) h = λ wrong. h.0 refl
     by (Some flag.DefaultAllow) h = λ wrong. h.1 refl
 
--- a rank that goes by a rule's own pattern isn't the last
-rank-narrow : (access : Access) (pattern : List ℕ) → rank_of access None pattern ≢ Last
-rank-narrow access pattern = by (is_some access.word) (is_exact (items_of pattern))
+-- under what an access lets programs run
+abbrev transition_by : Option (List ℕ) → Option ExecWord → Option Transition
+transition_by target found = elim found [ None ↦ None | Some word ↦ Some (record { word = word; target = target }) ]
+
+-- the rank of a rule that isn't told one by its token is that of its own pattern
+rank-narrow : (access : Access) (target : Option (List ℕ)) (pattern : List ℕ)
+    → rank_of access None pattern ≡ (if is_some (transition_of access target) && is_exact (items_of pattern) then Plain else Loose)
+rank-narrow access target pattern = by access.word (is_exact (items_of pattern))
   where
-    by : (execs exact : Bool) → (if execs then if exact then Plain else Loose else Loose) ≢ Last
-    by true true = λ wrong. absurd (cc)
-    by true false = λ wrong. absurd (cc)
-    by false exact = λ wrong. absurd (cc)
+    by : (word : Option ExecWord) (exact : Bool)
+        → (if is_some word then if exact then Plain else Loose else Loose) ≡ (if is_some (transition_by target word) && exact then Plain else Loose)
+    by None exact = refl
+    by (Some word) true = refl
+    by (Some word) false = refl
 
 -- what a written target names, the transition does
 transition-narrow : (access : Access) (target : Option Placed) → IfSome access.word (λ word. NamesNone target) → NamesNoStack (transition_of access (text_of_target target))
@@ -68,7 +74,7 @@ file_rules-narrow : (qualifiers : Qualifiers) (access : Access) (target : Option
 file_rules-narrow qualifiers access target h [] = All-nil IsNarrowRule
 file_rules-narrow qualifiers access target h (pattern ∷ patterns) =
     All-cons IsNarrowRule (file_rule qualifiers access target None pattern) (map (file_rule qualifiers access target None) patterns)
-    (rank-narrow access pattern, transition-narrow access target h) (file_rules-narrow qualifiers access target h patterns)
+    (rank-narrow access (text_of_target target) pattern, transition-narrow access target h) (file_rules-narrow qualifiers access target h patterns)
 
 made-rule : (variables : List Variable) (rule : WrittenRule) → IsNarrowWritten rule → All IsNarrowRule (rules_of_rule Three variables rule)
 made-rule variables (OnFile qualifiers pattern access target) h = file_rules-narrow qualifiers access target h (patterns_at variables pattern)

@@ -39,7 +39,8 @@ first_undefined variables tokens = find (λ token. names_undefined variables (te
 
 -- its refusal, at this token
 abbrev pub undefined_name : List Variable → List Assignment → List Placed → Option ProfileError
-undefined_name variables assignments patterns = option_map (λ token. placed (Text Undefined) (place_of token)) (first_undefined variables (naming assignments patterns))
+undefined_name variables assignments patterns =
+    option_map (λ token. placed (Text Undefined) (place_of token)) (first_undefined variables (naming assignments patterns))
 
 -- the first assignment of a variable
 abbrev pub first_of : List ℕ → List Assignment → Option Assignment
@@ -48,7 +49,10 @@ first_of name assignments = find (λ assignment. bytes_eq name (text_of assignme
 -- the refusal of the first variable that leads to itself or to one that does, at its first assignment
 abbrev pub cycle : List Variable → List Assignment → Option ProfileError
 cycle variables assignments =
-    option_map (λ variable. record { refusal = Text Cycle; place = option_map (λ assignment. place_of assignment.sign) (first_of variable.name assignments) }) (find (is_cyclic variables) variables)
+    option_map (λ variable. record {
+      refusal = Text Cycle;
+      place = option_map (λ assignment. place_of assignment.sign) (first_of variable.name assignments);
+    }) (find (is_cyclic variables) variables)
 
 -- The variables of a file. All assignments are made before names are looked up, and these before cycles are looked for.
 abbrev pub variables_of : List Assignment → List Placed → Result (List Variable) ProfileError

@@ -25,7 +25,8 @@ pattern_of (All qualifiers word) = Some (all_files word)
 
 -- The pattern of a written rule, where a rule that it makes conflicts with one before that. Others come before all that it makes.
 abbrev pub conflict_in_rule : Language → List Variable → List Rule → WrittenRule → Option Placed
-conflict_in_rule language variables before rule = if is_some (first_conflict before (rules_of_rule language variables rule)) then pattern_of rule else None
+conflict_in_rule language variables before rule =
+    if is_some (first_conflict before (rules_of_rule language variables rule)) then pattern_of rule else None
 
 -- the first such pattern of written rules
 abbrev pub conflict_in_rules : Language → List Variable → List Rule → List WrittenRule → Option Placed
@@ -57,4 +58,5 @@ conflict_in_profiles language variables (profile ∷ profiles) = elim (conflict_
 
 -- its refusal, at this pattern
 abbrev pub refusal_of_conflicts : Language → List Variable → List Profile → Option ProfileError
-refusal_of_conflicts language variables profiles = option_map (λ pattern. placed ExecConflict (place_of pattern)) (conflict_in_profiles language variables profiles)
+refusal_of_conflicts language variables profiles =
+    option_map (λ pattern. placed ExecConflict (place_of pattern)) (conflict_in_profiles language variables profiles)

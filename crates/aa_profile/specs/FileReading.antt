@@ -37,7 +37,10 @@ profiles_with language variables file = elim (refusal_of_rules language variable
 
 -- the profiles of a file
 abbrev pub profiles_in : Language → File → Result (List Profile) ProfileError
-profiles_in language file = elim (variables_of file.assignments (of_profiles file.profiles)) [ Err refusal ↦ Err refusal | Ok variables ↦ profiles_with language variables file ]
+profiles_in language file = elim (variables_of file.assignments (of_profiles file.profiles)) [
+  | Err refusal ↦ Err refusal
+  | Ok variables ↦ profiles_with language variables file
+]
 
 -- the profiles of tokens
 abbrev pub profiles_of : Language → List Placed → Result (List Profile) ProfileError

@@ -7,4 +7,5 @@ pub mod NarrowProfiles
 pub mod PlaceLaws
 pub mod ProfileNames
 pub mod ReadPatterns
+pub mod Refusals
 pub mod code

@@ -31,7 +31,8 @@ abbrev pub AreMadeAt : Language → List Variable → List WrittenRule → List 
 AreMadeAt language variables written [] [] = Unit
 AreMadeAt language variables written [] (place ∷ places) = ⊥
 AreMadeAt language variables written (rule ∷ rules) [] = ⊥
-AreMadeAt language variables written (rule ∷ rules) (place ∷ places) = IsMadeAt language variables written rule place × AreMadeAt language variables written rules places
+AreMadeAt language variables written (rule ∷ rules) (place ∷ places) =
+    IsMadeAt language variables written rule place × AreMadeAt language variables written rules places
 
 -- So are those of a child or a hat of its own written ones, and its attachment stands where it is written.
 abbrev pub IsChildMadeAt : Language → List Variable → WrittenChild → Child → SectionPlaces → Type 0

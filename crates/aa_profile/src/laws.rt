@@ -70,8 +70,10 @@ pub fn where_rules_are_made()
         → AreFileMadeAt language files name profiles places }
 {}
 
-/// What language 4 alone has, language 3 never reads: no profile, child or hat of a file that is read by language 3 is in the mode unconfined, no rule
-/// of one has the last rank, and none names a stack where it says under what a program runs.
+/// What language 4 alone has, language 3 never reads: no profile, child or hat of a file that is read by language 3 is
+/// in the mode unconfined, and no rule of one names a stack where it says under what a program runs. The rank of each
+/// rule goes by its own pattern: plain where it has an exec word and the pattern is exact, else loose, and never last. So
+/// what language 4 says by ranks, language 3 says by exactness.
 pub fn what_language_3_has_not()
     ensures { (files : List File) (name : List ℕ) → IfOk (file_profiles files name) (All IsNarrow) }
 {

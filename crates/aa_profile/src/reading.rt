@@ -9,7 +9,8 @@ ghost use Rattle.aa_profile_data.specs.Numbers.{profile_has_known_numbers};
 ghost use Rattle.aa_profile_data.specs.Profile.{are_distinct};
 ghost use Rattle.aa_profile.specs.FilePlaces.{file_places, file_places_in, places_in};
 ghost use Rattle.aa_profile.specs.FileReading.{file_profiles, file_profiles_in, profiles_in, profiles_with};
-ghost use Rattle.aa_profile.specs.code.FileReadingProgress.{IsRefusalOf, has_no_value};
+ghost use Rattle.aa_profile.specs.Refusals.{IsRefusalOf};
+ghost use Rattle.aa_profile.specs.code.FileReadingProgress.{has_no_value};
 ghost use Rattle.aa_profile_patterns.specs.PatternTokens.{of_profiles};
 ghost use Rattle.aa_profile_patterns.specs.Patterns.{have_expansions};
 ghost use Rattle.aa_profile_patterns.specs.Places.{places_of_profile};
@@ -42,7 +43,8 @@ fn read_with(
     requires tokens { seen_tokens patterns.now ≡ of_profiles (map seen_profile file.now.profiles.items) }
     requires expand { have_expansions variables.now (seen_tokens patterns.now) ≡ true }
     ensures ok { IfOk result (λ read. profiles_with language variables.now (seen_file file.now) ≡ Ok read.profiles.items) }
-    ensures places { IfOk result (λ read. read.places.items ≡ map (places_of_profile language variables.now) (map seen_profile file.now.profiles.items)) }
+    ensures places { IfOk result (λ read.
+        read.places.items ≡ map (places_of_profile language variables.now) (map seen_profile file.now.profiles.items)) }
     ensures refused { IsRefusalOf (profiles_with language variables.now (seen_file file.now)) result }
 {
     let mut table = ExpansionTable::new(alloc, variables);
@@ -69,9 +71,11 @@ fn read_written(
     read_with(alloc, language, &variables, &patterns, file)
 }
 
-/// The profiles that a file of the handed-in ones spells, read by a language, in its order, and where they have what they have. A file rule is one rule for each expansion of
-/// its pattern, and these share its target and stand at one place. Variables are put into attachments and patterns alone: names, targets and rules that
-/// are kept stay as they are written. A place is a byte offset in the file, or in one that that includes. Flags that decide nothing come with the places.
+/// The profiles that a file of the handed-in ones spells, read by a language, in its order, and where they have what
+/// they have. A file rule is one rule for each expansion of its pattern, and these share its target and stand at one
+/// place. Variables are put into attachments and patterns alone: names, targets and rules that are kept stay as they
+/// are written. A place is a byte offset in the file, or in one that that includes. Flags that decide nothing come with
+/// the places.
 ///
 /// # Errors
 ///

@@ -86,7 +86,8 @@ pub fn run<S: Source, W: Sink>(
     requires reads { S.reads reader.old ≤ 2 ^ 63 }
 
     // The replies are those of the machine that keeps whole policy sets, to all that was read.
-    ensures answered { IfOk result (IsLeftAnswered files.now (new_manager force_complain) (S.left reader.old) (W.written writer.old) (W.written writer.new)) }
+    ensures answered { IfOk result
+        (IsLeftAnswered files.now (new_manager force_complain) (S.left reader.old) (W.written writer.old) (W.written writer.new)) }
     ensures ended { OnOk result (IsAtEnd (S.left reader.new)) }
     ensures end { OnOk result (S.ended reader.new ≡ true) }
     ensures whole { OnOk result ((S.failed reader.new ≡ false) × (W.failed writer.new ≡ false)) }
@@ -128,7 +129,8 @@ pub fn run_in<S: Source, W: Sink>(
     requires reads { S.reads reader.old ≤ 2 ^ 63 }
 
     // The replies are those of the machine that keeps whole policy sets, to all that was read.
-    ensures answered { IfOk result (IsLeftAnswered files.now (new_manager_in language force_complain) (S.left reader.old) (W.written writer.old) (W.written writer.new)) }
+    ensures answered { IfOk result
+        (IsLeftAnswered files.now (new_manager_in language force_complain) (S.left reader.old) (W.written writer.old) (W.written writer.new)) }
     ensures ended { OnOk result (IsAtEnd (S.left reader.new)) }
     ensures end { OnOk result (S.ended reader.new ≡ true) }
     ensures whole { OnOk result ((S.failed reader.new ≡ false) × (W.failed writer.new ≡ false)) }
@@ -178,7 +180,8 @@ pub fn run_with<S: Source, W: Sink>(
     requires reads { S.reads reader.old ≤ 2 ^ 63 }
 
     // The replies are those of the machine that keeps whole policy sets, to all that was read.
-    ensures answered { IfOk result (IsLeftAnswered files.now (new_manager force_complain) (S.left reader.old) (W.written writer.old) (W.written writer.new)) }
+    ensures answered { IfOk result
+        (IsLeftAnswered files.now (new_manager force_complain) (S.left reader.old) (W.written writer.old) (W.written writer.new)) }
     ensures ended { OnOk result (IsAtEnd (S.left reader.new)) }
     ensures end { OnOk result (S.ended reader.new ≡ true) }
     ensures whole { OnOk result ((S.failed reader.new ≡ false) × (W.failed writer.new ≡ false)) }
@@ -229,7 +232,8 @@ pub fn run_with_in<S: Source, W: Sink>(
     requires reads { S.reads reader.old ≤ 2 ^ 63 }
 
     // The replies are those of the machine that keeps whole policy sets, to all that was read.
-    ensures answered { IfOk result (IsLeftAnswered files.now (new_manager_in language force_complain) (S.left reader.old) (W.written writer.old) (W.written writer.new)) }
+    ensures answered { IfOk result
+        (IsLeftAnswered files.now (new_manager_in language force_complain) (S.left reader.old) (W.written writer.old) (W.written writer.new)) }
     ensures ended { OnOk result (IsAtEnd (S.left reader.new)) }
     ensures end { OnOk result (S.ended reader.new ≡ true) }
     ensures whole { OnOk result ((S.failed reader.new ≡ false) × (W.failed writer.new ≡ false)) }

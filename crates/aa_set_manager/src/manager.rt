@@ -72,7 +72,8 @@ impl Model for Manager {
 }
 
 impl Manager {
-    ghost use Rattle.aa_set_manager.specs.Manager.{AreOfFile, added, back_at, disabled, in_mode, made, marking, new_manager, new_manager_in, redone, replaced, undone};
+    ghost use Rattle.aa_set_manager.specs.Manager.{AreOfFile, added, back_at, disabled, in_mode, made, marking};
+    ghost use Rattle.aa_set_manager.specs.Manager.{new_manager, new_manager_in, redone, replaced, undone};
 
     /// A manager of the empty policy set, which no change has made yet, of files that are read by the language of AppArmor 3: `new_in` with that.
     pub fn new(alloc: Global, force_complain: bool) -> Manager
@@ -101,6 +102,13 @@ impl Manager {
         ensures { result ≡ self.now.machine.now }
     {
         PolicySet::of(self.journal.state())
+    }
+
+    /// The language by which files are read. It takes no memory.
+    pub fn language(&self) -> Language
+        ensures { result ≡ self.now.settings.language }
+    {
+        self.settings.language
     }
 
     /// How many changes can be undone. It takes no memory.
@@ -157,8 +165,9 @@ impl Manager {
         self.add_read(read.profiles)
     }
 
-    /// Adds profiles that were read of a file, as `add` of that file does. It is for callers that need the rest of what `aa_profile::read_file_in` gives,
-    /// which reads the file once for both. The caller sees to it that they are those of one file.
+    /// Adds profiles that were read of a file, as `add` of that file does. It is for callers that need the rest of what
+    /// `aa_profile::read_file_in` gives, which reads the file once for both. The caller sees to it that they are those
+    /// of one file.
     ///
     /// # Errors
     ///
@@ -196,8 +205,9 @@ impl Manager {
         self.replace_read(read.profiles)
     }
 
-    /// Puts profiles that were read of a file in the places of those of their names, as `replace` of that file does. It is for callers that need the rest
-    /// of what `aa_profile::read_file_in` gives, which reads the file once for both. The caller sees to it that they are those of one file.
+    /// Puts profiles that were read of a file in the places of those of their names, as `replace` of that file does. It
+    /// is for callers that need the rest of what `aa_profile::read_file_in` gives, which reads the file once for both.
+    /// The caller sees to it that they are those of one file.
     ///
     /// # Errors
     ///
@@ -372,9 +382,10 @@ impl Manager {
         }
     }
 
-    /// Remembers what a question about a path passes of the rules of who asks, so that it is answered quicker from now on, and others as far as they go the
-    /// same ways. Nothing of it is seen in any answer. It does so for at most eight profiles, children and hats: where a ninth asks, what was remembered of
-    /// the others is forgotten before, and all of it is with each change but a switch. Where memory runs out no more is remembered.
+    /// Remembers what a question about a path passes of the rules of who asks, so that it is answered quicker from now
+    /// on, and others as far as they go the same ways. Nothing of it is seen in any answer. It does so for at most
+    /// eight profiles, children and hats: where a ninth asks, what was remembered of the others is forgotten before,
+    /// and all of it is with each change but a switch. Where memory runs out no more is remembered.
     pub fn remember(&mut self, question: &Question<'_>)
         ensures { self.new ≡ self.old }
     {
@@ -391,8 +402,9 @@ impl Manager {
         }
     }
 
-    /// Sees to it that profiles are found by their names without going over all, if it is called for more than the first few times since profiles were
-    /// added, replaced or removed. Nothing of it is seen in any answer. `remember` does it for a question.
+    /// Sees to it that profiles are found by their names without going over all, if it is called for more than the
+    /// first few times since profiles were added, replaced or removed. Nothing of it is seen in any answer. `remember`
+    /// does it for a question.
     pub fn index_names(&mut self)
         ensures { self.new ≡ self.old }
     {
@@ -450,9 +462,9 @@ impl Manager {
         shown_lines(self.alloc, &self.policy_set().slots(), name)
     }
 
-    /// What a question is answered, as values: the answer, what is told of it, and the line that logs it, where it is logged (docs/commands.md,
-    /// "Questions"). The caller sees to it that the question is well-formed, as one of `Question::read` is: it needs known letters alone, and its numbers
-    /// stand in the tables.
+    /// What a question is answered, as values: the answer, what is told of it, and the line that logs it, where it is
+    /// logged (docs/commands.md, "Questions"). The caller sees to it that the question is well-formed, as one of
+    /// `Question::read` is: it needs known letters alone, and its numbers stand in the tables.
     ///
     /// # Errors
     ///

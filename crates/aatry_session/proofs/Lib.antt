@@ -4,6 +4,5 @@ pub mod MakeLemmas
 pub mod NamedLemmas
 pub mod ObeyLemmas
 pub mod OriginLemmas
-pub mod ReadingLemmas
 pub mod StepLemmas
 pub mod TurnLemmas

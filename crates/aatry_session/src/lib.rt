@@ -9,7 +9,6 @@ mod making;
 mod moves;
 mod obeying;
 mod origins;
-mod reading_manager;
 mod refusals;
 mod sayings;
 mod session;

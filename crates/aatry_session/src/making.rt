@@ -1,6 +1,9 @@
 //! Changes made, each file read once: what the machine answers, and where the profiles were read that it loaded.
 
 ghost use Rattle.std.specs.Prelude.{◌≡◌, Bool, [], Ok, Some, IfErr, IfOk, MatchResult, OnErr, OnOk};
+ghost use Rattle.aa_profile.specs.FilePlaces.{file_places_in};
+ghost use Rattle.aa_profile.specs.FileReading.{file_profiles_in};
+ghost use Rattle.aa_profile.specs.Refusals.{IsRefusalOf as IsReadingRefusal};
 ghost use Rattle.aa_set_manager.specs.Outcomes.{command_in, line_outcome, obeyed_flagged};
 ghost use Rattle.aa_set_manager.specs.Manager.{made};
 ghost use Rattle.aa_set_manager.specs.declared.reply.Reply.TheVariants.{Done, Refused};
@@ -11,11 +14,10 @@ ghost use Rattle.aatry_session.specs.Origins.{change_origins, origins_at};
 ghost use Rattle.aatry_session.specs.Turns.{file_added};
 
 use crate::origins::Origins;
-use crate::reading_manager::ReadingManager;
-use aa_profile::FileProfiles;
+use aa_profile::{FileProfiles, ProfileError, read_file_in};
 use aa_set_commands::{PolicyChange, Refusal, RefusalKind, plain};
 use aa_set_lines::LONGEST_LINE;
-use aa_set_manager::Reply;
+use aa_set_manager::{Manager, Reply, reply_to};
 use aa_text_files::Files;
 use aatry_policy::origins_of;
 use std::alloc::Global;
@@ -29,11 +31,25 @@ pub struct Made {
     pub origins: Origins,
 }
 
+// Reads a file by the language by which a manager reads those that it loads.
+fn read(
+    alloc: Global,
+    files: &Files,
+    manager: &Manager,
+    name: &[u8],
+) -> Result<FileProfiles, ProfileError>
+    ensures ok { IfOk result (λ read. file_profiles_in manager.now.settings.language files.now name.now ≡ Ok read.profiles.items) }
+    ensures places { IfOk result (λ read. file_places_in manager.now.settings.language files.now name.now ≡ Some read.places.items) }
+    ensures refused { IsReadingRefusal (file_profiles_in manager.now.settings.language files.now name.now) result }
+{
+    read_file_in(alloc, manager.language(), files, name)
+}
+
 // Adds the profiles of a file, as `Manager::add` does, and says where they were read.
 fn add_file(
     alloc: Global,
     files: &Files,
-    manager: &mut ReadingManager,
+    manager: &mut Manager,
     name: &[u8],
 ) -> Result<Origins, Refusal>
     ensures ok { OnOk result (made files.now manager.old (Add name.now) ≡ Ok manager.new) }
@@ -41,7 +57,7 @@ fn add_file(
     ensures unchanged { OnErr result (manager.new ≡ manager.old) }
     ensures origins { IfOk result (λ origins. origins ≡ origins_at manager.old.settings.language files.now name.now) }
 {
-    let FileProfiles { profiles, places } = manager.read(alloc, files, name)?;
+    let FileProfiles { profiles, places } = read(alloc, files, manager, name)?;
     let own = origins_of(alloc, name, &profiles, places)?;
     manager.add_read(profiles)?;
     Ok(Origins::of(own))
@@ -51,7 +67,7 @@ fn add_file(
 fn replace_file(
     alloc: Global,
     files: &Files,
-    manager: &mut ReadingManager,
+    manager: &mut Manager,
     name: &[u8],
 ) -> Result<Origins, Refusal>
     ensures ok { OnOk result (made files.now manager.old (Replace name.now) ≡ Ok manager.new) }
@@ -59,7 +75,7 @@ fn replace_file(
     ensures unchanged { OnErr result (manager.new ≡ manager.old) }
     ensures origins { IfOk result (λ origins. origins ≡ origins_at manager.old.settings.language files.now name.now) }
 {
-    let FileProfiles { profiles, places } = manager.read(alloc, files, name)?;
+    let FileProfiles { profiles, places } = read(alloc, files, manager, name)?;
     let own = origins_of(alloc, name, &profiles, places)?;
     manager.replace_read(profiles)?;
     Ok(Origins::of(own))
@@ -90,7 +106,7 @@ fn refused(alloc: Global, refusal: Refusal) -> Made
 }
 
 /// Adds the profiles of a file.
-pub fn add(alloc: Global, files: &Files, manager: &mut ReadingManager, name: &[u8]) -> Made
+pub fn add(alloc: Global, files: &Files, manager: &mut Manager, name: &[u8]) -> Made
     ensures reply { (flag : Bool) × (record { reply = result.reply; managed = manager.new } ≡ file_added files.now manager.old name.now flag) }
     ensures origins { result.reply ≡ Done → result.origins ≡ origins_at manager.old.settings.language files.now name.now }
 {
@@ -98,7 +114,7 @@ pub fn add(alloc: Global, files: &Files, manager: &mut ReadingManager, name: &[u
 }
 
 // Puts the profiles of a file in the places of those of their names.
-fn replace(alloc: Global, files: &Files, manager: &mut ReadingManager, name: &[u8]) -> Made
+fn replace(alloc: Global, files: &Files, manager: &mut Manager, name: &[u8]) -> Made
     ensures reply { (flag : Bool) × (record { reply = result.reply; managed = manager.new }
         ≡ obeyed_flagged files.now manager.old flag (Make (Replace name.now))) }
     ensures origins { result.reply ≡ Done → result.origins ≡ origins_at manager.old.settings.language files.now name.now }
@@ -107,12 +123,12 @@ fn replace(alloc: Global, files: &Files, manager: &mut ReadingManager, name: &[u
 }
 
 // Has the machine obey a line that makes a change which loads no profiles.
-fn by_line(alloc: Global, files: &Files, manager: &mut ReadingManager, line: &[u8]) -> Made
+fn by_line(alloc: Global, files: &Files, manager: &mut Manager, line: &[u8]) -> Made
     ensures reply { (flag : Bool) × (record { reply = result.reply; managed = manager.new } ≡ line_outcome files.now manager.old line.now flag) }
     ensures origins { result.origins ≡ [] }
 {
     Made {
-        reply: manager.reply_to(files, line),
+        reply: reply_to(files, manager, line),
         origins: Origins::of(Vec::new(alloc)),
     }
 }
@@ -121,7 +137,7 @@ fn by_line(alloc: Global, files: &Files, manager: &mut ReadingManager, line: &[u
 pub fn make(
     alloc: Global,
     files: &Files,
-    manager: &mut ReadingManager,
+    manager: &mut Manager,
     change: PolicyChange<'_>,
     line: &[u8],
 ) -> Made

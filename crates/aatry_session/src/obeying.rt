@@ -11,11 +11,10 @@ use crate::changes::{Changes, keep, make_room};
 use crate::history::{change_in, text_of};
 use crate::making::{Made, add, make};
 use crate::moves::push_moves;
-use crate::reading_manager::ReadingManager;
 use crate::refusals::push_refusal;
 use aa_bytes::Sequence;
 use aa_set_commands::PolicyChange;
-use aa_set_manager::Reply;
+use aa_set_manager::{Manager, Reply, reply_to};
 use aa_text_files::Files;
 use aatry_report::push_shown_lines;
 use std::alloc::{AllocError, Global};
@@ -69,7 +68,7 @@ fn obey_change(
     alloc: Global,
     files: &Files,
     base: &[u8],
-    manager: &mut ReadingManager,
+    manager: &mut Manager,
     changes: &mut Changes,
     change: PolicyChange<'_>,
     line: &[u8],
@@ -98,7 +97,7 @@ pub fn obey_add(
     alloc: Global,
     files: &Files,
     base: &[u8],
-    manager: &mut ReadingManager,
+    manager: &mut Manager,
     changes: &mut Changes,
     name: &[u8],
     out: &mut Vec<u8>,
@@ -119,7 +118,7 @@ fn obey_other(
     alloc: Global,
     files: &Files,
     base: &[u8],
-    manager: &mut ReadingManager,
+    manager: &mut Manager,
     changes: &Changes,
     line: &[u8],
     out: &mut Vec<u8>,
@@ -130,7 +129,7 @@ fn obey_other(
         (line_outcome files.now manager.old line.now)) }
 {
     let from = manager.depth();
-    let reply = manager.reply_to(files, line);
+    let reply = reply_to(files, manager, line);
     let to = manager.depth();
     push_reply(alloc, files, base, &changes.texts, from, to, &reply, out)
 }
@@ -145,7 +144,7 @@ pub fn obey(
     alloc: Global,
     files: &Files,
     base: &[u8],
-    manager: &mut ReadingManager,
+    manager: &mut Manager,
     changes: &mut Changes,
     line: &[u8],
     out: &mut Vec<u8>,

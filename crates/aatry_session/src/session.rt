@@ -11,7 +11,6 @@ use crate::help::push_help;
 use crate::history::push_history;
 use crate::obeying::{obey, obey_add};
 use crate::origins::{forget_all, origin_among};
-use crate::reading_manager::ReadingManager;
 use crate::refusals::push_refusal;
 use crate::sayings::{Saying, saying_in};
 use aa_bytes::Sequence;
@@ -42,7 +41,7 @@ pub enum Turn<'a> {
 /// undone, the next to redo first.
 #[derive(Drop)]
 pub struct Session {
-    manager: ReadingManager,
+    manager: Manager,
     changes: Changes,
 }
 
@@ -62,7 +61,7 @@ impl Session {
         ensures { result ≡ begun language force_complain }
     {
         Session {
-            manager: ReadingManager::new(alloc, language, force_complain),
+            manager: Manager::new_in(alloc, language, force_complain),
             changes: no_changes(alloc),
         }
     }
@@ -71,7 +70,7 @@ impl Session {
     pub fn manager(&self) -> &Manager
         ensures { result.now ≡ self.now.managed }
     {
-        self.manager.manager()
+        &self.manager
     }
 
     /// Remembers what a question passes (`Manager::remember`), so that it is answered quicker from now on. Nothing of the session changes by it.
@@ -185,7 +184,7 @@ impl Session {
         push_history(
             &mut out,
             self.manager.depth(),
-            self.manager.manager().marks(),
+            self.manager.marks(),
             &self.changes.texts,
         )?;
         Ok(Turn::Told(Sequence::from_vec(out)))

@@ -30,8 +30,8 @@ IsWhoTold form folder words text found =
     × (text ≡ left_out_in form folder ++ let_by form folder question)
     × (found ≡ is_let (let_by form folder question))
 
--- The files at the top of the folder, with all that lies below it, were asked for by a language, and the text tells who would be let through. It failed where nobody
--- would.
+-- The files at the top of the folder, with all that lies below it, were asked for by a language, and the text tells who
+-- would be let through. It failed where nobody would.
 pub record IsWhoToldBelow (form : Form) (language : Language) (folders : ToldFolders) (known : Known) (base : List ℕ) (words : List (List ℕ)) (text : List ℕ) (failed : ℕ) : Type 0 where
   pub files : List File
   pub below : AreBelow folders known base files

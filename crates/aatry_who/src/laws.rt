@@ -9,8 +9,9 @@ ghost use Rattle.aatry_who.specs.Laws.{IsToldByAnswer};
 
 use aatry_policy::which_rules_parts_have;
 
-/// `who` tells a profile, child or hat exactly where `ask file` of its full name is answered so that the request is let through, and with that answer: what
-/// it tells of each that is loaded goes by the answer of that question (`lines_by`), which is nothing where that is `deny` or `refuse`.
+/// `who` tells a profile, child or hat exactly where `ask file` of its full name is answered so that the request is let
+/// through, and with that answer: what it tells of each that is loaded goes by the answer of that question
+/// (`lines_by`), which is nothing where that is `deny` or `refuse`.
 pub fn whom_who_tells()
     ensures { (form : Form) (folder : Folder) (request : Request) (who : Asker)
         → IsListed (policy_in folder) who

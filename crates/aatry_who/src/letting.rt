@@ -245,10 +245,12 @@ fn push_slots(
     Ok(())
 }
 
-/// The lines of the profiles, children and hats of a policy set that would let a request through: a line for each, with its full name and the word of its
-/// answer, `allow` or, in complain mode, `complain`; and below one that allows it the rules that allow something of it, as a folder has them of that
-/// name (`aatry_why_lines::push_allowing`). They stand in the order of the set, children and hats behind their profile. Disabled profiles confine nobody
-/// and have no line. As records the lines are of the kind `let`, with the members `name` and `answer`, and of the kind `rule`.
+/// The lines of the profiles, children and hats of a policy set that would let a request through: a line for each, with
+/// its full name and the word of its answer, `allow` or, in complain mode, `complain`; and below one that allows it the
+/// rules that allow something of it, as a folder has them of that name (`aatry_why_lines::push_allowing`). One in mode
+/// unconfined or disabled is told with `unconfined`: no rule is asked, and all is let through. They stand in the order
+/// of the set, children and hats behind their profile. As records the lines are of the kind `let`, with the members
+/// `name` and `answer`, and of the kind `rule`.
 ///
 /// # Errors
 ///

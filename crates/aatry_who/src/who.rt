@@ -81,11 +81,13 @@ fn told_of(teller: Teller, folder: &PolicyFolder<'_>, words: &[String]) -> Resul
     })
 }
 
-/// Which profiles, children and hats of a folder, read by a language, would let a request for a file through, by its access, its owner's word and its path,
-/// told in a form: reads the folder as `aatry_folder::policy_below` does. First come the files that are left out (`aatry_policy::load_folder`). Then comes a line for each, with
-/// its full name and the word of its answer, `allow` or, in complain mode, `complain`; and below one that allows it the rules that allow something of it
-/// (`aatry_why_lines::push_allowing`). They stand in the order of the set, children and hats behind their profile. Disabled profiles confine nobody and have
-/// no line. One failed where nobody is told.
+/// Which profiles, children and hats of a folder, read by a language, would let a request for a file through, by its
+/// access, its owner's word and its path, told in a form: reads the folder as `aatry_folder::policy_below` does. First
+/// come the files that are left out (`aatry_policy::load_folder`). Then comes a line for each, with its full name and
+/// the word of its answer, `allow` or, in complain mode, `complain`; and below one that allows it the rules that allow
+/// something of it (`aatry_why_lines::push_allowing`). One in mode unconfined is told with `unconfined`: none of its
+/// rules is asked, and all is let through. They stand in the order of the set, children and hats behind their profile.
+/// One failed where nobody is told.
 ///
 /// As records the lines are of the kind `let`, with the members `name` and `answer`, and of the kind `rule`.
 ///

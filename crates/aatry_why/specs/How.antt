@@ -29,8 +29,8 @@ base_candidates true entries to.Profile = profile_candidates entries
 base_candidates true entries _ = []
 base_candidates false entries destination = []
 
--- those among which the path's attachment decides where a destination leads: without a target, the profiles, or the children of who asks; with one that
--- is a stack on whatever profile that would be, the profiles
+-- those among which the path's attachment decides where a destination leads: without a target, the profiles, or the
+-- children of who asks; with one that is a stack on whatever profile that would be, the profiles
 abbrev pub asked_candidates : Option (List ℕ) → List Loaded → Asker → Destination → List Candidate
 asked_candidates (Some name) entries asker destination = base_candidates (begins_with_byte ampersand name) entries destination
 asked_candidates None entries asker to.Profile = profile_candidates entries

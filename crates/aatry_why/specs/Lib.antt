@@ -4,4 +4,5 @@ pub mod How
 pub mod Laws
 pub mod Sources
 pub mod Transitions
+pub mod Unasked
 pub mod Why

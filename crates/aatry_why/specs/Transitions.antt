@@ -1,5 +1,5 @@
 -- What is told of where a transition leads (docs/policy.md, "The start of a program").
-use Rattle.std.specs.Prelude.{ℕ, if◌then◌else◌, is_some, List, [], ◌∷◌, ◌++◌, Option, None, Some, codes}
+use Rattle.std.specs.Prelude.{ℕ, if◌then◌else◌, is_some, List, [], ◌∷◌, ◌++◌, Option, None, Some, codes, option_and_then}
 use Rattle.std.specs.Option.{option_map}
 use Rattle.serde_json.specs.Data.{Members}
 use Rattle.aa_bytes.specs.Bytes.{line_feed}
@@ -25,15 +25,9 @@ abbrev pub name_text : Form → List ℕ → List ℕ
 name_text Lines name = written_text name
 name_text Records name = name
 
--- what a stack is on, if it is on something: a line says it, and in a record it stands in the name alone
-abbrev pub on_text : Form → Option (List ℕ) → List ℕ
-on_text Lines None = []
-on_text Lines (Some base) = codes ", on " ++ written_text base
-on_text Records base = []
-
 -- a stack of these members, on what has this name, if it is on something
 abbrev pub stacked_text : Form → Option (List ℕ) → List (List ℕ) → List ℕ
-stacked_text form base members = name_text form (stack_name base members) ++ on_text form base
+stacked_text form base members = name_text form (stack_name base members)
 
 -- under what a program runs that is started: its full name, or the word where that is no profile, as none is named
 abbrev pub started_text : Form → Started → List ℕ
@@ -46,6 +40,18 @@ started_text form Nowhere = []
 -- the same of what a transition leads to, if it leads somewhere
 abbrev pub destination_text : Form → Option Started → Option (List ℕ)
 destination_text form to = option_map (started_text form) to
+
+-- the name of what it is on, if a program runs under a stack that is on something
+abbrev pub stack_base : Started → Option (List ℕ)
+stack_base (Under entry child) = None
+stack_base (Stacked base members) = option_map base_name base
+stack_base Unconfined = None
+stack_base Null = None
+stack_base Nowhere = None
+
+-- the same of what a transition leads to, if it leads somewhere
+abbrev pub destination_base : Option Started → Option (List ℕ)
+destination_base to = option_and_then stack_base to
 
 -- of a stack one of its names isn't there, or what it is on
 abbrev pub stack_lack : List ℕ → List ℕ
@@ -75,10 +81,15 @@ abbrev pub fallback_text : Option (List ℕ) → List ℕ
 fallback_text None = codes ", so it leads nowhere"
 fallback_text (Some to) = codes ", so it falls back to " ++ to
 
--- where a word leads, or else what isn't there, and where its fallback leads
-abbrev pub lead_text : List ℕ → Option (List ℕ) → Option (List ℕ) → List ℕ
-lead_text lack (Some to) fallback = codes "leads to " ++ to
-lead_text lack None fallback = lack ++ fallback_text fallback
+-- what a stack is on, if it is on something
+abbrev pub on_text : Option (List ℕ) → List ℕ
+on_text None = []
+on_text (Some base) = codes ", on " ++ written_text base
+
+-- where a word leads, and what the stack is on that it leads to; or else what isn't there, and where its fallback leads
+abbrev pub lead_text : List ℕ → Option (List ℕ) → Option (List ℕ) → Option (List ℕ) → List ℕ
+lead_text lack (Some to) base fallback = codes "leads to " ++ to ++ on_text base
+lead_text lack None base fallback = lack ++ fallback_text fallback
 
 -- what a transition's word leads to isn't there
 abbrev pub lack_of : Transition → List ℕ
@@ -89,23 +100,29 @@ abbrev pub with_fallback : Option (List ℕ) → Members → Members
 with_fallback None members = members
 with_fallback (Some to) members = with_text (codes "falls_back_to") to members
 
--- a record with where a word leads, or else with what isn't there, and where its fallback leads
-abbrev pub with_lead : List ℕ → Option (List ℕ) → Option (List ℕ) → Members → Members
-with_lead lack (Some to) fallback members = with_text (codes "leads_to") to members
-with_lead lack None fallback members = with_fallback fallback (with_text (codes "lacks") lack members)
+-- a record with what a stack is on, if it is on something
+abbrev pub with_base : Option (List ℕ) → Members → Members
+with_base None members = members
+with_base (Some base) members = with_text (codes "on") base members
 
--- the record of a transition, by where its word and its fallback lead
-abbrev pub transition_record : Transition → Option (List ℕ) → Option (List ℕ) → Members
-transition_record transition to fallback =
-    with_lead (lack_of transition) to fallback (with_text (codes "rule") (exec_text (Some transition)) (record_of (codes "transition")))
+-- a record with where a word leads, and what the stack is on that it leads to; or else with what isn't there, and where its fallback leads
+abbrev pub with_lead : List ℕ → Option (List ℕ) → Option (List ℕ) → Option (List ℕ) → Members → Members
+with_lead lack (Some to) base fallback members = with_base base (with_text (codes "leads_to") to members)
+with_lead lack None base fallback members = with_fallback fallback (with_text (codes "lacks") lack members)
 
--- the line of a transition, by where its word and its fallback lead
-abbrev pub line_of : Form → Transition → Option (List ℕ) → Option (List ℕ) → List ℕ
-line_of Lines transition to fallback =
-    codes "  " ++ exec_text (Some transition) ++ codes ": " ++ lead_text (lack_of transition) to fallback ++ line_feed ∷ []
-line_of Records transition to fallback = record_line (transition_record transition to fallback)
+-- the record of a transition, by where its word leads, what that is on, and where its fallback leads
+abbrev pub transition_record : Transition → Option (List ℕ) → Option (List ℕ) → Option (List ℕ) → Members
+transition_record transition to base fallback =
+    with_lead (lack_of transition) to base fallback (with_text (codes "rule") (exec_text (Some transition)) (record_of (codes "transition")))
 
--- the line of a transition that leads somewhere, below a heading
+-- the line of a transition, by the same
+abbrev pub line_of : Form → Transition → Option (List ℕ) → Option (List ℕ) → Option (List ℕ) → List ℕ
+line_of Lines transition to base fallback =
+    codes "  " ++ exec_text (Some transition) ++ codes ": " ++ lead_text (lack_of transition) to base fallback ++ line_feed ∷ []
+line_of Records transition to base fallback = record_line (transition_record transition to base fallback)
+
+-- The line of a transition that leads somewhere, below a heading. No fallback leads to a stack.
 abbrev pub transition_lines : Form → Lead → List ℕ
 transition_lines form lead =
-    heading_line form (codes "transition") ++ line_of form lead.transition (destination_text form lead.to) (destination_text form lead.fallback)
+    heading_line form (codes "transition")
+    ++ line_of form lead.transition (destination_text form lead.to) (destination_base lead.to) (destination_text form lead.fallback)

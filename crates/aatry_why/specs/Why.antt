@@ -6,6 +6,7 @@ use Rattle.aa_bytes.specs.Bytes.{line_feed}
 use Rattle.aa_decide.specs.Exec.{Asker}
 use Rattle.aa_decide_audit.specs.declared.verdict.Answer.{Answer}
 use Rattle.aa_decide_audit.specs.declared.verdict.Answer.TheVariants.{Allow, Complain, Deny, Refuse}
+use Rattle.aa_decide_slots.specs.Confinement.{By, ByName, Confinement, Unconfined}
 use Rattle.aa_decide_slots.specs.Entries.{Loaded}
 use Rattle.aa_profile_access.specs.Request.{Request}
 use Rattle.aa_profile_parsing.specs.declared.language.Language.{Language}
@@ -25,7 +26,8 @@ use Rattle.aatry_policy.specs.Folders.{Folder, below, folder_at, left_out_in, or
 use Rattle.aa_text_files.specs.Files.{File}
 use Rattle.aatry_policy.specs.LeftOut.{refusal_text}
 use Rattle.aatry_requests.specs.Questions.{rule_request}
-use Rattle.aatry_why.specs.How.{how_lines}
+use Rattle.aatry_why.specs.How.{confinement_of, how_lines}
+use Rattle.aatry_why.specs.Unasked.{unasked_lines}
 use Rattle.aatry_why_lines.specs.Why.{why_lines}
 use Rattle.aatry_report.specs.Records.{record_line, record_of, with_text}
 use Rattle.aatry_report.specs.Refusals.{with_named_refusal}
@@ -68,9 +70,16 @@ is_lacking (Some Deny) = false
 is_lacking (Some Refuse) = true
 is_lacking (Some Complain) = true
 
--- the rules behind the answer to who asks: those by which it decides; no one in particular has none
+-- the rules behind the answer to who asks, by what confines it: those by which it decides, also where it is disabled;
+-- in mode unconfined, that none is asked
+abbrev pub confined_reasons : Form → Sources → Asker → Request → Bool → Confinement → List ℕ
+confined_reasons form sources who request lacking Unconfined = why_lines form (written_by sources who) request lacking
+confined_reasons form sources who request lacking ByName = unasked_lines form
+confined_reasons form sources who request lacking (By section mediation) = why_lines form (written_by sources who) request lacking
+
+-- the rules behind the answer to who asks; no one in particular has none
 abbrev pub reasons : Form → Sources → Option (Option Asker) → Request → Bool → List ℕ
-reasons form sources (Some (Some who)) request lacking = why_lines form (written_by sources who) request lacking
+reasons form sources (Some (Some who)) request lacking = confined_reasons form sources who request lacking (confinement_of who)
 reasons form sources _ request lacking = []
 
 -- what is told of what a question is answered: that itself, the rules behind it, and how it came about; or why the question is refused
@@ -99,8 +108,8 @@ IsWhyTold form folder words text found =
     × (text ≡ left_out_in form folder ++ answered_text form (sources_in folder question) (policy_in folder) question)
     × (found ≡ has_answer (policy_in folder) question)
 
--- The question was asked of the files at the top of the folder, with all that lies below it, by a language, and the text tells its answer and the rules behind it. It
--- failed where nobody of the name is loaded.
+-- The question was asked of the files at the top of the folder, with all that lies below it, by a language, and the
+-- text tells its answer and the rules behind it. It failed where nobody of the name is loaded.
 pub record IsWhyToldBelow (form : Form) (language : Language) (folders : ToldFolders) (known : Known) (base : List ℕ) (words : List (List ℕ)) (text : List ℕ) (failed : ℕ) : Type 0 where
   pub files : List File
   pub below : AreBelow folders known base files

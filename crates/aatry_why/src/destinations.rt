@@ -1,12 +1,13 @@
 //! How it is told under what a program runs.
 
-ghost use Rattle.std.specs.Prelude.{◌≡◌, ◌++◌, IfOk, OnOk, Some};
+ghost use Rattle.std.specs.Prelude.{◌≡◌, IfOk, Some, option_and_then};
 ghost use Rattle.std.specs.Option.{option_copied, option_map};
-ghost use Rattle.aa_decide.specs.SeenExec.{seen_stacked, seen_to};
+ghost use Rattle.aa_decide.specs.SeenExec.{seen_base, seen_stacked, seen_to};
 ghost use Rattle.aa_explain.specs.Leads.{seen_destination};
 ghost use Rattle.aa_profile_access.specs.Stacks.{parts_of};
+ghost use Rattle.aa_set_answers.specs.Answers.{base_name};
 ghost use Rattle.aa_set_answers.specs.ProfileNames.{full_name_at};
-ghost use Rattle.aatry_why.specs.Transitions.{destination_text, name_text, on_text, stacked_text, started_text};
+ghost use Rattle.aatry_why.specs.Transitions.{destination_base, destination_text, name_text, stack_base, stacked_text, started_text};
 
 use aa_bytes::push_text;
 use aa_decide::{ExecTo, IndexedSlots, StackBase, entry_at};
@@ -36,16 +37,20 @@ fn name_text(teller: Teller, profile: &Profile, child: Option<usize>) -> Result<
     written(teller, full_name(teller.alloc, profile, child)?)
 }
 
-// What a stack is on, if it is on something.
-fn push_on(teller: Teller, base: Option<&[u8]>, out: &mut Vec<u8>) -> Result<(), AllocError>
-    ensures { OnOk result (out.new.items ≡ out.old.items ++ on_text teller.form (option_copied base.entry)) }
+// The name of what a stack is on; nothing where the slot of that is empty.
+fn base_name(
+    alloc: Global,
+    slots: &IndexedSlots<'_>,
+    base: StackBase,
+) -> Result<Option<Vec<u8>>, AllocError>
+    ensures { IfOk result (λ name. option_map (λ name. name.items) name ≡ option_map base_name (seen_base slots.now base)) }
 {
-    match (teller.form, base) {
-        (Form::Lines, Some(base)) => {
-            out.extend_from_slice(b", on ")?;
-            push_text(out, base)
-        }
-        _ => Ok(()),
+    match base {
+        StackBase::Unconfined => Ok(Some(Vec::from_slice(alloc, b"unconfined")?)),
+        StackBase::Profile { slot, child } => match entry_at(slots.as_slice(), slot) {
+            None => Ok(None),
+            Some(entry) => Ok(Some(full_name(alloc, entry.profile(), child)?)),
+        },
     }
 }
 
@@ -53,10 +58,7 @@ fn push_on(teller: Teller, base: Option<&[u8]>, out: &mut Vec<u8>) -> Result<(),
 fn stacked_text(teller: Teller, base: Option<&[u8]>, members: &[u8]) -> Result<Vec<u8>, AllocError>
     ensures { IfOk result (λ text. text.items ≡ stacked_text teller.form (option_copied base.entry) (parts_of members.now)) }
 {
-    let name = stack_name(teller.alloc, base, members)?;
-    let mut text = written(teller, name)?;
-    push_on(teller, base, &mut text)?;
-    Ok(text)
+    written(teller, stack_name(teller.alloc, base, members)?)
 }
 
 // The same of a stack that is on something; nothing where the slot of that is empty.
@@ -69,19 +71,9 @@ fn based_text(
     ensures { IfOk result (λ text.
         option_map (λ text. text.items) text ≡ option_map (started_text teller.form) (seen_stacked slots.now (parts_of members.now) (Some base))) }
 {
-    match base {
-        StackBase::Unconfined => Ok(Some(stacked_text(
-            teller,
-            Some(b"unconfined".as_slice()),
-            members,
-        )?)),
-        StackBase::Profile { slot, child } => match entry_at(slots.as_slice(), slot) {
-            None => Ok(None),
-            Some(entry) => {
-                let name = full_name(teller.alloc, entry.profile(), child)?;
-                Ok(Some(stacked_text(teller, Some(name.as_slice()), members)?))
-            }
-        },
+    match base_name(teller.alloc, slots, base)? {
+        None => Ok(None),
+        Some(name) => Ok(Some(stacked_text(teller, Some(name.as_slice()), members)?)),
     }
 }
 
@@ -124,5 +116,44 @@ pub fn destination_text(
     match to {
         None => Ok(None),
         Some(to) => started_text(teller, slots, to),
+    }
+}
+
+// The name of what it is on, if a program runs under a stack that is on something; nothing where the slot of that is empty.
+fn stack_base(
+    alloc: Global,
+    slots: &IndexedSlots<'_>,
+    to: ExecTo<'_>,
+) -> Result<Option<Vec<u8>>, AllocError>
+    ensures { IfOk result (λ name. option_map (λ name. name.items) name ≡ option_and_then stack_base (seen_to slots.now to.entry)) }
+{
+    match to {
+        ExecTo::Stack { base, .. } => match base {
+            None => Ok(None),
+            Some(base) => base_name(alloc, slots, base),
+        },
+        ExecTo::Profile { .. } => Ok(None),
+        ExecTo::Unconfined => Ok(None),
+        ExecTo::Null => Ok(None),
+        ExecTo::Nowhere => Ok(None),
+    }
+}
+
+/// The name of what the stack is on that a transition leads to, if it leads to one that is on something: the full name of a profile, child or hat, or
+/// `unconfined`.
+///
+/// # Errors
+///
+/// Where memory runs out.
+pub fn destination_base(
+    alloc: Global,
+    slots: &IndexedSlots<'_>,
+    to: Option<ExecTo<'_>>,
+) -> Result<Option<Vec<u8>>, AllocError>
+    ensures { IfOk result (λ name. option_map (λ name. name.items) name ≡ destination_base (seen_destination slots.now to.entry)) }
+{
+    match to {
+        None => Ok(None),
+        Some(to) => stack_base(alloc, slots, to),
     }
 }

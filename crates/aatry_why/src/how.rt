@@ -170,12 +170,13 @@ fn push_asked(
     }
 }
 
-/// Appends lines that tell how the answer came about to who asks to start the program of a path, by a full name or as the word
-/// `unconfined`: below `transition` where the rules lead, and below `attachment` which profiles or children the path may be attached to, where that
-/// decides; or, as the form says, a record of each, of the kinds `transition` and `attachment`. Where nothing confines who asks and no profile in force
-/// has a pattern that matches, `attachment` says so: the standing is `none` then. Where no rule leads, or one denies, and where no one
-/// of the name is loaded, nothing is appended. `owned` says whether the task's user owns the file. What is told is said of the filled slots in their
-/// order.
+/// Appends lines that tell how the answer came about to who asks to start the program of a path, by a full name or as
+/// the word `unconfined`: below `transition` where the rules lead, and below `attachment` which profiles or children
+/// the path may be attached to, where that decides; or, as the form says, a record of each, of the kinds `transition`
+/// and `attachment`. Where nothing confines who asks, or a name alone, and no profile in force has a pattern that
+/// matches, `attachment` says so: the standing is `none` then. Where no rule leads, or one denies, and where no one of
+/// the name is loaded, nothing is appended. `owned` says whether the task's user owns the file. What is told is said of
+/// the filled slots in their order.
 ///
 /// # Errors
 ///

@@ -1,5 +1,5 @@
-//! The command `why`: what the policy of a folder answers to a question, with the rules behind the answer; and of the start of a program where the rules
-//! lead, and what its path may be attached to.
+//! The command `why`: what the policy of a folder answers to a question, with the rules behind the answer; and of the
+//! start of a program where the rules lead, and what its path may be attached to.
 #![tactic(auto)]
 
 mod attachment;
@@ -10,6 +10,7 @@ mod records;
 mod replies;
 mod sources;
 mod transition;
+mod unasked;
 mod why;
 
 pub use laws::which_rules_why_tells;

@@ -5,7 +5,7 @@ ghost use Rattle.std.specs.Option.{option_copied};
 ghost use Rattle.aa_set_answers.specs.RuleLines.{exec_text};
 ghost use Rattle.aatry_report.specs.Records.{with_text};
 ghost use Rattle.aatry_report.specs.SeenRecord.{seen_record};
-ghost use Rattle.aatry_why.specs.Transitions.{lack_of, transition_record, with_fallback, with_lead};
+ghost use Rattle.aatry_why.specs.Transitions.{lack_of, transition_record, with_base, with_fallback, with_lead};
 
 use crate::transition::push_lack;
 use aa_profile_data::Transition;
@@ -23,6 +23,16 @@ fn put_fallback(alloc: Global, fallback: Option<&[u8]>, into: &mut Record) -> Re
     }
 }
 
+// Adds to a record what a stack is on, if it is on something.
+fn put_base(alloc: Global, base: Option<&[u8]>, into: &mut Record) -> Result<(), AllocError>
+    ensures { OnOk result (seen_record into.new ≡ with_base (option_copied base.entry) (seen_record into.old)) }
+{
+    match base {
+        None => Ok(()),
+        Some(base) => into.put_text(alloc, "on", base),
+    }
+}
+
 // Adds to a record what isn't there that a transition's word leads to.
 fn put_lack(alloc: Global, transition: &Transition, into: &mut Record) -> Result<(), AllocError>
     ensures { OnOk result (seen_record into.new ≡ with_text (codes "lacks") (lack_of transition.now) (seen_record into.old)) }
@@ -37,18 +47,22 @@ fn put_lead(
     alloc: Global,
     transition: &Transition,
     to: Option<&[u8]>,
+    base: Option<&[u8]>,
     fallback: Option<&[u8]>,
     into: &mut Record,
 ) -> Result<(), AllocError>
     ensures { OnOk result (seen_record into.new
-        ≡ with_lead (lack_of transition.now) (option_copied to.entry) (option_copied fallback.entry) (seen_record into.old)) }
+        ≡ with_lead (lack_of transition.now) (option_copied to.entry) (option_copied base.entry) (option_copied fallback.entry) (seen_record into.old)) }
 {
     match to {
         None => {
             put_lack(alloc, transition, into)?;
             put_fallback(alloc, fallback, into)
         }
-        Some(to) => into.put_text(alloc, "leads_to", to),
+        Some(to) => {
+            into.put_text(alloc, "leads_to", to)?;
+            put_base(alloc, base, into)
+        }
     }
 }
 
@@ -61,7 +75,7 @@ fn put_exec(alloc: Global, transition: &Transition, into: &mut Record) -> Result
     into.put_text(alloc, "rule", &rule)
 }
 
-/// The record of a transition, by where its word and its fallback lead.
+/// The record of a transition, by where its word leads, what the stack is on that it leads to, and where its fallback leads.
 ///
 /// # Errors
 ///
@@ -70,12 +84,14 @@ pub fn transition_record(
     alloc: Global,
     transition: &Transition,
     to: Option<&[u8]>,
+    base: Option<&[u8]>,
     fallback: Option<&[u8]>,
 ) -> Result<Record, AllocError>
-    ensures { IfOk result (λ made. seen_record made ≡ transition_record transition.now (option_copied to.entry) (option_copied fallback.entry)) }
+    ensures { IfOk result (λ made.
+        seen_record made ≡ transition_record transition.now (option_copied to.entry) (option_copied base.entry) (option_copied fallback.entry)) }
 {
     let mut made = Record::new(alloc, "transition")?;
     put_exec(alloc, transition, &mut made)?;
-    put_lead(alloc, transition, to, fallback, &mut made)?;
+    put_lead(alloc, transition, to, base, fallback, &mut made)?;
     Ok(made)
 }

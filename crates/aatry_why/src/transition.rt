@@ -5,9 +5,9 @@ ghost use Rattle.std.specs.Option.{option_copied};
 ghost use Rattle.aa_explain.specs.Leads.{seen_lead};
 ghost use Rattle.aa_bytes.specs.Quoting.{written_text};
 ghost use Rattle.aatry_report.specs.declared.form.Form.TheVariants.{Lines};
-ghost use Rattle.aatry_why.specs.Transitions.{attachment_lack, fallback_text, lack_of, lack_text, lead_text, line_of, name_lack, transition_lines};
+ghost use Rattle.aatry_why.specs.Transitions.{attachment_lack, fallback_text, lack_of, lack_text, lead_text, line_of, name_lack, on_text, transition_lines};
 
-use crate::destinations::destination_text;
+use crate::destinations::{destination_base, destination_text};
 use crate::records::transition_record;
 use aa_bytes::{SharedBytes, push_text};
 use aa_decide::IndexedSlots;
@@ -85,15 +85,29 @@ fn push_fallback(fallback: Option<&[u8]>, out: &mut Vec<u8>) -> Result<(), Alloc
     }
 }
 
+// Appends what a stack is on, if it is on something.
+fn push_on(base: Option<&[u8]>, out: &mut Vec<u8>) -> Result<(), AllocError>
+    ensures { OnOk result (out.new.items ≡ out.old.items ++ on_text (option_copied base.entry)) }
+{
+    match base {
+        None => Ok(()),
+        Some(base) => {
+            out.extend_from_slice(b", on ")?;
+            push_text(out, base)
+        }
+    }
+}
+
 // Appends where a transition leads.
 fn push_lead(
     transition: &Transition,
     to: Option<&[u8]>,
+    base: Option<&[u8]>,
     fallback: Option<&[u8]>,
     out: &mut Vec<u8>,
 ) -> Result<(), AllocError>
     ensures { OnOk result (out.new.items
-        ≡ out.old.items ++ lead_text (lack_of transition.now) (option_copied to.entry) (option_copied fallback.entry)) }
+        ≡ out.old.items ++ lead_text (lack_of transition.now) (option_copied to.entry) (option_copied base.entry) (option_copied fallback.entry)) }
 {
     match to {
         None => {
@@ -102,7 +116,8 @@ fn push_lead(
         }
         Some(to) => {
             out.extend_from_slice(b"leads to ")?;
-            out.extend_from_slice(to)
+            out.extend_from_slice(to)?;
+            push_on(base, out)
         }
     }
 }
@@ -111,16 +126,17 @@ fn push_lead(
 fn push_words(
     transition: &Transition,
     to: Option<&[u8]>,
+    base: Option<&[u8]>,
     fallback: Option<&[u8]>,
     out: &mut Vec<u8>,
 ) -> Result<(), AllocError>
     ensures { OnOk result (out.new.items
-        ≡ out.old.items ++ line_of Lines transition.now (option_copied to.entry) (option_copied fallback.entry)) }
+        ≡ out.old.items ++ line_of Lines transition.now (option_copied to.entry) (option_copied base.entry) (option_copied fallback.entry)) }
 {
     out.extend_from_slice(b"  ")?;
     push_exec_transition(out, transition)?;
     out.extend_from_slice(b": ")?;
-    push_lead(transition, to, fallback, out)?;
+    push_lead(transition, to, base, fallback, out)?;
     out.push(b'\n')?;
     Ok(())
 }
@@ -130,24 +146,27 @@ fn push_line(
     teller: Teller,
     transition: &Transition,
     to: Option<&[u8]>,
+    base: Option<&[u8]>,
     fallback: Option<&[u8]>,
     out: &mut Vec<u8>,
 ) -> Result<(), AllocError>
     ensures { OnOk result (out.new.items
-        ≡ out.old.items ++ line_of teller.form transition.now (option_copied to.entry) (option_copied fallback.entry)) }
+        ≡ out.old.items ++ line_of teller.form transition.now (option_copied to.entry) (option_copied base.entry) (option_copied fallback.entry)) }
 {
     match teller.form {
-        Form::Lines => push_words(transition, to, fallback, out),
-        Form::Records => transition_record(teller.alloc, transition, to, fallback)?.push(
+        Form::Lines => push_words(transition, to, base, fallback, out),
+        Form::Records => transition_record(teller.alloc, transition, to, base, fallback)?.push(
             teller.alloc,
             out,
         ),
     }
 }
 
-/// Appends a line that tells where the rules lead who asks to start the program of a path, below the word `transition`: by its word;
-/// or what isn't there that this would lead to, and where its fallback leads. As a record, of the kind `transition`, this is the transition as a rule
-/// writes it, `rule`, and the full name `leads_to`; or `lacks`, and the full name `falls_back_to`, if the fallback leads somewhere.
+/// Appends a line that tells where the rules lead who asks to start the program of a path, below the word `transition`:
+/// by its word, and what the stack is on that this leads to, if it is on something; or what isn't there that this would
+/// lead to, and where its fallback leads. As a record, of the kind `transition`, this is the transition as a rule
+/// writes it, `rule`, and the full name `leads_to`, with the name of what a stack is on, `on`; or `lacks`, and the full
+/// name `falls_back_to`, if the fallback leads somewhere.
 ///
 /// # Errors
 ///
@@ -161,12 +180,14 @@ pub fn push_transition(
     ensures { OnOk result (out.new.items ≡ out.old.items ++ transition_lines teller.form (seen_lead slots.now lead.entry)) }
 {
     let to = destination_text(teller, slots, lead.to)?;
+    let base = destination_base(teller.alloc, slots, lead.to)?;
     let fallback = destination_text(teller, slots, lead.fallback)?;
     push_heading(teller.form, "transition", out)?;
     push_line(
         teller,
         lead.transition,
         to.as_deref(),
+        base.as_deref(),
         fallback.as_deref(),
         out,
     )

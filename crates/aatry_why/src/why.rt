@@ -1,6 +1,8 @@
 //! Questions to the policy of a folder, answered with the rules behind the answer.
 
 ghost use Rattle.std.specs.Prelude.{◌≡◌, ◌++◌, ◌⊎◌, Bool, Ok, IfErr, IfOk, OnOk, map, string_bytes};
+ghost use Rattle.aa_decide.specs.SeenExec.{seen_asker};
+ghost use Rattle.aa_profile_access.specs.SeenRequests.{request_of};
 ghost use Rattle.aa_set_answers.specs.Answers.{who_asks};
 ghost use Rattle.aa_set_answers.specs.Askers.{asker};
 ghost use Rattle.aa_set_commands.specs.Question.{IsWellFormed, seen_question};
@@ -11,12 +13,16 @@ ghost use Rattle.aatry_policy.specs.Folders.{loaded_in, origins_in, policy_in, s
 ghost use Rattle.aatry_requests.specs.AskedWords.{AskNothing};
 ghost use Rattle.aatry_requests.specs.Questions.{rule_request};
 ghost use Rattle.aatry_why.specs.Ends.{IsEndOfWhy};
+ghost use Rattle.aatry_why.specs.How.{confinement_of};
 ghost use Rattle.aatry_why.specs.Sources.{seen_sources};
-ghost use Rattle.aatry_why.specs.Why.{IsWhyTold, IsWhyToldBelow, answered_text, has_answer, how_of, reasons, replied_text, sources_in};
+ghost use Rattle.aatry_why.specs.Why.{IsWhyTold, IsWhyToldBelow, answered_text, confined_reasons, has_answer, how_of, reasons, replied_text, sources_in};
 
 use crate::how::push_how;
 use crate::replies::{is_lacking, push_refused, push_reply};
 use crate::sources::{Sources, asked_origin, written_by};
+use crate::unasked::push_unasked;
+use aa_decide::{Asker, Confinement};
+use aa_profile_access::Request;
 use aa_profile_parsing::Language;
 use aa_set_answers::{Answered, find_asker};
 use aa_set_commands::{Question, RefusalKind};
@@ -54,6 +60,28 @@ fn push_how_of(
     }
 }
 
+// Appends the rules behind the answer to who asks by a loaded profile to a text; where it is in mode unconfined, that none is asked.
+fn push_confined_reasons(
+    teller: Teller,
+    sources: &Sources<'_>,
+    asker: Asker<'_>,
+    request: &Request<'_>,
+    lacking: bool,
+    out: &mut Vec<u8>,
+) -> Result<(), AllocError>
+    ensures { OnOk result (out.new.items ≡ out.old.items
+        ++ confined_reasons teller.form (seen_sources sources.now) (seen_asker asker.entry) (request_of request.entry.now) lacking
+        (confinement_of (seen_asker asker.entry))) }
+{
+    match asker.entry.confinement(asker.child) {
+        Confinement::ByName => push_unasked(teller, out),
+        Confinement::Unconfined | Confinement::By { .. } => {
+            let written = written_by(sources, asker);
+            push_why(teller, &written, request, lacking, out)
+        }
+    }
+}
+
 // Appends the rules behind the answer to who asks to a text; where it is no one in particular, or isn't there, nothing.
 fn push_reasons(
     teller: Teller,
@@ -68,10 +96,14 @@ fn push_reasons(
         (rule_request (seen_question question.entry.now)) lacking) }
 {
     match find_asker(&manager.policy_set().slots(), who_asks(question)) {
-        Some(Some(asker)) => {
-            let written = written_by(sources, asker);
-            push_why(teller, &written, &rule_request(question), lacking, out)
-        }
+        Some(Some(asker)) => push_confined_reasons(
+            teller,
+            sources,
+            asker,
+            &rule_request(question),
+            lacking,
+            out,
+        ),
         _ => Ok(()),
     }
 }
@@ -100,9 +132,10 @@ fn push_replied(
     push_how_of(teller, manager, question, out)
 }
 
-/// Appends the answer of a policy set to a question to a text, and behind it the rules by which who asks decides, as `why` tells them: those of the loaded
-/// profile, child or hat, with where they are written. Says whether there is an answer. The caller sees to it that the question is well-formed, as one of
-/// `Question::read` is.
+/// Appends the answer of a policy set to a question to a text, and behind it the rules by which who asks decides, as
+/// `why` tells them: those of the loaded profile, child or hat, with where they are written; or that no rule is asked,
+/// where it is in mode unconfined. Says whether there is an answer. The caller sees to it that the question is
+/// well-formed, as one of `Question::read` is.
 ///
 /// # Errors
 ///
@@ -175,15 +208,17 @@ fn told_of(teller: Teller, folder: &PolicyFolder<'_>, words: &[String]) -> Resul
     })
 }
 
-/// What the policy of a folder, read by a language, answers to a question, and the rules behind the answer, told in a form: reads the folder as
-/// `aatry_folder::policy_below` does.
-/// First come the files that are left out (`aatry_policy::load_folder`). Then comes what `ask` would be answered, and behind it the rules, each with the
-/// place where it is written (`aatry_why_lines`); where something isn't allowed, the rule that is missing and the nearest ones too; and of the start of a
-/// program where its transition leads and what its path may be attached to. Where nobody of the name is loaded, the refusal is told,
-/// and one failed.
+/// What the policy of a folder, read by a language, answers to a question, and the rules behind the answer, told in a
+/// form: reads the folder as `aatry_folder::policy_below` does. First come the files that are left out
+/// (`aatry_policy::load_folder`). Then comes what `ask` would be answered, and behind it the rules, each with the place
+/// where it is written (`aatry_why_lines`); where something isn't allowed, the rule that is missing and the nearest
+/// ones too; and of the start of a program where its transition leads and what its path may be attached to. Where who
+/// asks is in mode unconfined, it is told in place of rules that none is asked. Where nobody of the name is loaded, the
+/// refusal is told, and one failed.
 ///
-/// As records, the reply is one of the kind `answer`, with the texts `answer` and `audit`, the line that logs it, which is empty where none does; and a
-/// refusal is one of the kind `refused`, with `number` and `refusal`.
+/// As records, the reply is one of the kind `answer`, with the texts `answer` and `audit`, the line that logs it, which
+/// is empty where none does; and a refusal is one of the kind `refused`, with `number` and `refusal`. That no rule is
+/// asked is one of the kind `mode`, with `mode`.
 ///
 /// # Errors
 ///

@@ -1,9 +1,12 @@
 -- The lines and the records that tell rules with the places where they are written.
-use Rattle.std.specs.Prelude.{ℕ, if◌then◌else◌, List, [], ◌∷◌, ◌++◌, codes, flat_map, Option, None, Some, slice_get}
+use Rattle.std.specs.Prelude.{ℕ, Bool, false, if◌then◌else◌, List, [], ◌∷◌, ◌++◌, codes, flat_map, Option, None, Some, slice_get}
 use Rattle.serde_json.specs.Data.{Members}
 use Rattle.aa_bytes.specs.Bytes.{line_feed}
 use Rattle.aa_bytes.specs.Texts.{is_empty}
+use Rattle.aa_profile_data.specs.Ranks.{same_rank}
+use Rattle.aa_profile_data.specs.declared.profile.Rank.TheVariants.{Last}
 use Rattle.aa_profile_data.specs.declared.profile.Rule.{Rule}
+use Rattle.aa_profile_data.specs.declared.profile.Rule.TheVariants.{Cap, File, Net, Other}
 use Rattle.aa_set_answers.specs.RuleLines.{rule_text}
 use Rattle.aa_text_files.specs.Files.{bytes_at, name_at}
 use Rattle.aa_text_files.specs.declared.text_error.Place.{Place}
@@ -28,19 +31,34 @@ with_where below name None members = with_text (codes "file") (path_below below.
 with_where below name (Some place) members =
     with_place (path_below below.base (name_at below.files place.file)) (bytes_at below.files place.file) place.at members
 
--- the record of a rule: the words over its group, where it stands, and the rule as `show` tells it
+-- A rule is by `all`, and says where a program goes that no other rule leads: it has the rank that rules of `all` alone have.
+abbrev pub is_by_all : Rule → Bool
+is_by_all (File rule) = same_rank rule.rank Last
+is_by_all (Cap rule) = false
+is_by_all (Net rule) = false
+is_by_all (Other rule) = false
+
+-- a record with the word that makes a rule, where that is `all`
+abbrev pub with_maker : Rule → Members → Members
+with_maker rule members = if is_by_all rule then with_text (codes "made_by") (codes "all") members else members
+
+-- the record of a rule: the words over its group, where it stands, the rule as `show` tells it, and whether it is by `all`
 abbrev pub rule_record : PolicyFiles → List ℕ → List ℕ → Option Place → Rule → Members
 rule_record below name words place rule =
-    with_text (codes "rule") (rule_text rule)
-    (with_where below name place (with_text (codes "group") words (record_of (codes "rule"))))
+    with_maker rule (with_text (codes "rule") (rule_text rule)
+    (with_where below name place (with_text (codes "group") words (record_of (codes "rule")))))
 
 -- a rule as `show` tells it, as it is shown
 abbrev pub shown_rule : Rule → List ℕ
 shown_rule rule = shown (rule_text rule)
 
--- the line of a rule: where it stands, and the rule as `show` tells it; the words over its group stand in a record alone
+-- that a rule is by `all`, behind it
+abbrev pub maker_text : Rule → List ℕ
+maker_text rule = if is_by_all rule then codes ", by `all`" else []
+
+-- the line of a rule: where it stands, the rule as `show` tells it, and whether it is by `all`; the words over its group stand in a record alone
 abbrev pub told_line : Form → PolicyFiles → List ℕ → List ℕ → Option Place → Rule → List ℕ
-told_line Lines below name words place rule = codes "  " ++ where_text below name place ++ shown_rule rule ++ line_feed ∷ []
+told_line Lines below name words place rule = codes "  " ++ where_text below name place ++ shown_rule rule ++ maker_text rule ++ line_feed ∷ []
 told_line Records below name words place rule = record_line (rule_record below name words place rule)
 
 -- where the rule at an index stands

@@ -47,8 +47,8 @@ deciding _ rules = []
 abbrev pub deciding_lines : Form → Written → Request → List ℕ
 deciding_lines form written request = group_lines form written (codes "decided by") (deciding request written.rules)
 
--- The lines of the rules by which an answer is logged: where something is denied, of those that deny, and else of those that allow. Where something isn't
--- allowed, that is logged by no rule.
+-- The lines of the rules by which an answer is logged: where something is denied, of those that deny, and else of those
+-- that allow. Where something isn't allowed, that is logged by no rule.
 abbrev pub auditing_lines : Form → Written → Bool → List ToldRule → List ℕ
 auditing_lines form written lacking told = if lacking then [] else lines_of form written told (Auditing (is_denied told))
 

@@ -21,8 +21,9 @@ pub struct FileWalk {
     walk: Walk,
 }
 
-/// Finds the lines and the columns of places in the files of a folder of policy. It goes over each file once for places that come in the file's order,
-/// whatever places in others come between them. Contracts see the files and the folder's path.
+/// Finds the lines and the columns of places in the files of a folder of policy. It goes over each file once for places
+/// that come in the file's order, whatever places in others come between them. Contracts see the files and the folder's
+/// path.
 #[derive(Drop)]
 pub struct Finder<'a> {
     // What lies below the folder.

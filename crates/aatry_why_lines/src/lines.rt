@@ -4,14 +4,14 @@ ghost use Rattle.std.specs.Prelude.{◌≡◌, ◌++◌, [], IfOk, OnOk, codes, 
 ghost use Rattle.aa_set_answers.specs.RuleLines.{rule_text};
 ghost use Rattle.aatry_report.specs.Records.{with_text};
 ghost use Rattle.aatry_report.specs.SeenRecord.{seen_record};
-ghost use Rattle.aatry_why_lines.specs.Lines.{group_lines, line_at, missing_line, missing_record, place_at, told_line};
-ghost use Rattle.aatry_why_lines.specs.Lines.{rule_record, shown_rule, where_text, with_where};
+ghost use Rattle.aatry_why_lines.specs.Lines.{group_lines, is_by_all, line_at, maker_text, missing_line, missing_record, place_at, told_line};
+ghost use Rattle.aatry_why_lines.specs.Lines.{rule_record, shown_rule, where_text, with_maker, with_where};
 ghost use Rattle.aatry_why_lines.specs.Written.{seen_rules};
 ghost use Rattle.aatry_report.specs.declared.form.Form.TheVariants.{Lines};
 
 use crate::finding::Finder;
 use crate::written::WrittenRules;
-use aa_profile_data::Rule;
+use aa_profile_data::{Rank, Rule};
 use aa_set_answers::push_rule;
 use aa_text_files::Place;
 use aatry_report::{Form, Record, Teller, push_heading, push_place, push_shown, put_place};
@@ -92,6 +92,36 @@ fn push_shown_rule(alloc: Global, rule: &Rule, out: &mut Vec<u8>) -> Result<(), 
     push_shown(out, &text)
 }
 
+// Whether a rule is by `all`, and says where a program goes that no other rule leads.
+fn is_by_all(rule: &Rule) -> bool
+    ensures { result ≡ is_by_all rule.now }
+{
+    match rule {
+        Rule::File(rule) => rule.rank.is_same(Rank::Last),
+        Rule::Cap(_) | Rule::Net(_) | Rule::Other(_) => false,
+    }
+}
+
+// Puts behind a text that a rule is by `all`, where it is.
+fn push_maker(rule: &Rule, out: &mut Vec<u8>) -> Result<(), AllocError>
+    ensures { OnOk result (out.new.items ≡ out.old.items ++ maker_text rule.now) }
+{
+    if is_by_all(rule) {
+        return out.extend_from_slice(b", by `all`");
+    }
+    Ok(())
+}
+
+// Puts the word that makes a rule into a record, where that is `all`.
+fn put_maker(alloc: Global, rule: &Rule, into: &mut Record) -> Result<(), AllocError>
+    ensures { OnOk result (seen_record into.new ≡ with_maker rule.now (seen_record into.old)) }
+{
+    if is_by_all(rule) {
+        return into.put_text(alloc, "made_by", b"all");
+    }
+    Ok(())
+}
+
 // The record of a rule of a group below these words.
 fn rule_record(
     finder: &mut Finder<'_>,
@@ -108,6 +138,7 @@ fn rule_record(
     made.put_text(alloc, "group", words.as_bytes())?;
     put_where(finder, name, place, &mut made)?;
     put_rule(alloc, rule, &mut made)?;
+    put_maker(alloc, rule, &mut made)?;
     Ok(made)
 }
 
@@ -125,6 +156,7 @@ fn push_rule_line(
     out.extend_from_slice(b"  ")?;
     push_where(finder, name, place, out)?;
     push_shown_rule(finder.alloc(), rule, out)?;
+    push_maker(rule, out)?;
     out.push(b'\n')?;
     Ok(())
 }

@@ -177,12 +177,14 @@ fn push_applying(
     push_groups(teller, written, &told, lacking, out)
 }
 
-/// Appends the rules behind the answer to a request to a text, as they decide it: those that deny, that allow, and by which the answer is logged, those that
-/// decide where a program runs, where its start is asked for, each group below its words, and, where `lacking` says that something of it isn't allowed, the
-/// rule that is missing (`aa_explain_rules::missing_rule`) and those that are near. A rule that is in two groups is told in both. Each has a line of its own:
-/// `base` with the file's name, the line and the column where it is written, and the rule as `show` tells it. As records, of the kind `rule`, these are
-/// `file`, `line` and `column`, and `rule`, with the words of the group, `group`, in each and none above; the missing rule, of the kind `missing`, has
-/// `rule` alone.
+/// Appends the rules behind the answer to a request to a text, as they decide it: those that deny, that allow, and by
+/// which the answer is logged, those that decide where a program runs, where its start is asked for, each group below
+/// its words, and, where `lacking` says that something of it isn't allowed, the rule that is missing
+/// (`aa_explain_rules::missing_rule`) and those that are near. A rule that is in two groups is told in both. Each has a
+/// line of its own: `base` with the file's name, the line and the column where it is written, and the rule as `show`
+/// tells it; behind one that says where a program goes that no other rule leads it tells that it is by `all`. As
+/// records, of the kind `rule`, these are `file`, `line` and `column`, `rule`, and for such a one `made_by`, with the
+/// words of the group, `group`, in each and none above; the missing rule, of the kind `missing`, has `rule` alone.
 ///
 /// # Errors
 ///

@@ -1,12 +1,9 @@
 -- How far the reading of a file has come, told by what is there.
-use Rattle.std.specs.Prelude.{◌≡◌, ◌≢◌, Bool, List, [], ◌∷◌, Option, None, Some, Result, Err, IfErr}
+use Rattle.std.specs.Prelude.{Bool, List, [], ◌∷◌, Option, None, Some}
 use Rattle.aa_bytes.specs.Texts.{is_empty}
 use Rattle.aa_text_variables.specs.Variables.{Variable}
 use Rattle.aa_text_files.specs.declared.text_error.Place.{Place}
 use Rattle.aa_profile.specs.Assignments.{first_undefined}
-use Rattle.aa_profile_errors.specs.ProfileError.{plain}
-use Rattle.aa_profile_errors.specs.declared.profile_error.ProfileError.{ProfileError}
-use Rattle.aa_profile_errors.specs.declared.profile_error.ProfileRefusal.TheVariants.{Memory}
 use Rattle.aa_profile_grammar.specs.Preamble.{Assignment}
 use Rattle.aa_profile_parsing.specs.Tokens.{place_of}
 
@@ -21,7 +18,3 @@ first_undefined_value variables (assignment ∷ assignments) = elim (first_undef
 -- an assignment has no value
 abbrev pub has_no_value : Assignment → Bool
 has_no_value assignment = is_empty assignment.values
-
--- an error of the code is the refusal that the definitions tell instead of something else, unless memory ran out
-abbrev pub IsRefusalOf : {X Y : Type 0} → Result Y ProfileError → Result X ProfileError → Type 0
-IsRefusalOf given result = IfErr result (λ error. error ≢ plain Memory → given ≡ Err error)
