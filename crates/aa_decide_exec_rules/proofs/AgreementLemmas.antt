@@ -8,7 +8,7 @@ use Rattle.std.proofs.lemmas.List.Elements.{All-head, All-tail}
 use Rattle.std.proofs.lemmas.Slice.Eq.{bytes_eq-Decides}
 use Rattle.aa_decide_exec_rules.proofs.SaidLemmas.{exec-before, said-before}
 use Rattle.aa_decide_exec_rules.specs.Choices.{first_lead, highest}
-use Rattle.aa_decide_exec_rules.specs.ExecRules.{Denying, ExecRule, Leading, applies_to, covers_exec, exec_rules, said_by, said_of}
+use Rattle.aa_decide_exec_rules.specs.ExecRules.{Denying, ExecRule, Leading, applies_to, exec_rules, said_by, said_of}
 use Rattle.aa_decide_exec_rules.specs.Laws.{AgreeingRulesLeadOneWay, LeadOneWay}
 use Rattle.aa_glob_pattern.specs.Laws.{OverlapsAreTested}
 use Rattle.aa_glob_pattern.specs.Shared.{overlaps}
@@ -20,6 +20,7 @@ use Rattle.aa_profile_access.specs.declared.exec_word.ExecWord.TheVariants as wo
 use Rattle.aa_profile_data.proofs.RankLemmas.{same-ranks}
 use Rattle.aa_profile_data.specs.ConflictLaws.{HasReadPattern}
 use Rattle.aa_profile_data.specs.Conflicts.{Lead, agree, conflict, first_conflict, lead_of, same_target, same_transition}
+use Rattle.aa_profile_data.specs.Cover.{covers_exec}
 use Rattle.aa_profile_data.specs.declared.profile.FileRule.{FileRule}
 use Rattle.aa_profile_data.specs.Ranks.{same_rank}
 use Rattle.aa_profile_data.specs.declared.profile.Rank.{Rank}

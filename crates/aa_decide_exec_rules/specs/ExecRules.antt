@@ -1,8 +1,8 @@
 -- What rules say of a program that is started (apparmor.d(5), "Execute Rules"; docs/policy.md, "Exec and attachment").
-use Rattle.std.specs.Prelude.{ℕ, Bool, not, ◌&&◌, ◌||◌, if◌then◌else◌, List, [], ◌∷◌, Option, None, Some, is_some}
-use Rattle.aa_profile_access.specs.Access.{EXEC, has}
+use Rattle.std.specs.Prelude.{ℕ, Bool, not, ◌&&◌, ◌||◌, if◌then◌else◌, List, [], ◌∷◌, Option, None, Some}
 use Rattle.aa_glob_syntax.specs.Matching.{matches}
 use Rattle.aa_glob_syntax.specs.Reading.{items_of}
+use Rattle.aa_profile_data.specs.Cover.{covers_exec}
 use Rattle.aa_profile_data.specs.declared.profile.FileRule.{FileRule}
 use Rattle.aa_profile_data.specs.declared.profile.Rank.{Rank}
 use Rattle.aa_profile_data.specs.declared.profile.Rule.{Rule}
@@ -17,10 +17,6 @@ pub data ExecRule : Type 0 where
 -- A rule applies to a path where its pattern matches it and, if it is an owner's rule, the file is owned.
 abbrev pub applies_to : Bool → List ℕ → FileRule → Bool
 applies_to owned path rule = matches (items_of rule.pattern) path && (not rule.owner || owned)
-
--- a rule covers the start of programs: it has an exec word, or a bare `x`
-abbrev pub covers_exec : FileRule → Bool
-covers_exec rule = is_some rule.exec || has rule.access.0 EXEC
 
 -- What a rule that applies says: a deny rule that covers the start of programs denies it, and an allow rule leads where its exec word says. The flag
 -- says whether each rule is audited, whatever its own words are.

@@ -2,13 +2,11 @@
 
 ghost use Rattle.std.specs.Prelude.{◌≡◌, IfOk};
 ghost use Rattle.std.specs.Option.{option_map};
-ghost use Rattle.aa_decide_exec_rules.specs.ExecRules.{covers_exec, said_by};
+ghost use Rattle.aa_decide_exec_rules.specs.ExecRules.{said_by};
 ghost use Rattle.aa_decide_exec_rules.specs.code.OwnedRules.{said_at, said_by_picked, said_if_owned};
 ghost use Rattle.aa_decide_exec_rules.specs.code.SeenRules.{seen_rule, seen_rules};
 
-use aa_profile_access::Perms;
 use aa_profile_data::{FileRule, Rank, Rule, Transition};
-use bitflags::Flags;
 use std::alloc::{AllocFailed, Global};
 
 /// What a rule says of a program that is started.
@@ -30,20 +28,13 @@ pub enum ExecRule<'a> {
     },
 }
 
-// Whether a rule covers the start of programs: it has an exec word, or a bare `x`.
-fn covers_exec(rule: &FileRule) -> bool
-    ensures { result ≡ covers_exec rule.now }
-{
-    rule.exec.is_some() || rule.access.contains(Perms::EXEC)
-}
-
 // What a rule that applies says.
 fn said_by(rule: &FileRule, flag: bool) -> Option<ExecRule<'_>>
     ensures { option_map seen_rule result ≡ said_by flag rule.now }
 {
     let audited = flag || rule.audit;
     if rule.deny {
-        return if covers_exec(rule) {
+        return if rule.covers_exec() {
             Some(ExecRule::Denying { audited })
         } else {
             None

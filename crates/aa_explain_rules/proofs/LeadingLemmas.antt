@@ -4,8 +4,9 @@ use Rattle.std.specs.Prelude.{if◌then◌else◌, slice_get}
 use Rattle.std.specs.List.{list_any}
 use Rattle.std.specs.List.Sorted.{IsStrictlyIncreasing}
 use Rattle.aa_decide_exec_rules.specs.Choices.{Leads, Missing, choice, chosen, denies, dominates, first_lead, highest, leads_aloud}
-use Rattle.aa_decide_exec_rules.specs.ExecRules.{Denying, ExecRule, Leading, applies_to, covers_exec, exec_rules, said_by, said_of}
+use Rattle.aa_decide_exec_rules.specs.ExecRules.{Denying, ExecRule, Leading, applies_to, exec_rules, said_by, said_of}
 use Rattle.aa_profile_data.specs.Ranks.{same_rank}
+use Rattle.aa_profile_data.specs.Cover.{covers_exec}
 use Rattle.aa_profile_data.specs.declared.profile.FileRule.{FileRule}
 use Rattle.aa_profile_data.specs.declared.profile.Rank.{Rank}
 use Rattle.aa_profile_data.specs.declared.profile.Rule.{Rule}

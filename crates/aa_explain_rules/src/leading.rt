@@ -2,7 +2,7 @@
 
 ghost use Rattle.std.specs.Prelude.{◌≡◌, IfOk, false};
 ghost use Rattle.aa_decide_exec_rules.specs.Choices.{denies, dominates};
-ghost use Rattle.aa_decide_exec_rules.specs.ExecRules.{applies_to, covers_exec};
+ghost use Rattle.aa_decide_exec_rules.specs.ExecRules.{applies_to};
 ghost use Rattle.aa_explain_rules.specs.Asked.{rules_of};
 ghost use Rattle.aa_explain_rules.specs.Leading.{highest_that, leading_places, says};
 ghost use Rattle.aa_explain_rules.specs.code.Among.{among, passes_at, some_among};
@@ -10,7 +10,6 @@ ghost use Rattle.aa_explain_rules.specs.code.Among.{among, passes_at, some_among
 use crate::asked::AskedRules;
 use aa_profile_access::{Perms, Request};
 use aa_profile_data::{FileRule, Rank, Rule};
-use bitflags::Flags;
 use std::alloc::{AllocError, Global};
 
 // Whether a rule applies to a path.
@@ -20,19 +19,12 @@ fn applies_to(owned: bool, path: &[u8], rule: &FileRule) -> bool
     rule.pattern.matches(path) && (!rule.owner || owned)
 }
 
-// Whether a rule covers the start of programs: it has an exec word, or a bare `x`.
-fn covers_exec(rule: &FileRule) -> bool
-    ensures { result ≡ covers_exec rule.now }
-{
-    rule.exec.is_some() || rule.access.contains(Perms::EXEC)
-}
-
 // Whether a rule denies the start of the program of a path.
 fn denies(owned: bool, path: &[u8], rule: &Rule) -> bool
     ensures { result ≡ says denies false owned path.now rule.now }
 {
     match rule {
-        Rule::File(rule) => applies_to(owned, path, rule) && rule.deny && covers_exec(rule),
+        Rule::File(rule) => applies_to(owned, path, rule) && rule.deny && rule.covers_exec(),
         _ => false,
     }
 }

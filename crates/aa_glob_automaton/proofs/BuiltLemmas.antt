@@ -140,7 +140,7 @@ first-there : (patterns : List (List ℕ)) → (length patterns ≡ 0 → ⊥) �
 first-there [] some = absurd (some refl)
 first-there (p ∷ ps) some = (p, (0, omega arith, refl))
 
-all-begun : (patterns : List (List ℕ)) (trails : List Trail) (text : List ℕ) → Contains patterns text → Begun patterns [] trails → AreBeginnings patterns trails
+pub all-begun : (patterns : List (List ℕ)) (trails : List Trail) (text : List ℕ) → Contains patterns text → Begun patterns [] trails → AreBeginnings patterns trails
 all-begun patterns trails text there begun = record {
   members = λ part. (λ h. by part ((begun.members part).0 h), λ h. (begun.members part).1 (inl h));
   apart = begun.apart;

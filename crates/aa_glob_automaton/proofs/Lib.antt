@@ -8,6 +8,7 @@ pub mod NumberLemmas
 pub mod ReachLemmas
 pub mod SeenLemmas
 pub mod StandLemmas
+pub mod StateLemmas
 pub mod StepLemmas
 pub mod TreeLemmas
 pub mod VisitLemmas

@@ -33,7 +33,7 @@ ends_of-more key so_far after ranges at d within before more =
     ∙ append_assoc key (ends_of (take at ranges)) (ends_of (get_or ranges at d ∷ []))
     ∙ ap (λ l. key ++ l) (sym (ends_of-push (take at ranges) (get_or ranges at d)) ∙ ap ends_of (sym (take_more ranges at d within)))
 
-same-key : (key : List ℕ) → bytes_eq key key ≡ true
+pub same-key : (key : List ℕ) → bytes_eq key key ≡ true
 same-key key = (bytes_eq-Decides key key).1 refl
 
 -- the first of two, if there is one, and else the second
@@ -267,7 +267,7 @@ abbrev ranges_with : List ℕ → List ByteRange
 ranges_with (first ∷ last ∷ ends) = record { first = first; last = last } ∷ ranges_with ends
 ranges_with ends = []
 
-abbrev set_with : List ℕ → ByteSet
+abbrev pub set_with : List ℕ → ByteSet
 set_with [] = Inside
 set_with (negated ∷ ends) = Class (negated == 1) (ranges_with ends)
 
@@ -285,7 +285,7 @@ ranges_with-ends : (ranges : List ByteRange) → ranges_with (ends_of ranges) �
 ranges_with-ends [] = refl
 ranges_with-ends (range ∷ ranges) = ap (λ more. range ∷ more) (ranges_with-ends ranges)
 
-set_with-key : (set : ByteSet) → set_with (key_of set) ≡ set
+pub set_with-key : (set : ByteSet) → set_with (key_of set) ≡ set
 set_with-key Inside = refl
 set_with-key (Class true ranges) = ap (Class true) (ranges_with-ends ranges)
 set_with-key (Class false ranges) = ap (Class false) (ranges_with-ends ranges)

@@ -4,6 +4,7 @@ pub mod Drawn
 pub mod Grown
 pub mod Laws
 pub mod Numbers
+pub mod States
 pub mod Tree
 pub mod Visits
 pub mod Walks

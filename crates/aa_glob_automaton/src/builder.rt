@@ -3,7 +3,9 @@
 ghost use Rattle.std.specs.Prelude.{◌≡◌, ◌+◌, ◌++◌, ◌∷◌, [], ℕ, List, length, IfOk, Ok};
 ghost use Rattle.aa_glob_automaton.specs.Automata.{IsAutomatonOf};
 ghost use Rattle.aa_glob_automaton.specs.Built.{IsBuilt};
+ghost use Rattle.aa_glob_automaton.specs.States.{state_count};
 ghost use Rattle.aa_glob_automaton.specs.code.Followed.{LeadsToEnd};
+ghost use Rattle.aa_glob_pattern.specs.Beginnings.{HasStates};
 ghost use Rattle.aa_glob_syntax.specs.Reading.{items_of, reading};
 
 use crate::automaton::Automaton;
@@ -11,7 +13,7 @@ use crate::growing::Growing;
 use crate::laws::how_graphs_are_drawn;
 use crate::numbers::Numbers;
 use crate::tree::Tree;
-use aa_glob_pattern::{Pattern, how_beginnings_are_gathered};
+use aa_glob_pattern::{Pattern, how_beginnings_are_gathered, how_many_states_there_are};
 use aa_glob_run::Drawing;
 use std::alloc::{AllocError, Global};
 use std::marker::Model;
@@ -80,6 +82,20 @@ impl AutomatonBuilder {
             growing,
             patterns: patterns + 1,
         })
+    }
+
+    /// How many states there are so far: one for each different beginning of the patterns. It takes no memory.
+    pub fn states(&self) -> usize
+        ensures states { (patterns : List (List ℕ)) → IsBuilt self.now patterns → HasStates patterns result }
+        ensures counted { (patterns : List (List ℕ)) → IsBuilt self.now patterns → result ≡ state_count patterns }
+    {
+        how_beginnings_are_gathered();
+        how_many_states_there_are();
+        if self.patterns == 0 {
+            0
+        } else {
+            self.growing.tree.places()
+        }
     }
 
     /// The automaton of these patterns. It takes no memory.

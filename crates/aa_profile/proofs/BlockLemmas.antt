@@ -59,8 +59,8 @@ module _ (language : Language) (P : WrittenRule → Type 0) (Q : Flags → Type 
 
   head-has : (named : Named) (tokens rest : List Placed) (found : Head) → head language named tokens ≡ Ok (found, rest) → Q found.flags
   head-has named tokens rest found h =
-      let read = followed-ok (flags language (attachment named tokens).1) (λ read behind. Ok (record { name = named.name; attachment = (attachment named tokens).0; flags = read.0; flag_tokens = flag_tokens (attachment named tokens).1; brace = read.1 }, behind)) (found, rest) h in
-      let whole = first-told (record { name = named.name; attachment = (attachment named tokens).0; flags = read.0.0; flag_tokens = flag_tokens (attachment named tokens).1; brace = read.0.1 }, read.1) (found, rest) read.3 in
+      let read = followed-ok (flags language (attachment named tokens).1) (λ read behind. Ok (record { name = named.name; token = named.token; attachment = (attachment named tokens).0; flags = read.0; flag_tokens = flag_tokens (attachment named tokens).1; brace = read.1 }, behind)) (found, rest) h in
+      let whole = first-told (record { name = named.name; token = named.token; attachment = (attachment named tokens).0; flags = read.0.0; flag_tokens = flag_tokens (attachment named tokens).1; brace = read.0.1 }, read.1) (found, rest) read.3 in
       subst (λ (head : Head). Q head.flags) whole (IfOk-at_ok (λ read. Q read.0.0) read.2 (flagged (attachment named tokens).1))
 
   next_rule-has : (tokens more : List Placed) (item : WrittenRule) → next_rule language tokens ≡ Ok (Item item, more) → P item

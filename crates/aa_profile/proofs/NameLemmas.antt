@@ -79,8 +79,8 @@ closed-ok brace (Ok told) read h = h
 -- the name of a head is the one that stands before it
 head-named : (language : Language) (named : Named) (tokens rest : List Placed) (found : Head) → head language named tokens ≡ Ok (found, rest) → found.name ≡ named.name
 head-named language named tokens rest found h =
-    let flagged = followed-ok (flags language (attachment named tokens).1) (λ read behind. Ok (record { name = named.name; attachment = (attachment named tokens).0; flags = read.0; flag_tokens = flag_tokens (attachment named tokens).1; brace = read.1 }, behind)) (found, rest) h in
-    let whole = first-told (record { name = named.name; attachment = (attachment named tokens).0; flags = flagged.0.0; flag_tokens = flag_tokens (attachment named tokens).1; brace = flagged.0.1 }, flagged.1) (found, rest) flagged.3 in
+    let flagged = followed-ok (flags language (attachment named tokens).1) (λ read behind. Ok (record { name = named.name; token = named.token; attachment = (attachment named tokens).0; flags = read.0; flag_tokens = flag_tokens (attachment named tokens).1; brace = read.1 }, behind)) (found, rest) h in
+    let whole = first-told (record { name = named.name; token = named.token; attachment = (attachment named tokens).0; flags = flagged.0.0; flag_tokens = flag_tokens (attachment named tokens).1; brace = flagged.0.1 }, flagged.1) (found, rest) flagged.3 in
     ap (λ head. head.name) (sym whole)
 
 -- a child or a hat has the name that stands before its head, its head, and holds what its block does

@@ -11,7 +11,8 @@ use Rattle.aa_profile_data.specs.declared.profile.Profile.{Profile}
 use Rattle.aa_profile.specs.Assignments.{variables_of}
 use Rattle.aa_profile.specs.declared.file_profiles.FileProfiles.{FileProfiles}
 use Rattle.aa_profile.specs.Conflicts.{conflict_in_profiles, refusal_of_conflicts}
-use Rattle.aa_profile.specs.FileReading.{file_profiles_in, profiles_in, profiles_of, profiles_with, refusal_of_patterns, refusal_of_rules}
+use Rattle.aa_profile.specs.FileReading.{file_profiles_in, profiles_in, profiles_of, profiles_with, refusal_of_blocks, refusal_of_patterns, refusal_of_rules}
+use Rattle.aa_profile.specs.States.{refusal_of_states}
 use Rattle.aa_profile_patterns.specs.PatternTokens.{of_profiles}
 use Rattle.aa_profile_making.specs.Profiles.{profile_of}
 use Rattle.aa_profile_errors.specs.declared.profile_error.ProfileError.{ProfileError}
@@ -34,9 +35,14 @@ read-agree language variables tokens written is fine = by (refusal_of_patterns v
     within None e none = profiles-free language variables written.profiles e
     within (Some pattern) e none = let wrong = rw (refusal_of_conflicts, e) at none in absurd (cc)
 
+    blocks : (refusal : Option ProfileError) → refusal_of_states language variables written.profiles ≡ refusal → refusal_of_blocks language variables written.profiles ≡ None
+        → AllAgree (map (profile_of language variables) written.profiles)
+    blocks (Some refusal) e none = let wrong : Some refusal ≡ None = rw (refusal_of_blocks, e) at none in absurd (cc)
+    blocks None e none = within (conflict_in_profiles language variables written.profiles) refl (rw (refusal_of_blocks, e) at none)
+
     by : (refusal : Option ProfileError) → refusal_of_patterns variables (of_profiles written.profiles) ≡ refusal → AllAgree (map (profile_of language variables) written.profiles)
     by (Some refusal) e = let wrong : Some refusal ≡ None = rw (refusal_of_rules, e) at fine in absurd (cc)
-    by None e = within (conflict_in_profiles language variables written.profiles) refl (rw (refusal_of_rules, e) at fine)
+    by None e = blocks (refusal_of_states language variables written.profiles) refl (rw (refusal_of_rules, e) at fine)
 
 -- what holds of the profiles that a file's tokens make with variables by which no rule of them is refused holds of those that its reading gives
 module _ (language : Language) (Fit : List Profile → Type 0) (fit : (variables : List Variable) (tokens : List Placed) (written : File) → file language tokens ≡ Ok written → refusal_of_rules language variables written.profiles ≡ None

@@ -1,5 +1,6 @@
 -- Reading a profile's file, in phases each of which goes over the whole file: its text, its grammar, its variables, how many patterns it
--- makes, these patterns, and conflicts of the rules that they make (docs/policy.md, "Files"). The first phase that refuses decides.
+-- makes, these patterns, how many states the exec rules of a block have, and conflicts of rules (docs/policy.md, "Files"). The first phase that
+-- refuses decides.
 use Rattle.std.specs.Prelude.{ℕ, List, map, Option, None, Some, Result, Ok, Err}
 use Rattle.aa_text_files.specs.Files.{File as HandedIn}
 use Rattle.aa_profile_grammar.specs.Blocks.{Profile as WrittenProfile}
@@ -11,6 +12,7 @@ use Rattle.aa_text_variables.specs.Variables.{Variable}
 use Rattle.aa_profile_data.specs.declared.profile.Profile.{Profile}
 use Rattle.aa_profile.specs.Assignments.{variables_of}
 use Rattle.aa_profile.specs.Conflicts.{refusal_of_conflicts}
+use Rattle.aa_profile.specs.States.{refusal_of_states}
 use Rattle.aa_profile_patterns.specs.PatternTokens.{of_profiles}
 use Rattle.aa_profile_patterns.specs.Patterns.{first_bad, over_limit}
 use Rattle.aa_profile_errors.specs.ProfileError.{error_of_grammar, refusal_of_text}
@@ -21,11 +23,18 @@ use Rattle.aa_profile_errors.specs.declared.profile_error.ProfileError.{ProfileE
 abbrev pub refusal_of_patterns : List Variable → List Placed → Option ProfileError
 refusal_of_patterns variables patterns = elim (over_limit variables patterns) [ Some refusal ↦ Some refusal | None ↦ first_bad variables patterns ]
 
--- the refusal of a file's rules: some of its patterns can't be, or make rules that conflict
+-- the refusal of a file's blocks: the exec rules of one have too many states, or rules of one conflict
+abbrev pub refusal_of_blocks : Language → List Variable → List WrittenProfile → Option ProfileError
+refusal_of_blocks language variables profiles = elim (refusal_of_states language variables profiles) [
+  | Some refusal ↦ Some refusal
+  | None ↦ refusal_of_conflicts language variables profiles
+]
+
+-- the refusal of a file's rules: some of its patterns can't be, or its blocks are refused
 abbrev pub refusal_of_rules : Language → List Variable → List WrittenProfile → Option ProfileError
 refusal_of_rules language variables profiles = elim (refusal_of_patterns variables (of_profiles profiles)) [
   | Some refusal ↦ Some refusal
-  | None ↦ refusal_of_conflicts language variables profiles
+  | None ↦ refusal_of_blocks language variables profiles
 ]
 
 -- the profiles of a file, with its variables

@@ -8,4 +8,5 @@ pub mod PlaceLaws
 pub mod ProfileNames
 pub mod ReadPatterns
 pub mod Refusals
+pub mod States
 pub mod code

@@ -6,6 +6,7 @@ mod conflicts;
 mod file_profiles;
 mod laws;
 mod reading;
+mod states;
 
 pub use aa_profile_access::{ExecWord, Perms};
 pub use aa_profile_data::{

@@ -21,6 +21,7 @@ ghost use Rattle.aa_profile_errors.specs.declared.profile_error.ProfileRefusal.T
 use crate::assignments::read_variables;
 use crate::conflicts::check_conflicts;
 use crate::file_profiles::FileProfiles;
+use crate::states::check_states;
 use aa_profile_errors::ProfileError;
 use aa_profile_grammar::File;
 use aa_profile_making::read_profiles;
@@ -50,6 +51,7 @@ fn read_with(
     let mut table = ExpansionTable::new(alloc, variables);
     check_limit(&mut table, patterns)?;
     let profiles = read_profiles(alloc, language, &mut table, &file.profiles)?;
+    check_states(alloc, language, &file.profiles, &profiles)?;
     check_conflicts(alloc, language, &mut table, &file.profiles, &profiles)?;
     let places = read_places(alloc, language, &mut table, &file.profiles)?;
     Ok(FileProfiles { profiles, places })
@@ -88,6 +90,8 @@ fn read_written(
 /// - `TooManyRules`, at the attachment or pattern with which the file has more than 16,384, each expansion counted; the word `file` alone is one.
 /// - As `Pattern::read` refuses the first expansion that is no pattern, once its runs of slashes are collapsed; `TooLong` goes by the
 ///   bytes before that. It is told at the attachment or pattern.
+/// - `ManyStates`, in language 4, at the token that names the first profile, child or hat whose exec rules, deny rules too, have more than 8,192 states:
+///   different beginnings of their patterns.
 /// - `ExecConflict`, at the first pattern that makes a rule which conflicts with one before it in its profile, child or hat: two allow rules lead
 ///   a program to different places with one rank, and some path matches both.
 /// - `Memory`, without a place: memory ran out.

@@ -2,3 +2,4 @@ pub mod ClashLemmas
 pub mod ClassLemmas
 pub mod FirstLemmas
 pub mod PlacedLemmas
+pub mod StateLemmas

@@ -1,3 +1,4 @@
 pub mod Classes
 pub mod Conflicting
 pub mod Leads
+pub mod States

@@ -1,10 +1,16 @@
--- What rules on capabilities and sockets cover (apparmor.d(5), "Capability Rules" and "Network Rules"; docs/policy.md, "Rules").
-use Rattle.std.specs.Prelude.{ℕ, Bool, true, not, ◌&&◌, ◌||◌, ◌==◌, Option, None, Some}
+-- What rules cover (apparmor.d(5), "Execute Rules", "Capability Rules" and "Network Rules"; docs/policy.md, "Rules").
+use Rattle.std.specs.Prelude.{ℕ, Bool, true, not, ◌&&◌, ◌||◌, ◌==◌, Option, None, Some, is_some}
 use Rattle.std.specs.Int.{bit_at}
+use Rattle.aa_profile_access.specs.Access.{EXEC, has}
 use Rattle.aa_profile_tables.specs.Domains.{has_protocols}
 use Rattle.aa_profile_tables.specs.Kinds.{is_protocol, type_of}
 use Rattle.aa_profile_data.specs.declared.profile.CapRule.{CapRule}
+use Rattle.aa_profile_data.specs.declared.profile.FileRule.{FileRule}
 use Rattle.aa_profile_data.specs.declared.profile.NetRule.{NetRule}
+
+-- a rule on files covers the start of programs: it has an exec word, or a bare `x`
+abbrev pub covers_exec : FileRule → Bool
+covers_exec rule = is_some rule.exec || has rule.access.0 EXEC
 
 -- a set of numbers has this one: its bit is set
 abbrev pub has_number : ℕ → ℕ → Bool

@@ -1,16 +1,27 @@
-//! What rules on capabilities and sockets cover.
+//! What rules cover.
 
 ghost use Rattle.std.specs.Prelude.{◌≡◌};
-ghost use Rattle.aa_profile_data.specs.Cover.{covers_capability, covers_domain, covers_kind, covers_socket, has_number};
+ghost use Rattle.aa_profile_data.specs.Cover.{covers_capability, covers_domain, covers_exec, covers_kind, covers_socket, has_number};
 
-use crate::profile::{CapRule, NetRule};
+use crate::profile::{CapRule, FileRule, NetRule};
+use aa_profile_access::Perms;
 use aa_profile_tables::{has_protocols, is_protocol, type_of};
+use bitflags::Flags;
 
 // Whether a set has a number.
 fn has(set: u64, number: u8) -> bool
     ensures { result ≡ has_number set number }
 {
     number < 64 && (set >> number) & 1 == 1
+}
+
+impl FileRule {
+    /// Whether the rule covers the start of programs: it has an exec word, or a bare `x` (apparmor.d(5), "Execute Rules"). It takes no memory.
+    pub fn covers_exec(&self) -> bool
+        ensures { result ≡ covers_exec self.now }
+    {
+        self.exec.is_some() || self.access.contains(Perms::EXEC)
+    }
 }
 
 impl CapRule {

@@ -15,7 +15,7 @@ use Rattle.aa_profile_parsing.specs.declared.fault.GrammarRefusal.{GrammarRefusa
 use Rattle.aa_profile_parsing.specs.declared.fault.GrammarRefusal.TheVariants as grammar
 use Rattle.aa_profile_errors.specs.declared.profile_error.ProfileError.{ProfileError}
 use Rattle.aa_profile_errors.specs.declared.profile_error.ProfileRefusal.{ProfileRefusal}
-use Rattle.aa_profile_errors.specs.declared.profile_error.ProfileRefusal.TheVariants.{Pattern, Text, Grammar, TooManyRules, ExecConflict, Memory}
+use Rattle.aa_profile_errors.specs.declared.profile_error.ProfileRefusal.TheVariants.{Pattern, Text, Grammar, TooManyRules, ManyStates, ExecConflict, Memory}
 
 -- the one table of numbers and names of this layer
 abbrev pub described : ProfileRefusal → ℕ × List ℕ
@@ -23,6 +23,7 @@ described (Pattern error) = described_pattern error
 described (Text refusal) = described_text refusal
 described (Grammar refusal) = described_grammar refusal
 described TooManyRules = (30, codes "TooManyRules")
+described ManyStates = (73, codes "ManyStates")
 described ExecConflict = (55, codes "ExecConflict")
 described Memory = (99, codes "Memory")
 

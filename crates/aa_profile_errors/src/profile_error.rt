@@ -22,6 +22,8 @@ pub enum ProfileRefusal {
     Grammar(GrammarRefusal),
     /// A file has more than 16,384 rules, each expansion of a pattern counted.
     TooManyRules,
+    /// The exec rules of a profile, child or hat have more than 8,192 states, which are the different beginnings of their patterns.
+    ManyStates,
     /// Two rules lead a program of one path to different places.
     ExecConflict,
     /// Memory ran out, in whatever layer: none of the refusals above is a want of memory where it was made by `from`.
@@ -61,7 +63,7 @@ pub fn placed(refusal: ProfileRefusal, place: Place) -> ProfileError
 }
 
 impl ProfileRefusal {
-    /// The number of the refusal: 1 to 10, 20 to 30, 40 to 55, 72, or 99.
+    /// The number of the refusal: 1 to 10, 20 to 30, 40 to 55, 72, 73, or 99.
     pub fn number(self) -> u8
         ensures { result ≡ number_of self }
     {
@@ -70,6 +72,7 @@ impl ProfileRefusal {
             ProfileRefusal::Text(refusal) => refusal.number(),
             ProfileRefusal::Grammar(refusal) => refusal.number(),
             ProfileRefusal::TooManyRules => 30,
+            ProfileRefusal::ManyStates => 73,
             ProfileRefusal::ExecConflict => 55,
             ProfileRefusal::Memory => 99,
         }
@@ -84,6 +87,7 @@ impl ProfileRefusal {
             ProfileRefusal::Text(refusal) => refusal.name(),
             ProfileRefusal::Grammar(refusal) => refusal.name(),
             ProfileRefusal::TooManyRules => "TooManyRules",
+            ProfileRefusal::ManyStates => "ManyStates",
             ProfileRefusal::ExecConflict => "ExecConflict",
             ProfileRefusal::Memory => "Memory",
         }

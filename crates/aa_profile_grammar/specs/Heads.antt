@@ -20,9 +20,10 @@ pub record Named : Type 0 where
   pub name : List ℕ
   pub token : Placed
 
--- a head: the name, the token of the attachment, the flags that decide something, the tokens of FLAGS, and the brace
+-- a head: the name and its token, the token of the attachment, the flags that decide something, the tokens of FLAGS, and the brace
 pub record Head : Type 0 where
   pub name : List ℕ
+  pub token : Placed
   pub attachment : Option Placed
   pub flags : Flags
   pub flag_tokens : List Placed
@@ -74,4 +75,4 @@ abbrev pub head : Language → Named → List Placed → Part Head
 head language named tokens =
     let attached = attachment named tokens in
     followed (flags language attached.1) (λ read behind.
-    Ok (record { name = named.name; attachment = attached.0; flags = read.0; flag_tokens = flag_tokens attached.1; brace = read.1 }, behind))
+    Ok (record { name = named.name; token = named.token; attachment = attached.0; flags = read.0; flag_tokens = flag_tokens attached.1; brace = read.1 }, behind))

@@ -22,6 +22,7 @@ seen_assignment assignment = record { sign = seen_spliced assignment.sign; appen
 abbrev pub seen_head : Head → SeenHead
 seen_head head = record {
   name = head.name.now;
+  token = seen_spliced head.token;
   attachment = option_map seen_spliced head.attachment;
   flags = head.flags;
   flag_tokens = seen_tokens head.flag_tokens.now;

@@ -44,6 +44,8 @@ pub struct Named<'a> {
 pub struct Head<'a> {
     /// The name, as it is written.
     pub name: &'a [u8],
+    /// The token of the name.
+    pub token: Spliced<'a>,
     /// The token of the pattern of the programs that it is attached to, if there is one.
     pub attachment: Option<Spliced<'a>>,
     /// The flags that decide something.
@@ -179,6 +181,7 @@ pub fn read_head<'a>(
     Ok((
         Head {
             name: named.name,
+            token: named.token,
             attachment,
             flags,
             flag_tokens: flag_tokens(behind),

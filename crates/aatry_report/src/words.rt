@@ -9,7 +9,7 @@ fn words_of_grammar(refusal: GrammarRefusal) -> &'static str {
     match refusal {
         GrammarRefusal::BadToken => "nothing that may stand here begins so",
         GrammarRefusal::OpenBlock => "this brace isn't closed",
-        GrammarRefusal::BadFlag => "there is no such flag, or `enforce` stands beside `complain`",
+        GrammarRefusal::BadFlag => "there is no such flag, or two modes stand beside each other",
         GrammarRefusal::BadAccess => "the access holds what is no access letter and no exec word",
         GrammarRefusal::WriteAppend => "the access holds both `w` and `a`",
         GrammarRefusal::TwoExec => "the access has two different exec words",
@@ -42,6 +42,10 @@ pub fn words_of(alloc: Global, refusal: ProfileRefusal) -> Result<String, AllocE
         ProfileRefusal::TooManyRules => String::from_str(
             alloc,
             "the file has more than 16,384 patterns, each expansion counted",
+        ),
+        ProfileRefusal::ManyStates => String::from_str(
+            alloc,
+            "the patterns of its exec rules have more than 8,192 different beginnings",
         ),
         ProfileRefusal::ExecConflict => String::from_str(
             alloc,

@@ -110,14 +110,15 @@ fn grammar_refusal(at: usize) -> Option<Described> {
     Some((refusal.number(), refusal.name()))
 }
 
-// The refusal of a file so many behind the first, by their numbers: ten of patterns, ten of its text, sixteen of its grammar, and its own.
+// The refusal of a file so many behind the first: ten of patterns, ten of its text, sixteen of its grammar, and its own.
 fn file_refusal(at: usize) -> Option<ProfileRefusal> {
     match at {
         0..=9 => Some(ProfileRefusal::from(*PATTERN_ERRORS.get(at)?)),
         10..=19 => Some(ProfileRefusal::from(*TEXT_REFUSALS.get(at - 10)?)),
         20 => Some(ProfileRefusal::TooManyRules),
         21..=36 => Some(ProfileRefusal::from(*GRAMMAR_REFUSALS.get(at - 21)?)),
-        37 => Some(ProfileRefusal::ExecConflict),
+        37 => Some(ProfileRefusal::ManyStates),
+        38 => Some(ProfileRefusal::ExecConflict),
         _ => None,
     }
 }
@@ -126,7 +127,7 @@ fn file_refusal(at: usize) -> Option<ProfileRefusal> {
 fn command_refusal(at: usize) -> Option<RefusalKind> {
     match file_refusal(at) {
         Some(refusal) => Some(RefusalKind::from(refusal)),
-        None => COMMAND_REFUSALS.get(at.checked_sub(38)?).copied(),
+        None => COMMAND_REFUSALS.get(at.checked_sub(39)?).copied(),
     }
 }
 
