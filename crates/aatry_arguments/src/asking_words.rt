@@ -44,6 +44,7 @@ const WHY_HELP: &str = "\
 Tells the answer to a question, and the rules behind it
 
 Usage: aatry why [OPTIONS] WORD..
+       aatry why [OPTIONS] LINE
 
 Arguments:
   WORD..  The words of a question, as behind ask of aaset:
@@ -51,6 +52,7 @@ Arguments:
             exec WHO OWNED PATH
             cap WHO NAME
             net WHO DOMAIN TYPE
+  LINE    A line of a kernel's log, as one word: it asks what the line tells of
 
 Options:
   -b <DIR>    The folder of policy, /etc/apparmor.d unless it is given

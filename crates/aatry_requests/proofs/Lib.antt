@@ -1,8 +1,3 @@
-mod LineLemmas
-mod LoggedLemmas
-mod MaskLemmas
-mod PairLemmas
-mod QuoteLemmas
 mod TallyLemmas
 mod TextLemmas
-mod WrittenLemmas
+mod WordLemmas

@@ -5,13 +5,13 @@ use Rattle.std.specs.declared.alloc.Global.{Global}
 use Rattle.std.specs.Str.{bytes_eq}
 use Rattle.std.proofs.lemmas.List.Elements.{All-cons, All-head, All-nil, All-tail}
 use Rattle.std.proofs.lemmas.Slice.Eq.{bytes_eq-Decides}
-use Rattle.aatry_requests.specs.LoggedQuestions.{seen_logged}
+use Rattle.aatry_log_lines.specs.LoggedQuestions.{seen_logged}
 use Rattle.indexmap.specs.IndexMap.{insert_entry}
 use Rattle.aatry_requests.specs.SeenTallies.{AreUnderTexts, Entry, IsUnderText, seen_entries, seen_tally}
 use Rattle.aatry_requests.specs.Tallies.{counted_with}
 use Rattle.aatry_requests.specs.Texts.{is_same, question_text}
 use Rattle.aatry_requests.specs.code.Entries.{times_under}
-use Rattle.aatry_requests.specs.declared.asked.LoggedQuestion.{LoggedQuestion}
+use Rattle.aatry_log_lines.specs.declared.asked.LoggedQuestion.{LoggedQuestion}
 
 -- texts are compared by their bytes
 abbrev pub same_text : Vec ℕ Global → Vec ℕ Global → Bool

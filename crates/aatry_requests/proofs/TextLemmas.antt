@@ -20,8 +20,9 @@ use Rattle.aa_bytes.specs.Quoting.{hexadecimal, is_shown, written_text}
 use Rattle.aa_set_commands.specs.Question.{OfAccess, OfExec, Question, owned_of}
 use Rattle.aatry_requests.specs.Laws.{CanBeAsked}
 use Rattle.aatry_requests.specs.Texts.{is_same, owned_text, question_text}
-use Rattle.aatry_requests.specs.Values.{text_of}
-use Rattle.aatry_requests.proofs.LineLemmas.{none-pass}
+use Rattle.aatry_log_lines.specs.Values.{text_of}
+use Rattle.aatry_log_lines.proofs.LineLemmas.{none-pass}
+use Rattle.aatry_log_lines.proofs.NameLemmas.{below, capability-read, domain-read, kind-read, none-space, reads, reads-is}
 
 -- the words of a text of a question, between its spaces
 abbrev is_space : ℕ → Bool
@@ -75,29 +76,6 @@ written-no_space text fit = elim (cases_Bool (list_all is_shown text)) [
   | inr unshown ↦ rw unshown (digits-no_space text fit)
 ]
 
--- a test holds of each number below another
-abbrev pub holds_below : ℕ → (ℕ → Bool) → Bool
-holds_below zero test = true
-holds_below (suc n) test = test n && holds_below n test
-
-pub below : (n : ℕ) (test : ℕ → Bool) → holds_below n test ≡ true → (k : ℕ) → k < n → test k ≡ true
-below zero test h k within = absurd (omega (arith, within))
-below (suc n) test h k within =
-    let parts = and_parts (test n) (holds_below n test) h in
-    elim (cases_lt k n) [
-      | inl less ↦ below n test parts.1 k less
-      | inr other ↦ let same : n ≡ k = omega (arith, within, other) in subst (λ m. test m ≡ true) same parts.0
-    ]
-
--- a number that is read is this one
-abbrev pub reads : Option ℕ → ℕ → Bool
-reads None n = false
-reads (Some m) n = m == n
-
-pub reads-is : (found : Option ℕ) (n : ℕ) → reads found n ≡ true → found ≡ Some n
-reads-is None n h = absurd (true≢false (sym h))
-reads-is (Some m) n h = ap Some (eqb-true m n h)
-
 -- letters and names have no space, and are read back
 
 letters-read : (needs : ℕ) → needs < asked_letters → letters_onto 0 (letters_of needs) ≡ Some needs
@@ -107,33 +85,14 @@ letters-read needs within =
 letters-no_space : (needs : ℕ) → needs < asked_letters → not (list_any is_space (letters_of needs)) ≡ true
 letters-no_space needs within = below asked_letters (λ n. not (list_any is_space (letters_of n))) refl needs within
 
-pub capability-read : (number : ℕ) → number < 41 → capability_number (name_or_none (capability_name number)) ≡ Some number
-capability-read number within =
-    reads-is (capability_number (name_or_none (capability_name number))) number
-    (below 41 (λ n. reads (capability_number (name_or_none (capability_name n))) n) refl number within)
-
 capability-no_space : (number : ℕ) → number < 41 → not (list_any is_space (name_or_none (capability_name number))) ≡ true
 capability-no_space number within = below 41 (λ n. not (list_any is_space (name_or_none (capability_name n)))) refl number within
-
-pub domain-read : (number : ℕ) → number < 44 → domain_number (name_or_none (domain_name number)) ≡ Some number
-domain-read number within =
-    reads-is (domain_number (name_or_none (domain_name number))) number
-    (below 44 (λ n. reads (domain_number (name_or_none (domain_name n))) n) refl number within)
 
 domain-no_space : (number : ℕ) → number < 44 → not (list_any is_space (name_or_none (domain_name number))) ≡ true
 domain-no_space number within = below 44 (λ n. not (list_any is_space (name_or_none (domain_name n)))) refl number within
 
-pub kind-read : (number : ℕ) → number < 6 → kind_number (name_or_none (kind_name number)) ≡ Some number
-kind-read number within =
-    reads-is (kind_number (name_or_none (kind_name number))) number
-    (below 6 (λ n. reads (kind_number (name_or_none (kind_name n))) n) refl number within)
-
 kind-no_space : (number : ℕ) → number < 6 → not (list_any is_space (name_or_none (kind_name number))) ≡ true
 kind-no_space number within = below 6 (λ n. not (list_any is_space (name_or_none (kind_name n)))) refl number within
-
-pub none-space : (b : Bool) → not b ≡ true → b ≡ false
-none-space true h = absurd (true≢false (sym h))
-none-space false h = refl
 
 abbrev owner_word : Bool → List ℕ
 owner_word owned = if owned then codes "owner" else codes "other"

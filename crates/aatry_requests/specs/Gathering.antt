@@ -1,7 +1,7 @@
 -- What is gathered from a source's lines.
 use Rattle.std.specs.Prelude.{ℕ, List, [], fold}
 use Rattle.aa_set_lines.specs.Lines.{lines}
-use Rattle.aatry_requests.specs.Lines.{Asks, NoRequest, OtherRequest, Told, Unreadable}
+use Rattle.aatry_log_lines.specs.Lines.{Asks, NoRequest, OtherRequest, Told, Unreadable}
 use Rattle.aatry_requests.specs.Sources.{told_in}
 use Rattle.aatry_requests.specs.Tallies.{Tally, counted_with, one_more}
 use Rattle.aatry_requests.specs.declared.requests.Requests.{Requests}

@@ -1,16 +1,10 @@
-pub mod Asked
 pub mod AskedWords
 pub mod Ends
 pub mod Gathering
 pub mod Laws
-pub mod Lines
-pub mod LoggedQuestions
-pub mod Masks
-pub mod Pairs
 pub mod Questions
 pub mod SeenTallies
 pub mod Sources
 pub mod Tallies
 pub mod Texts
-pub mod Values
 pub mod code

@@ -2,7 +2,7 @@
 use Rattle.std.specs.Prelude.{◌≡◌, ℕ, List, map, Vec}
 use Rattle.std.specs.List.{All}
 use Rattle.std.specs.declared.alloc.Global.{Global}
-use Rattle.aatry_requests.specs.LoggedQuestions.{seen_logged}
+use Rattle.aatry_log_lines.specs.LoggedQuestions.{seen_logged}
 use Rattle.aatry_requests.specs.Tallies.{Tally}
 use Rattle.aatry_requests.specs.Texts.{question_text}
 use Rattle.aatry_requests.specs.declared.tallies.Tally.{Tally as CodeTally}

@@ -3,7 +3,7 @@ use Rattle.std.specs.Prelude.{ℕ, List, [], ◌∷◌, Option, None, Some, Resu
 use Rattle.aa_set_commands.specs.Question.{Question, question_of}
 use Rattle.aa_set_commands.specs.declared.refusal.Refusal.{Refusal}
 use Rattle.aa_set_lines.specs.Words.{words_of}
-use Rattle.aatry_requests.specs.Lines.{Asks, NoRequest, Told, Unreadable, told_by}
+use Rattle.aatry_log_lines.specs.Lines.{Asks, NoRequest, Told, Unreadable, told_by}
 use Rattle.aatry_requests.specs.declared.sources.Source.{Source}
 use Rattle.aatry_requests.specs.declared.sources.Source.TheVariants.{Log, Questions}
 

@@ -1,10 +1,14 @@
 //! The questions that words ask.
 
-ghost use Rattle.std.specs.Prelude.{◌≡◌, ◌++◌, Ok, IfErr, IfOk, IfSome, IsNone, OnOk, map, string_bytes};
+ghost use Rattle.std.specs.Prelude.{◌≡◌, ◌++◌, None, Ok, IfOk, IfSome, IsNone, OnOk, map, option_map, string_bytes};
+ghost use Rattle.std.specs.Result.{result_ok};
 ghost use Rattle.aa_set_commands.specs.Question.{IsWellFormed, question_of, seen_question};
-ghost use Rattle.aatry_requests.specs.AskedWords.{AskNothing};
+ghost use Rattle.aatry_log_lines.specs.LoggedQuestions.{seen_logged};
+ghost use Rattle.aatry_log_lines.specs.Lines.{told_by};
+ghost use Rattle.aatry_requests.specs.AskedWords.{asked_by, asked_in};
 
 use aa_set_commands::Question;
+use aatry_log_lines::{LogLine, LoggedQuestion, told_by};
 use std::alloc::{AllocError, Global};
 
 // Appends the bytes of words to others, none of them copied.
@@ -31,7 +35,8 @@ pub fn question_by<'a>(
     ensures some { IfOk result (λ found. IfSome found (λ question.
         question_of (map (λ word. word.now) before.now ++ map string_bytes words.now) ≡ Ok (seen_question question))) }
     ensures known { IfOk result (λ found. IfSome found IsWellFormed) }
-    ensures none { IfOk result (λ found. IsNone found → AskNothing (map (λ word. word.now) before.now ++ map string_bytes words.now)) }
+    ensures none { IfOk result (λ found. IsNone found
+        → result_ok (question_of (map (λ word. word.now) before.now ++ map string_bytes words.now)) ≡ None) }
 {
     let mut all = Vec::new(alloc);
     all.extend_from_slice(before)?;
@@ -40,4 +45,45 @@ pub fn question_by<'a>(
         Ok(question) => Ok(Some(question)),
         Err(_) => Ok(None),
     }
+}
+
+// The question that a line of a log asks, if it asks one.
+fn asked_in_line(alloc: Global, line: &[u8]) -> Result<Option<LoggedQuestion<'_>>, AllocError>
+    ensures { IfOk result (λ found. option_map seen_logged found ≡ asked_in (told_by line.now)) }
+{
+    match told_by(alloc, line)? {
+        LogLine::Asks(question) => Ok(Some(question)),
+        LogLine::OtherRequest | LogLine::NoRequest | LogLine::Unreadable => Ok(None),
+    }
+}
+
+// The question that some words ask as those behind `ask` do.
+fn asked_in_words<'a>(
+    alloc: Global,
+    words: &'a [String],
+) -> Result<Option<LoggedQuestion<'a>>, AllocError>
+    ensures { IfOk result (λ found. option_map seen_logged found ≡ result_ok (question_of (map string_bytes words.now))) }
+{
+    match question_by(alloc, &[], words)? {
+        Some(question) => Ok(Some(LoggedQuestion::of(question))),
+        None => Ok(None),
+    }
+}
+
+/// The question that some words ask: a word alone is a line of a log (`aatry_log_lines::told_by`), and more of them are those that stand behind `ask`
+/// (`aa_set_commands::Question::read`). None where they ask none.
+///
+/// # Errors
+///
+/// Where memory runs out.
+pub fn asked_by<'a>(
+    alloc: Global,
+    words: &'a [String],
+) -> Result<Option<LoggedQuestion<'a>>, AllocError>
+    ensures { IfOk result (λ found. option_map seen_logged found ≡ asked_by (map string_bytes words.now)) }
+{
+    if words.len() == 1 {
+        return asked_in_line(alloc, words[0].as_bytes());
+    }
+    asked_in_words(alloc, words)
 }

@@ -2,13 +2,12 @@
 
 ghost use Rattle.std.specs.Prelude.{◌≡◌, IfOk};
 ghost use Rattle.aa_set_lines.specs.Words.{words_of};
-ghost use Rattle.aatry_requests.specs.Lines.{seen_line};
+ghost use Rattle.aatry_log_lines.specs.Lines.{seen_line};
 ghost use Rattle.aatry_requests.specs.Sources.{told_by_words, told_in};
 
-use crate::asked::LoggedQuestion;
-use crate::lines::{LogLine, told_by};
 use aa_set_commands::Question;
 use aa_set_lines::Words;
+use aatry_log_lines::{LogLine, LoggedQuestion, told_by};
 use std::alloc::{AllocError, Global};
 
 /// What the lines are from which requests are read.

@@ -1,13 +1,13 @@
 //! Questions, and how often each came.
 
 ghost use Rattle.std.specs.Prelude.{◌≡◌, [], OnErr, OnOk, length, option_map, slice_get};
-ghost use Rattle.aatry_requests.specs.LoggedQuestions.{seen_logged};
+ghost use Rattle.aatry_log_lines.specs.LoggedQuestions.{seen_logged};
 ghost use Rattle.aatry_requests.specs.Tallies.{counted_with};
 ghost use Rattle.aatry_requests.specs.SeenTallies.{seen_tally};
 ghost use Rattle.aatry_requests.specs.code.Entries.{times_under};
 
-use crate::asked::LoggedQuestion;
 use crate::texts::push_question;
+use aatry_log_lines::LoggedQuestion;
 use indexmap::IndexMap;
 use std::alloc::{AllocError, Global};
 use std::marker::Model;

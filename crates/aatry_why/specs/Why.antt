@@ -13,7 +13,7 @@ use Rattle.aa_profile_parsing.specs.declared.language.Language.{Language}
 use Rattle.aa_set_answers.specs.Answers.{answered, lines_of, who_asks}
 use Rattle.aa_set_answers.specs.Askers.{asker}
 use Rattle.aa_set_answers.specs.declared.answers.Answered.{Answered}
-use Rattle.aa_set_commands.specs.Question.{OfAccess, OfExec, Question, question_of}
+use Rattle.aa_set_commands.specs.Question.{OfAccess, OfExec, Question}
 use Rattle.aa_set_commands.specs.Refusal.{name_of, number_of}
 use Rattle.aa_set_commands.specs.declared.refusal.Refusal.{Refusal}
 use Rattle.aa_set_lines.specs.Lines.{is_line_feed}
@@ -25,6 +25,7 @@ use Rattle.aatry_folder.specs.Told.{ToldFolders}
 use Rattle.aatry_policy.specs.Folders.{Folder, below, folder_at, left_out_in, origins_in, policy_in}
 use Rattle.aa_text_files.specs.Files.{File}
 use Rattle.aatry_policy.specs.LeftOut.{refusal_text}
+use Rattle.aatry_requests.specs.AskedWords.{asked_by}
 use Rattle.aatry_requests.specs.Questions.{rule_request}
 use Rattle.aatry_why.specs.How.{confinement_of, how_lines}
 use Rattle.aatry_why.specs.Unasked.{unasked_lines}
@@ -104,7 +105,7 @@ sources_in folder question = record { below = below folder; origin = asked_origi
 -- The words ask a question of the policy set of a folder, and a text tells the files that are left out and what is answered.
 abbrev pub IsWhyTold : Form → Folder → List (List ℕ) → List ℕ → Bool → Type 0
 IsWhyTold form folder words text found =
-    (question : Question) × (question_of words ≡ Ok question)
+    (question : Question) × (asked_by words ≡ Some question)
     × (text ≡ left_out_in form folder ++ answered_text form (sources_in folder question) (policy_in folder) question)
     × (found ≡ has_answer (policy_in folder) question)
 

@@ -32,7 +32,7 @@ use aatry_arguments::Asking;
 use aatry_folder::{Fault, Folders, PolicyFolder, Report, failed_by, policy_below};
 use aatry_policy::{LoadedFolder, load_folder};
 use aatry_report::Teller;
-use aatry_requests::{question_by, rule_request, who_asks};
+use aatry_requests::{asked_by, rule_request, who_asks};
 use aatry_why_lines::push_why;
 use std::alloc::{AllocError, Global};
 
@@ -196,12 +196,12 @@ fn told_of(teller: Teller, folder: &PolicyFolder<'_>, words: &[String]) -> Resul
         × (report.failed ≡ failed_by found)) }
     ensures fault { IfErr result (λ told. (told ≡ fault.NoMemory) ⊎ ((told ≡ fault.BadQuestion) × AskNothing (map string_bytes words.now))) }
 {
-    let Some(question) = question_by(teller.alloc, &[], words)? else {
+    let Some(asked) = asked_by(teller.alloc, words)? else {
         return Err(Fault::BadQuestion);
     };
     let mut text = Vec::new(teller.alloc);
     let mut loaded = load_folder(teller, folder, &mut text)?;
-    let found = push_asked(teller, &mut loaded, &question, &mut text)?;
+    let found = push_asked(teller, &mut loaded, &asked.question(), &mut text)?;
     Ok(Report {
         failed: failed_by(found),
         text,
@@ -209,7 +209,8 @@ fn told_of(teller: Teller, folder: &PolicyFolder<'_>, words: &[String]) -> Resul
 }
 
 /// What the policy of a folder, read by a language, answers to a question, and the rules behind the answer, told in a
-/// form: reads the folder as `aatry_folder::policy_below` does. First come the files that are left out
+/// form. The question is that of the words, as behind `ask`; or, where they are one word, that of a line of a log
+/// (`aatry_requests::asked_by`). Reads the folder as `aatry_folder::policy_below` does. First come the files that are left out
 /// (`aatry_policy::load_folder`). Then comes what `ask` would be answered, and behind it the rules, each with the place
 /// where it is written (`aatry_why_lines`); where something isn't allowed, the rule that is missing and the nearest
 /// ones too; and of the start of a program where its transition leads and what its path may be attached to. Where who

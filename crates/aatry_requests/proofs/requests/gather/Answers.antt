@@ -1,7 +1,7 @@
 use Rattle.std.proofs.Common.{sym, ap, ◌∙◌}
 use Rattle.aa_set_lines.specs.Lines.{lines}
 use Rattle.aatry_requests.specs.Gathering.{seen_requests, with_lines}
-use Rattle.aatry_requests.proofs.LineLemmas.{lines-ended}
+use Rattle.aatry_log_lines.proofs.LineLemmas.{lines-ended}
 use Rattle.aatry_requests.proofs.requests.gather.Goals as goal
 
 pub loop-line-preserved : goal.loop-line-preserved

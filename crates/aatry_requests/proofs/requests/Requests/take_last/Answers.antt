@@ -1,5 +1,5 @@
 use Rattle.std.proofs.Common.{sym, ◌∙◌}
-use Rattle.aatry_requests.proofs.LineLemmas.{lines-last}
+use Rattle.aatry_log_lines.proofs.LineLemmas.{lines-last}
 use Rattle.aatry_requests.proofs.requests.Requests.take_last.Goals as goal
 
 pub returns : goal.returns

@@ -1,6 +1,6 @@
 use Rattle.std.proofs.Common.{◌≡◌, ◌++◌, sym, ap, ◌∙◌, subst}
 use Rattle.aa_set_commands.specs.Question.{seen_question}
-use Rattle.aatry_requests.specs.LoggedQuestions.{seen_logged}
+use Rattle.aatry_log_lines.specs.LoggedQuestions.{seen_logged}
 use Rattle.aatry_requests.specs.SeenTallies.{AreUnderTexts, seen_entries}
 use Rattle.aatry_requests.specs.Tallies.{counted_with}
 use Rattle.aatry_requests.specs.Texts.{question_text}

@@ -1,0 +1,9 @@
+pub mod Asked
+pub mod Laws
+pub mod Lines
+pub mod LoggedQuestions
+pub mod Masks
+pub mod Messages
+pub mod Pairs
+pub mod Values
+pub mod code
