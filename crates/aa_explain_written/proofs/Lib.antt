@@ -1,0 +1,15 @@
+mod FileLemmas
+mod MarkLemmas
+mod MissingLemmas
+mod PatternLemmas
+mod PlainLemmas
+mod ProfileLemmas
+mod ReadBackLemmas
+mod RuleLemmas
+mod Spelling
+mod SplicingLemmas
+mod StateLemmas
+mod TableLemmas
+mod TextLemmas
+mod TokenLemmas
+mod WrittenLemmas
