@@ -1,3 +1,4 @@
+mod DecidingLemmas
 mod FileLemmas
 mod MarkLemmas
 mod MissingLemmas

@@ -1,6 +1,8 @@
 //! What holds of written rules, as laws over the definitions that the calls are proved to follow.
 
-ghost use Rattle.std.specs.Prelude.{◌≡◌, ◌<◌, [], ◌∷◌, ℕ, Bool, is_some, List, Ok, Some, true};
+ghost use Rattle.std.specs.Prelude.{◌≡◌, ◌<◌, [], ◌∷◌, ◌++◌, ℕ, Bool, is_some, List, Ok, Some, true};
+ghost use Rattle.aa_decide_rules.specs.Verdict.{verdict};
+ghost use Rattle.aa_decide_rules.specs.declared.verdict.Mediation.{Mediation};
 ghost use Rattle.aa_explain_rules.specs.Missing.{missing_rule};
 ghost use Rattle.aa_explain_written.specs.Quotes.{between_quotes, fits_quotes};
 ghost use Rattle.aa_explain_written.specs.ReadBack.{as_read, HasFileOf, IsOfOne, IsOfPath, needs_no_escape, profile_of_one};
@@ -18,7 +20,8 @@ use aa_glob::quoted_text_reads_as_itself;
 
 /// What is written is read: a file of one profile with the written rule in its block, between blanks, spells this one profile by each language,
 /// and the rules of that are this one rule. Its pattern alone may be written with more backslashes than the rule's own. It reads the same, so
-/// it matches the same; and it is the rule's own where no byte of the path is a quote, a closing bracket, or a slash behind another.
+/// it matches the same; and it is the rule's own where no byte of the path is a quote, a closing bracket, or a slash behind another. Among any
+/// other rules, the rule that is read leads to the verdicts of the one that was written.
 pub fn what_is_written_is_read()
     ensures rules_are_read_back { (language : Language) (files : List File) (name : List ℕ) (rule : Rule) (text : List ℕ)
         → IsOfOne rule → written_rule rule ≡ Some text → HasFileOf files name text
@@ -26,6 +29,9 @@ pub fn what_is_written_is_read()
     ensures patterns_read_the_same { (path pattern : List ℕ)
         → IsOfPath path pattern → fits_quotes (between_quotes pattern) ≡ true → items_of (between_quotes pattern) ≡ items_of pattern }
     ensures patterns_stay_where_they_can { (path : List ℕ) → needs_no_escape path ≡ true → between_quotes (quoted path) ≡ quoted path }
+    ensures verdicts_stay { (mediation : Mediation) (flag : Bool) (request : Request) (before after : List Rule) (rule : Rule) (text : List ℕ)
+        → IsOfOne rule → written_rule rule ≡ Some text
+        → verdict mediation flag (before ++ as_read rule ∷ after) request ≡ verdict mediation flag (before ++ rule ∷ after) request }
 {
     quoted_text_reads_as_itself();
 }
