@@ -12,11 +12,11 @@ _aatry() {
     COMPREPLY=()
     if [ "$word" = = ]; then word=; fi
     if [ "$COMP_CWORD" -eq 1 ]; then
-        mapfile -t COMPREPLY < <(compgen -W 'check why who diff session test -h --help -V --version' -- "$word")
+        mapfile -t COMPREPLY < <(compgen -W 'check why log who diff session test -h --help -V --version' -- "$word")
         return
     fi
     case ${COMP_WORDS[1]} in
-    check | why | who | session | test) ;;
+    check | why | log | who | session | test) ;;
     diff)
         # A folder, or the file of an option.
         case ${COMP_WORDS[COMP_CWORD - 1]} in
@@ -63,6 +63,7 @@ _aatry() {
     elif [ -n "$options" ] && [[ $word == -* ]]; then
         case ${COMP_WORDS[1]} in
         check | why | who) mapfile -t COMPREPLY < <(compgen -W '-b --json --language -h --help --' -- "$word") ;;
+        log) mapfile -t COMPREPLY < <(compgen -W '-b --strict --json --language -h --help --' -- "$word") ;;
         *) mapfile -t COMPREPLY < <(compgen -W '-b --language -h --help --' -- "$word") ;;
         esac
     elif [ "${COMP_WORDS[1]}" = who ] || [ "${COMP_WORDS[1]}" = why ]; then
@@ -77,8 +78,8 @@ _aatry() {
     elif [ "${COMP_WORDS[1]}" = session ]; then
         # No word but options.
         COMPREPLY=()
-    elif [ "${COMP_WORDS[1]}" = test ]; then
-        # A transcript, by its own path.
+    elif [ "${COMP_WORDS[1]}" = test ] || [ "${COMP_WORDS[1]}" = log ]; then
+        # A transcript or a log, by its own path.
         mapfile -t COMPREPLY < <(compgen -f -- "$word")
     elif [[ $word != */* ]]; then
         # The files at the top of the folder, without those that are passed over.

@@ -2,5 +2,6 @@ mod AskedLemmas
 mod CheckLemmas
 mod DiffLawLemmas
 mod DiffLemmas
+mod FlagLemmas
 mod LawLemmas
 pub mod LanguageLemmas

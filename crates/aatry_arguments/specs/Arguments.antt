@@ -5,6 +5,7 @@ use Rattle.aa_options.specs.Options.{Asked, ForHelp, ForVersion, Nothing, asked_
 use Rattle.aatry_arguments.specs.AskingWords.{AskingAsked, asked_who, asked_why}
 use Rattle.aatry_arguments.specs.CheckWords.{CheckAsked, asked_check}
 use Rattle.aatry_arguments.specs.DiffWords.{ComparisonAsked, asked_diff}
+use Rattle.aatry_arguments.specs.LogWords.{LogsAsked, asked_logs}
 use Rattle.aatry_arguments.specs.SessionWords.{SessionAsked, asked_session}
 use Rattle.aatry_arguments.specs.TestWords.{TestAsked, asked_test}
 
@@ -14,6 +15,7 @@ pub data CommandAsked : Type 0 where
   ForTest : TestAsked → CommandAsked
   ForWho : AskingAsked → CommandAsked
   ForWhy : AskingAsked → CommandAsked
+  ForLog : LogsAsked → CommandAsked
   ForDiff : ComparisonAsked → CommandAsked
   ForSession : SessionAsked → CommandAsked
 
@@ -32,6 +34,7 @@ asked_by_first first words =
     else if bytes_eq first (codes "test") then asked_as ForTest (asked_test words)
     else if bytes_eq first (codes "who") then asked_as ForWho (asked_who words)
     else if bytes_eq first (codes "why") then asked_as ForWhy (asked_why words)
+    else if bytes_eq first (codes "log") then asked_as ForLog (asked_logs words)
     else if bytes_eq first (codes "diff") then asked_as ForDiff (asked_diff words)
     else if bytes_eq first (codes "session") then asked_as ForSession (asked_session words)
     else if is_help_word first then ForHelp

@@ -3,15 +3,17 @@ use Rattle.std.specs.Prelude.{◌≡◌, option_map, string_bytes}
 use Rattle.aa_options.specs.Texts.{texts}
 use Rattle.aatry_arguments.specs.AskingWords.{AskingAsked, asking_with}
 use Rattle.aatry_arguments.specs.CheckWords.{CheckAsked, check_with}
-use Rattle.aatry_arguments.specs.Arguments.{CommandAsked, ForCheck, ForDiff, ForSession, ForTest, ForWho, ForWhy}
+use Rattle.aatry_arguments.specs.Arguments.{CommandAsked, ForCheck, ForDiff, ForLog, ForSession, ForTest, ForWho, ForWhy}
 use Rattle.aatry_arguments.specs.DiffWords.{ComparisonAsked, LogAt, QuestionsAt, SourceAsked, comparison_with}
 use Rattle.aatry_arguments.specs.Forms.{CallAsked, call_with}
+use Rattle.aatry_arguments.specs.LogWords.{LogsAsked, logs_with}
 use Rattle.aatry_arguments.specs.SessionWords.{SessionAsked, session_with}
 use Rattle.aatry_arguments.specs.TestWords.{TestAsked, test_with}
 use Rattle.aatry_arguments.specs.declared.arguments.Asking.{Asking}
 use Rattle.aatry_arguments.specs.declared.arguments.Call.{Call}
 use Rattle.aatry_arguments.specs.declared.arguments.Check.{Check}
 use Rattle.aatry_arguments.specs.declared.arguments.Comparison.{Comparison}
+use Rattle.aatry_arguments.specs.declared.arguments.Logs.{Logs}
 use Rattle.aatry_arguments.specs.declared.arguments.RequestSource.{RequestSource}
 use Rattle.aatry_arguments.specs.declared.arguments.RequestSource.TheVariants.{Log, Questions}
 use Rattle.aatry_arguments.specs.declared.arguments.Session.{Session}
@@ -33,6 +35,10 @@ meant_test test = test_with (string_bytes test.base) (texts test.paths)
 abbrev pub meant_asking : Asking → AskingAsked
 meant_asking asking = asking_with (string_bytes asking.base) (texts asking.words)
 
+-- what logs ask that are meant
+abbrev pub meant_logs : Logs → LogsAsked
+meant_logs logs = logs_with (string_bytes logs.base) (texts logs.paths) logs.strict
+
 -- the source of requests that is meant
 abbrev pub meant_source : RequestSource → SourceAsked
 meant_source (Log path) = LogAt (string_bytes path)
@@ -52,6 +58,7 @@ meant_command (command.Check check) = ForCheck (meant_check check)
 meant_command (command.Test test) = ForTest (meant_test test)
 meant_command (command.Who asking) = ForWho (meant_asking asking)
 meant_command (command.Why asking) = ForWhy (meant_asking asking)
+meant_command (command.Log logs) = ForLog (meant_logs logs)
 meant_command (command.Diff comparison) = ForDiff (meant_comparison comparison)
 meant_command (command.Session session) = ForSession (meant_session session)
 

@@ -4,9 +4,11 @@ pub mod CheckLine
 pub mod CheckWords
 pub mod DiffLine
 pub mod DiffWords
+pub mod Flags
 pub mod Forms
 pub mod Given
 pub mod Languages
+pub mod LogWords
 pub mod SessionWords
 pub mod TestWords
 pub mod code

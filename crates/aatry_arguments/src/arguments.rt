@@ -25,6 +25,8 @@ pub enum Command {
     Who(Asking),
     /// Why a question is answered as it is, is asked of a folder of policy.
     Why(Asking),
+    /// What logs tell of is asked of a folder of policy.
+    Log(Logs),
     /// Two folders of policy are to be compared.
     Diff(Comparison),
     /// Commands are to be taken over a folder of policy, as they come.
@@ -56,6 +58,17 @@ pub struct Asking {
     pub base: String,
     /// The words of the question, in this order: three behind `who`, one at least behind `why`. They may make no question.
     pub words: Vec<String>,
+}
+
+/// Which logs ask of a folder of policy.
+#[derive(Drop)]
+pub struct Logs {
+    /// The folder of policy.
+    pub base: String,
+    /// The paths of the logs, in this order, where `-` is standard input. Where there is none, standard input is meant.
+    pub paths: Vec<String>,
+    /// Whether the exit status is to tell of a line that can't be read, or that asks for somebody who isn't there.
+    pub strict: bool,
 }
 
 /// Which folders of policy are to be compared, and by which requests beside their profiles.

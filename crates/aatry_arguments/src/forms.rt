@@ -1,63 +1,24 @@
 //! In which form is told what a command finds.
 
-ghost use Rattle.std.specs.Prelude.{◌≡◌, IfOk, drop, map, string_bytes};
+ghost use Rattle.std.specs.Prelude.{◌≡◌, drop, map, string_bytes};
 ghost use Rattle.aatry_arguments.specs.Arguments.{asked};
 ghost use Rattle.aa_options.specs.Options.{asked_as, asked_then};
-ghost use Rattle.aatry_arguments.specs.Forms.{asked_call, asked_in, call_with, in_records, is_json_word, wants_records, without_json};
+ghost use Rattle.aatry_arguments.specs.Forms.{asked_call, asked_in, call_with, in_records};
 ghost use Rattle.aa_options.specs.Given.{IsGivenFor};
 ghost use Rattle.aatry_arguments.specs.Given.{meant_call, meant_command};
 ghost use Rattle.aatry_report.specs.declared.form.Form.TheVariants as form;
 
 use crate::arguments::{Call, Command};
-use crate::languages::{by_language, ends_options, push_words};
+use crate::flags::{is_given, without_flag};
+use crate::languages::by_language;
 use crate::reading::command_behind;
 use aa_options::ArgumentFault;
 use aa_profile_parsing::Language;
 use aatry_report::Form;
-use std::alloc::{AllocError, Global};
+use std::alloc::Global;
 
-// Whether a word asks for records.
-fn is_json_word(word: &str) -> bool
-    ensures { result ≡ is_json_word word.now }
-{
-    word == "--json"
-}
-
-// Whether one of some words asks for records, ahead of the first behind which none is an option.
-fn wants_records(words: &[String]) -> bool
-    ensures { result ≡ wants_records (map string_bytes words.now) }
-{
-    let mut rest = words;
-    while let [word, behind @ ..] = rest {
-        if ends_options(word.as_str()) {
-            return false;
-        }
-        if is_json_word(word.as_str()) {
-            return true;
-        }
-        rest = behind;
-    }
-    false
-}
-
-// The words without those that ask for records.
-fn without_json(alloc: Global, words: &[String]) -> Result<Vec<String>, AllocError>
-    ensures { IfOk result (λ others. map string_bytes others.items ≡ without_json (map string_bytes words.now)) }
-{
-    let mut others = Vec::new(alloc);
-    let mut rest = words;
-    while let [word, behind @ ..] = rest {
-        if ends_options(word.as_str()) {
-            push_words(alloc, rest, &mut others)?;
-            return Ok(others);
-        }
-        if !is_json_word(word.as_str()) {
-            others.push(String::from_str(alloc, word.as_str())?)?;
-        }
-        rest = behind;
-    }
-    Ok(others)
-}
+// The flag that asks for records.
+const JSON: &str = "--json";
 
 // A command that is to tell in lines.
 fn in_lines(language: Language, command: Command) -> Call
@@ -112,10 +73,10 @@ fn call_in_records(
 fn call_in(alloc: Global, language: Language, words: &[String]) -> Result<Call, ArgumentFault>
     ensures { IsGivenFor meant_call (asked_in language (map string_bytes words.now)) result }
 {
-    if !wants_records(words) {
+    if !is_given(JSON, words) {
         return call_in_lines(alloc, language, words);
     }
-    match without_json(alloc, words) {
+    match without_flag(alloc, JSON, words) {
         Ok(others) => call_in_records(alloc, language, &others),
         Err(_) => Err(ArgumentFault::Memory),
     }
@@ -137,13 +98,14 @@ fn call_behind(alloc: Global, words: &[String]) -> Result<Call, ArgumentFault>
 ///
 /// The first word is the program's own name, whatever it is, and the second is the command's name. Behind `check` a word is a NAME, behind `test`
 /// a FILE, behind `who` and `why` a word of the question, and behind `diff` a folder, unless it is an option: a hyphen and more behind it. Behind
-/// `session` there is none but options. Behind the word `--` none is an option.
+/// `session` there is none but options. Behind `log` a word is the path of a log. Behind the word `--` none is an option.
 ///
 /// `-b` takes the path of the folder of policy, and behind `diff`, which has no `-b`, `--log` and `--questions` take the path of a file. The path
 /// stands behind the option in its word, without one `=` between behind `-b` and with it behind the others, or else it is the next word, which then
 /// is no option and no `--`. Such an option may stand before, between and behind the other words, and where it is given again, the last counts.
 ///
-/// The word `--json`, ahead of the first `--`, asks for records, and is none of the words above: the command is the one that the others ask for. Nor are
+/// The word `--json`, ahead of the first `--`, asks for records, and is none of the words above: the command is the one that the others ask for. Nor is
+/// `--strict` behind `log`, which asks for a status that tells of lines without an answer. Nor are
 /// the word `--language` and the one behind it, or a word that begins with `--language=`, ahead of the first `--`: they name a language by its number, 3
 /// or 4. Where one is named again, the last counts, and where none is, policy is read by language 4 (docs/policy.md, "Languages").
 ///

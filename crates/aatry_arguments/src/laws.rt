@@ -3,7 +3,7 @@
 ghost use Rattle.std.specs.Prelude.{◌≡◌, ◌≢◌, ◌++◌, ℕ, None, Some, false, true, List, [], ◌∷◌, length, codes};
 ghost use Rattle.std.specs.List.{list_all};
 ghost use Rattle.aa_options.specs.Options.{Open, is_name, is_option};
-ghost use Rattle.aatry_arguments.specs.Arguments.{ForCheck, ForDiff, ForSession, ForTest, ForWho, ForWhy, asked, asked_by_first};
+ghost use Rattle.aatry_arguments.specs.Arguments.{ForCheck, ForDiff, ForLog, ForSession, ForTest, ForWho, ForWhy, asked, asked_by_first};
 ghost use Rattle.aa_options.specs.Options.{ForThis, Nothing};
 ghost use Rattle.aatry_arguments.specs.AskingWords.{asking_with};
 ghost use Rattle.aatry_arguments.specs.CheckWords.{CheckAsked, asked_behind, below, check_with, with_names};
@@ -13,6 +13,8 @@ ghost use Rattle.aatry_arguments.specs.DiffWords.{comparison_with, given_behind,
 ghost use Rattle.aa_profile_parsing.specs.Languages.{language_named, word_of};
 ghost use Rattle.aa_profile_parsing.specs.declared.language.Language.{Language};
 ghost use Rattle.aatry_arguments.specs.Languages.{by_language};
+ghost use Rattle.aatry_arguments.specs.LogWords.{logs_with, strict_flag};
+ghost use Rattle.aatry_arguments.specs.Flags.{is_given};
 ghost use Rattle.aatry_arguments.specs.SessionWords.{session_with};
 ghost use Rattle.aatry_arguments.specs.TestWords.{test_with};
 
@@ -68,6 +70,17 @@ pub fn what_askings_have()
     ensures why { (words : List (List ℕ)) (base word : List ℕ) (more : List (List ℕ))
         → asked_by_first (codes "check") words ≡ ForThis (ForCheck (check_with base (word ∷ more)))
         → asked_by_first (codes "why") words ≡ ForThis (ForWhy (asking_with base (word ∷ more))) }
+{}
+
+/// `log` alone asks by standard input, of /etc/apparmor.d, and `log --strict` for the status too. Words without that flag that would ask of `check` for
+/// some files ask of `log` by the logs at these paths, over the same folder.
+pub fn what_logs_have()
+    ensures alone { asked (codes "log" ∷ []) ≡ ForThis (ForLog (logs_with (codes "/etc/apparmor.d") [] false)) }
+    ensures strict { asked (codes "log" ∷ codes "--strict" ∷ []) ≡ ForThis (ForLog (logs_with (codes "/etc/apparmor.d") [] true)) }
+    ensures paths { (words : List (List ℕ)) (base : List ℕ) (names : List (List ℕ))
+        → is_given strict_flag words ≡ false
+        → asked_by_first (codes "check") words ≡ ForThis (ForCheck (check_with base names))
+        → asked_by_first (codes "log") words ≡ ForThis (ForLog (logs_with base names false)) }
 {}
 
 /// `session` alone asks for a session over /etc/apparmor.d. Words that would ask of `check` to check all files at the top of a folder ask of `session`

@@ -9,6 +9,7 @@ use crate::asking_words::{who_of, why_of};
 use crate::check_words::check_of;
 use crate::diff_words::diff_of;
 use crate::faults::help_with;
+use crate::log_words::logs_of;
 use crate::session_words::session_of;
 use crate::test_words::test_of;
 use aa_options::{ArgumentFault, VERSION};
@@ -23,13 +24,14 @@ Usage: aatry COMMAND [ARGUMENT]..
 Commands:
   check    Tells of each file of a folder of policy whether it is taken, or what is wrong with it
   why      Tells the answer to a question, and the rules behind it
+  log      Asks what the lines of a log asked, and tells what is answered now
   who      Tells which profiles, children and hats would let a request for a file through
   diff     Tells which profiles of two folders of policy differ, and what they answer otherwise
   session  Takes commands over a folder of policy, as they come: changes, questions, undo
   test     Runs transcripts of commands over a folder of policy, and tells each reply that differs
 
 Options:
-  --json          Behind check, why, who and diff: tells in records of JSON, one a line
+  --json          Behind check, why, log, who and diff: tells in records of JSON, one a line
   --language <N>  Reads policy by language N, 3 or 4; 4 if none is named
   -h, --help      Prints help, and behind a COMMAND help on it
   -V, --version   Prints the version
@@ -54,6 +56,7 @@ fn command_by(alloc: Global, first: &str, words: &[String]) -> Result<Command, A
         "test" => test_of(alloc, words).map(Command::Test),
         "who" => who_of(alloc, words).map(Command::Who),
         "why" => why_of(alloc, words).map(Command::Why),
+        "log" => logs_of(alloc, words).map(Command::Log),
         "diff" => diff_of(alloc, words).map(Command::Diff),
         "session" => session_of(alloc, words).map(Command::Session),
         "-h" | "--help" => Err(help_with(alloc, HELP)),

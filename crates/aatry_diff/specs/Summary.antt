@@ -1,54 +1,13 @@
 -- What sums up.
-use Rattle.std.specs.Prelude.{ℕ, List, [], ◌∷◌, ◌++◌, codes, length}
-use Rattle.std.specs.Fmt.{decimal}
-use Rattle.serde_json.specs.Data.{Members}
-use Rattle.aa_bytes.specs.Bytes.{line_feed}
-use Rattle.aatry_report.specs.Records.{record_line, record_of, with_number}
+use Rattle.std.specs.Prelude.{ℕ, List, codes}
 use Rattle.aatry_report.specs.declared.form.Form.{Form}
-use Rattle.aatry_report.specs.declared.form.Form.TheVariants.{Lines, Records}
+use Rattle.aatry_requests.specs.Counts.{Share, summary_text}
 use Rattle.aatry_requests.specs.Gathering.{Gathered}
 
--- a number, and of what
-abbrev pub number_text : ℕ → List ℕ → List ℕ
-number_text number words = decimal number ++ words
+-- the questions that are answered otherwise
+abbrev pub answered_otherwise : ℕ → Share
+answered_otherwise number = record { number = number; words = codes " answered otherwise, "; name = codes "differing" }
 
--- two numbers
-abbrev pub numbers_text : ℕ → List ℕ → ℕ → List ℕ → List ℕ
-numbers_text first words second others = number_text first words ++ number_text second others
-
--- how many lines there were, and how many of them ask a question
-abbrev pub lines_text : Gathered → List ℕ
-lines_text gathered = numbers_text gathered.lines (codes " lines, ") gathered.asked (codes " requests, ")
-
--- how many different questions these are, and how many are answered otherwise
-abbrev pub questions_text : Gathered → ℕ → List ℕ
-questions_text gathered differing =
-    numbers_text (length gathered.tallies) (codes " questions, ") differing (codes " answered otherwise, ")
-
--- how many requests no question asks, and how many lines can't be read
-abbrev pub rest_text : Gathered → List ℕ
-rest_text gathered = numbers_text gathered.others (codes " of another kind, ") gathered.unreadable (codes " unreadable")
-
--- how many lines there were in a record, and how many of them ask a question
-abbrev pub with_lines : Gathered → Members → Members
-with_lines gathered members = with_number (codes "requests") gathered.asked (with_number (codes "lines") gathered.lines members)
-
--- how many different questions these are, and how many are answered otherwise
-abbrev pub with_questions : Gathered → ℕ → Members → Members
-with_questions gathered differing members =
-    with_number (codes "differing") differing (with_number (codes "questions") (length gathered.tallies) members)
-
--- how many requests no question asks, and how many lines can't be read
-abbrev pub with_rest : Gathered → Members → Members
-with_rest gathered members =
-    with_number (codes "unreadable") gathered.unreadable (with_number (codes "others") gathered.others members)
-
--- all of these as a record
-abbrev pub summary_record : Gathered → ℕ → Members
-summary_record gathered differing =
-    with_rest gathered (with_questions gathered differing (with_lines gathered (record_of (codes "summary"))))
-
--- what sums up: all of these on a line, or as a record
+-- what sums up, by how many these are
 abbrev pub summary_line : Form → Gathered → ℕ → List ℕ
-summary_line Lines gathered differing = lines_text gathered ++ questions_text gathered differing ++ rest_text gathered ++ line_feed ∷ []
-summary_line Records gathered differing = record_line (summary_record gathered differing)
+summary_line form gathered differing = summary_text form gathered (answered_otherwise differing)

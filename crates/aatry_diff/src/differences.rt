@@ -11,11 +11,10 @@ ghost use Rattle.aatry_requests.specs.Texts.{question_text};
 
 use crate::finding::Difference;
 use crate::folders::BothFolders;
-use crate::numbers::push_number;
 use aa_set_commands::Question;
 use aatry_changes::push_causes;
 use aatry_report::{Form, Record, Teller};
-use aatry_requests::{push_question, rule_request, who_asks};
+use aatry_requests::{push_number, push_question, rule_request, who_asks};
 use std::alloc::{AllocError, Global};
 
 // Appends how often a question came to a text.

@@ -10,7 +10,6 @@ mod differences;
 mod finding;
 mod folders;
 mod laws;
-mod numbers;
 mod summary;
 
 pub use alike::alike_folders_answer_alike;

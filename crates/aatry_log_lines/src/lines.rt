@@ -253,8 +253,12 @@ fn told_by_message(alloc: Global, message: &[u8]) -> Result<LogLine<'_>, AllocEr
 }
 
 impl<'a> LogLine<'a> {
-    // The same, that borrows from no line.
-    fn into_owned<'b>(self, alloc: Global) -> Result<LogLine<'b>, AllocError>
+    /// The same, that borrows from no line.
+    ///
+    /// # Errors
+    ///
+    /// Where memory runs out.
+    pub fn into_owned<'b>(self, alloc: Global) -> Result<LogLine<'b>, AllocError>
         ensures { IfOk result (λ owned. seen_line owned ≡ seen_line self.entry) }
     {
         match self {

@@ -1,7 +1,7 @@
 -- What is done is what the words ask for.
 use Rattle.std.proofs.Common.{◌≡◌, ◌⊎◌, ℕ, List, Result, Ok, Err, IfErr, IfOk, MatchResult, OnOk, inl, inr, string_bytes, subst}
 use Rattle.aa_profile_parsing.specs.declared.language.Language.{Language}
-use Rattle.aatry_arguments.specs.Arguments.{CommandAsked, ForCheck, ForDiff, ForSession, ForTest, ForWho, ForWhy}
+use Rattle.aatry_arguments.specs.Arguments.{CommandAsked, ForCheck, ForDiff, ForLog, ForSession, ForTest, ForWho, ForWhy}
 use Rattle.aa_options.specs.Options.{Asked, ForHelp, ForThis, ForVersion, Nothing}
 use Rattle.aatry_arguments.specs.Forms.{CallAsked}
 use Rattle.aa_options.specs.Given.{IsGivenFor}
@@ -49,6 +49,7 @@ no_memory_done language form folders known input (ForCheck check) output status 
 no_memory_done language form folders known input (ForTest test) output status is = inr (fault.NoMemory, inl tt, is)
 no_memory_done language form folders known input (ForWho asking) output status is = inr (fault.NoMemory, inl tt, is)
 no_memory_done language form folders known input (ForWhy asking) output status is = inr (fault.NoMemory, inl tt, is)
+no_memory_done language form folders known input (ForLog logs) output status is = inr (fault.NoMemory, inl tt, is)
 no_memory_done language form folders known input (ForDiff comparison) output status is = inr (fault.NoMemory, inl tt, is)
 no_memory_done language form folders known input (ForSession session) output status is = inr (fault.NoMemory, inl (tt, is.0), is.1)
 

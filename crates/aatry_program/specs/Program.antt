@@ -3,7 +3,7 @@ use Rattle.std.specs.Prelude.{◌≡◌, ◌⊎◌, ℕ, Bool, true, List, Optio
 use Rattle.std.specs.Io.KnownBytes.{Appends}
 use Rattle.aa_set_lines.specs.Streams.{AppendsFront}
 use Rattle.aa_profile_parsing.specs.declared.language.Language.{Language}
-use Rattle.aatry_arguments.specs.Arguments.{CommandAsked, ForCheck, ForDiff, ForSession, ForTest, ForWho, ForWhy}
+use Rattle.aatry_arguments.specs.Arguments.{CommandAsked, ForCheck, ForDiff, ForLog, ForSession, ForTest, ForWho, ForWhy}
 use Rattle.aa_options.specs.Options.{Asked, ForHelp, ForThis, ForVersion, Nothing}
 use Rattle.aatry_arguments.specs.Forms.{CallAsked, asked_call}
 use Rattle.aa_options.specs.declared.fault.ArgumentFault.{ArgumentFault}
@@ -16,6 +16,8 @@ use Rattle.aatry_check.specs.Below.{IsChecked}
 use Rattle.aatry_check.specs.Ends.{IsEndOfCheck}
 use Rattle.aatry_diff.specs.Below.{IsComparedBelow}
 use Rattle.aatry_diff.specs.Ends.{IsEndOfDiff}
+use Rattle.aatry_log.specs.Below.{IsLogToldBelow}
+use Rattle.aatry_log.specs.Ends.{IsEndOfLog}
 use Rattle.aatry_test.specs.Below.{IsTestedBelow}
 use Rattle.aatry_test.specs.Ends.{IsEndOfTest}
 use Rattle.aatry_folder.specs.declared.report.Report.{Report}
@@ -81,6 +83,7 @@ IsDoneBy language form folders known input (ForCheck check) output status = IsCo
 IsDoneBy language form folders known input (ForTest test) output status = IsCommandDone (IsTestedBelow language folders known test.base test.paths) (IsEndOfTest folders known test.base test.paths) output status
 IsDoneBy language form folders known input (ForWho asking) output status = IsCommandDone (IsWhoToldBelow form language folders known asking.base asking.words) (IsEndOfWho folders known asking.base asking.words) output status
 IsDoneBy language form folders known input (ForWhy asking) output status = IsCommandDone (IsWhyToldBelow form language folders known asking.base asking.words) (IsEndOfWhy folders known asking.base asking.words) output status
+IsDoneBy language form folders known input (ForLog logs) output status = IsCommandDone (IsLogToldBelow form language folders known input.left logs) (IsEndOfLog folders known logs) output status
 IsDoneBy language form folders known input (ForDiff comparison) output status = IsCommandDone (IsComparedBelow form language folders known comparison) (IsEndOfDiff folders known comparison) output status
 IsDoneBy language form folders known input (ForSession session) output status = IsSessionDone language folders known session.base input output status
 

@@ -16,6 +16,7 @@ use aatry_arguments::{ArgumentFault, Call, Command, Session, call_of};
 use aatry_check::check_folder;
 use aatry_diff::diff_folders;
 use aatry_folder::{Fault, Folders, Report};
+use aatry_log::log_folder;
 use aatry_report::Teller;
 use aatry_session_run::session_folder;
 use aatry_test::test_folder;
@@ -141,6 +142,10 @@ fn perform<F: Folders, D: FileSystem, S: Source, W: Sink, E: Sink>(
                 streams,
             )
         }
+        Command::Log(asked) => {
+            let outcome = log_folder(teller, language, folders, disk, asked, &mut streams.input);
+            show_outcome(alloc, outcome, streams)
+        }
         Command::Diff(asked) => {
             show_outcome(
                 alloc,
@@ -193,9 +198,9 @@ fn do_asked<F: Folders, D: FileSystem, S: Source, W: Sink, E: Sink>(
 
 /// Does what the words of the program's start ask for, and gives the exit status. The first word is the program's own name; where the words
 /// can't be had, `words` is the fault to be reported. What is told stands on standard output; a fault is reported on standard error, on a line of
-/// its own. A session takes its lines from standard input, and writes `prompt` before it reads one. The status is 0 where each file that was checked
-/// was taken, each transcript that was tested passed, a question has an answer, somebody would be let through, nothing differs between two folders, a
-/// session ended, or a text was asked for and shown; 1 where one of these isn't so; 2 where the arguments or a question are no good, or a folder of
+/// its own. A session takes its lines from standard input, and writes `prompt` before it reads one; `log` reads it where it names no file. The status is 0
+/// where each file that was checked was taken, each transcript that was tested passed, a question has an answer, somebody would be let through, nothing
+/// differs between two folders, logs were read, a session ended, or a text was asked for and shown; 1 where one of these isn't so; 2 where the arguments or a question are no good, or a folder of
 /// policy or another file can't be read; and 3 where a stream or memory failed.
 pub fn start<F: Folders, D: FileSystem, S: Source, W: Sink, E: Sink>(
     alloc: Global,

@@ -1,5 +1,5 @@
 -- What the laws ask of questions and of requests.
-use Rattle.std.specs.Prelude.{◌<◌, ℕ, List}
+use Rattle.std.specs.Prelude.{◌<◌}
 use Rattle.hex.specs.Hex.{IsBytes}
 use Rattle.aa_profile_access.specs.Access.{asked_letters}
 use Rattle.aa_profile_access.specs.Request.{ForCapability, ForFile, ForSockets, Request}

@@ -1,5 +1,6 @@
 -- Tallies of the code as the definitions see them: each stands under the text that its question is told by.
 use Rattle.std.specs.Prelude.{◌≡◌, ℕ, List, map, Vec}
+use Rattle.std.specs.Borrow.{Bor}
 use Rattle.std.specs.List.{All}
 use Rattle.std.specs.declared.alloc.Global.{Global}
 use Rattle.aatry_log_lines.specs.LoggedQuestions.{seen_logged}
@@ -9,6 +10,10 @@ use Rattle.aatry_requests.specs.declared.tallies.Tally.{Tally as CodeTally}
 
 abbrev pub seen_tally : CodeTally → Tally
 seen_tally tally = record { question = seen_logged tally.question; times = tally.times }
+
+-- tallies that are lent
+abbrev pub seen_all : List (Bor CodeTally) → List Tally
+seen_all tallies = map (λ tally. seen_tally tally.now) tallies
 
 -- an entry: the text and the tally
 abbrev pub Entry : Type 0

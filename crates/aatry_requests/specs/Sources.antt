@@ -1,7 +1,8 @@
 -- The lines that requests are read from: those of a kernel's log, or those of a file of questions.
-use Rattle.std.specs.Prelude.{ℕ, List, [], ◌∷◌, Option, None, Some, Result, Ok, Err}
+use Rattle.std.specs.Prelude.{ℕ, nat_lt, if◌then◌else◌, List, [], ◌∷◌, Option, None, Some, Result, Ok, Err, length}
 use Rattle.aa_set_commands.specs.Question.{Question, question_of}
 use Rattle.aa_set_commands.specs.declared.refusal.Refusal.{Refusal}
+use Rattle.aa_set_lines.specs.Limits.{longest_line}
 use Rattle.aa_set_lines.specs.Words.{words_of}
 use Rattle.aatry_log_lines.specs.Lines.{Asks, NoRequest, Told, Unreadable, told_by}
 use Rattle.aatry_requests.specs.declared.sources.Source.{Source}
@@ -18,7 +19,11 @@ told_by_words None = Unreadable
 told_by_words (Some []) = NoRequest
 told_by_words (Some (word ∷ words)) = told_read (question_of (word ∷ words))
 
+-- what a line of a log tells of, which can't be read where it is longer than a line may be
+abbrev pub told_in_log : List ℕ → Told
+told_in_log line = if nat_lt longest_line (length line) then Unreadable else told_by line
+
 -- what a line of a source tells of
 abbrev pub told_in : Source → List ℕ → Told
-told_in Log line = told_by line
+told_in Log line = told_in_log line
 told_in Questions line = told_by_words (words_of line)

@@ -1,2 +1,3 @@
 -- What is about the code: the entries under which tallies are kept.
 pub mod Entries
+pub mod TallyAt

@@ -2,7 +2,10 @@
 #![tactic(auto)]
 
 mod asked_words;
+mod counts;
+mod inputs;
 mod laws;
+mod order;
 mod questions;
 mod requests;
 mod sources;
@@ -10,7 +13,9 @@ mod tallies;
 mod texts;
 
 pub use asked_words::{asked_by, question_by};
+pub use counts::{Share, push_number};
 pub use laws::what_texts_tell;
+pub use order::most_asked_first;
 pub use questions::{rule_request, who_asks};
 pub use requests::{Requests, gather};
 pub use sources::Source;

@@ -29,8 +29,8 @@ pub struct Requests<'a> {
 }
 
 impl<'a> Requests<'a> {
-    // None so far.
-    fn new(alloc: Global) -> Requests<'a>
+    /// None so far. It takes no memory.
+    pub fn new(alloc: Global) -> Requests<'a>
         ensures { seen_requests result ≡ nothing }
     {
         Requests {
@@ -42,8 +42,12 @@ impl<'a> Requests<'a> {
         }
     }
 
-    // One more line, that tells of this.
-    fn note(&mut self, alloc: Global, told: LogLine<'a>) -> Result<(), AllocError>
+    /// Counts a line that tells of this.
+    ///
+    /// # Errors
+    ///
+    /// Where memory runs out. The line may be counted then, and its question isn't.
+    pub fn note(&mut self, alloc: Global, told: LogLine<'a>) -> Result<(), AllocError>
         ensures { OnOk result (seen_requests self.new ≡ with_told (seen_requests self.old) (seen_line told.entry)) }
     {
         self.lines = self.lines.saturating_add(1);

@@ -15,7 +15,7 @@ use Rattle.aatry_folder.specs.PolicyFolders.{AreBelow, top_names}
 use Rattle.aatry_folder.specs.Unread.{IsOfFolder}
 use Rattle.aatry_session_run.specs.Faults.{told_line}
 use Rattle.aatry_folder.specs.declared.fault.Fault.{Fault}
-use Rattle.aatry_session_run.specs.Inputs.{GivesLine}
+use Rattle.aatry_input.specs.Inputs.{GivesLine}
 use Rattle.aatry_report.specs.Shown.{shown}
 use Rattle.aatry_report.specs.declared.form.Form.TheVariants.{Lines}
 use Rattle.aatry_session.specs.History.{ok_line}

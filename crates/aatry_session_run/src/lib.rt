@@ -2,7 +2,6 @@
 #![tactic(auto)]
 
 mod faults;
-mod input;
 mod session;
 
 pub use faults::{name_of, words_of};

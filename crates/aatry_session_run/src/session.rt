@@ -10,7 +10,7 @@ ghost use Rattle.aatry_folder.specs.Unread.{IsOfFolder};
 ghost use Rattle.aatry_session_run.specs.Ends.{IsEndOfSession};
 ghost use Rattle.aatry_folder.specs.declared.fault.Fault.TheVariants as fault;
 ghost use Rattle.aatry_session_run.specs.Broken.{IsBrokenRun, IsBrokenSession, IsBrokenStep};
-ghost use Rattle.aatry_session_run.specs.Inputs.{GivesLine, most_reads};
+ghost use Rattle.aatry_input.specs.Inputs.{most_reads};
 ghost use Rattle.aatry_session_run.specs.Session.{goes_on, left_out_line, loading_text, sources_of};
 ghost use Rattle.aatry_session_run.specs.Session.{IsLastStep, IsLoaded, IsReadAnew, IsRun, IsSession, IsStep, IsTold, IsTurn, LoadsEach, LoadsOne};
 ghost use Rattle.aatry_session_run.specs.code.Sessions.{seen_table, standing};
@@ -19,22 +19,19 @@ ghost use Rattle.aatry_session.specs.SeenTurns.{IsAskable, seen_turn};
 ghost use Rattle.aatry_session.specs.Turns.{Told};
 
 use crate::faults::push_told;
-use crate::input::LineInput;
 use aa_profile_access::cut_full_name;
 use aa_profile_parsing::Language;
 use aa_set_commands::Question;
-use aa_set_lines::{LineBuffer, Sink, Source, write_all};
+use aa_set_lines::{Sink, Source, write_all};
 use aa_text_files::Files;
 use aaset_start::FileSystem;
 use aatry_folder::{Fault, Folders, PolicyFiles, PolicyFolder, policy_below};
+use aatry_input::{Lines, MOST_LINES, all_lines, next_line};
 use aatry_report::{Form, Teller, push_shown};
 use aatry_requests::who_asks;
 use aatry_session::{Session, Turn};
 use aatry_why::{Sources, push_answer};
 use std::alloc::{AllocError, Global};
-
-// How many lines are answered at most.
-const MOST_LINES: u32 = 1_073_741_824;
 
 // What is told of a file that is taken, as it is loaded.
 const TAKEN: &[u8] = b"ok\n";
@@ -54,13 +51,6 @@ struct Setting<'a, F, D> {
 struct Table {
     files: Files,
     session: Session,
-}
-
-// The lines of an input: what was read of it and not given yet, and the line that was given last.
-#[derive(Drop)]
-struct Lines {
-    input: LineInput,
-    line: LineBuffer,
 }
 
 // Appends the line of a file that is left out to a text.
@@ -247,19 +237,6 @@ fn show<W: Sink>(writer: &mut W, text: &[u8]) -> Result<(), Fault>
     }
 }
 
-// Reads the next line, and says whether there is one.
-fn next_line<S: Source>(reader: &mut S, lines: &mut Lines) -> Result<bool, Fault>
-    requires { S.reads reader.old ≤ 2 ^ 63 }
-    ensures given { IfOk result (GivesLine (S.left reader.old) (S.left reader.new) lines.old.input lines.new.input lines.new.line) }
-    ensures fault { IfErr result (λ told. told ≡ fault.Read) }
-    ensures bound { S.reads reader.new ≤ S.reads reader.old + most_reads }
-{
-    match lines.input.next(reader, &mut lines.line) {
-        Ok(is_line) => Ok(is_line),
-        Err(_) => Err(Fault::Read),
-    }
-}
-
 // Prompts, answers the next line and writes what is told of it, and says whether the session goes on.
 fn step<F: Folders, D: FileSystem, S: Source, W: Sink>(
     alloc: Global,
@@ -340,15 +317,6 @@ fn begin<F: Folders, D: FileSystem>(
     let mut session = Session::new(alloc, setting.language, false);
     load_each(alloc, &files, setting.base, &mut session, &top, out)?;
     Ok(Table { files, session })
-}
-
-// The lines of an input of which nothing was read.
-fn all_lines(alloc: Global) -> Result<Lines, AllocError>
-    ensures { IfOk result (λ lines. lines.input ≡ []) }
-{
-    let input = LineInput::new(alloc)?;
-    let line = LineBuffer::new(alloc)?;
-    Ok(Lines { input, line })
 }
 
 // Has a session: begins it, tells of that, and answers the lines of the input to its end.

@@ -15,4 +15,4 @@ mod why;
 
 pub use laws::which_rules_why_tells;
 pub use sources::Sources;
-pub use why::{push_answer, why_folder};
+pub use why::{push_answer, push_asked, why_folder};

@@ -167,8 +167,13 @@ pub fn push_answer(
     }
 }
 
-// What the policy of a folder that is loaded answers to a question, appended to a text.
-fn push_asked(
+/// Appends the answer of the policy of a loaded folder to a question to a text, with the rules behind it, as `why` tells them, and says whether there is
+/// an answer. What the policy remembers of the question changes nothing of it.
+///
+/// # Errors
+///
+/// Where memory runs out. A beginning may have been appended then.
+pub fn push_asked(
     teller: Teller,
     loaded: &mut LoadedFolder<'_>,
     question: &Question<'_>,
@@ -181,6 +186,9 @@ fn push_asked(
         ++ answered_text teller.form (sources_in (seen_folder loaded.old.folder.now) (seen_question question.entry.now))
         (policy_in (seen_folder loaded.old.folder.now)) (seen_question question.entry.now)) }
     ensures found { IfOk result (λ found. found ≡ has_answer (policy_in (seen_folder loaded.old.folder.now)) (seen_question question.entry.now)) }
+    ensures folder { loaded.new.folder.now ≡ loaded.old.folder.now }
+    ensures manager { loaded.new.policy.manager ≡ loaded.old.policy.manager }
+    ensures places { loaded.new.policy.origins.items ≡ loaded.old.policy.origins.items }
 {
     loaded.policy.manager.remember(question);
     let sources = Sources {

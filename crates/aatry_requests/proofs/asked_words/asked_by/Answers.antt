@@ -1,4 +1,4 @@
-use Rattle.std.proofs.Common.{◌≡◌, sym, string_bytes, ◌∙◌}
+use Rattle.std.proofs.Common.{sym, string_bytes, ◌∙◌}
 use Rattle.std.proofs.lemmas.Result.{IfOk-weaker}
 use Rattle.aatry_requests.proofs.WordLemmas.{asked-as_words}
 use Rattle.aatry_requests.proofs.asked_words.asked_by.Goals as goal

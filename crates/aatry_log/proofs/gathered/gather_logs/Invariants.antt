@@ -1,0 +1,17 @@
+use Rattle.std.proofs.Common.{◌≡◌, ◌++◌, ℕ, false, List, length, map, string_bytes}
+use Rattle.aatry_log.specs.Gathered.{AreGathered}
+use Rattle.aatry_log.specs.code.Reading.{left_by}
+use Rattle.aatry_requests.specs.Gathering.{Gathered, nothing, seen_requests}
+use Rattle.aatry_log.proofs.gathered.gather_logs.Given as goal
+
+-- what the logs that are left add makes what all add, standard input was read or is as it was, and the logs so far are a beginning of all
+abbrev pub invariant-loop-rest : goal.invariant-loop-rest
+invariant-loop-rest g l = record {
+  taken : (after : Gathered) → AreGathered (g.D.FileSystem.known l.disk) (left_by l.was_read (g.S.Source.left l.input)) (map string_bytes l.rest) (seen_requests l.requests) after
+      → AreGathered (g.D.FileSystem.known l.disk) (g.S.Source.left l.initial.input) (map string_bytes l.paths) nothing after;
+  unread : l.was_read ≡ false → l.input ≡ l.initial.input;
+  begins : (before : List (List ℕ)) × (map string_bytes l.paths ≡ before ++ map string_bytes l.rest);
+}
+
+abbrev pub decreases-loop-rest : goal.decreases-loop-rest
+decreases-loop-rest g l = length l.rest

@@ -1,0 +1,7 @@
+pub mod Below
+pub mod Ends
+pub mod Gathered
+pub mod Log
+pub mod Requests
+pub mod Summary
+pub mod code

@@ -1,0 +1,65 @@
+-- What is told of the requests of a log (docs/aatry.md).
+use Rattle.std.specs.Prelude.{◌≡◌, ℕ, ◌+◌, ◌==◌, if◌then◌else◌, List, [], ◌∷◌, ◌++◌, codes, flat_map}
+use Rattle.std.specs.Fmt.{decimal}
+use Rattle.serde_json.specs.Data.{Members}
+use Rattle.aa_bytes.specs.Bytes.{line_feed}
+use Rattle.aa_set_lines.specs.Lines.{lines}
+use Rattle.aatry_folder.specs.Reports.{failed_by}
+use Rattle.aatry_policy.specs.Folders.{Folder, policy_in}
+use Rattle.aatry_report.specs.Records.{record_line, record_of, with_number, with_text}
+use Rattle.aatry_report.specs.declared.form.Form.{Form}
+use Rattle.aatry_report.specs.declared.form.Form.TheVariants.{Lines, Records}
+use Rattle.aatry_requests.specs.Order.{IsMostAskedFirst}
+use Rattle.aatry_requests.specs.Tallies.{Tally}
+use Rattle.aatry_requests.specs.Texts.{question_text}
+use Rattle.aatry_why.specs.Why.{answered_text, has_answer, sources_in}
+
+-- how often a request came, as its line begins
+abbrev pub times_text : ℕ → List ℕ
+times_text times = if times == 1 then codes "once: " else decimal times ++ codes " times: "
+
+-- a request as a line: how often it came, and the question that it asks
+abbrev pub request_line : Tally → List ℕ
+request_line tally = times_text tally.times ++ question_text tally.question ++ line_feed ∷ []
+
+-- the same as a record
+abbrev pub request_record : Tally → Members
+request_record tally =
+    with_number (codes "times") tally.times (with_text (codes "question") (question_text tally.question) (record_of (codes "request")))
+
+-- what is told of a request by itself
+abbrev pub head_text : Form → Tally → List ℕ
+head_text Lines tally = request_line tally
+head_text Records tally = record_line (request_record tally)
+
+-- a line, two spaces further in
+abbrev pub indented : List ℕ → List ℕ
+indented line = codes "  " ++ line ++ line_feed ∷ []
+
+-- what stands below a request: lines are indented, and records stand as they are
+abbrev pub below_head : Form → List ℕ → List ℕ
+below_head Lines text = flat_map indented (lines text)
+below_head Records text = text
+
+-- a request, and below it what the policy of a folder answers to it now, as `why` tells it
+abbrev pub request_text : Form → Folder → Tally → List ℕ
+request_text form folder tally =
+    head_text form tally
+    ++ below_head form (answered_text form (sources_in folder tally.question) (policy_in folder) tally.question)
+
+-- requests, in this order
+abbrev pub requests_text : Form → Folder → List Tally → List ℕ
+requests_text form folder tallies = flat_map (request_text form folder) tallies
+
+-- how many of them nobody asks who is in the folder
+abbrev pub nobody_count : Folder → List Tally → ℕ
+nobody_count folder [] = 0
+nobody_count folder (tally ∷ tallies) = failed_by (has_answer (policy_in folder) tally.question) + nobody_count folder tallies
+
+-- Behind a text stands each of some requests once, those first that came most often, with what the policy of a folder answers to it; so many of them nobody
+-- asks who is in the folder.
+pub record AreRequestsTold (form : Form) (folder : Folder) (tallies : List Tally) (before text : List ℕ) (nobody : ℕ) : Type 0 where
+  pub told : List Tally
+  pub order : IsMostAskedFirst tallies told
+  pub text_is : text ≡ before ++ requests_text form folder told
+  pub counted : nobody ≡ nobody_count folder told

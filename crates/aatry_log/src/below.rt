@@ -1,0 +1,48 @@
+//! Logs, asked of a folder of policy on a disk.
+
+ghost use Rattle.std.specs.Prelude.{◌≡◌, ◌≤◌, ◌^◌, IfErr, IfOk};
+ghost use Rattle.aatry_arguments.specs.Given.{meant_logs};
+ghost use Rattle.aatry_log.specs.Below.{IsLogToldBelow};
+ghost use Rattle.aatry_log.specs.Ends.{IsEndOfLog};
+
+use crate::gathered::{gather_logs, meant_paths};
+use crate::telling::log;
+use aa_profile_parsing::Language;
+use aa_set_lines::Source;
+use aaset_start::FileSystem;
+use aatry_arguments::Logs;
+use aatry_folder::{Fault, Folders, Report, policy_below};
+use aatry_report::Teller;
+
+/// What the policy of a folder, read by a language, answers now to what logs asked: reads the folder as `aatry_folder::policy_below` does, and then the
+/// logs that are named, or standard input where none is, and tells them as `log` does.
+///
+/// # Errors
+///
+/// - `Unreadable` with the first folder or file below the folder of policy that can't be read, or else the first log that can't be opened.
+/// - `TooMany` where there are more than 65,536 files and folders.
+/// - `Read` where a read of a log failed, or one didn't end.
+/// - `NoMemory` where memory ran out.
+pub fn log_folder<F: Folders, D: FileSystem, S: Source>(
+    teller: Teller,
+    language: Language,
+    folders: &F,
+    disk: &D,
+    asked: Logs,
+    input: &mut S,
+) -> Result<Report, Fault>
+    requires { S.reads input.old ≤ 2 ^ 62 }
+    ensures told { IfOk result (λ report. IsLogToldBelow teller.form language (F.told folders.now) (D.known disk.now) (S.left input.old) (meant_logs asked)
+        report.text.items report.failed) }
+    ensures fault { IfErr result (IsEndOfLog (F.told folders.now) (D.known disk.now) (meant_logs asked)) }
+{
+    let Logs {
+        base,
+        paths,
+        strict,
+    } = asked;
+    let folder = policy_below(teller.alloc, language, folders, disk, base.as_str())?;
+    let meant = meant_paths(teller.alloc, paths)?;
+    let requests = gather_logs(teller.alloc, disk, &meant, input)?;
+    Ok(log(teller, &folder, strict, &requests)?)
+}

@@ -1,0 +1,12 @@
+//! The command `log`: the requests of logs, each with what the policy of a folder answers to it now, and the rules behind the answer.
+#![tactic(auto)]
+
+mod below;
+mod gathered;
+mod heads;
+mod indenting;
+mod requests;
+mod summary;
+mod telling;
+
+pub use below::log_folder;

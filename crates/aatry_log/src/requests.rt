@@ -1,0 +1,65 @@
+//! What is told of requests.
+
+ghost use Rattle.std.specs.Prelude.{◌≡◌, ◌≤◌, ◌++◌, IfOk, OnOk};
+ghost use Rattle.aatry_folder.specs.Reports.{failed_by};
+ghost use Rattle.aatry_log.specs.Requests.{AreRequestsTold, request_text};
+ghost use Rattle.aatry_policy.specs.Folders.{loaded_in, origins_in, policy_in, seen_folder};
+ghost use Rattle.aatry_requests.specs.SeenTallies.{seen_tally};
+ghost use Rattle.aatry_why.specs.Why.{has_answer};
+
+use crate::heads::push_head;
+use crate::indenting::push_below;
+use aatry_folder::failed_by;
+use aatry_policy::LoadedFolder;
+use aatry_report::Teller;
+use aatry_requests::{Tallies, Tally, most_asked_first};
+use aatry_why::push_asked;
+use std::alloc::AllocError;
+
+// Appends a request to a text, with what the policy of a loaded folder answers to it, and says how many ask it who aren't there: one, or none.
+fn push_request(
+    teller: Teller,
+    loaded: &mut LoadedFolder<'_>,
+    tally: &Tally<'_>,
+    out: &mut Vec<u8>,
+) -> Result<usize, AllocError>
+    requires set { loaded.old.policy.manager ≡ loaded_in (seen_folder loaded.old.folder.now) }
+    requires origins { loaded.old.policy.origins.items ≡ origins_in (seen_folder loaded.old.folder.now) }
+    ensures told { OnOk result (out.new.items ≡ out.old.items ++ request_text teller.form (seen_folder loaded.old.folder.now) (seen_tally tally.now)) }
+    ensures nobody { IfOk result (λ nobody.
+        nobody ≡ failed_by (has_answer (policy_in (seen_folder loaded.old.folder.now)) (seen_tally tally.now).question)) }
+    ensures one { IfOk result (λ nobody. nobody ≤ 1) }
+    ensures folder { loaded.new.folder.now ≡ loaded.old.folder.now }
+    ensures manager { loaded.new.policy.manager ≡ loaded.old.policy.manager }
+    ensures places { loaded.new.policy.origins.items ≡ loaded.old.policy.origins.items }
+{
+    push_head(teller, tally, out)?;
+    let mut told = Vec::new(teller.alloc);
+    let found = push_asked(teller, loaded, &tally.question.question(), &mut told)?;
+    push_below(teller.form, &told, out)?;
+    Ok(failed_by(found))
+}
+
+/// Appends requests to a text, those first that came most often, each with what the policy of a loaded folder answers to it now and the rules behind the
+/// answer, as `why` tells them; and says how many of them nobody asks who is loaded.
+///
+/// # Errors
+///
+/// Where memory runs out. A beginning may have been appended then.
+pub fn push_requests(
+    teller: Teller,
+    loaded: &mut LoadedFolder<'_>,
+    tallies: &Tallies<'_>,
+    out: &mut Vec<u8>,
+) -> Result<usize, AllocError>
+    requires set { loaded.old.policy.manager ≡ loaded_in (seen_folder loaded.old.folder.now) }
+    requires origins { loaded.old.policy.origins.items ≡ origins_in (seen_folder loaded.old.folder.now) }
+    ensures { IfOk result (λ nobody. AreRequestsTold teller.form (seen_folder loaded.old.folder.now) tallies.now out.old.items out.new.items nobody) }
+{
+    let told = most_asked_first(teller.alloc, tallies)?;
+    let mut nobody: usize = 0;
+    for tally in told {
+        nobody += push_request(teller, loaded, tally, out)?;
+    }
+    Ok(nobody)
+}
