@@ -24,7 +24,7 @@ _aatry() {
         --language) mapfile -t COMPREPLY < <(compgen -W '3 4' -- "$word") ;;
         *)
             if [[ $word == -* ]]; then
-                mapfile -t COMPREPLY < <(compgen -W '--log --questions --json --language -h --help --' -- "$word")
+                mapfile -t COMPREPLY < <(compgen -W '--log --questions --verbose --json --language -h --help --' -- "$word")
             else
                 mapfile -t COMPREPLY < <(compgen -d -- "$word")
             fi
@@ -62,8 +62,9 @@ _aatry() {
         mapfile -t COMPREPLY < <(compgen -d -- "$word")
     elif [ -n "$options" ] && [[ $word == -* ]]; then
         case ${COMP_WORDS[1]} in
-        check | why | who) mapfile -t COMPREPLY < <(compgen -W '-b --json --language -h --help --' -- "$word") ;;
-        log) mapfile -t COMPREPLY < <(compgen -W '-b --strict --json --language -h --help --' -- "$word") ;;
+        check) mapfile -t COMPREPLY < <(compgen -W '-b --json --language -h --help --' -- "$word") ;;
+        why | who) mapfile -t COMPREPLY < <(compgen -W '-b --verbose --json --language -h --help --' -- "$word") ;;
+        log) mapfile -t COMPREPLY < <(compgen -W '-b --denied --profile --since --strict --verbose --json --language -h --help --' -- "$word") ;;
         *) mapfile -t COMPREPLY < <(compgen -W '-b --language -h --help --' -- "$word") ;;
         esac
     elif [ "${COMP_WORDS[1]}" = who ] || [ "${COMP_WORDS[1]}" = why ]; then

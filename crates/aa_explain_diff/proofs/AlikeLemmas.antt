@@ -1,5 +1,5 @@
 -- Sections that are alike have one head and the same rules.
-use Rattle.std.proofs.Common.{◌≡◌, ℕ, zero, suc, ◌+◌, Bool, true, false, not, ◌&&◌, ◌||◌, cond, List, [], ◌∷◌, ◌++◌, map, arith, refl, sym, ap, subst, ◌∙◌}
+use Rattle.std.proofs.Common.{◌≡◌, ℕ, zero, suc, ◌+◌, Bool, true, false, not, ◌&&◌, ◌||◌, cond, List, [], ◌∷◌, ◌++◌, map, Option, arith, refl, sym, ap, subst, ◌∙◌}
 use Rattle.std.proofs.Math.Bool.{or-false}
 use Rattle.std.proofs.lemmas.List.Folds.{list_any-append}
 use Rattle.std.proofs.lemmas.Slice.Eq.{bytes_eq-Decides}
@@ -12,9 +12,9 @@ use Rattle.aa_profile_data.specs.SameRules.{HaveSameRules, same_rule}
 use Rattle.aa_profile_data.specs.declared.profile.Mode.{Mode}
 use Rattle.aa_profile_data.specs.declared.profile.Rule.{Rule}
 use Rattle.aa_explain_diff.specs.Alike.{HaveSameHead}
-use Rattle.aa_explain_diff.specs.Features.{Feature, OfAttachment, OfAudit, OfFlag, OfHat, OfMode, OfRule, are_alike, feature_if, features_of, has_feature, lacking, rules_from, same_feature, same_mode}
+use Rattle.aa_explain_diff.specs.Features.{Feature, OfAttachment, OfAudit, OfFlag, OfHat, OfMode, OfRule, are_alike, feature_if, features_of, has_feature, lacking, rules_from, same_feature, same_state}
 use Rattle.aa_explain_diff.specs.Sections.{Section}
-use Rattle.aa_explain_diff.specs.code.SameKeys.{mode-equal}
+use Rattle.aa_explain_diff.specs.code.SameKeys.{state-equal}
 
 -- others have each of some features
 abbrev pub HaveAll : List Feature → List Feature → Type 0
@@ -149,13 +149,13 @@ if-there feature true same = ap (λ b. b || false) same
 if-there feature false same = refl
 
 -- of a section, each kind of feature alone
-has-mode : (section : Section) (mode : Mode) → has_feature (features_of section) (OfMode mode) ≡ same_mode mode section.mode
+has-mode : (section : Section) (mode : Option Mode) → has_feature (features_of section) (OfMode mode) ≡ same_state mode section.mode
 has-mode section mode =
     in-parts section (OfMode mode)
-    ∙ (λ i. same_mode mode section.mode || no-feature (OfMode mode) OfHat section.hat refl i || no-feature (OfMode mode) OfAudit section.audit refl i
+    ∙ (λ i. same_state mode section.mode || no-feature (OfMode mode) OfHat section.hat refl i || no-feature (OfMode mode) OfAudit section.audit refl i
     || no-flag (OfMode mode) section.flags (λ flag. refl) i || no-attachment (OfMode mode) section.attachments (λ pattern. refl) i
     || no-rule (OfMode mode) 0 section.rules (λ rule at. refl) i)
-    ∙ tail-5 (same_mode mode section.mode)
+    ∙ tail-5 (same_state mode section.mode)
 
 has-hat : (section : Section) → has_feature (features_of section) OfHat ≡ section.hat
 has-hat section =
@@ -241,7 +241,7 @@ module _ (one other : Section) (all : HaveAll (features_of other) (features_of o
   before-hat = all-first others (head-mode one) (feature_if one.hat OfHat) before-audit
 
   pub same-mode : one.mode ≡ other.mode
-  same-mode = mode-equal one.mode other.mode (sym (has-mode other one.mode) ∙ before-hat.0)
+  same-mode = state-equal one.mode other.mode (sym (has-mode other one.mode) ∙ before-hat.0)
 
   pub hat-too : one.hat ≡ true → other.hat ≡ true
   hat-too is =

@@ -8,7 +8,8 @@ abbrev pub HaveSameTexts : List (List ℕ) → List (List ℕ) → Type 0
 HaveSameTexts texts others =
     ((text : List ℕ) → Contains texts text → Contains others text) × ((text : List ℕ) → Contains others text → Contains texts text)
 
--- two sections are both hats or neither is, in one mode, both audited or neither, with the same flags, and attached to the same patterns
+-- two sections are both hats or neither is, in one mode or both disabled, both audited or neither, with the same flags, and attached to the same
+-- patterns
 pub record HaveSameHead (one other : Section) : Type 0 where
   pub mode : one.mode ≡ other.mode
   pub hat : one.hat ≡ other.hat

@@ -1,5 +1,5 @@
 -- What a section has, one by one, and which of it another one lacks.
-use Rattle.std.specs.Prelude.{ℕ, ◌+◌, Bool, true, false, not, ◌&&◌, if◌then◌else◌, List, [], ◌∷◌, ◌++◌, map, filter}
+use Rattle.std.specs.Prelude.{ℕ, ◌+◌, Bool, true, false, not, ◌&&◌, if◌then◌else◌, List, [], ◌∷◌, ◌++◌, map, filter, Option, None, Some}
 use Rattle.std.specs.List.{list_any}
 use Rattle.std.specs.Str.{bytes_eq}
 use Rattle.aa_bytes.specs.Texts.{is_empty}
@@ -11,10 +11,10 @@ use Rattle.aa_explain_diff.specs.Sections.{Section}
 use Rattle.aa_explain_diff.specs.declared.features.Feature.{Feature as CodeFeature}
 use Rattle.aa_explain_diff.specs.declared.features.Feature.TheVariants as code
 
--- One thing that a section has: its mode; that it is a hat; that it is audited; a flag that decides nothing; a pattern that it is attached to; or a rule,
--- by its number among the rules.
+-- One thing that a section has: the mode that it is in, or that it is disabled; that it is a hat; that it is audited; a flag that decides nothing; a
+-- pattern that it is attached to; or a rule, by its number among the rules.
 pub data Feature : Type 0 where
-  OfMode : Mode → Feature
+  OfMode : Option Mode → Feature
   OfHat : Feature
   OfAudit : Feature
   OfFlag : (flag : List ℕ) → Feature
@@ -51,9 +51,15 @@ same_mode Complain Complain = true
 same_mode Unconfined Unconfined = true
 same_mode _ _ = false
 
+-- two are in the same mode, or both disabled
+abbrev pub same_state : Option Mode → Option Mode → Bool
+same_state (Some one) (Some other) = same_mode one other
+same_state None None = true
+same_state _ _ = false
+
 -- two sections have the same thing, wherever a rule stands among the others
 abbrev pub same_feature : Feature → Feature → Bool
-same_feature (OfMode one) (OfMode other) = same_mode one other
+same_feature (OfMode one) (OfMode other) = same_state one other
 same_feature OfHat OfHat = true
 same_feature OfAudit OfAudit = true
 same_feature (OfFlag one) (OfFlag other) = bytes_eq one other

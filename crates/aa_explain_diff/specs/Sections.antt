@@ -1,13 +1,13 @@
 -- Profiles, children and hats, as far as a change of policy changes what they have.
-use Rattle.std.specs.Prelude.{ℕ, Bool, List}
+use Rattle.std.specs.Prelude.{ℕ, Bool, List, Option}
 use Rattle.aa_profile_data.specs.declared.profile.Mode.{Mode}
 use Rattle.aa_profile_data.specs.declared.profile.Rule.{Rule}
 use Rattle.aa_explain_diff.specs.declared.sections.Section.{Section as CodeSection}
 
--- what a profile, a child or a hat has: its mode, whether it is a hat, whether it is audited, its flags that decide nothing, the patterns that it is
--- attached to, and its rules
+-- what a profile, a child or a hat has: the mode that it is in, or none where it is disabled; whether it is a hat; whether it is audited; its flags
+-- that decide nothing; the patterns that it is attached to; and its rules
 pub record Section : Type 0 where
-  pub mode : Mode
+  pub mode : Option Mode
   pub hat : Bool
   pub audit : Bool
   pub flags : List (List ℕ)

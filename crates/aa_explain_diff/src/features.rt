@@ -14,8 +14,8 @@ use std::alloc::{AllocError, Global};
 /// others.
 #[derive(Clone, Copy)]
 pub enum Feature<'a> {
-    /// The mode that its own flags give.
-    Mode(Mode),
+    /// The mode that it is in; none where it is disabled.
+    Mode(Option<Mode>),
     /// It is a hat.
     Hat,
     /// What each of its rules decides is logged.

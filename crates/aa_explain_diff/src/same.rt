@@ -4,7 +4,7 @@ ghost use Rattle.std.specs.Prelude.{◌≡◌};
 ghost use Rattle.std.specs.Cmp as cmp;
 ghost use Rattle.std.specs.Cmp.Rules.{hashing};
 ghost use Rattle.std.proofs.Common.{rules};
-ghost use Rattle.aa_explain_diff.specs.Features.{same_feature, same_mode, seen_feature};
+ghost use Rattle.aa_explain_diff.specs.Features.{same_feature, same_mode, same_state, seen_feature};
 ghost use Rattle.aa_explain_diff.specs.code.Keys.{caps_of, hashed, link_of, link_of_rule, caps_of_rule, same_key, target_bytes, text_of, text_of_rule};
 ghost use Rattle.aa_explain_diff.specs.code.SameKeys.{same-equiv, same-hashed};
 
@@ -21,6 +21,17 @@ fn same_mode(one: Mode, other: Mode) -> bool
         (Mode::Enforce, Mode::Enforce) => true,
         (Mode::Complain, Mode::Complain) => true,
         (Mode::Unconfined, Mode::Unconfined) => true,
+        _ => false,
+    }
+}
+
+// Whether two are in the same mode, or both disabled.
+fn same_state(one: Option<Mode>, other: Option<Mode>) -> bool
+    ensures { result ≡ same_state one other }
+{
+    match (one, other) {
+        (Some(one), Some(other)) => same_mode(one, other),
+        (None, None) => true,
         _ => false,
     }
 }
@@ -107,7 +118,7 @@ impl<'a> PartialEq for Feature<'a> {
 
     fn eq(&self, other: &Self) -> bool {
         match (self, other) {
-            (Feature::Mode(one), Feature::Mode(other)) => same_mode(*one, *other),
+            (Feature::Mode(one), Feature::Mode(other)) => same_state(*one, *other),
             (Feature::Hat, Feature::Hat) | (Feature::Audit, Feature::Audit) => true,
             (Feature::Flag(one), Feature::Flag(other)) => one.as_slice() == other.as_slice(),
             (Feature::Attachment(one), Feature::Attachment(other)) => one.text() == other.text(),

@@ -7,8 +7,8 @@ use aa_profile_data::{Mode, Rule};
 /// What a profile, a child or a hat has, lent.
 #[derive(Clone, Copy)]
 pub struct Section<'a> {
-    /// The mode that its own flags give.
-    pub mode: Mode,
+    /// The mode that it is in; none where it is disabled.
+    pub mode: Option<Mode>,
     /// Whether it is a hat.
     pub hat: bool,
     /// Whether what each of its rules decides is logged.

@@ -1,19 +1,28 @@
 -- Rules that concern a request: the others have no part in what is found of it.
 use Rattle.std.proofs.Common.{◌≡◌, ◌∙◌, ℕ, zero, suc, ◌+◌, ◌<◌, ◌≤◌, Bool, true, false, List, [], ◌∷◌, length, refl, sym, ap, arith, Option, None, Some, Result, Ok, Err, IfOk, inl, inr}
-use Rattle.std.specs.Prelude.{◌⊎◌, ◌==◌, slice_get}
+use Rattle.std.specs.Prelude.{◌⊎◌, ◌==◌, ◌&&◌, not, slice_get}
 use Rattle.std.specs.List.{Contains, filter, list_any}
 use Rattle.std.specs.List.Sorted.{IsStrictlyIncreasing}
 use Rattle.std.proofs.lemmas.Bool.{false≢true}
+use Rattle.std.proofs.Math.Bool.{and-false}
+use Rattle.aa_glob_syntax.specs.Matching.{matches}
+use Rattle.aa_glob_syntax.specs.Reading.{items_of}
+use Rattle.aa_profile_access.specs.Access.{EXEC, has}
 use Rattle.aa_profile_access.specs.Request.{ForCapability, ForFile, ForSockets, Request}
 use Rattle.aa_profile_data.specs.Matching.{AreMatchingRules, is_matching}
+use Rattle.aa_profile_data.specs.Conflicts.{lead_of, same_transition}
+use Rattle.aa_profile_data.specs.Ranks.{same_rank}
 use Rattle.aa_profile_data.specs.declared.profile.Rank.{Rank}
+use Rattle.aa_profile_data.specs.declared.profile.Rank.TheVariants.{Plain}
+use Rattle.aa_profile_data.specs.declared.profile.Transition.{Transition}
 use Rattle.aa_profile_data.specs.declared.profile.Rule.{Rule}
 use Rattle.aa_profile_data.specs.declared.profile.Rule.TheVariants.{Cap, File, Net, Other}
 use Rattle.aa_decide_exec_rules.specs.Choices.{denies, dominates}
 use Rattle.aa_decide_exec_rules.specs.ExecRules.{ExecRule}
 use Rattle.aa_decide_rules.specs.Verdict.{allowed, allows, applies, denied, denies as denies_rule, granted, missing, with_covered, with_rule}
 use Rattle.aa_profile_data.specs.Picked.{picked}
-use Rattle.aa_explain_rules.specs.Missing.{lacked, missing_rule, rule_for}
+use Rattle.aa_explain_rules.specs.InTheWay.{is_in_the_way, leads_elsewhere}
+use Rattle.aa_explain_rules.specs.Missing.{inherit, lacked, missing_rule, rule_for}
 use Rattle.aa_explain_rules.proofs.DecidingLemmas.{unapplied}
 use Rattle.aa_explain_rules.specs.Asked.{concerned, concerns}
 use Rattle.aa_explain_rules.specs.Leading.{highest_that, leading_places, says, some_says}
@@ -268,3 +277,32 @@ one-missing request rules needs is some =
     let same : needs ≡ lacked request rules = is ∙ lacked-among request rules in
     let more : (lacked request rules == 0) ≡ false = ap (λ n. n == 0) (sym same) ∙ some in
     ap (rule_for request) same ∙ rw (missing_rule, more) refl
+
+-- what fails at its end fails whole
+away : (a b : Bool) → (a && (b && false)) ≡ false
+away true true = refl
+away true false = refl
+away false b = refl
+
+-- only rules that concern a request are in the way of one that it lacks
+way-concerned : (request : Request) (needs : ℕ) (rule : Rule) → concerns request rule ≡ false → is_in_the_way request needs rule ≡ false
+way-concerned (ForFile letters owned path) needs (File rule) fails = by (has needs EXEC) rule.deny rule.exec refl refl refl
+  where
+    by : (h : Bool) (d : Bool) (exec : Option Transition) → has needs EXEC ≡ h → rule.deny ≡ d → rule.exec ≡ exec
+        → is_in_the_way (ForFile letters owned path) needs (File rule) ≡ false
+    by false d exec x y z = rw (is_in_the_way, x) refl
+    by true true exec x y z = rw (is_in_the_way, leads_elsewhere, lead_of, x, y) refl
+    by true false None x y z = rw (is_in_the_way, leads_elsewhere, lead_of, x, y, z) refl
+    by true false (Some transition) x y z =
+        let off : matches (items_of rule.pattern) path ≡ false = fails in
+        rw (is_in_the_way, leads_elsewhere, lead_of, x, y, z, off)
+        (away (same_rank rule.rank Plain) (not (same_transition transition inherit)))
+way-concerned (ForFile letters owned path) needs (Cap rule) fails = and-false (has needs EXEC)
+way-concerned (ForFile letters owned path) needs (Net rule) fails = and-false (has needs EXEC)
+way-concerned (ForFile letters owned path) needs (Other rule) fails = and-false (has needs EXEC)
+way-concerned (ForCapability number) needs rule fails = refl
+way-concerned (ForSockets domain kind) needs rule fails = refl
+
+pub way-among : (request : Request) (needs : ℕ) (rules : List Rule)
+    → among (is_in_the_way request needs) rules (concerned request rules) ≡ places_where (is_in_the_way request needs) 0 rules
+way-among request needs rules = among-from (is_in_the_way request needs) (concerns request) (way-concerned request needs) rules 0 rules (at-first rules)

@@ -6,3 +6,4 @@ mod MissingLemmas
 mod NarrowLemmas
 mod PlaceLemmas
 mod StartLemmas
+mod WayLemmas

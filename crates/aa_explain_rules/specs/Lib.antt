@@ -1,8 +1,10 @@
 pub mod Asked
+pub mod InTheWay
 pub mod Laws
 pub mod Leading
 pub mod Logged
 pub mod Missing
 pub mod Narrower
+pub mod Scripts
 pub mod Told
 pub mod code

@@ -1,13 +1,15 @@
 //! What holds of the rules behind an answer, and of those that decide where a program runs, as laws over the definitions that the calls are proved to
 //! follow.
 
-ghost use Rattle.std.specs.Prelude.{◌++◌, ◌<◌, ◌==◌, ◌∷◌, ◌≡◌, ◌≢◌, ◌||◌, [], Bool, List, Some, false, is_some, not, true, ℕ};
+ghost use Rattle.std.specs.Prelude.{◌++◌, ◌<◌, ◌==◌, ◌∷◌, ◌≡◌, ◌≢◌, ◌||◌, ◌↔◌, ◌^◌, [], All, Bool, List, Some, false, is_some, not, true, ℕ};
 ghost use Rattle.std.specs.List.{list_any};
 ghost use Rattle.std.specs.List.Sorted.{IsStrictlyIncreasing};
 ghost use Rattle.aa_glob.specs.Laws.{quoted};
 ghost use Rattle.aa_glob_syntax.specs.Reading.{HasNoFirstFault};
 ghost use Rattle.aa_profile_access.specs.Access.{EXEC, common, has, told_bit};
 ghost use Rattle.aa_profile_access.specs.Request.{ForCapability, ForFile, ForSockets, Request};
+ghost use Rattle.aa_profile_data.specs.ConflictLaws.{HasReadPattern};
+ghost use Rattle.aa_profile_data.specs.Conflicts.{Conflict, agree};
 ghost use Rattle.aa_profile_data.specs.Picked.{picked};
 ghost use Rattle.aa_profile_data.specs.declared.profile.FileRule.{FileRule};
 ghost use Rattle.aa_profile_data.specs.declared.profile.Rule.{Rule};
@@ -18,6 +20,7 @@ ghost use Rattle.aa_decide_exec_rules.specs.Choices.{Leads, Missing, choice, den
 ghost use Rattle.aa_decide_exec_rules.specs.ExecRules.{exec_rules};
 ghost use Rattle.aa_decide_rules.specs.Verdict.{allowed, applies, covers, denied, missing, verdict};
 ghost use Rattle.aa_decide_rules.specs.declared.verdict.Mediation.{Mediation};
+ghost use Rattle.aa_explain_rules.specs.InTheWay.{in_the_way, is_in_the_way};
 ghost use Rattle.aa_explain_rules.specs.Laws.{AreAllWith, but, is_told_to_allow, is_told_to_deny, places_of};
 ghost use Rattle.aa_explain_rules.specs.Leading.{chosen_transition, first_transition, leading_places, says};
 ghost use Rattle.aa_explain_rules.specs.Logged.{some_is_logged};
@@ -26,6 +29,7 @@ ghost use Rattle.aa_explain_rules.specs.Narrower.{but_letter, has_letter};
 ghost use Rattle.aa_explain_rules.specs.Told.{is_near, near, places_where, told};
 
 use aa_glob::{quoted_text_matches_itself, quoted_text_reads_as_itself};
+use aa_profile_data::how_conflicts_are_tested;
 
 /// The rules that are told are exactly those that apply, and those that are told to be near are exactly those that are, in rising order.
 pub fn what_is_told()
@@ -96,6 +100,22 @@ pub fn how_narrow_a_missing_rule_is()
         → told_bit code ≡ Some letter → has_letter letter rule ≡ true
         → (verdict mediation flag (rules ++ File (but_letter letter rule) ∷ []) (ForFile letters owned path)).answer ≢ Allow }
 {}
+
+/// A rule is in the way of the one that a request lacks exactly where the two conflict: some path matches both, and they lead its program to different
+/// places, with one rank. So where no rule is in the way, a profile whose rules agree is no more refused with the missing rule behind them than it was. The
+/// path is a list of bytes.
+pub fn what_is_in_the_way()
+    ensures those_that_conflict { (letters : ℕ) (owned : Bool) (path : List ℕ) (rules : List Rule) (own rule : Rule)
+        → missing_rule (ForFile letters owned path) rules ≡ Some own → All (λ b. b < 2 ^ 8) path
+        → (is_in_the_way (ForFile letters owned path) (lacked (ForFile letters owned path) rules) rule ≡ true ↔ Conflict own rule) }
+    ensures others_agree { (request : Request) (rules : List Rule) (own : Rule)
+        → missing_rule request rules ≡ Some own → All HasReadPattern rules → agree rules ≡ true → in_the_way request rules ≡ []
+        → agree (rules ++ own ∷ []) ≡ true }
+{
+    quoted_text_reads_as_itself();
+    quoted_text_matches_itself();
+    how_conflicts_are_tested();
+}
 
 /// An answer is logged exactly where something of the request is missing, or a rule that is told as audited covers something of it: one that denies,
 /// where something is denied, and else one that allows.

@@ -156,7 +156,7 @@ fn rule_for(
 }
 
 // What a request lacks by the rules at some places: the needs that no rule denies or allows, where none is denied.
-fn lacked(request: &Request<'_>, rules: &[Rule], places: &[usize]) -> Perms
+pub fn lacked(request: &Request<'_>, rules: &[Rule], places: &[usize]) -> Perms
     ensures { result.0 ≡ lacked (request_of request.entry.now) (picked rules.now places.now) }
 {
     let mut denied = Perms::empty();

@@ -1,5 +1,5 @@
 -- What words ask for that are read as those behind `check`.
-use Rattle.std.proofs.Common.{◌≡◌, Err, refl, sym, subst}
+use Rattle.std.proofs.Common.{◌≡◌, Result, Ok, Err, refl, sym, subst}
 use Rattle.aa_options.specs.Given.{IsGivenFor}
 use Rattle.aa_options.proofs.FaultLemmas.{memory_given}
 use Rattle.aatry_arguments.specs.Arguments.{CommandAsked, ForCheck}
@@ -35,6 +35,14 @@ fault_given first meant made Nothing (Help other) passed given is = absurd given
 fault_given first meant made Nothing (Version text) passed given is = absurd given
 fault_given first meant made Nothing Bad passed given is = subst (λ p. IsGivenFor meant (asked_then made Nothing) (Err p)) (sym is) tt
 fault_given first meant made Nothing Memory passed given is = subst (λ p. IsGivenFor meant (asked_then made Nothing) (Err p)) (sym is) tt
+
+-- where a thing is given, what is made of it may be given
+pub then_given : {A B C D : Type 0} (first : D → C) (meant : B → A) (made : C → Asked A) (asked : Asked C) (thing : D) (result : Result B ArgumentFault)
+    → IsGivenFor first asked (Ok thing) → IsGivenFor meant (made (first thing)) result → IsGivenFor meant (asked_then made asked) result
+then_given first meant made (ForThis asked) thing result given is = subst (λ a. IsGivenFor meant (made a) result) given is
+then_given first meant made ForHelp thing result given is = absurd given
+then_given first meant made ForVersion thing result given is = absurd given
+then_given first meant made Nothing thing result given is = absurd given
 
 -- a fault passes as it is
 pub passes : (fault : ArgumentFault) → IsPassedOn fault fault

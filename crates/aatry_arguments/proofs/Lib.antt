@@ -5,3 +5,4 @@ mod DiffLemmas
 mod FlagLemmas
 mod LawLemmas
 pub mod LanguageLemmas
+mod ValueLemmas

@@ -1,6 +1,6 @@
--- In which form is told what a command finds, and by which language it reads policy.
-use Rattle.std.specs.Prelude.{ℕ, if◌then◌else◌, List, None, Some, codes}
-use Rattle.aatry_arguments.specs.Arguments.{CommandAsked, ForSession, ForTest, asked}
+-- In which form is told what a command finds, at length or not, and by which language it reads policy.
+use Rattle.std.specs.Prelude.{ℕ, Bool, false, true, if◌then◌else◌, List, None, Some, codes}
+use Rattle.aatry_arguments.specs.Arguments.{CommandAsked, ForCheck, ForSession, ForTest, asked}
 use Rattle.aa_options.specs.Options.{Asked, ForThis, Nothing, asked_as, asked_then}
 use Rattle.aa_profile_parsing.specs.declared.language.Language.{Language}
 use Rattle.aa_profile_parsing.specs.declared.language.Language.TheVariants.{Four}
@@ -9,15 +9,16 @@ use Rattle.aatry_arguments.specs.Languages.{by_language}
 use Rattle.aatry_report.specs.declared.form.Form.{Form}
 use Rattle.aatry_report.specs.declared.form.Form.TheVariants.{Lines, Records}
 
--- a command that is asked for, the language by which it reads policy, and the form in which it tells
+-- a command that is asked for, the language by which it reads policy, the form in which it tells, and whether lines tell at length
 pub record CallAsked : Type 0 where
   pub language : Language
   pub form : Form
+  pub verbose : Bool
   pub command : CommandAsked
 
--- a call, by its parts
+-- a call, by its language, its form and its command: lines don't tell at length
 abbrev pub call_with : Language → Form → CommandAsked → CallAsked
-call_with language form command = record { language = language; form = form; command = command }
+call_with language form command = record { language = language; form = form; verbose = false; command = command }
 
 -- the flag that asks for records
 abbrev pub json : List ℕ
@@ -36,6 +37,28 @@ asked_in language words =
     then asked_then (in_records language) (asked (without_flag json words))
     else asked_as (call_with language Lines) (asked words)
 
+-- the flag that asks for lines that tell at length
+abbrev pub verbose_flag : List ℕ
+verbose_flag = codes "--verbose"
+
+-- a call by whose command files are left out can be told at length, and no other
+abbrev pub told_at_length : CommandAsked → CallAsked → Asked CallAsked
+told_at_length (ForCheck check) call = Nothing
+told_at_length (ForTest test) call = Nothing
+told_at_length (ForSession session) call = Nothing
+told_at_length command call = ForThis (record call { verbose = true })
+
+-- a call that is to be told at length
+abbrev pub at_length : CallAsked → Asked CallAsked
+at_length call = told_at_length call.command call
+
+-- what words ask for by a language, in which form, and at length or not
+abbrev pub asked_by : Language → List (List ℕ) → Asked CallAsked
+asked_by language words =
+    if is_given verbose_flag words
+    then asked_then at_length (asked_in language (without_flag verbose_flag words))
+    else asked_in language words
+
 -- what the words of all arguments ask for: by language 4, where they name no other
 abbrev pub asked_call : List (List ℕ) → Asked CallAsked
-asked_call words = elim (by_language (Some Four) words) [ None ↦ Nothing | Some read ↦ asked_in read.language read.words ]
+asked_call words = elim (by_language (Some Four) words) [ None ↦ Nothing | Some read ↦ asked_by read.language read.words ]

@@ -5,14 +5,15 @@ use Rattle.aatry_arguments.specs.AskingWords.{AskingAsked, asking_with}
 use Rattle.aatry_arguments.specs.CheckWords.{CheckAsked, check_with}
 use Rattle.aatry_arguments.specs.Arguments.{CommandAsked, ForCheck, ForDiff, ForLog, ForSession, ForTest, ForWho, ForWhy}
 use Rattle.aatry_arguments.specs.DiffWords.{ComparisonAsked, LogAt, QuestionsAt, SourceAsked, comparison_with}
-use Rattle.aatry_arguments.specs.Forms.{CallAsked, call_with}
-use Rattle.aatry_arguments.specs.LogWords.{LogsAsked, logs_with}
+use Rattle.aatry_arguments.specs.Forms.{CallAsked}
+use Rattle.aatry_arguments.specs.LogWords.{LogLinesAsked, LogsAsked, lines_with, logs_with}
 use Rattle.aatry_arguments.specs.SessionWords.{SessionAsked, session_with}
 use Rattle.aatry_arguments.specs.TestWords.{TestAsked, test_with}
 use Rattle.aatry_arguments.specs.declared.arguments.Asking.{Asking}
 use Rattle.aatry_arguments.specs.declared.arguments.Call.{Call}
 use Rattle.aatry_arguments.specs.declared.arguments.Check.{Check}
 use Rattle.aatry_arguments.specs.declared.arguments.Comparison.{Comparison}
+use Rattle.aatry_arguments.specs.declared.arguments.LogLines.{LogLines}
 use Rattle.aatry_arguments.specs.declared.arguments.Logs.{Logs}
 use Rattle.aatry_arguments.specs.declared.arguments.RequestSource.{RequestSource}
 use Rattle.aatry_arguments.specs.declared.arguments.RequestSource.TheVariants.{Log, Questions}
@@ -35,9 +36,13 @@ meant_test test = test_with (string_bytes test.base) (texts test.paths)
 abbrev pub meant_asking : Asking → AskingAsked
 meant_asking asking = asking_with (string_bytes asking.base) (texts asking.words)
 
+-- which lines of logs are meant
+abbrev pub meant_lines : LogLines → LogLinesAsked
+meant_lines lines = lines_with lines.denied (option_map (λ name. name.items) lines.profile) lines.since
+
 -- what logs ask that are meant
 abbrev pub meant_logs : Logs → LogsAsked
-meant_logs logs = logs_with (string_bytes logs.base) (texts logs.paths) logs.strict
+meant_logs logs = logs_with (string_bytes logs.base) (texts logs.paths) logs.strict (meant_lines logs.lines)
 
 -- the source of requests that is meant
 abbrev pub meant_source : RequestSource → SourceAsked
@@ -64,7 +69,7 @@ meant_command (command.Session session) = ForSession (meant_session session)
 
 -- the call that is meant
 abbrev pub meant_call : Call → CallAsked
-meant_call call = call_with call.language call.form (meant_command call.command)
+meant_call call = record { language = call.language; form = call.form; verbose = call.verbose; command = meant_command call.command }
 
 -- help is given, if memory allows
 abbrev pub IsHelp : ArgumentFault → Type 0

@@ -11,4 +11,5 @@ pub mod Languages
 pub mod LogWords
 pub mod SessionWords
 pub mod TestWords
+pub mod Values
 pub mod code

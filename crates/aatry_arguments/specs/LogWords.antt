@@ -1,28 +1,94 @@
 -- What the words behind `log` ask for.
-use Rattle.std.specs.Prelude.{ℕ, Bool, List, codes}
-use Rattle.aa_options.specs.Options.{Asked, ForThis, asked_then}
+use Rattle.std.specs.Prelude.{ℕ, Bool, false, List, Option, None, Some, codes}
+use Rattle.std.specs.Option.{option_map}
+use Rattle.aa_options.specs.Options.{Asked, ForThis, Nothing, asked_then}
 use Rattle.aatry_arguments.specs.CheckWords.{CheckAsked, asked_check}
 use Rattle.aatry_arguments.specs.Flags.{is_given, without_flag}
+use Rattle.aatry_arguments.specs.Values.{ValueOption, WithValue, value_of}
+use Rattle.aatry_times.specs.Named.{time_named}
 
--- what logs ask of a folder of policy: the folder, the paths of the logs, or none for standard input, and whether the status is to tell of lines that ask
--- nothing that is answered
+-- which lines of logs are asked for: those alone that tell of a request as DENIED, those of a profile, those from a time on
+pub record LogLinesAsked : Type 0 where
+  pub denied : Bool
+  pub profile : Option (List ℕ)
+  pub since : Option ℕ
+
+-- which are, by the three parts of that, and all lines
+abbrev pub lines_with : Bool → Option (List ℕ) → Option ℕ → LogLinesAsked
+lines_with denied profile since = record { denied = denied; profile = profile; since = since }
+
+abbrev pub all_lines : LogLinesAsked
+all_lines = lines_with false None None
+
+-- what logs ask of a folder of policy: the folder, the paths of the logs, or none for standard input, whether the status is to tell of lines that ask
+-- nothing that is answered, and which lines are asked for
 pub record LogsAsked : Type 0 where
   pub base : List ℕ
   pub paths : List (List ℕ)
   pub strict : Bool
+  pub lines : LogLinesAsked
 
--- what logs ask, by its three parts
-abbrev pub logs_with : List ℕ → List (List ℕ) → Bool → LogsAsked
-logs_with base paths strict = record { base = base; paths = paths; strict = strict }
+-- what logs ask, by its four parts
+abbrev pub logs_with : List ℕ → List (List ℕ) → Bool → LogLinesAsked → LogsAsked
+logs_with base paths strict lines = record { base = base; paths = paths; strict = strict; lines = lines }
 
--- the flag that asks for the status
+-- the flags that ask for the status, and for requests that were denied
 abbrev pub strict_flag : List ℕ
 strict_flag = codes "--strict"
 
--- what would be a check asks by logs: its names are their paths
-abbrev pub logs_of : Bool → CheckAsked → Asked LogsAsked
-logs_of strict check = ForThis (logs_with check.base check.names strict)
+abbrev pub denied_flag : List ℕ
+denied_flag = codes "--denied"
 
--- the words behind `log`, without that flag, are read as those behind `check`
-abbrev pub asked_logs : List (List ℕ) → Asked LogsAsked
-asked_logs words = asked_then (logs_of (is_given strict_flag words)) (asked_check (without_flag strict_flag words))
+-- the options that take a profile's name and a time
+abbrev pub profile_option : ValueOption
+profile_option = record { word = codes "--profile"; opening = codes "--profile=" }
+
+abbrev pub since_option : ValueOption
+since_option = record { word = codes "--since"; opening = codes "--since=" }
+
+-- what would be a check asks by logs: its names are their paths
+abbrev pub logs_of : Bool → LogLinesAsked → CheckAsked → Asked LogsAsked
+logs_of strict lines check = ForThis (logs_with check.base check.names strict lines)
+
+-- the profile and the time that words name, if they name some, and the other words
+pub record LogNamed : Type 0 where
+  pub profile : Option (List ℕ)
+  pub since : Option ℕ
+  pub words : List (List ℕ)
+
+-- the time that a word names, where there is one; nothing where it names none
+abbrev pub since_of : Option (List ℕ) → Option (Option ℕ)
+since_of None = Some None
+since_of (Some word) = option_map (λ time. Some time) (time_named word)
+
+-- the profile that is named, with the time that words name
+abbrev pub named_with : Option (List ℕ) → Option WithValue → Option LogNamed
+named_with profile None = None
+named_with profile (Some read) = option_map (λ since. record { profile = profile; since = since; words = read.words }) (since_of read.value)
+
+-- what words name, by what they say of a profile
+abbrev pub named_then : Option WithValue → Option LogNamed
+named_then None = None
+named_then (Some read) = named_with read.value (value_of since_option read.words)
+
+abbrev pub named_in : List (List ℕ) → Option LogNamed
+named_in words = named_then (value_of profile_option words)
+
+-- the words without the flags
+abbrev pub without_flags : List (List ℕ) → List (List ℕ)
+without_flags words = without_flag denied_flag (without_flag strict_flag words)
+
+-- what words ask, of which these name the profile and the time: without the flags, the others are read as those behind `check`
+abbrev pub asked_named : LogNamed → Asked LogsAsked
+asked_named named =
+    asked_then (logs_of (is_given strict_flag named.words) (lines_with (is_given denied_flag named.words) named.profile named.since))
+    (asked_check (without_flags named.words))
+
+-- the same where they name these well, and else nothing
+abbrev pub asked_by_named : Option LogNamed → Asked LogsAsked
+asked_by_named None = Nothing
+asked_by_named (Some named) = asked_named named
+
+-- what the words behind `log` ask
+unfoldable pub asked_logs : List (List ℕ) → Asked LogsAsked
+asked_logs words = asked_by_named (named_in words)

@@ -1,2 +1,4 @@
 -- What is about the code: how far the reading of words has come.
+pub mod LogNamed
+pub mod ValueSoFar
 pub mod WordsSoFar

@@ -3,13 +3,15 @@
 use aa_profile_parsing::Language;
 use aatry_report::Form;
 
-/// A command, the language by which it reads policy, and the form in which it tells what it finds.
+/// A command, the language by which it reads policy, and the form in which it tells what it finds, at length or not.
 #[derive(Drop)]
 pub struct Call {
     /// The language: 4, unless another is named.
     pub language: Language,
     /// The form: lines, unless records are asked for.
     pub form: Form,
+    /// Whether each file that is left out is to be told in lines too, and not only how many there are.
+    pub verbose: bool,
     /// The command.
     pub command: Command,
 }
@@ -69,6 +71,19 @@ pub struct Logs {
     pub paths: Vec<String>,
     /// Whether the exit status is to tell of a line that can't be read, or that asks for somebody who isn't there.
     pub strict: bool,
+    /// Which lines are asked for.
+    pub lines: LogLines,
+}
+
+/// Which lines of logs are asked for.
+#[derive(Drop)]
+pub struct LogLines {
+    /// Whether those alone are that tell of a request as DENIED.
+    pub denied: bool,
+    /// The profile whose requests are, by its full name, if those of one alone are: its own and those of its children and hats.
+    pub profile: Option<Vec<u8>>,
+    /// The first second, since 1970, from which on they are, if there is one.
+    pub since: Option<u64>,
 }
 
 /// Which folders of policy are to be compared, and by which requests beside their profiles.

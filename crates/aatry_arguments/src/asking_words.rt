@@ -23,12 +23,13 @@ Arguments:
 
 Options:
   -b <DIR>    The folder of policy, /etc/apparmor.d unless it is given
+  --verbose   Tells each file first that is left out, and why
   --json      Tells in records of JSON, one a line
   -h, --help  Prints help
 
-All files below DIR are read, as check reads them; those at its top that are refused are told
-first, and left out. Of each profile, child and hat that would let the request through a line is
-told:
+All files below DIR are read, as check reads them; those at its top that are refused are left out,
+and how many these are stands on standard error. Of each profile, child and
+hat that would let the request through a line is told:
   NAME: allow     It lets it through. Below stand the rules that do, each with its place
   NAME: complain  Its rules don't, and it is in complain mode
 
@@ -56,11 +57,12 @@ Arguments:
 
 Options:
   -b <DIR>    The folder of policy, /etc/apparmor.d unless it is given
+  --verbose   Tells each file first that is left out, and why
   --json      Tells in records of JSON, one a line
   -h, --help  Prints help
 
-All files below DIR are read, as check reads them; those at its top that are refused are told
-first, and left out. WHO is a profile, child or hat, or unconfined.
+All files below DIR are read, as check reads them; those at its top that are refused are left out,
+and how many these are stands on standard error. WHO is a profile, child or hat, or unconfined.
 The answer is told, with its audit line if there is one, as ask of aaset tells it. Below stand the
 rules behind it, under one of these, each with FILE:LINE:COLUMN: where it is written.
   denied by      They deny the request, or a part of it

@@ -26,17 +26,21 @@ Arguments:
 Options:
   --log <FILE>        A log that tells of requests, as audit.log or syslog
   --questions <FILE>  A file of questions, each a line of the words behind ask of aaset
+  --verbose           Tells each file first that is left out, and why
   --json              Tells in records of JSON, one a line
   -h, --help          Prints help
 
 One FILE can be given. Where an option is given again, the last counts.
 
 All files below OLD and NEW are read, as check reads them; those at their tops that are refused are
-told first, and left out. Of each profile, child and hat that differs one of these is told:
+left out, and how many these are stands on standard error. Of each profile, child and hat that
+differs one of these is told:
   gone: NAME     OLD has it alone
   changed: NAME  Both have it. Below stand the lines of OLD alone, behind -, and of NEW, behind +,
                  each with FILE:LINE:COLUMN: where it is written
   new: NAME      NEW has it alone
+Ahead of these stands each file of NEW that is newly left out, as none of its name is of OLD:
+  newly left out: FILE: NUMBER NAME
 Of each question that FILE tells of and that they answer otherwise this is told, and below it the
 rules that OLD or NEW alone answers by:
   QUESTION: ANSWER OF OLD -> ANSWER OF NEW (HOW OFTEN IT CAME)
@@ -44,7 +48,7 @@ The last line counts the lines, requests and questions of FILE, and what is answ
 
 Exit status:
   0  Nothing differs, or help was asked for
-  1  Some profile differs, or some question is answered otherwise
+  1  Some profile differs, some question is answered otherwise, or a file is newly left out
   2  The arguments are bad, or FILE, OLD or NEW, or what lies below these, can't be read
   3  Writing failed, or memory ran out
 ";

@@ -1,9 +1,9 @@
-//! In which form is told what a command finds.
+//! In which form is told what a command finds, at length or not.
 
 ghost use Rattle.std.specs.Prelude.{◌≡◌, drop, map, string_bytes};
 ghost use Rattle.aatry_arguments.specs.Arguments.{asked};
 ghost use Rattle.aa_options.specs.Options.{asked_as, asked_then};
-ghost use Rattle.aatry_arguments.specs.Forms.{asked_call, asked_in, call_with, in_records};
+ghost use Rattle.aatry_arguments.specs.Forms.{asked_by, asked_call, asked_in, at_length, call_with, in_records};
 ghost use Rattle.aa_options.specs.Given.{IsGivenFor};
 ghost use Rattle.aatry_arguments.specs.Given.{meant_call, meant_command};
 ghost use Rattle.aatry_report.specs.declared.form.Form.TheVariants as form;
@@ -20,6 +20,9 @@ use std::alloc::Global;
 // The flag that asks for records.
 const JSON: &str = "--json";
 
+// The flag that asks for lines that tell at length.
+const VERBOSE: &str = "--verbose";
+
 // A command that is to tell in lines.
 fn in_lines(language: Language, command: Command) -> Call
     ensures { meant_call result ≡ call_with language form.Lines (meant_command command) }
@@ -27,6 +30,7 @@ fn in_lines(language: Language, command: Command) -> Call
     Call {
         language,
         form: Form::Lines,
+        verbose: false,
         command,
     }
 }
@@ -40,6 +44,7 @@ fn in_records(language: Language, command: Command) -> Result<Call, ArgumentFaul
         command => Ok(Call {
             language,
             form: Form::Records,
+            verbose: false,
             command,
         }),
     }
@@ -82,12 +87,60 @@ fn call_in(alloc: Global, language: Language, words: &[String]) -> Result<Call, 
     }
 }
 
+// A call that is to be told at length: one by whose command files are left out.
+fn at_length(call: Call) -> Result<Call, ArgumentFault>
+    ensures { IsGivenFor meant_call (at_length (meant_call call)) result }
+{
+    let Call {
+        language,
+        form,
+        command,
+        ..
+    } = call;
+    match command {
+        Command::Check(_) | Command::Test(_) | Command::Session(_) => Err(ArgumentFault::Bad),
+        command => Ok(Call {
+            language,
+            form,
+            verbose: true,
+            command,
+        }),
+    }
+}
+
+// The call that words ask for by a language beside one that asks for lines that tell at length.
+fn call_at_length(
+    alloc: Global,
+    language: Language,
+    words: &[String],
+) -> Result<Call, ArgumentFault>
+    ensures { IsGivenFor meant_call (asked_then at_length (asked_in language (map string_bytes words.now))) result }
+{
+    match call_in(alloc, language, words) {
+        Ok(call) => at_length(call),
+        Err(fault) => Err(fault),
+    }
+}
+
+// The call that words ask for by a language, at length or not.
+fn call_by(alloc: Global, language: Language, words: &[String]) -> Result<Call, ArgumentFault>
+    ensures { IsGivenFor meant_call (asked_by language (map string_bytes words.now)) result }
+{
+    if !is_given(VERBOSE, words) {
+        return call_in(alloc, language, words);
+    }
+    match without_flag(alloc, VERBOSE, words) {
+        Ok(others) => call_at_length(alloc, language, &others),
+        Err(_) => Err(ArgumentFault::Memory),
+    }
+}
+
 // The call that the words behind the program's own name ask for.
 fn call_behind(alloc: Global, words: &[String]) -> Result<Call, ArgumentFault>
     ensures { IsGivenFor meant_call (asked_call (map string_bytes words.now)) result }
 {
     match by_language(alloc, words) {
-        Ok(Some(read)) => call_in(alloc, read.language, &read.words),
+        Ok(Some(read)) => call_by(alloc, read.language, &read.words),
         Ok(None) => Err(ArgumentFault::Bad),
         Err(_) => Err(ArgumentFault::Memory),
     }
@@ -104,10 +157,11 @@ fn call_behind(alloc: Global, words: &[String]) -> Result<Call, ArgumentFault>
 /// stands behind the option in its word, without one `=` between behind `-b` and with it behind the others, or else it is the next word, which then
 /// is no option and no `--`. Such an option may stand before, between and behind the other words, and where it is given again, the last counts.
 ///
-/// The word `--json`, ahead of the first `--`, asks for records, and is none of the words above: the command is the one that the others ask for. Nor is
-/// `--strict` behind `log`, which asks for a status that tells of lines without an answer. Nor are
-/// the word `--language` and the one behind it, or a word that begins with `--language=`, ahead of the first `--`: they name a language by its number, 3
-/// or 4. Where one is named again, the last counts, and where none is, policy is read by language 4 (docs/policy.md, "Languages").
+/// The word `--json`, ahead of the first `--`, asks for records, and is none of the words above: the command is the one that the others ask for. Nor
+/// is `--verbose` there, which asks for lines that tell at length, each file that is left out too; nor `--strict` behind `log`, which asks for a
+/// status that tells of lines without an answer. Nor are
+/// the word `--language` and the one behind it, or a word that begins with `--language=`, ahead of the first `--`: they name a language by its
+/// number, 3 or 4. Where one is named again, the last counts, and where none is, policy is read by language 4 (docs/policy.md, "Languages").
 ///
 /// # Errors
 ///
@@ -117,7 +171,8 @@ fn call_behind(alloc: Global, words: &[String]) -> Result<Call, ArgumentFault>
 /// - `Bad` where the second word is any other. Behind a command, where the first option that takes no path is any other, or where one that takes a
 ///   path comes before it without one. Behind `test`, where there is no FILE. Behind `who`, where the words of the question aren't three, and behind
 ///   `why`, where there is none. Behind `diff`, where the folders aren't two, or both `--log` and `--questions` are given. Behind `session`, where
-///   there is a word that is no option. Where records are asked for of `test` or `session`, or a word that has to name a language names none.
+///   there is a word that is no option. Where records are asked for of `test` or `session`, or lines that tell at length of `check`, `test` or `session`, or
+///   a word that has to name a language names none.
 /// - `Memory` where memory ran out.
 pub fn call_of(alloc: Global, words: &[String]) -> Result<Call, ArgumentFault>
     ensures { IsGivenFor meant_call (asked_call (drop 1 (map string_bytes words.now))) result }

@@ -1,6 +1,6 @@
 //! What holds of the words behind commands, as laws over the definitions that `command_of` is proved to follow.
 
-ghost use Rattle.std.specs.Prelude.{◌≡◌, ◌≢◌, ◌++◌, ℕ, None, Some, false, true, List, [], ◌∷◌, length, codes};
+ghost use Rattle.std.specs.Prelude.{◌≡◌, ◌≢◌, ◌++◌, ℕ, None, Some, false, true, List, Option, [], ◌∷◌, length, codes};
 ghost use Rattle.std.specs.List.{list_all};
 ghost use Rattle.aa_options.specs.Options.{Open, is_name, is_option};
 ghost use Rattle.aatry_arguments.specs.Arguments.{ForCheck, ForDiff, ForLog, ForSession, ForTest, ForWho, ForWhy, asked, asked_by_first};
@@ -13,10 +13,12 @@ ghost use Rattle.aatry_arguments.specs.DiffWords.{comparison_with, given_behind,
 ghost use Rattle.aa_profile_parsing.specs.Languages.{language_named, word_of};
 ghost use Rattle.aa_profile_parsing.specs.declared.language.Language.{Language};
 ghost use Rattle.aatry_arguments.specs.Languages.{by_language};
-ghost use Rattle.aatry_arguments.specs.LogWords.{logs_with, strict_flag};
+ghost use Rattle.aatry_arguments.specs.LogWords.{all_lines, denied_flag, lines_with, logs_with, profile_option, since_option, strict_flag};
 ghost use Rattle.aatry_arguments.specs.Flags.{is_given};
 ghost use Rattle.aatry_arguments.specs.SessionWords.{session_with};
 ghost use Rattle.aatry_arguments.specs.TestWords.{test_with};
+ghost use Rattle.aatry_arguments.specs.Values.{IsWithout, ValueOption, value_in};
+ghost use Rattle.aatry_times.specs.Named.{time_named};
 
 /// `check` alone asks for all files at the top of /etc/apparmor.d. Words behind it that are no options are its NAMEs, all of them and in their
 /// order, and so are all words behind `--`. Behind `-b` and a folder each word asks for what it would ask for without them, of that folder; so of
@@ -72,15 +74,48 @@ pub fn what_askings_have()
         → asked_by_first (codes "why") words ≡ ForThis (ForWhy (asking_with base (word ∷ more))) }
 {}
 
-/// `log` alone asks by standard input, of /etc/apparmor.d, and `log --strict` for the status too. Words without that flag that would ask of `check` for
-/// some files ask of `log` by the logs at these paths, over the same folder.
+/// `log` alone asks by all lines of standard input, of /etc/apparmor.d; `log --strict` for the status too; and with `--denied`, `--profile` and a name, or
+/// `--since` and a time, by those lines. Words without these that would ask of `check` for some files ask of `log` by all lines of the logs at these paths,
+/// over the same folder. Where a word behind `--since` names no time, the words ask for nothing that there is.
 pub fn what_logs_have()
-    ensures alone { asked (codes "log" ∷ []) ≡ ForThis (ForLog (logs_with (codes "/etc/apparmor.d") [] false)) }
-    ensures strict { asked (codes "log" ∷ codes "--strict" ∷ []) ≡ ForThis (ForLog (logs_with (codes "/etc/apparmor.d") [] true)) }
+    ensures alone { asked (codes "log" ∷ []) ≡ ForThis (ForLog (logs_with (codes "/etc/apparmor.d") [] false all_lines)) }
+    ensures strict { asked (codes "log" ∷ codes "--strict" ∷ []) ≡ ForThis (ForLog (logs_with (codes "/etc/apparmor.d") [] true all_lines)) }
+    ensures denied { asked (codes "log" ∷ codes "--denied" ∷ [])
+        ≡ ForThis (ForLog (logs_with (codes "/etc/apparmor.d") [] false (lines_with true None None))) }
+    ensures profile { (name : List ℕ) → asked (codes "log" ∷ codes "--profile" ∷ name ∷ [])
+        ≡ ForThis (ForLog (logs_with (codes "/etc/apparmor.d") [] false (lines_with false (Some name) None))) }
+    ensures since { (word : List ℕ) (time : ℕ)
+        → IsWithout profile_option (codes "--since" ∷ word ∷ [])
+        → time_named word ≡ Some time
+        → asked (codes "log" ∷ codes "--since" ∷ word ∷ [])
+        ≡ ForThis (ForLog (logs_with (codes "/etc/apparmor.d") [] false (lines_with false None (Some time)))) }
+    ensures no_time { (word : List ℕ)
+        → IsWithout profile_option (codes "--since" ∷ word ∷ [])
+        → time_named word ≡ None
+        → asked (codes "log" ∷ codes "--since" ∷ word ∷ []) ≡ Nothing }
     ensures paths { (words : List (List ℕ)) (base : List ℕ) (names : List (List ℕ))
+        → IsWithout profile_option words
+        → IsWithout since_option words
         → is_given strict_flag words ≡ false
+        → is_given denied_flag words ≡ false
         → asked_by_first (codes "check") words ≡ ForThis (ForCheck (check_with base names))
-        → asked_by_first (codes "log") words ≡ ForThis (ForLog (logs_with base names false)) }
+        → asked_by_first (codes "log") words ≡ ForThis (ForLog (logs_with base names false all_lines)) }
+{}
+
+/// `--profile` and `--since` have their value in the next word, or behind a `=` in their own, and of two the last counts. Behind `--` they have none. Where no
+/// word follows, they have no value that there is.
+pub fn how_values_are_named()
+    ensures profile { (so_far : Option (List ℕ)) (name : List ℕ) (words : List (List ℕ))
+        → value_in profile_option (Some so_far) (codes "--profile" ∷ name ∷ words) ≡ value_in profile_option (Some (Some name)) words }
+    ensures profile_in_word { (so_far : Option (List ℕ)) (name : List ℕ) (words : List (List ℕ))
+        → value_in profile_option (Some so_far) ((codes "--profile=" ++ name) ∷ words) ≡ value_in profile_option (Some (Some name)) words }
+    ensures since { (so_far : Option (List ℕ)) (time : List ℕ) (words : List (List ℕ))
+        → value_in since_option (Some so_far) (codes "--since" ∷ time ∷ words) ≡ value_in since_option (Some (Some time)) words }
+    ensures since_in_word { (so_far : Option (List ℕ)) (time : List ℕ) (words : List (List ℕ))
+        → value_in since_option (Some so_far) ((codes "--since=" ++ time) ∷ words) ≡ value_in since_option (Some (Some time)) words }
+    ensures missing { (option : ValueOption) → value_in option None [] ≡ None }
+    ensures dashes { (option : ValueOption) (so_far : Option (List ℕ)) (words : List (List ℕ))
+        → value_in option (Some so_far) (codes "--" ∷ words) ≡ Some (record { value = so_far; words = codes "--" ∷ words }) }
 {}
 
 /// `session` alone asks for a session over /etc/apparmor.d. Words that would ask of `check` to check all files at the top of a folder ask of `session`

@@ -16,11 +16,14 @@ mod log_words;
 mod reading;
 mod session_words;
 mod test_words;
+mod values;
 
 pub use aa_options::ArgumentFault;
-pub use arguments::{Asking, Call, Check, Command, Comparison, Logs, RequestSource, Session, Test};
+pub use arguments::{
+    Asking, Call, Check, Command, Comparison, LogLines, Logs, RequestSource, Session, Test,
+};
 pub use forms::call_of;
 pub use laws::{
-    how_languages_are_named, what_askings_have, what_checks_have, what_comparisons_have,
-    what_logs_have, what_sessions_have, what_tests_have,
+    how_languages_are_named, how_values_are_named, what_askings_have, what_checks_have,
+    what_comparisons_have, what_logs_have, what_sessions_have, what_tests_have,
 };

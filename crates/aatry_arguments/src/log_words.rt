@@ -1,20 +1,27 @@
-//! Reading of the words behind `log`: but for a flag, as those behind `check` are read.
-ghost use Rattle.std.specs.Prelude.{◌≡◌, map, string_bytes};
+//! Reading of the words behind `log`: but for what `log` alone has, as those behind `check` are read.
+ghost use Rattle.std.specs.Prelude.{◌≡◌, IfOk, map, option_map, string_bytes};
 ghost use Rattle.aa_options.specs.Given.{IsGivenFor};
 ghost use Rattle.aa_options.specs.Options.{ForThis, asked_then};
 ghost use Rattle.aatry_arguments.specs.CheckWords.{asked_check};
-ghost use Rattle.aatry_arguments.specs.Given.{meant_check, meant_logs};
-ghost use Rattle.aatry_arguments.specs.LogWords.{asked_logs, logs_of};
+ghost use Rattle.aatry_arguments.specs.Given.{meant_check, meant_lines, meant_logs};
+ghost use Rattle.aatry_arguments.specs.LogWords.{asked_logs, asked_named, logs_of, named_in, named_with, since_of, without_flags};
+ghost use Rattle.aatry_arguments.specs.code.ValueSoFar.{seen_value};
+ghost use Rattle.aatry_arguments.specs.code.LogNamed.{seen_named};
 
-use crate::arguments::{Check, Logs};
+use crate::arguments::{Check, LogLines, Logs};
 use crate::check_words::check_of;
 use crate::faults::passed_on;
 use crate::flags::{is_given, without_flag};
+use crate::values::{NamedOption, WithValue, value_of};
 use aa_options::ArgumentFault;
-use std::alloc::Global;
+use aatry_times::time_named;
+use std::alloc::{AllocError, Global};
 
 // The flag that asks for a status that tells of lines without an answer.
 const STRICT: &str = "--strict";
+
+// The flag that asks for requests that were denied.
+const DENIED: &str = "--denied";
 
 // What help says of `log`.
 const HELP: &str = "\
@@ -27,16 +34,26 @@ Arguments:
             -o json; - is standard input, which is read where no FILE is given
 
 Options:
-  -b <DIR>    The folder of policy, /etc/apparmor.d unless it is given
-  --strict    Ends with 1 where a line can't be read, or asks for somebody who isn't there
-  --json      Tells in records of JSON, one a line
-  -h, --help  Prints help
+  -b <DIR>          The folder of policy, /etc/apparmor.d unless it is given
+  --denied          Passes over lines that tell of a request and not as DENIED
+  --profile <NAME>  Passes over lines that tell who asks, and that it is another than the
+                    profile of the full name NAME, its children and its hats
+  --since <WHEN>    Passes over lines that are stamped before WHEN: @SECONDS since 1970, or in
+                    UTC \"YYYY-MM-DD\", \"YYYY-MM-DD HH:MM\" or \"YYYY-MM-DD HH:MM:SS\"
+  --strict          Ends with 1 where a line can't be read, or asks for somebody who isn't there
+  --verbose         Tells each file first that is left out, and why
+  --json            Tells in records of JSON, one a line
+  -h, --help        Prints help
 
-All files below DIR are read, as check reads them; those at its top that are refused are told
-first, and left out. Then each request of the logs is told once, the one that came most often
-first: how often it came and the question that it asks, and below it the answer of DIR now with
-the rules behind it, as why tells them. The last line counts the lines, requests and questions,
-those who ask and aren't there, requests that no question asks, and lines that can't be read.
+Where an option is given again, the last counts.
+
+All files below DIR are read, as check reads them; those at its top that are refused are left out,
+and how many these are stands on standard error. Each request of the logs is told once, the one that
+came most often first: how often it came, when first and last in UTC, and the question that it asks;
+and below it the answer of DIR now with the rules behind it, as why tells them. Then come the first
+ten lines that can't be read, each behind its FILE and number. The last line counts the lines,
+requests and questions, those who ask and aren't there, requests that no question asks, lines that
+can't be read, and lines that are passed over.
 
 Exit status:
   0  The logs were read, or help was asked for
@@ -45,25 +62,112 @@ Exit status:
   3  Reading or writing failed, or memory ran out
 ";
 
+// The options that take a value: a profile's name, and a time.
+const PROFILE: NamedOption = NamedOption {
+    word: "--profile",
+    opening: "--profile=",
+};
+
+const SINCE: NamedOption = NamedOption {
+    word: "--since",
+    opening: "--since=",
+};
+
+// The profile and the time that words name, if they name some, and the other words.
+#[derive(Drop)]
+pub struct LogNamed {
+    pub profile: Option<Vec<u8>>,
+    pub since: Option<u64>,
+    pub words: Vec<String>,
+}
+
+// The time that a word names, where there is one; none where it names none.
+fn since_of(word: &Option<Vec<u8>>) -> Option<Option<u64>>
+    ensures { result ≡ since_of (option_map (λ word. word.items) word.now) }
+{
+    match word {
+        None => Some(None),
+        Some(word) => Some(Some(time_named(word)?)),
+    }
+}
+
+// The profile that is named, with the time that words name.
+fn named_with(profile: Option<Vec<u8>>, read: Option<WithValue>) -> Option<LogNamed>
+    ensures { option_map seen_named result ≡ named_with (option_map (λ name. name.items) profile) (option_map seen_value read) }
+{
+    let WithValue { value, words } = read?;
+    let since = since_of(&value)?;
+    Some(LogNamed {
+        profile,
+        since,
+        words,
+    })
+}
+
+// What words name.
+fn named_in(alloc: Global, words: &[String]) -> Result<Option<LogNamed>, AllocError>
+    ensures { IfOk result (λ named. option_map seen_named named ≡ named_in (map string_bytes words.now)) }
+{
+    match value_of(alloc, PROFILE, words)? {
+        None => Ok(None),
+        Some(WithValue { value, words }) => Ok(named_with(value, value_of(alloc, SINCE, &words)?)),
+    }
+}
+
 // What logs ask by what would be a check.
-fn logs_with(check: Check, strict: bool) -> Logs
-    ensures { ForThis (meant_logs result) ≡ logs_of strict (meant_check check) }
+fn logs_with(check: Check, strict: bool, lines: LogLines) -> Logs
+    ensures { ForThis (meant_logs result) ≡ logs_of strict (meant_lines lines) (meant_check check) }
 {
     let Check { base, names: paths } = check;
     Logs {
         base,
         paths,
         strict,
+        lines,
     }
 }
 
-// The same of words without the flag.
-fn logs_by(alloc: Global, words: &[String], strict: bool) -> Result<Logs, ArgumentFault>
-    ensures { IsGivenFor meant_logs (asked_then (logs_of strict) (asked_check (map string_bytes words.now))) result }
+// The same of words without what `log` alone has.
+fn logs_by(
+    alloc: Global,
+    words: &[String],
+    strict: bool,
+    lines: LogLines,
+) -> Result<Logs, ArgumentFault>
+    ensures { IsGivenFor meant_logs (asked_then (logs_of strict (meant_lines lines)) (asked_check (map string_bytes words.now))) result }
 {
     match check_of(alloc, words) {
-        Ok(check) => Ok(logs_with(check, strict)),
+        Ok(check) => Ok(logs_with(check, strict, lines)),
         Err(fault) => Err(passed_on(alloc, fault, HELP)),
+    }
+}
+
+// Words without the flags.
+fn without_flags(alloc: Global, words: &[String]) -> Result<Vec<String>, AllocError>
+    ensures { IfOk result (λ others. map string_bytes others.items ≡ without_flags (map string_bytes words.now)) }
+{
+    let others = without_flag(alloc, STRICT, words)?;
+    without_flag(alloc, DENIED, &others)
+}
+
+// What words ask, of which these name the profile and the time.
+fn logs_named(alloc: Global, named: LogNamed) -> Result<Logs, ArgumentFault>
+    ensures { IsGivenFor meant_logs (asked_named (seen_named named)) result }
+{
+    let LogNamed {
+        profile,
+        since,
+        words,
+    } = named;
+    let strict = is_given(STRICT, &words);
+    let lines = LogLines {
+        denied: is_given(DENIED, &words),
+        profile,
+        since,
+    };
+    match without_flags(alloc, &words) {
+        Ok(others) => logs_by(alloc, &others, strict, lines),
+        Err(_) => Err(ArgumentFault::Memory),
     }
 }
 
@@ -71,13 +175,15 @@ fn logs_by(alloc: Global, words: &[String], strict: bool) -> Result<Logs, Argume
 ///
 /// # Errors
 ///
-/// Those of `check_of`.
+/// - `Bad` where `--profile` or `--since` has no value, or that of `--since` names no time (`aatry_times::time_named`).
+/// - Those of `check_of`, of the words without the options that `log` alone has.
+#[tactic(auto, unfolding(crate::specs::LogWords::asked_logs))]
 pub fn logs_of(alloc: Global, words: &[String]) -> Result<Logs, ArgumentFault>
     ensures { IsGivenFor meant_logs (asked_logs (map string_bytes words.now)) result }
 {
-    let strict = is_given(STRICT, words);
-    match without_flag(alloc, STRICT, words) {
-        Ok(others) => logs_by(alloc, &others, strict),
+    match named_in(alloc, words) {
+        Ok(Some(named)) => logs_named(alloc, named),
+        Ok(None) => Err(ArgumentFault::Bad),
         Err(_) => Err(ArgumentFault::Memory),
     }
 }

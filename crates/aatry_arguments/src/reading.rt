@@ -32,6 +32,7 @@ Commands:
 
 Options:
   --json          Behind check, why, log, who and diff: tells in records of JSON, one a line
+  --verbose       Behind why, log, who and diff: tells each file first that is left out, and why
   --language <N>  Reads policy by language N, 3 or 4; 4 if none is named
   -h, --help      Prints help, and behind a COMMAND help on it
   -V, --version   Prints the version

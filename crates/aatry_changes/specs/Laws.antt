@@ -19,9 +19,9 @@ abbrev pub HaveAlike : List Part → List Part → Type 0
 HaveAlike others [] = Unit
 HaveAlike others (part ∷ parts) = HasAlike others part × HaveAlike others parts
 
--- Two parts decide alike, whatever is asked: they are in one mode; each verdict is the same, with its tag and its mask, whatever becomes of what the rules
--- don't allow; and so is what their rules say together of the start of a program, where those of one agree (as the rules of a file that was read do), their
--- patterns read, and its path is a list of bytes.
+-- Two parts decide alike, whatever is asked: they are in one mode, or both disabled; each verdict is the same, with its tag and its mask, whatever
+-- becomes of what the rules don't allow; and so is what their rules say together of the start of a program, where those of one agree (as the rules of
+-- a file that was read do), their patterns read, and its path is a list of bytes.
 pub record AnswerAlike (part other : Part) : Type 0 where
   pub mode : part.section.mode ≡ other.section.mode
   pub verdicts :

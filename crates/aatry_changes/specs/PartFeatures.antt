@@ -1,17 +1,23 @@
 -- What a part has, one by one, and how each of that is told.
-use Rattle.std.specs.Prelude.{ℕ, ◌+◌, ◌==◌, if◌then◌else◌, List, [], ◌∷◌, ◌++◌, codes, Option, option_and_then, slice_get}
+use Rattle.std.specs.Prelude.{ℕ, ◌+◌, ◌==◌, if◌then◌else◌, List, [], ◌∷◌, ◌++◌, codes, Option, None, Some, option_and_then, slice_get}
 use Rattle.aa_decide_rules.specs.Verdict.{covers}
 use Rattle.aa_explain_diff.specs.Features.{Feature, OfAttachment, OfAudit, OfFlag, OfHat, OfMode, OfRule}
 use Rattle.aa_profile_access.specs.Request.{Request}
+use Rattle.aa_profile_data.specs.declared.profile.Mode.{Mode}
 use Rattle.aa_profile_data.specs.declared.profile.Rule.{Rule}
 use Rattle.aa_set_answers.specs.RuleLines.{rule_text}
 use Rattle.aa_set_answers.specs.Show.{attachment_text}
 use Rattle.aa_set_answers.specs.States.{mode_word}
 use Rattle.aa_text_files.specs.declared.text_error.Place.{Place}
 
--- how a feature is told: by the word of a mode or a flag, or as `show` shows it
+-- the word of a mode, or of no mode: a profile in none is disabled
+abbrev pub state_text : Option Mode → List ℕ
+state_text None = codes "disabled"
+state_text (Some mode) = mode_word mode
+
+-- how a feature is told: by the word of a mode or a flag, by `disabled`, or as `show` shows it
 abbrev pub feature_text : Feature → List ℕ
-feature_text (OfMode mode) = mode_word mode
+feature_text (OfMode mode) = state_text mode
 feature_text OfHat = codes "hat"
 feature_text OfAudit = codes "audit"
 feature_text (OfFlag flag) = flag

@@ -22,7 +22,7 @@ pub fn when_nothing_is_told()
 {}
 
 /// Where nothing is told of a part of the old folder, the new one has a part of its full name that decides as it does, whatever is asked: it is in the same
-/// mode, no verdict is another one, and no line that logs one. So it is of each part where nothing is told of the folders.
+/// mode or disabled too, no verdict is another one, and no line that logs one. So it is of each part where nothing is told of the folders.
 pub fn what_is_not_told_answers_alike()
     ensures of_a_part { (form : Form) (old new : FolderParts) (part : Part) → old_text form old new part ≡ [] → HasAnsweringAlike new.parts part }
     ensures of_all { (form : Form) (old new : FolderParts) (part : Part)

@@ -3,23 +3,33 @@
 ghost use Rattle.std.specs.Prelude.{◌≡◌, ◌++◌, IfOk, OnOk, map};
 ghost use Rattle.aa_explain_diff.specs.Features.{seen_feature};
 ghost use Rattle.aa_profile_access.specs.SeenRequests.{request_of};
-ghost use Rattle.aatry_changes.specs.PartFeatures.{covering_feature, covering_from, feature_text, place_at};
+ghost use Rattle.aatry_changes.specs.PartFeatures.{covering_feature, covering_from, feature_text, place_at, state_text};
 
 use aa_decide_rules::covers;
 use aa_explain_diff::Feature;
 use aa_profile_access::Request;
-use aa_profile_data::Rule;
+use aa_profile_data::{Mode, Rule};
 use aa_set_answers::{mode_word, push_attachment, push_rule};
 use aa_text_files::Place;
 use bitflags::Flags;
 use std::alloc::{AllocError, Global};
+
+// Appends the word of a mode to a text, or of no mode: a profile in none is disabled.
+fn push_mode(mode: Option<Mode>, out: &mut Vec<u8>) -> Result<(), AllocError>
+    ensures { OnOk result (out.new.items ≡ out.old.items ++ state_text mode) }
+{
+    match mode {
+        None => out.extend_from_slice(b"disabled"),
+        Some(mode) => out.extend_from_slice(mode_word(mode).as_bytes()),
+    }
+}
 
 // Appends how a feature is told to a text.
 fn push_feature(feature: Feature<'_>, out: &mut Vec<u8>) -> Result<(), AllocError>
     ensures { OnOk result (out.new.items ≡ out.old.items ++ feature_text (seen_feature feature.entry)) }
 {
     match feature {
-        Feature::Mode(mode) => out.extend_from_slice(mode_word(mode).as_bytes()),
+        Feature::Mode(mode) => push_mode(mode, out),
         Feature::Hat => out.extend_from_slice(b"hat"),
         Feature::Audit => out.extend_from_slice(b"audit"),
         Feature::Flag(flag) => out.extend_from_slice(flag.as_slice()),
@@ -28,7 +38,7 @@ fn push_feature(feature: Feature<'_>, out: &mut Vec<u8>) -> Result<(), AllocErro
     }
 }
 
-/// How a feature is told: by the word of a mode or a flag, or as `show` shows it.
+/// How a feature is told: by the word of a mode or a flag, by `disabled`, or as `show` shows it.
 ///
 /// # Errors
 ///

@@ -1,11 +1,13 @@
 -- What a check of a folder of policy comes to.
-use Rattle.std.specs.Prelude.{◌≡◌, ◌==◌, ℕ, List, if◌then◌else◌, length}
+use Rattle.std.specs.Prelude.{◌≡◌, ◌==◌, ℕ, List, [], if◌then◌else◌, length}
 use Rattle.aa_profile_parsing.specs.declared.language.Language.{Language}
 use Rattle.aa_text_files.specs.Files.{File}
 use Rattle.aaset_start.specs.Gathering.{names_of}
 use Rattle.aaset_start.specs.Known.{Known}
 use Rattle.aatry_check.specs.Checks.{TellsEach, refused_count}
+use Rattle.aatry_folder.specs.Loadings.{AreTop, TopFile, file_names}
 use Rattle.aatry_folder.specs.PolicyFolders.{AreBelow, top_names}
+use Rattle.aatry_folder.specs.Reports.{Report}
 use Rattle.aatry_folder.specs.Told.{ToldFolders}
 use Rattle.aatry_report.specs.declared.form.Form.{Form}
 
@@ -14,12 +16,16 @@ abbrev pub given_or : List (List ℕ) → List (List ℕ) → List (List ℕ)
 given_or others given = if length given == 0 then others else given
 
 -- the files that are meant: those that are given, and all at the top where none is
-abbrev pub meant : List (List ℕ) → List (List ℕ) → List (List ℕ)
-meant names given = given_or (top_names names) given
+abbrev pub meant : List TopFile → List (List ℕ) → List (List ℕ)
+meant top given = given_or (file_names top) given
 
--- The files that are meant were checked over all that lies below the folder, by a language, the text tells each of them, and so many were refused.
-pub record IsChecked (form : Form) (language : Language) (folders : ToldFolders) (known : Known) (base : List ℕ) (given : List (List ℕ)) (text : List ℕ) (refused : ℕ) : Type 0 where
+-- The files that are meant were checked over all that lies below the folder, by a language: the text tells each of them, with how it is loaded,
+-- nothing is noted, and so many failed as were refused.
+pub record IsChecked (form : Form) (language : Language) (folders : ToldFolders) (known : Known) (base : List ℕ) (given : List (List ℕ)) (report : Report) : Type 0 where
   pub files : List File
   pub below : AreBelow folders known base files
-  pub told : TellsEach form language files base (meant (names_of files) given) text
-  pub counted : refused ≡ refused_count language files (meant (names_of files) given)
+  pub top : List TopFile
+  pub loaded : AreTop folders base (top_names (names_of files)) top
+  pub told : TellsEach form language files base top (meant top given) report.text
+  pub noted : report.notes ≡ []
+  pub counted : report.failed ≡ refused_count language files (meant top given)

@@ -10,6 +10,8 @@ use Rattle.aa_profile_data.specs.declared.profile.Profile.{Profile}
 use Rattle.aa_profile_errors.specs.ProfileError.{number_of}
 use Rattle.aa_profile_errors.specs.declared.profile_error.ProfileError.{ProfileError}
 use Rattle.aa_profile_parsing.specs.declared.language.Language.{Language}
+use Rattle.aatry_check.specs.Loading.{loading_in, told_loading}
+use Rattle.aatry_folder.specs.Loadings.{TopFile}
 use Rattle.aatry_report.specs.Faults.{with_fault}
 use Rattle.aatry_report.specs.FilePlaces.{path_below}
 use Rattle.aatry_report.specs.Records.{record_line, record_of, with_text}
@@ -55,9 +57,12 @@ TellsReading form files base name (Ok profiles) lines = lines ≡ taken_line for
 TellsReading form files base name (Err error) lines =
     (words : List ℕ) × (lines ≡ refusal_lines form words files base name (number_of error.refusal) error.place)
 
--- lines tell a file: that it was taken, or why it is refused, exactly as its reading by a language says
-abbrev pub Tells : Form → Language → List File → List ℕ → List ℕ → List ℕ → Type 0
-Tells form language files base name lines = TellsReading form files base name (file_profiles_in language files name) lines
+-- lines tell a file: that it was taken, or why it is refused, exactly as its reading by a language says; and how it is loaded, by the files at the
+-- top
+abbrev pub Tells : Form → Language → List File → List ℕ → List TopFile → List ℕ → List ℕ → Type 0
+Tells form language files base top name lines =
+    (first : List ℕ) × (lines ≡ first ++ told_loading form base name (loading_in top name))
+    × TellsReading form files base name (file_profiles_in language files name) first
 
 -- one file is refused, or none: its reading gives no profiles
 abbrev pub refused_in : Language → List File → List ℕ → ℕ
@@ -69,7 +74,7 @@ refused_count language files [] = 0
 refused_count language files (name ∷ names) = refused_in language files name + refused_count language files names
 
 -- lines tell each of these files in turn
-abbrev pub TellsEach : Form → Language → List File → List ℕ → List (List ℕ) → List ℕ → Type 0
-TellsEach form language files base [] lines = lines ≡ []
-TellsEach form language files base (name ∷ names) lines =
-    (first rest : List ℕ) × (lines ≡ first ++ rest) × Tells form language files base name first × TellsEach form language files base names rest
+abbrev pub TellsEach : Form → Language → List File → List ℕ → List TopFile → List (List ℕ) → List ℕ → Type 0
+TellsEach form language files base top [] lines = lines ≡ []
+TellsEach form language files base top (name ∷ names) lines =
+    (first rest : List ℕ) × (lines ≡ first ++ rest) × Tells form language files base top name first × TellsEach form language files base top names rest

@@ -1,9 +1,11 @@
 //! The check of a folder of policy on a disk.
 
-ghost use Rattle.std.specs.Prelude.{◌≡◌, IfErr, IfOk, map, string_bytes};
+ghost use Rattle.std.specs.Prelude.{◌≡◌, [], IfErr, IfOk, map, string_bytes};
 ghost use Rattle.aaset_start.specs.Gathering.{texts_of};
-ghost use Rattle.aatry_check.specs.Below.{IsChecked, given_or};
+ghost use Rattle.aatry_check.specs.Below.{IsChecked, meant};
 ghost use Rattle.aatry_check.specs.Checks.{TellsEach, refused_count};
+ghost use Rattle.aatry_folder.specs.Loadings.{file_names, seen_top};
+ghost use Rattle.aatry_folder.specs.Reports.{seen_report};
 ghost use Rattle.aatry_check.specs.Ends.{IsEndOfCheck};
 
 use crate::checked::check;
@@ -11,15 +13,30 @@ use aa_profile::Language;
 use aa_text_files::Files;
 use aaset_start::FileSystem;
 use aatry_arguments::Check;
-use aatry_folder::{Fault, Folders, PolicyFolder, Report, policy_below};
+use aatry_folder::{Fault, Folders, PolicyFolder, Report, TopFile, policy_below};
 use aatry_report::Teller;
 use std::alloc::{AllocError, Global};
 
-// The files that are meant: those that are given, and all at the top where none is.
-fn meant(top: Vec<String>, given: Vec<String>) -> Vec<String>
-    ensures { texts_of result ≡ given_or (texts_of top) (texts_of given) }
+// The names of files at the top.
+fn names_of(alloc: Global, top: &[TopFile]) -> Result<Vec<String>, AllocError>
+    ensures { IfOk result (λ names. texts_of names ≡ file_names (map seen_top top.now)) }
 {
-    if given.is_empty() { top } else { given }
+    let mut names = Vec::with_capacity(alloc, top.len())?;
+    for file in top {
+        names.push(String::from_str(alloc, file.name.as_str())?)?;
+    }
+    Ok(names)
+}
+
+// The files that are meant: those that are given, and all at the top where none is.
+fn meant(alloc: Global, top: &[TopFile], given: Vec<String>) -> Result<Vec<String>, AllocError>
+    ensures { IfOk result (λ names. texts_of names ≡ meant (map seen_top top.now) (texts_of given)) }
+{
+    if given.is_empty() {
+        names_of(alloc, top)
+    } else {
+        Ok(given)
+    }
 }
 
 // Checks files, and keeps what is told of them.
@@ -28,15 +45,18 @@ fn report_on(
     language: Language,
     files: &Files,
     base: &str,
+    top: &[TopFile],
     names: &[String],
 ) -> Result<Report, AllocError>
-    ensures told { IfOk result (λ report. TellsEach teller.form language files.now base.now (map string_bytes names.now) report.text.items) }
+    ensures told { IfOk result (λ report. TellsEach teller.form language files.now base.now (map seen_top top.now) (map string_bytes names.now) report.text.items) }
+    ensures noted { IfOk result (λ report. report.notes.items ≡ []) }
     ensures counted { IfOk result (λ report. report.failed ≡ refused_count language files.now (map string_bytes names.now)) }
 {
     let mut text = Vec::new(teller.alloc);
-    let checked = check(teller, language, files, base, names, &mut text)?;
+    let checked = check(teller, language, files, base, top, names, &mut text)?;
     Ok(Report {
         text,
+        notes: Vec::new(teller.alloc),
         failed: checked.refused,
     })
 }
@@ -57,7 +77,7 @@ pub fn check_folder<F: Folders, D: FileSystem>(
     asked: Check,
 ) -> Result<Report, Fault>
     ensures checked { IfOk result (λ report. IsChecked teller.form language (F.told folders.now) (D.known disk.now) (string_bytes asked.base) (texts_of asked.names)
-        report.text.items report.failed) }
+        (seen_report report)) }
     ensures fault { IfErr result (IsEndOfCheck (F.told folders.now) (D.known disk.now) (string_bytes asked.base)) }
 {
     let Check { base, names: given } = asked;
@@ -67,6 +87,6 @@ pub fn check_folder<F: Folders, D: FileSystem>(
         top,
         ..
     } = policy_below(teller.alloc, language, folders, disk, base.as_str())?;
-    let meant = meant(top, given);
-    Ok(report_on(teller, language, &files, base, &meant)?)
+    let meant = meant(teller.alloc, &top, given)?;
+    Ok(report_on(teller, language, &files, base, &top, &meant)?)
 }

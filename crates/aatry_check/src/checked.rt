@@ -2,12 +2,16 @@
 
 ghost use Rattle.std.specs.Prelude.{◌≡◌, ◌≤◌, ◌+◌, ◌++◌, ℕ, List, IfOk, OnOk, length, map, string_bytes};
 ghost use Rattle.aatry_report.specs.Taken.{taken_line};
-ghost use Rattle.aatry_check.specs.Checks.{Tells, TellsEach, refused_count, refused_in};
+ghost use Rattle.aatry_check.specs.Checks.{Tells, TellsEach, TellsReading, refused_count, refused_in};
+ghost use Rattle.aa_profile.specs.FileReading.{file_profiles_in};
+ghost use Rattle.aatry_folder.specs.Loadings.{seen_top};
 ghost use Rattle.aatry_report.specs.FilePlaces.{path_below};
 
+use crate::loading::{loading_in, push_loading};
 use crate::refusal::push_refusal;
 use aa_profile::{Language, Profile, ProfileRefusal, read_file_in};
 use aa_text_files::Files;
+use aatry_folder::TopFile;
 use aatry_report::{Teller, path_below, push_taken};
 use std::alloc::{AllocError, Global};
 
@@ -34,8 +38,8 @@ fn push_profiles(
     push_taken(teller, &path, profiles, out)
 }
 
-// Checks a file, puts what is told of it behind a text, and says how many are refused: one or none.
-fn check_file(
+// Checks a file, puts what is told of its reading behind a text, and says how many are refused: one or none.
+fn check_reading(
     teller: Teller,
     language: Language,
     files: &Files,
@@ -45,7 +49,8 @@ fn check_file(
 ) -> Result<usize, AllocError>
     ensures refused { IfOk result (λ refused. refused ≡ refused_in language files.now name.now) }
     ensures few { IfOk result (λ refused. refused ≤ 1) }
-    ensures told { OnOk result ((lines : List ℕ) × (out.new.items ≡ out.old.items ++ lines) × Tells teller.form language files.now base.now name.now lines) }
+    ensures told { OnOk result ((lines : List ℕ) × (out.new.items ≡ out.old.items ++ lines)
+        × TellsReading teller.form files.now base.now name.now (file_profiles_in language files.now name.now) lines) }
 {
     match read_file_in(teller.alloc, language, files, name) {
         Ok(read) => {
@@ -62,13 +67,35 @@ fn check_file(
     }
 }
 
+// Checks a file, puts what is told of it behind a text, with how it is loaded, and says how many are refused: one or none.
+fn check_file(
+    teller: Teller,
+    language: Language,
+    files: &Files,
+    base: &[u8],
+    top: &[TopFile],
+    name: &[u8],
+    out: &mut Vec<u8>,
+) -> Result<usize, AllocError>
+    ensures refused { IfOk result (λ refused. refused ≡ refused_in language files.now name.now) }
+    ensures few { IfOk result (λ refused. refused ≤ 1) }
+    ensures told { OnOk result ((lines : List ℕ) × (out.new.items ≡ out.old.items ++ lines)
+        × Tells teller.form language files.now base.now (map seen_top top.now) name.now lines) }
+{
+    let refused = check_reading(teller, language, files, base, name, out)?;
+    push_loading(teller, base, name, loading_in(top, name), out)?;
+    Ok(refused)
+}
+
 /// Checks files of policy by a language, each by itself, with the files that they include, and puts what is told of each behind a text, in their
-/// order: that it was taken, or why it is refused and where. `base` is the folder that `files` were taken from, without a `/` at its end; each file
+/// order: that it was taken, or why it is refused and where; and behind that, that its profiles are disabled or loaded in complain mode, where they
+/// are by the files at the top of the folder, which `top` has. `base` is the folder that `files` were taken from, without a `/` at its end; each file
 /// is told by its path below that. A name that no file has is told as such.
 ///
-/// The record of a file that was taken is that of `aatry_report::push_taken`. That of one that is refused is of the kind `refused`, with the file that the
-/// fault stands in and the fault as `aatry_report::put_fault_at` puts it, or `put_fault` where it has no place; and with `included_from`, the file that is
-/// checked, where the fault stands in another.
+/// The record of a file that was taken is that of `aatry_report::push_taken`. That of one that is refused is of the kind `refused`, with the file
+/// that the fault stands in and the fault as `aatry_report::put_fault_at` puts it, or `put_fault` where it has no place; and with `included_from`,
+/// the file that is checked, where the fault stands in another. That of a file that isn't loaded by its flags is of the kind `loading`, with the
+/// file, its `state`, which is `disabled` or `complain`, and what makes it so, `by`.
 ///
 /// # Errors
 ///
@@ -78,12 +105,13 @@ pub fn check(
     language: Language,
     files: &Files,
     base: &str,
+    top: &[TopFile],
     names: &[String],
     out: &mut Vec<u8>,
 ) -> Result<Checked, AllocError>
     ensures all { IfOk result (λ checked. checked.taken + checked.refused ≡ length names.now) }
     ensures refused { IfOk result (λ checked. checked.refused ≡ refused_count language files.now (map string_bytes names.now)) }
-    ensures told { OnOk result ((lines : List ℕ) × (out.new.items ≡ out.old.items ++ lines) × TellsEach teller.form language files.now base.now (map string_bytes names.now) lines) }
+    ensures told { OnOk result ((lines : List ℕ) × (out.new.items ≡ out.old.items ++ lines) × TellsEach teller.form language files.now base.now (map seen_top top.now) (map string_bytes names.now) lines) }
 {
     let mut refused = 0;
     for name in names {
@@ -92,6 +120,7 @@ pub fn check(
             language,
             files,
             base.as_bytes(),
+            top,
             name.as_bytes(),
             out,
         )?;

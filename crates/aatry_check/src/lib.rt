@@ -3,6 +3,7 @@
 
 mod below;
 mod checked;
+mod loading;
 mod records;
 mod refusal;
 

@@ -3,3 +3,4 @@ mod CountLemmas
 mod DifferenceLemmas
 mod LawLemmas
 mod PolicyLemmas
+mod TextLemmas

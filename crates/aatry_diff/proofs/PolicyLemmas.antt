@@ -12,7 +12,7 @@ use Rattle.aa_decide_slots.specs.Entries.{Loaded}
 use Rattle.aa_decide_slots.specs.Named.{have_distinct_names}
 use Rattle.aa_decide_ready.specs.Ready.{child_rules, rules_at}
 use Rattle.aa_decide_ready.specs.Visits.{attachments_at}
-use Rattle.aa_explain.specs.AlikePolicies.{AreAlikePolicies, AreConfinedAlike, AreThereAlike, HaveNamesApart, HaveReadRules, mode_in}
+use Rattle.aa_explain.specs.AlikePolicies.{AreAlikePolicies, AreConfinedAlike, AreThereAlike, HaveNamesApart, HaveReadRules}
 use Rattle.aa_explain.specs.NamedAskers.{IsChildNamed, IsNamed}
 use Rattle.aa_explain_diff.specs.Alike.{HaveSameHead, HaveSameTexts}
 use Rattle.aa_explain_diff.specs.Features.{are_alike as are_sections_alike}
@@ -27,7 +27,6 @@ use Rattle.aa_profile_data.specs.declared.profile.Profile.{Profile}
 use Rattle.aa_set_answers.specs.Askers.{asker}
 use Rattle.aa_set_answers.specs.Laws.{HasFileNames, IsListed, StandsAt}
 use Rattle.aa_set_answers.specs.ProfileNames.{full_name_at}
-use Rattle.aa_set_changes.specs.Changes.{loaded}
 use Rattle.aatry_diff.proofs.CountLemmas.{new-there, old-alike, part-there}
 use Rattle.aatry_diff.specs.Comparing.{are_alike}
 use Rattle.aatry_policy.specs.FolderParts.{parts_in}
@@ -45,7 +44,6 @@ pub record AreLaws : Type 0 where
   pub parts : (folder : Folder) (name : List ℕ) → IsFirstIn (policy_in folder) (parts_in folder) name
   pub apart : (folder : Folder) → have_distinct_names (policy_in folder) ≡ true
   pub names : (folder : Folder) (entry : Loaded) → Contains (policy_in folder) entry → HasFileNames entry.profile
-  pub modes : (folder : Folder) (entry : Loaded) → Contains (policy_in folder) entry → entry ≡ loaded false entry.profile
   pub agree : (folder : Folder) (entry : Loaded) → Contains (policy_in folder) entry → profile_agrees entry.profile ≡ true
   pub read : (folder : Folder) (entry : Loaded) → Contains (policy_in folder) entry → HasReadPatterns entry.profile
   pub heads : (one other : Section) → are_sections_alike one other ≡ true → HaveSameHead one other
@@ -93,7 +91,6 @@ named-listed entries name who is = (is.there, by who.child name.child is.child)
 pub record HaveParts (R : Part → Part → Type 0) (one two : Folder) (name : FullName) (who : Asker) : Type 0 where
   pub other : Asker
   pub found : named_asker (policy_in two) name ≡ Some other
-  pub inside : Contains (policy_in two) other.entry
   pub part : Part
   pub twin : Part
   pub here : IsPartOf who part
@@ -133,19 +130,12 @@ module _ (laws : AreLaws) where
       record {
         other = other;
         found = ap (named_asker (policy_in two)) (sym full ∙ ap full_name (sym text)) ∙ stands;
-        inside = inside.0;
         part = part;
         twin = twin;
         here = own;
         there = theirs;
         related = related;
       }
-
-  -- the mode in which one that is loaded confines is that of its part
-  own-mode : (folder : Folder) (who : Asker) (part : Part) → Contains (policy_in folder) who.entry → IsPartOf who part
-      → mode_in who.entry.state who.child ≡ Some part.section.mode
-  own-mode folder who part there own =
-      ap (λ (e : Loaded). mode_in e.state who.child) (laws.modes folder who.entry there) ∙ ap (λ mode. Some mode) (sym own.mode)
 
   module _ (old new : Folder) (requests : Option Gathered) (alike : are_alike old new requests ≡ true) where
     confined : (name : FullName) (who : Asker) → named_asker (policy_in old) name ≡ Some who
@@ -158,9 +148,7 @@ module _ (laws : AreLaws) where
           both.other,
           both.found,
           record {
-            mode =
-                own-mode old who both.part there.there both.here ∙ ap (λ mode. Some mode) head.mode
-                ∙ sym (own-mode new both.other both.twin both.inside both.there);
+            mode = sym both.here.mode ∙ head.mode ∙ both.there.mode;
             audit = sym both.here.audit ∙ head.audit ∙ both.there.audit;
             attachments =
                 subst (λ texts. HaveSameTexts texts (attachments_at both.other.entry.profile both.other.child)) both.here.attachments

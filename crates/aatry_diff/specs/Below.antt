@@ -1,13 +1,15 @@
 -- What a comparison of two folders of policy on a disk comes to.
-use Rattle.std.specs.Prelude.{◌≡◌, ℕ, List, [], ◌∷◌, Option, None, Some}
+use Rattle.std.specs.Prelude.{◌≡◌, ℕ, Bool, List, [], ◌∷◌, Option, None, Some}
 use Rattle.aa_profile_parsing.specs.declared.language.Language.{Language}
 use Rattle.aa_text_files.specs.Files.{File}
+use Rattle.aaset_start.specs.Gathering.{names_of}
 use Rattle.aaset_start.specs.Known.{Known}
 use Rattle.aatry_arguments.specs.DiffWords.{ComparisonAsked, LogAt, QuestionsAt, SourceAsked}
-use Rattle.aatry_diff.specs.Comparing.{are_alike, diff_text}
+use Rattle.aatry_diff.specs.Comparing.{diff_notes, diff_text, is_unchanged}
+use Rattle.aatry_folder.specs.Loadings.{AreTop, TopFile}
 use Rattle.aatry_folder.specs.OneFile.{IsFileAt}
-use Rattle.aatry_folder.specs.PolicyFolders.{AreBelow}
-use Rattle.aatry_folder.specs.Reports.{failed_by}
+use Rattle.aatry_folder.specs.PolicyFolders.{AreBelow, top_names}
+use Rattle.aatry_folder.specs.Reports.{Report, failed_by}
 use Rattle.aatry_folder.specs.Told.{ToldFolders}
 use Rattle.aatry_policy.specs.Folders.{folder_at}
 use Rattle.aatry_report.specs.declared.form.Form.{Form}
@@ -31,15 +33,21 @@ IsGathered known None requests = requests ≡ None
 IsGathered known (Some source) requests =
     (bytes : List ℕ) × IsFileAt known (path_of source) ((path_of source, bytes) ∷ []) × (requests ≡ Some (gathered (form_of source) bytes))
 
--- The two folders, each with all that lies below it and both by one language, were compared, by what the file of requests tells of too, if there is one, and
--- the text tells how they differ. One failed where something differs.
+-- The two folders, each with all that lies below it and both by one language, were compared, by what the file of requests tells of too, if there is
+-- one: the text tells how they differ, and it is noted how many files of each are left out. One failed where something differs, or a file is newly
+-- left out.
 pub record IsComparedBelow
-    (form : Form) (language : Language) (folders : ToldFolders) (known : Known) (asked : ComparisonAsked) (text : List ℕ) (failed : ℕ) : Type 0 where
+    (form : Form) (verbose : Bool) (language : Language) (folders : ToldFolders) (known : Known) (asked : ComparisonAsked) (report : Report) : Type 0 where
   pub old_files : List File
   pub new_files : List File
   pub old_below : AreBelow folders known asked.old old_files
   pub new_below : AreBelow folders known asked.new new_files
+  pub old_top : List TopFile
+  pub new_top : List TopFile
+  pub old_loaded : AreTop folders asked.old (top_names (names_of old_files)) old_top
+  pub new_loaded : AreTop folders asked.new (top_names (names_of new_files)) new_top
   pub requests : Option Gathered
   pub gathered : IsGathered known asked.source requests
-  pub told : text ≡ diff_text form (folder_at language asked.old old_files) (folder_at language asked.new new_files) requests
-  pub counted : failed ≡ failed_by (are_alike (folder_at language asked.old old_files) (folder_at language asked.new new_files) requests)
+  pub told : report.text ≡ diff_text form verbose (folder_at language asked.old old_files old_top) (folder_at language asked.new new_files new_top) requests
+  pub noted : report.notes ≡ diff_notes (folder_at language asked.old old_files old_top) (folder_at language asked.new new_files new_top)
+  pub counted : report.failed ≡ failed_by (is_unchanged (folder_at language asked.old old_files old_top) (folder_at language asked.new new_files new_top) requests)

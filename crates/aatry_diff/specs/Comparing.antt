@@ -1,9 +1,11 @@
 -- What is told of two folders of policy that are compared (docs/aatry.md).
 use Rattle.std.specs.Prelude.{ℕ, Bool, ◌==◌, ◌&&◌, List, ◌++◌, Option}
+use Rattle.aa_bytes.specs.Texts.{is_empty}
 use Rattle.aatry_changes.specs.Changes.{change_lines, changed_count}
 use Rattle.aatry_diff.specs.Sources.{differing_count, requests_text}
 use Rattle.aatry_diff.specs.Folders.{BothFolders}
-use Rattle.aatry_policy.specs.Folders.{Folder, left_out_in, policy_in}
+use Rattle.aatry_diff.specs.NewlyLeftOut.{newly_left_out, newly_lines}
+use Rattle.aatry_policy.specs.Folders.{Folder, left_out_in, left_out_note, policy_in}
 use Rattle.aatry_policy.specs.FolderParts.{by_parts}
 use Rattle.aatry_report.specs.declared.form.Form.{Form}
 use Rattle.aatry_requests.specs.Gathering.{Gathered}
@@ -12,12 +14,22 @@ use Rattle.aatry_requests.specs.Gathering.{Gathered}
 abbrev pub both : Folder → Folder → BothFolders
 both old new = record { old = by_parts old; new = by_parts new }
 
--- what is told of two folders: the files that are left out, the profiles, children and hats that are gone, changed or new, and the requests
-abbrev pub diff_text : Form → Folder → Folder → Option Gathered → List ℕ
-diff_text form old new requests =
-    left_out_in form old ++ left_out_in form new ++ change_lines form (by_parts old) (by_parts new)
+-- what is told of two folders: the files that are left out, at length or not, those that are so newly, the profiles, children and hats that are gone,
+-- changed or new, and the requests
+abbrev pub diff_text : Form → Bool → Folder → Folder → Option Gathered → List ℕ
+diff_text form verbose old new requests =
+    left_out_in form verbose old ++ left_out_in form verbose new ++ newly_lines form new.base (newly_left_out old new)
+    ++ change_lines form (by_parts old) (by_parts new)
     ++ requests_text form (both old new) (policy_in old) (policy_in new) requests
+
+-- what is noted of them: how many files of each are left out
+abbrev pub diff_notes : Folder → Folder → List ℕ
+diff_notes old new = left_out_note old ++ left_out_note new
 
 -- nothing differs: no profile, child or hat, and no answer
 abbrev pub are_alike : Folder → Folder → Option Gathered → Bool
 are_alike old new requests = changed_count (by_parts old) (by_parts new) == 0 && differing_count (policy_in old) (policy_in new) requests == 0
+
+-- The new folder can take the place of the old one: they are alike, and no file is newly left out, of which nothing is known here.
+abbrev pub is_unchanged : Folder → Folder → Option Gathered → Bool
+is_unchanged old new requests = is_empty (newly_left_out old new) && are_alike old new requests

@@ -5,6 +5,7 @@ pub mod Differences
 pub mod Differing
 pub mod Ends
 pub mod Folders
+pub mod NewlyLeftOut
 pub mod Paths
 pub mod SeenDifferences
 pub mod Sources

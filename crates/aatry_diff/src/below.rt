@@ -6,6 +6,7 @@ ghost use Rattle.aatry_diff.specs.Below.{IsComparedBelow, IsGathered, form_of, p
 ghost use Rattle.aatry_diff.specs.Ends.{IsEndOfDiff, IsOfSource};
 ghost use Rattle.aatry_diff.specs.Sources.{seen_source};
 ghost use Rattle.aatry_diff.specs.code.Requests.{gathered_of};
+ghost use Rattle.aatry_folder.specs.Reports.{seen_report};
 
 use crate::comparing::diff;
 use aa_profile_parsing::Language;
@@ -66,10 +67,11 @@ fn source_of(found: &Option<(Source, Files)>) -> Option<(Source, &[u8])>
     }
 }
 
-/// Compares two folders of policy, both by one language, and by the requests of a log or the questions of a file too, where one is given: reads each folder
-/// as `aatry_folder::policy_below` does. Told are the files of either that are left out; the profiles, children and hats that are gone, changed or new, with
-/// what differs of them (`aatry_changes::push_changes`); and what the folders answer otherwise, and what sums up. One failed where something differs: a
-/// profile, child or hat, or an answer.
+/// Compares two folders of policy, both by one language, and by the requests of a log or the questions of a file too, where one is given: reads each
+/// folder as `aatry_folder::policy_below` does. Told are the files of either that are left out, where they are told, with a note on how many they
+/// are; those that are so newly; the profiles, children and hats that are gone, changed or new, with what differs of them
+/// (`aatry_changes::push_changes`); and what the folders answer otherwise, and what sums up. One failed where something differs, a profile, child or
+/// hat, or an answer; or where a file is newly left out.
 ///
 /// # Errors
 ///
@@ -83,8 +85,8 @@ pub fn diff_folders<F: Folders, D: FileSystem>(
     disk: &D,
     asked: Comparison,
 ) -> Result<Report, Fault>
-    ensures told { IfOk result (λ report. IsComparedBelow teller.form language (F.told folders.now) (D.known disk.now) (meant_comparison asked)
-        report.text.items report.failed) }
+    ensures told { IfOk result (λ report. IsComparedBelow teller.form teller.verbose language (F.told folders.now) (D.known disk.now) (meant_comparison asked)
+        (seen_report report)) }
     ensures fault { IfErr result (IsEndOfDiff (F.told folders.now) (D.known disk.now) (meant_comparison asked)) }
 {
     let Comparison { old, new, source } = asked;

@@ -1,8 +1,10 @@
 //! Two folders of policy, compared by their profiles and by what they answer.
 
-ghost use Rattle.std.specs.Prelude.{◌≡◌, ◌++◌, IfOk, OnOk, option_map};
-ghost use Rattle.aatry_diff.specs.Comparing.{are_alike, diff_text};
-ghost use Rattle.aatry_diff.specs.Folders.{both_loaded, seen_folders};
+ghost use Rattle.std.specs.Prelude.{◌≡◌, ◌++◌, ◌&&◌, IfOk, OnOk, option_map};
+ghost use Rattle.aa_bytes.specs.Texts.{is_empty};
+ghost use Rattle.aatry_diff.specs.Comparing.{diff_notes, diff_text, is_unchanged};
+ghost use Rattle.aatry_diff.specs.Folders.{both_loaded, newly_loaded, seen_folders};
+ghost use Rattle.aatry_diff.specs.NewlyLeftOut.{newly_lines};
 ghost use Rattle.aatry_diff.specs.SeenDifferences.{seen_differences};
 ghost use Rattle.aatry_diff.specs.Sources.{differences_of, seen_source};
 ghost use Rattle.aatry_diff.specs.code.Steps.{compared_text, nothing_differs};
@@ -12,6 +14,7 @@ ghost use Rattle.aatry_requests.specs.Gathering.{seen_requests};
 
 use crate::asked::{Asked, differences_of, push_asked, requests_of};
 use crate::folders::BothFolders;
+use crate::newly::push_newly;
 use aatry_changes::push_changes;
 use aatry_folder::{PolicyFolder, Report, failed_by};
 use aatry_policy::{LoadedFolder, by_parts, load_folder, parts_of};
@@ -87,6 +90,27 @@ fn push_both(
     push_loaded(teller, old, new, &asked, out)
 }
 
+// The same, with the files that are newly left out before it; and says whether there are none, and nothing differs.
+fn push_all(
+    teller: Teller,
+    old: &mut LoadedFolder<'_>,
+    new: &mut LoadedFolder<'_>,
+    requests: &Option<Requests<'_>>,
+    out: &mut Vec<u8>,
+) -> Result<bool, AllocError>
+    ensures unchanged { IfOk result (λ unchanged. unchanged ≡ (is_empty (newly_loaded old.old new.old)
+        && nothing_differs (both_loaded old.old new.old)
+        (differences_of old.old.policy.manager.machine.now new.old.policy.manager.machine.now (option_map seen_requests requests.now)))) }
+    ensures told { OnOk result (out.new.items ≡ out.old.items
+        ++ (newly_lines teller.form new.old.folder.now.base.now (newly_loaded old.old new.old)
+        ++ compared_text teller.form (both_loaded old.old new.old) (option_map seen_requests requests.now)
+        (differences_of old.old.policy.manager.machine.now new.old.policy.manager.machine.now (option_map seen_requests requests.now)))) }
+{
+    let none = push_newly(teller, old, new, out)?;
+    let alike = push_both(teller, old, new, requests, out)?;
+    Ok(none && alike)
+}
+
 // How two folders of policy differ, by requests, if there are some.
 fn compare(
     teller: Teller,
@@ -95,24 +119,25 @@ fn compare(
     requests: &Option<Requests<'_>>,
 ) -> Result<Report, AllocError>
     ensures told { IfOk result (λ report.
-        report.text.items ≡ diff_text teller.form (seen_folder old.now) (seen_folder new.now) (option_map seen_requests requests.now)) }
+        report.text.items ≡ diff_text teller.form teller.verbose (seen_folder old.now) (seen_folder new.now) (option_map seen_requests requests.now)) }
+    ensures noted { IfOk result (λ report. report.notes.items ≡ diff_notes (seen_folder old.now) (seen_folder new.now)) }
     ensures failed { IfOk result (λ report.
-        report.failed ≡ failed_by (are_alike (seen_folder old.now) (seen_folder new.now) (option_map seen_requests requests.now))) }
+        report.failed ≡ failed_by (is_unchanged (seen_folder old.now) (seen_folder new.now) (option_map seen_requests requests.now))) }
 {
-    let mut text = Vec::new(teller.alloc);
-    let mut before = load_folder(teller, old, &mut text)?;
-    let mut after = load_folder(teller, new, &mut text)?;
-    let alike = push_both(teller, &mut before, &mut after, requests, &mut text)?;
-    Ok(Report {
-        text,
-        failed: failed_by(alike),
-    })
+    let mut report = Report::new(teller.alloc);
+    let mut before = load_folder(teller, old, &mut report)?;
+    let mut after = load_folder(teller, new, &mut report)?;
+    let unchanged = push_all(teller, &mut before, &mut after, requests, &mut report.text)?;
+    report.failed = failed_by(unchanged);
+    Ok(report)
 }
 
-/// How two folders of policy that were read differ, told in a form. First come the files of either that are left out (`aatry_policy::load_folder`). Then come
-/// the profiles, children and hats that are gone, changed or new, with what differs of them (`aatry_changes::push_changes`); and where a log or a file of
-/// questions is given, by its kind and its bytes, what the folders answer otherwise (`push_differences`), and what sums up (`push_summary`). One failed
-/// where something differs: a profile, child or hat, or an answer. Each file of the folders is read once.
+/// How two folders of policy that were read differ, told in a form. First come the files of either that are left out, where they are told, and it is
+/// noted how many they are (`aatry_policy::load_folder`). Then come those that are left out of the new one and not of the old one, by their names
+/// (`push_newly`); the profiles, children and hats that are gone, changed or new, with what differs of them (`aatry_changes::push_changes`); and
+/// where a log or a file of questions is given, by its kind and its bytes, what the folders answer otherwise (`push_differences`), and what sums up
+/// (`push_summary`). One failed where something differs, a profile, child or hat, or an answer; or where a file is newly left out, of which nothing
+/// is known. Each file of the folders is read once.
 ///
 /// # Errors
 ///
@@ -124,9 +149,10 @@ pub fn diff(
     source: Option<(Source, &[u8])>,
 ) -> Result<Report, AllocError>
     ensures told { IfOk result (λ report.
-        report.text.items ≡ diff_text teller.form (seen_folder old.now) (seen_folder new.now) (seen_source source.entry)) }
+        report.text.items ≡ diff_text teller.form teller.verbose (seen_folder old.now) (seen_folder new.now) (seen_source source.entry)) }
+    ensures noted { IfOk result (λ report. report.notes.items ≡ diff_notes (seen_folder old.now) (seen_folder new.now)) }
     ensures failed { IfOk result (λ report.
-        report.failed ≡ failed_by (are_alike (seen_folder old.now) (seen_folder new.now) (seen_source source.entry))) }
+        report.failed ≡ failed_by (is_unchanged (seen_folder old.now) (seen_folder new.now) (seen_source source.entry))) }
 {
     let requests = requests_of(teller.alloc, source)?;
     compare(teller, old, new, &requests)

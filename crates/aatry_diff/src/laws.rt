@@ -26,8 +26,8 @@ pub fn what_differs_is_told()
         → is_empty (difference_lines form folders old new tallies) ≡ (length (differing old new tallies) == 0) }
 {}
 
-/// Two folders are alike, by which `aatry diff` has its exit status, exactly where nothing is told of them but the files that are left out and what
-/// sums up: of no profile, child or hat, and of no question.
+/// Two folders are alike, by which `aatry diff` has its exit status unless a file is newly left out, exactly where nothing is told of them but the
+/// files that are left out and what sums up: of no profile, child or hat, and of no question.
 pub fn what_is_alike_is_not_told()
     ensures { (form : Form) (old new : Folder) (requests : Option Gathered)
         → are_alike old new requests
@@ -38,8 +38,9 @@ pub fn what_is_alike_is_not_told()
     what_differs_is_told();
 }
 
-/// So where two folders are alike, each profile, child and hat of the old one has one of its full name in the new one that decides as it does, whatever is
-/// asked: it is in the same mode, no verdict is another one, and no line that logs one; and their rules say the same together of the start of a program.
+/// So where two folders are alike, each profile, child and hat of the old one has one of its full name in the new one that decides as it does,
+/// whatever is asked: it is in the same mode, no verdict is another one, and no line that logs one; and their rules say the same together of the
+/// start of a program.
 pub fn what_alike_folders_answer()
     ensures { (old new : Folder) (requests : Option Gathered) (part : Part)
         → are_alike old new requests ≡ true

@@ -10,6 +10,7 @@ mod differences;
 mod finding;
 mod folders;
 mod laws;
+mod newly;
 mod summary;
 
 pub use alike::alike_folders_answer_alike;

@@ -1,6 +1,7 @@
 pub mod Faults
 pub mod Includes
 pub mod Links
+pub mod Loadings
 pub mod Members
 pub mod NamesBelow
 pub mod OneFile

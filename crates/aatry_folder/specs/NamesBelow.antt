@@ -9,7 +9,7 @@ use Rattle.aatry_folder.specs.declared.below.FolderFault.TheVariants.{Unreadable
 abbrev pub most_names : ℕ
 most_names = 65536
 
--- the path of a folder by its name below the base; the base itself has no name
+-- the path of a file or folder by its name below the base; the base itself has no name
 abbrev pub path_of : List ℕ → List ℕ → List ℕ
 path_of base [] = base
 path_of base (b ∷ name) = (base ++ codes "/") ++ b ∷ name

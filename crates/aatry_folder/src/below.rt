@@ -37,8 +37,8 @@ impl From<AllocError> for FolderFault {
 /// How many files and folders are named at most.
 pub const MOST_NAMES: usize = 65_536;
 
-// The path of a folder by its name below the base; the base itself has no name.
-fn path_of(alloc: Global, base: &str, name: &str) -> Result<String, AllocError>
+// The path of a file or folder by its name below the base; the base itself has no name.
+pub fn path_of(alloc: Global, base: &str, name: &str) -> Result<String, AllocError>
     ensures { IfOk result (λ path. string_bytes path ≡ path_of base.now name.now) }
 {
     let mut path = String::from_str(alloc, base)?;
@@ -50,7 +50,7 @@ fn path_of(alloc: Global, base: &str, name: &str) -> Result<String, AllocError>
 }
 
 // Whether an error is for want of memory.
-fn is_for_memory(kind: ErrorKind) -> bool
+pub fn is_for_memory(kind: ErrorKind) -> bool
     ensures { result ≡ is_for_memory kind }
 {
     matches!(kind, ErrorKind::OutOfMemory)

@@ -3,9 +3,10 @@ ghost use Rattle.std.specs.Prelude.{◌≡◌, ◌++◌, None, Ok, Err, IfErr, I
 ghost use Rattle.std.specs.Fs.{IsDir, IsFile};
 ghost use Rattle.std.specs.IoError.{error_kind};
 ghost use Rattle.aatry_folder.specs.Members.{texts_of};
-ghost use Rattle.aatry_folder.specs.Links.{leads_nowhere};
+ghost use Rattle.aatry_folder.specs.Links.{is_for_memory, leads_nowhere};
 ghost use Rattle.aatry_folder.specs.Told.{SaysUnreadable, ToldFolders, anything_in_order};
 
+use crate::below::is_for_memory;
 use std::alloc::{AllocError, Global};
 use std::fs::FileType;
 use std::io::ErrorKind;
@@ -25,6 +26,15 @@ pub trait Folders {
     fn members(&self, alloc: Global, path: &str) -> io::Result<Vec<String>>
         ensures ok { IfOk result (λ names. (told self.now).HasMembers path.now (texts_of names)) }
         ensures err { IfErr result (λ error. SaysUnreadable (told self.now) path.now (error_kind error)) };
+
+    /// Whether something stands at a path: a file, a folder, or whatever else. Links are followed, so that one that leads nowhere doesn't stand
+    /// there, and what the system doesn't lead to for another reason doesn't either.
+    ///
+    /// # Errors
+    ///
+    /// Where memory runs out.
+    fn is_there(&self, path: &str) -> Result<bool, AllocError>
+        ensures { IfOk result (λ there. (told self.now).IsThere path.now there) };
 }
 
 /// The folders of a runtime's file system. Whatever it tells of their members is believed. They come in the order of their
@@ -78,6 +88,19 @@ fn kind_at(rt: &impl rt::Files, path: &str) -> io::Result<FileType> {
 // The same, if it leads anywhere.
 fn followed(rt: &impl rt::Files, path: &str) -> io::Result<Option<FileType>> {
     found(kind_at(rt, path))
+}
+
+// Whether following a path led anywhere. It is unknown for want of memory alone.
+fn leads_there(followed: io::Result<FileType>) -> Result<bool, AllocError>
+    ensures there { is_err followed ≡ false → result ≡ Ok true }
+    ensures nowhere { IfErr followed (λ error. is_for_memory (error_kind error) ≡ false → result ≡ Ok false) }
+    ensures unknown { IfErr followed (λ error. is_for_memory (error_kind error) ≡ true → is_err result ≡ true) }
+{
+    match followed {
+        Ok(_) => Ok(true),
+        Err(error) if is_for_memory(error.kind()) => Err(AllocError),
+        Err(_) => Ok(false),
+    }
 }
 
 // A folder's name, with `/` behind it.
@@ -141,5 +164,9 @@ impl<R: rt::Files + AllocGlobal + Clone + Drop> Folders for RuntimeFolders<R> {
         let mut names = read_members(&self.rt, alloc, path)?;
         names.sort()?;
         Ok(names)
+    }
+
+    fn is_there(&self, path: &str) -> Result<bool, AllocError> {
+        leads_there(kind_at(&self.rt, path))
     }
 }

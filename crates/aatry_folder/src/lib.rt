@@ -6,6 +6,7 @@ mod below;
 mod fault;
 mod folders;
 mod laws;
+mod loading;
 mod member;
 mod one_file;
 mod passed_over;
@@ -19,6 +20,7 @@ pub use folders::{Folders, RuntimeFolders};
 pub use laws::{
     nothing_that_stands_is_missing, what_is_missing_is_asked_for, what_stands_is_among_the_names,
 };
+pub use loading::{Loading, TopFile};
 pub use one_file::file_at;
 pub use passed_over::{is_kept_aside, is_passed_over};
 pub use policy_files::PolicyFiles;

@@ -2,6 +2,7 @@
 
 ghost use Rattle.std.specs.Prelude.{◌≡◌, ◌++◌, ◌∷◌, [], IfErr, IfOk, OnOk, map, string_bytes};
 ghost use Rattle.aaset_start.specs.Gathering.{names_of, texts_of};
+ghost use Rattle.aatry_folder.specs.Loadings.{AreTop, seen_top};
 ghost use Rattle.aatry_folder.specs.PolicyFiles.{seen_files};
 ghost use Rattle.aatry_folder.specs.PolicyFolders.{AreBelow, is_at_top, top_names};
 ghost use Rattle.aatry_folder.specs.Unread.{IsOfFolder};
@@ -9,6 +10,7 @@ ghost use Rattle.aatry_folder.specs.Unread.{IsOfFolder};
 use crate::below::names_below;
 use crate::fault::Fault;
 use crate::folders::Folders;
+use crate::loading::{TopFile, top_files};
 use crate::policy_files::PolicyFiles;
 use aa_bytes::has_byte;
 use aa_profile_parsing::Language;
@@ -25,8 +27,8 @@ pub struct PolicyFolder<'a> {
     pub base: &'a str,
     /// All files and folders below it, by their names in it.
     pub files: Files,
-    /// The names of the files at its top, in their order: those whose profiles are loaded.
-    pub top: Vec<String>,
+    /// The files at its top, whose profiles are loaded: in the order of their names, but those that are disabled behind all others.
+    pub top: Vec<TopFile>,
 }
 
 impl<'a> PolicyFolder<'a> {
@@ -70,8 +72,8 @@ fn top_names(alloc: Global, names: &[String]) -> Result<Vec<String>, AllocError>
 }
 
 /// A folder of policy, of which all files and folders are found, as `names_below` does, and their bytes read, as `aaset_start::gather` does. So
-/// nothing that an include asks for is missing where it stands in the folder and isn't passed over. The language is the one by which they are to be
-/// read as policy.
+/// nothing that an include asks for is missing where it stands in the folder and isn't passed over. Of each file at the top it is asked how its
+/// profiles are loaded, as `top_files` does. The language is the one by which they are to be read as policy.
 ///
 /// # Errors
 ///
@@ -88,11 +90,12 @@ pub fn policy_below<'a, F: Folders, D: FileSystem>(
     ensures language { IfOk result (λ policy. policy.language ≡ language) }
     ensures base { IfOk result (λ policy. policy.base.now ≡ base.now) }
     ensures below { IfOk result (λ policy. AreBelow (F.told folders.now) (D.known disk.now) base.now policy.files) }
-    ensures top { IfOk result (λ policy. texts_of policy.top ≡ top_names (names_of policy.files)) }
+    ensures top { IfOk result (λ policy.
+        AreTop (F.told folders.now) base.now (top_names (names_of policy.files)) (map seen_top policy.top.items)) }
     ensures fault { IfErr result (IsOfFolder (F.told folders.now) (D.known disk.now) base.now) }
 {
     let names = names_below(folders, alloc, base)?;
-    let top = top_names(alloc, &names)?;
+    let top = top_files(folders, alloc, base, top_names(alloc, &names)?)?;
     let files = gather(disk, alloc, base, names)?;
     Ok(PolicyFolder {
         language,

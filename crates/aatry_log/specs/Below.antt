@@ -1,23 +1,34 @@
 -- What logs come to, asked of a folder of policy on a disk.
-use Rattle.std.specs.Prelude.{ℕ, List, Option}
+use Rattle.std.specs.Prelude.{◌≡◌, ℕ, Bool, List, Option}
 use Rattle.aa_profile_parsing.specs.declared.language.Language.{Language}
 use Rattle.aa_text_files.specs.Files.{File}
+use Rattle.aaset_start.specs.Gathering.{names_of}
 use Rattle.aaset_start.specs.Known.{Known}
-use Rattle.aatry_arguments.specs.LogWords.{LogsAsked}
-use Rattle.aatry_folder.specs.PolicyFolders.{AreBelow}
+use Rattle.aatry_arguments.specs.LogWords.{LogLinesAsked, LogsAsked}
+use Rattle.aatry_folder.specs.Loadings.{AreTop, TopFile}
+use Rattle.aatry_folder.specs.PolicyFolders.{AreBelow, top_names}
+use Rattle.aatry_folder.specs.Reports.{Report}
 use Rattle.aatry_folder.specs.Told.{ToldFolders}
-use Rattle.aatry_log.specs.Gathered.{AreGathered, meant_paths}
 use Rattle.aatry_log.specs.Log.{IsLogTold}
-use Rattle.aatry_policy.specs.Folders.{folder_at}
+use Rattle.aatry_log_lines.specs.Selections.{Selection}
+use Rattle.aatry_logs.specs.Gathered.{AreGathered, meant_paths}
+use Rattle.aatry_logs.specs.LogRequests.{LogRequests, nothing}
+use Rattle.aatry_policy.specs.Folders.{folder_at, left_out_note}
 use Rattle.aatry_report.specs.declared.form.Form.{Form}
-use Rattle.aatry_requests.specs.Gathering.{Gathered, nothing}
 
--- The requests of all logs that are named were asked of the files at the top of the folder, with all that lies below it, by a language, and the text tells
--- what they come to. One failed where the logs don't pass.
-pub record IsLogToldBelow (form : Form) (language : Language) (folders : ToldFolders) (known : Known) (left : Option (List ℕ)) (asked : LogsAsked)
-    (text : List ℕ) (failed : ℕ) : Type 0 where
+-- the selection of the lines that are asked for
+abbrev pub selection_by : LogLinesAsked → Selection
+selection_by lines = record { denied = lines.denied; profile = lines.profile; since = lines.since }
+
+-- The requests of all logs that are named, of the lines that are asked for, were asked of the files at the top of the folder, with all that lies below
+-- it, by a language: the text tells what they come to, and it is noted how many files are left out. One failed where the logs don't pass.
+pub record IsLogToldBelow (form : Form) (verbose : Bool) (language : Language) (folders : ToldFolders) (known : Known) (left : Option (List ℕ)) (asked : LogsAsked)
+    (report : Report) : Type 0 where
   pub files : List File
   pub below : AreBelow folders known asked.base files
-  pub gathered : Gathered
-  pub read : AreGathered known left (meant_paths asked.paths) nothing gathered
-  pub told : IsLogTold form (folder_at language asked.base files) asked.strict gathered text failed
+  pub top : List TopFile
+  pub loaded : AreTop folders asked.base (top_names (names_of files)) top
+  pub logs : LogRequests
+  pub read : AreGathered (selection_by asked.lines) known left (meant_paths asked.paths) nothing logs
+  pub told : IsLogTold form verbose (folder_at language asked.base files top) asked.strict logs report.text report.failed
+  pub noted : report.notes ≡ left_out_note (folder_at language asked.base files top)

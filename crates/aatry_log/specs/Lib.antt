@@ -1,7 +1,6 @@
 pub mod Below
 pub mod Ends
-pub mod Gathered
 pub mod Log
 pub mod Requests
 pub mod Summary
-pub mod code
+pub mod Unreadable

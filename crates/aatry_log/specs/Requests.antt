@@ -1,5 +1,5 @@
 -- What is told of the requests of a log (docs/aatry.md).
-use Rattle.std.specs.Prelude.{◌≡◌, ℕ, ◌+◌, ◌==◌, if◌then◌else◌, List, [], ◌∷◌, ◌++◌, codes, flat_map}
+use Rattle.std.specs.Prelude.{◌≡◌, ℕ, ◌+◌, ◌==◌, if◌then◌else◌, List, [], ◌∷◌, ◌++◌, Option, None, Some, codes, flat_map}
 use Rattle.std.specs.Fmt.{decimal}
 use Rattle.serde_json.specs.Data.{Members}
 use Rattle.aa_bytes.specs.Bytes.{line_feed}
@@ -12,20 +12,36 @@ use Rattle.aatry_report.specs.declared.form.Form.TheVariants.{Lines, Records}
 use Rattle.aatry_requests.specs.Order.{IsMostAskedFirst}
 use Rattle.aatry_requests.specs.Tallies.{Tally}
 use Rattle.aatry_requests.specs.Texts.{question_text}
+use Rattle.aatry_requests.specs.declared.spans.Span.{Span}
+use Rattle.aatry_times.specs.Told.{time_text}
 use Rattle.aatry_why.specs.Why.{answered_text, has_answer, sources_in}
 
 -- how often a request came, as its line begins
 abbrev pub times_text : ℕ → List ℕ
-times_text times = if times == 1 then codes "once: " else decimal times ++ codes " times: "
+times_text times = if times == 1 then codes "once" else decimal times ++ codes " times"
 
--- a request as a line: how often it came, and the question that it asks
+-- when it came first and last: one time, where these are the same, and nothing where no time is known
+abbrev pub last_text : Span → List ℕ
+last_text span = if span.first == span.last then [] else codes " to " ++ time_text span.last
+
+abbrev pub span_text : Option Span → List ℕ
+span_text None = []
+span_text (Some span) = codes " (" ++ time_text span.first ++ last_text span ++ codes ")"
+
+-- a request as a line: how often it came, when, and the question that it asks
 abbrev pub request_line : Tally → List ℕ
-request_line tally = times_text tally.times ++ question_text tally.question ++ line_feed ∷ []
+request_line tally = times_text tally.times ++ span_text tally.span ++ codes ": " ++ question_text tally.question ++ line_feed ∷ []
+
+-- a record with when something came first and last, where times are known
+abbrev pub with_span : Option Span → Members → Members
+with_span None members = members
+with_span (Some span) members = with_text (codes "last") (time_text span.last) (with_text (codes "first") (time_text span.first) members)
 
 -- the same as a record
 abbrev pub request_record : Tally → Members
 request_record tally =
-    with_number (codes "times") tally.times (with_text (codes "question") (question_text tally.question) (record_of (codes "request")))
+    with_span tally.span (with_number (codes "times") tally.times
+    (with_text (codes "question") (question_text tally.question) (record_of (codes "request"))))
 
 -- what is told of a request by itself
 abbrev pub head_text : Form → Tally → List ℕ

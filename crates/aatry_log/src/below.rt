@@ -1,21 +1,38 @@
 //! Logs, asked of a folder of policy on a disk.
 
 ghost use Rattle.std.specs.Prelude.{◌≡◌, ◌≤◌, ◌^◌, IfErr, IfOk};
-ghost use Rattle.aatry_arguments.specs.Given.{meant_logs};
-ghost use Rattle.aatry_log.specs.Below.{IsLogToldBelow};
+ghost use Rattle.aatry_arguments.specs.Given.{meant_lines, meant_logs};
+ghost use Rattle.aatry_folder.specs.Reports.{seen_report};
+ghost use Rattle.aatry_log.specs.Below.{IsLogToldBelow, selection_by};
 ghost use Rattle.aatry_log.specs.Ends.{IsEndOfLog};
+ghost use Rattle.aatry_log_lines.specs.Selections.{seen_selection};
 
-use crate::gathered::{gather_logs, meant_paths};
 use crate::telling::log;
 use aa_profile_parsing::Language;
 use aa_set_lines::Source;
 use aaset_start::FileSystem;
-use aatry_arguments::Logs;
+use aatry_arguments::{LogLines, Logs};
 use aatry_folder::{Fault, Folders, Report, policy_below};
+use aatry_log_lines::Selection;
+use aatry_logs::{gather_logs, meant_paths};
 use aatry_report::Teller;
 
-/// What the policy of a folder, read by a language, answers now to what logs asked: reads the folder as `aatry_folder::policy_below` does, and then the
-/// logs that are named, or standard input where none is, and tells them as `log` does.
+// Which lines are asked for.
+fn selection_of(lines: &LogLines) -> Selection<'_>
+    ensures { seen_selection result ≡ selection_by (meant_lines lines.now) }
+{
+    Selection {
+        denied: lines.denied,
+        profile: match &lines.profile {
+            Some(name) => Some(name.as_slice()),
+            None => None,
+        },
+        since: lines.since,
+    }
+}
+
+/// What the policy of a folder, read by a language, answers now to what logs asked: reads the folder as `aatry_folder::policy_below` does, and then
+/// the logs that are named, or standard input where none is, and tells them as `log` does.
 ///
 /// # Errors
 ///
@@ -32,17 +49,19 @@ pub fn log_folder<F: Folders, D: FileSystem, S: Source>(
     input: &mut S,
 ) -> Result<Report, Fault>
     requires { S.reads input.old ≤ 2 ^ 62 }
-    ensures told { IfOk result (λ report. IsLogToldBelow teller.form language (F.told folders.now) (D.known disk.now) (S.left input.old) (meant_logs asked)
-        report.text.items report.failed) }
+    ensures told { IfOk result (λ report. IsLogToldBelow teller.form teller.verbose language (F.told folders.now) (D.known disk.now) (S.left input.old)
+        (meant_logs asked) (seen_report report)) }
     ensures fault { IfErr result (IsEndOfLog (F.told folders.now) (D.known disk.now) (meant_logs asked)) }
 {
     let Logs {
         base,
         paths,
         strict,
+        lines,
     } = asked;
     let folder = policy_below(teller.alloc, language, folders, disk, base.as_str())?;
     let meant = meant_paths(teller.alloc, paths)?;
-    let requests = gather_logs(teller.alloc, disk, &meant, input)?;
-    Ok(log(teller, &folder, strict, &requests)?)
+    let selection = selection_of(&lines);
+    let logs = gather_logs(teller.alloc, selection, disk, &meant, input)?;
+    Ok(log(teller, &folder, strict, &logs)?)
 }

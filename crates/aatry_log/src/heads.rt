@@ -1,12 +1,16 @@
 //! What is told of a request by itself.
 
-ghost use Rattle.std.specs.Prelude.{◌≡◌, ◌++◌, IfOk, OnOk};
-ghost use Rattle.aatry_log.specs.Requests.{head_text, request_line, request_record, times_text};
+ghost use Rattle.std.specs.Prelude.{◌≡◌, ◌++◌, IfOk, OnOk, codes};
+ghost use Rattle.aatry_log.specs.Requests.{head_text, last_text, request_line, request_record, span_text, times_text, with_span};
+ghost use Rattle.aatry_report.specs.Records.{with_text};
 ghost use Rattle.aatry_report.specs.SeenRecord.{seen_record};
 ghost use Rattle.aatry_requests.specs.SeenTallies.{seen_tally};
+ghost use Rattle.aatry_requests.specs.Texts.{question_text};
+ghost use Rattle.aatry_times.specs.Told.{time_text};
 
 use aatry_report::{Form, Record, Teller};
-use aatry_requests::{Tally, push_number, push_question};
+use aatry_requests::{Span, Tally, push_number, push_question};
+use aatry_times::push_time;
 use std::alloc::{AllocError, Global};
 
 // Appends how often a request came to a text.
@@ -14,9 +18,34 @@ fn push_times(out: &mut Vec<u8>, times: u64) -> Result<(), AllocError>
     ensures { OnOk result (out.new.items ≡ out.old.items ++ times_text times) }
 {
     if times == 1 {
-        return out.extend_from_slice(b"once: ");
+        return out.extend_from_slice(b"once");
     }
-    push_number(out, times, b" times: ")
+    push_number(out, times, b" times")
+}
+
+// Appends the last time to a text, where it isn't the first.
+fn push_last(out: &mut Vec<u8>, span: Span) -> Result<(), AllocError>
+    ensures { OnOk result (out.new.items ≡ out.old.items ++ last_text span) }
+{
+    if span.first == span.last {
+        return Ok(());
+    }
+    out.extend_from_slice(b" to ")?;
+    push_time(out, span.last)
+}
+
+// Appends when a request came to a text, where that is known.
+fn push_span(out: &mut Vec<u8>, span: Option<Span>) -> Result<(), AllocError>
+    ensures { OnOk result (out.new.items ≡ out.old.items ++ span_text span) }
+{
+    let Some(span) = span else {
+        return Ok(());
+    };
+    out.extend_from_slice(b" (")?;
+    push_time(out, span.first)?;
+    push_last(out, span)?;
+    out.extend_from_slice(b")")?;
+    Ok(())
 }
 
 // Appends the line of a request to a text.
@@ -24,25 +53,55 @@ fn push_line(tally: &Tally<'_>, out: &mut Vec<u8>) -> Result<(), AllocError>
     ensures { OnOk result (out.new.items ≡ out.old.items ++ request_line (seen_tally tally.now)) }
 {
     push_times(out, tally.times)?;
+    push_span(out, tally.span)?;
+    out.extend_from_slice(b": ")?;
     push_question(out, &tally.question.question())?;
     out.push(b'\n')?;
     Ok(())
+}
+
+// Puts a time into a record by a name.
+fn put_time(alloc: Global, name: &str, time: u64, into: &mut Record) -> Result<(), AllocError>
+    ensures { OnOk result (seen_record into.new ≡ with_text name.now (time_text time) (seen_record into.old)) }
+{
+    let mut text = Vec::new(alloc);
+    push_time(&mut text, time)?;
+    into.put_text(alloc, name, &text)
+}
+
+// Puts when a request came into a record, as `first` and `last`, where that is known.
+fn put_span(alloc: Global, span: Option<Span>, into: &mut Record) -> Result<(), AllocError>
+    ensures { OnOk result (seen_record into.new ≡ with_span span (seen_record into.old)) }
+{
+    let Some(span) = span else {
+        return Ok(());
+    };
+    put_time(alloc, "first", span.first, into)?;
+    put_time(alloc, "last", span.last, into)
+}
+
+// Puts the question of a request into a record, as `question`.
+fn put_question(alloc: Global, tally: &Tally<'_>, into: &mut Record) -> Result<(), AllocError>
+    ensures { OnOk result (seen_record into.new ≡ with_text (codes "question") (question_text (seen_tally tally.now).question) (seen_record into.old)) }
+{
+    let mut text = Vec::new(alloc);
+    push_question(&mut text, &tally.question.question())?;
+    into.put_text(alloc, "question", &text)
 }
 
 // The record of a request.
 fn request_record(alloc: Global, tally: &Tally<'_>) -> Result<Record, AllocError>
     ensures { IfOk result (λ made. seen_record made ≡ request_record (seen_tally tally.now)) }
 {
-    let mut text = Vec::new(alloc);
-    push_question(&mut text, &tally.question.question())?;
     let mut made = Record::new(alloc, "request")?;
-    made.put_text(alloc, "question", &text)?;
+    put_question(alloc, tally, &mut made)?;
     made.put_number(alloc, "times", tally.times as usize)?;
+    put_span(alloc, tally.span, &mut made)?;
     Ok(made)
 }
 
-/// Appends what is told of a request by itself to a text: a line with how often it came and the question that it asks, or a record of the kind `request`
-/// with the text `question` and the number `times`.
+/// Appends what is told of a request by itself to a text: a line with how often it came, when, and the question that it asks, or a record of the kind
+/// `request` with the text `question`, the number `times`, and the texts `first` and `last` where times are known.
 ///
 /// # Errors
 ///

@@ -2,11 +2,11 @@
 #![tactic(auto)]
 
 mod below;
-mod gathered;
 mod heads;
 mod indenting;
 mod requests;
 mod summary;
 mod telling;
+mod unreadable;
 
 pub use below::log_folder;

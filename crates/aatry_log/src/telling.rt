@@ -1,29 +1,31 @@
-//! A log, asked of a folder of policy.
+//! Logs, asked of a folder of policy.
 
 ghost use Rattle.std.specs.Prelude.{◌≡◌, IfOk};
 ghost use Rattle.aatry_log.specs.Log.{IsLogTold, passes};
-ghost use Rattle.aatry_policy.specs.Folders.{seen_folder};
-ghost use Rattle.aatry_requests.specs.Gathering.{seen_requests};
+ghost use Rattle.aatry_logs.specs.LogRequests.{seen_logs};
+ghost use Rattle.aatry_policy.specs.Folders.{left_out_note, seen_folder};
 
 use crate::requests::push_requests;
 use crate::summary::push_summary;
+use crate::unreadable::push_unreadable;
 use aatry_folder::{PolicyFolder, Report, failed_by};
+use aatry_logs::LogRequests;
 use aatry_policy::load_folder;
 use aatry_report::Teller;
-use aatry_requests::Requests;
 use std::alloc::AllocError;
 
-// Whether a log passes: where it is taken strictly, each of its lines can be read, and none asks for somebody who isn't there.
-fn passes(strict: bool, requests: &Requests<'_>, nobody: usize) -> bool
-    ensures { result ≡ passes strict (seen_requests requests.now) nobody }
+// Whether logs pass: where they are taken strictly, each of their lines can be read, and none asks for somebody who isn't there.
+fn passes(strict: bool, logs: &LogRequests<'_>, nobody: usize) -> bool
+    ensures { result ≡ passes strict (seen_logs logs.now) nobody }
 {
-    !strict || (requests.unreadable == 0 && nobody == 0)
+    !strict || (logs.requests.unreadable == 0 && nobody == 0)
 }
 
-/// What the requests of a log come to, asked of a folder of policy that was read, told in a form. First come the files that are left out
-/// (`aatry_policy::load_folder`). Then comes each request once, those first that came most often: a line with how often it came and what it asks, and
-/// below it what the policy answers now, with the rules behind the answer and the one that is missing, as `why` tells them. At the end stands what sums
-/// up. Where the log is taken strictly, one failed where a line can't be read or asks for somebody who isn't there.
+/// What the requests of logs come to, asked of a folder of policy that was read, told in a form. First come the files that are left out, where they
+/// are told, and it is noted how many they are (`aatry_policy::load_folder`). Then comes each request once, those first that came most often: a line
+/// with how often it came, when and what it asks, and below it what the policy answers now, with the rules behind the answer and the one that is
+/// missing, as `why` tells them. Then come the first lines that can't be read, and at the end stands what sums up. Where the logs are taken strictly,
+/// one failed where a line can't be read or asks for somebody who isn't there.
 ///
 /// # Errors
 ///
@@ -32,16 +34,21 @@ pub fn log(
     teller: Teller,
     folder: &PolicyFolder<'_>,
     strict: bool,
-    requests: &Requests<'_>,
+    logs: &LogRequests<'_>,
 ) -> Result<Report, AllocError>
-    ensures { IfOk result (λ report. IsLogTold teller.form (seen_folder folder.now) strict (seen_requests requests.now) report.text.items report.failed) }
+    ensures told { IfOk result (λ report. IsLogTold teller.form teller.verbose (seen_folder folder.now) strict (seen_logs logs.now) report.text.items report.failed) }
+    ensures noted { IfOk result (λ report. report.notes.items ≡ left_out_note (seen_folder folder.now)) }
 {
-    let mut text = Vec::new(teller.alloc);
-    let mut loaded = load_folder(teller, folder, &mut text)?;
-    let nobody = push_requests(teller, &mut loaded, &requests.tallies, &mut text)?;
-    push_summary(teller, requests, nobody, &mut text)?;
-    Ok(Report {
-        failed: failed_by(passes(strict, requests, nobody)),
-        text,
-    })
+    let mut report = Report::new(teller.alloc);
+    let mut loaded = load_folder(teller, folder, &mut report)?;
+    let nobody = push_requests(
+        teller,
+        &mut loaded,
+        &logs.requests.tallies,
+        &mut report.text,
+    )?;
+    push_unreadable(teller, &logs.unreadable, &mut report.text)?;
+    push_summary(teller, logs, nobody, &mut report.text)?;
+    report.failed = failed_by(passes(strict, logs, nobody));
+    Ok(report)
 }

@@ -1,9 +1,12 @@
 pub mod Asked
+pub mod Entries
 pub mod Laws
 pub mod Lines
 pub mod LoggedQuestions
 pub mod Masks
 pub mod Messages
 pub mod Pairs
+pub mod Selections
+pub mod Stamps
 pub mod Values
 pub mod code

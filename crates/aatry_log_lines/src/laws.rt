@@ -9,8 +9,10 @@ ghost use Rattle.aa_decide_audit.specs.declared.verdict.Verdict.{Verdict};
 ghost use Rattle.aa_profile_access.specs.Request.{Request};
 ghost use Rattle.aa_set_commands.specs.Question.{OfExec, is_path};
 ghost use Rattle.aa_set_lines.specs.Lines.{lines};
+ghost use Rattle.aatry_log_lines.specs.Entries.{entry_by};
 ghost use Rattle.aatry_log_lines.specs.Laws.{CanBeLogged, as_logged};
 ghost use Rattle.aatry_log_lines.specs.Lines.{Asks, told_by};
+ghost use Rattle.aatry_log_lines.specs.Selections.{Selection};
 ghost use Rattle.aatry_log_lines.specs.Values.{text_of};
 
 /// What is written of a text as the log lines of `aa_decide_audit` write it, between quotes or in hexadecimal, is read back as that text.
@@ -37,4 +39,9 @@ pub fn what_is_logged_reads_back()
     ensures silent { (asker : List ℕ) (request : Request) (verdict : Verdict)
         → verdict.tag ≡ None
         → map told_by (lines (log_line asker request verdict)) ≡ [] }
+{}
+
+/// What a line of a log tells, whatever is asked for, is what `told_by` says of it.
+pub fn what_entries_tell()
+    ensures { (selection : Selection) (line : List ℕ) → (entry_by selection line).told ≡ told_by line }
 {}

@@ -5,14 +5,19 @@
 #![tactic(auto)]
 
 mod asked;
+mod entries;
 mod laws;
 mod lines;
 mod logged_questions;
 mod masks;
 mod messages;
 mod pairs;
+mod selections;
+mod stamps;
 mod values;
 
 pub use asked::LoggedQuestion;
-pub use laws::{what_is_logged_reads_back, what_is_written_reads_back};
+pub use entries::{LogEntry, entry_by};
+pub use laws::{what_entries_tell, what_is_logged_reads_back, what_is_written_reads_back};
 pub use lines::{LogLine, told_by};
+pub use selections::Selection;

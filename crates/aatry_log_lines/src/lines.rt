@@ -33,7 +33,7 @@ pub enum LogLine<'a> {
 }
 
 // Whether a word says how a request came out.
-fn tells_request(word: &[u8]) -> bool
+pub fn tells_request(word: &[u8]) -> bool
     ensures { result ≡ tells_request word.now }
 {
     word == b"DENIED".as_slice()
@@ -96,7 +96,7 @@ fn has_asked_class(line: &[u8]) -> bool
 
 // Who asks.
 #[derive(Drop)]
-enum Asker<'a> {
+pub enum Asker<'a> {
     One(Option<LoggedText<'a>>),
     Several,
 }
@@ -120,7 +120,7 @@ fn labelled(label: Option<LoggedText<'_>>) -> Asker<'_>
 }
 
 // Who asks by what a line tells.
-fn asker_of(alloc: Global, line: &[u8]) -> Result<Asker<'_>, AllocError>
+pub fn asker_of(alloc: Global, line: &[u8]) -> Result<Asker<'_>, AllocError>
     ensures { IfOk result (λ asker. seen_asker asker ≡ asker_of line.now) }
 {
     if let Some(value) = value_of(line, b"profile=") {
@@ -236,7 +236,7 @@ fn told_as_program<'a>(word: Option<&[u8]>) -> LogLine<'a>
 }
 
 // What a message tells of.
-fn told_by_message(alloc: Global, message: &[u8]) -> Result<LogLine<'_>, AllocError>
+pub fn told_by_message(alloc: Global, message: &[u8]) -> Result<LogLine<'_>, AllocError>
     ensures { IfOk result (λ told. seen_line told ≡ told_by_message message.now) }
 {
     let Some(value) = value_of(message, b"apparmor=") else {

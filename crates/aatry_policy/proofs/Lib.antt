@@ -4,3 +4,4 @@ mod OriginLemmas
 mod PartLemmas
 mod PlaceLemmas
 mod ReadLemmas
+mod SwitchLemmas

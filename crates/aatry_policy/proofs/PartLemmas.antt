@@ -3,13 +3,10 @@ use Rattle.std.proofs.Common.{◌≡◌, ℕ, zero, suc, ◌+◌, Bool, true, fa
 use Rattle.std.proofs.Math.Nat.{add-zero, zero-add}
 use Rattle.std.proofs.lemmas.List.Elements.{All-append, All-cons, All-contains, All-head, All-nil, All-tail, All-weaker}
 use Rattle.std.proofs.lemmas.List.Elements.{Contains-append_right}
-use Rattle.std.proofs.lemmas.List.{get_or-map}
-use Rattle.std.proofs.lemmas.Option.{get_or_from_slice_get, slice_get_within}
 use Rattle.std.proofs.lemmas.Slice.Eq.{bytes_eq-Decides}
 use Rattle.std.specs.List.{All, Contains}
 use Rattle.std.specs.Str.{bytes_eq}
 use Rattle.aa_decide.specs.Exec.{Asker}
-use Rattle.aa_decide_slots.specs.Confinement.{mode_at}
 use Rattle.aa_decide_slots.specs.Entries.{Loaded}
 use Rattle.aa_decide_ready.specs.Ready.{audits, child_audits, child_rules, rules_at}
 use Rattle.aa_decide_ready.specs.Visits.{child_attachments}
@@ -17,7 +14,6 @@ use Rattle.aa_profile_data.specs.declared.profile.Child.{Child}
 use Rattle.aa_profile_data.specs.declared.profile.Profile.{Profile}
 use Rattle.aa_set_answers.specs.Laws.{IsListed, StandsAt}
 use Rattle.aa_set_answers.specs.ProfileNames.{full_name_at}
-use Rattle.aa_set_changes.specs.Changes.{mode_of, modes_of}
 use Rattle.aatry_policy.specs.Laws.{HasOwnRules, IsPartIn}
 use Rattle.aatry_policy.specs.Parts.{Part, behind_first, child_part, child_parts, first_of, part_of, profile_part, profile_parts, set_parts}
 use Rattle.aatry_policy.specs.declared.origins.Origin.{Origin}
@@ -69,24 +65,27 @@ all-right front behind profile has = (
 )
 
 -- the parts of a profile
-module _ (origin : Option Origin) (profile : Profile) where
+module _ (origin : Option Origin) (entry : Loaded) where
+  abbrev profile : Profile
+  profile = entry.profile
+
   has-children : (at place : ℕ) (children : List Child) (child : Child) → slice_get children place ≡ Some child
-      → Has (child_parts origin profile at children) (full_name_at profile (Some (at + place)))
+      → Has (child_parts origin entry at children) (full_name_at profile (Some (at + place)))
   has-children at place [] child is = absurd (cc)
   has-children at zero (first ∷ children) child is =
-      has-first (child_part origin profile at first) (child_parts origin profile (at + 1) children) (full_name_at profile (Some (at + 0)))
+      has-first (child_part origin entry at first) (child_parts origin entry (at + 1) children) (full_name_at profile (Some (at + 0)))
       (ap (λ n. full_name_at profile (Some n)) (sym (add-zero at)))
   has-children at (suc place) (first ∷ children) child is =
       let next : at + 1 + place ≡ at + suc place = omega arith in
-      has-next (child_part origin profile at first) (child_parts origin profile (at + 1) children) (full_name_at profile (Some (at + suc place)))
-      (subst (λ n. Has (child_parts origin profile (at + 1) children) (full_name_at profile (Some n))) next (has-children (at + 1) place children child is))
+      has-next (child_part origin entry at first) (child_parts origin entry (at + 1) children) (full_name_at profile (Some (at + suc place)))
+      (subst (λ n. Has (child_parts origin entry (at + 1) children) (full_name_at profile (Some n))) next (has-children (at + 1) place children child is))
 
-  has-own : HasAll (profile_parts origin profile) profile
+  has-own : HasAll (profile_parts origin entry) profile
   has-own = (
-    has-first (profile_part origin profile) (child_parts origin profile 0 profile.children) profile.name refl,
+    has-first (profile_part origin entry) (child_parts origin entry 0 profile.children) profile.name refl,
     λ place child is.
-        has-next (profile_part origin profile) (child_parts origin profile 0 profile.children) (full_name_at profile (Some place))
-        (subst (λ n. Has (child_parts origin profile 0 profile.children) (full_name_at profile (Some n))) (zero-add place)
+        has-next (profile_part origin entry) (child_parts origin entry 0 profile.children) (full_name_at profile (Some place))
+        (subst (λ n. Has (child_parts origin entry 0 profile.children) (full_name_at profile (Some n))) (zero-add place)
         (has-children 0 place profile.children child is)),
   )
 
@@ -94,25 +93,25 @@ module _ (origin : Option Origin) (profile : Profile) where
 pub has-set : (entries : List Loaded) (origins : List Origin) → All (λ entry. HasAll (set_parts entries origins) entry.profile) entries
 has-set [] origins = All-nil (λ entry. HasAll (set_parts [] origins) entry.profile)
 has-set (entry ∷ entries) origins =
-    let front = profile_parts (first_of origins) entry.profile in
+    let front = profile_parts (first_of origins) entry in
     let behind = set_parts entries (behind_first origins) in
-    All-cons (λ entry. HasAll (front ++ behind) entry.profile) entry entries (all-left front behind entry.profile (has-own (first_of origins) entry.profile))
+    All-cons (λ entry. HasAll (front ++ behind) entry.profile) entry entries (all-left front behind entry.profile (has-own (first_of origins) entry))
     (All-weaker (λ entry. HasAll behind entry.profile) (λ entry. HasAll (front ++ behind) entry.profile) (λ other. all-right front behind other.profile)
     entries (has-set entries (behind_first origins)))
 
 are-children : (entries : List Loaded) (origin : Option Origin) (entry : Loaded) (at : ℕ) (children : List Child)
     → Contains entries entry → ((k : ℕ) → slice_get children k ≡ slice_get entry.profile.children (at + k))
-    → All (IsPartIn entries) (child_parts origin entry.profile at children)
+    → All (IsPartIn entries) (child_parts origin entry at children)
 are-children entries origin entry at [] there same = All-nil (IsPartIn entries)
 are-children entries origin entry at (child ∷ children) there same =
     let is : slice_get entry.profile.children at ≡ Some child = ap (slice_get entry.profile.children) (sym (add-zero at)) ∙ sym (same 0) in
     let who : Asker = record { entry = entry; child = Some at } in
-    All-cons (IsPartIn entries) (child_part origin entry.profile at child) (child_parts origin entry.profile (at + 1) children) (
+    All-cons (IsPartIn entries) (child_part origin entry at child) (child_parts origin entry (at + 1) children) (
       who,
       (there, (child, is)),
       record {
         name = refl;
-        mode = sym (mode-at is);
+        mode = refl;
         audit = ap child_audits (sym is);
         attachments = ap child_attachments (sym is);
         rules = ap child_rules (sym is);
@@ -124,18 +123,11 @@ are-children entries origin entry at (child ∷ children) there same =
     more : (k : ℕ) → at + suc k ≡ at + 1 + k
     more k = omega arith
 
-    -- in the modes of a profile, that of a child or hat stands at its place
-    mode-at : slice_get entry.profile.children at ≡ Some child → mode_at (modes_of None entry.profile) (Some at) ≡ child.mode
-    mode-at is =
-        get_or-map (λ (child : Child). mode_of None child.mode) entry.profile.children at child entry.profile.mode
-        (slice_get_within entry.profile.children at child is)
-        ∙ ap (λ (child : Child). child.mode) (get_or_from_slice_get entry.profile.children at child child is)
-
 are-own : (entries : List Loaded) (origin : Option Origin) (entry : Loaded) → Contains entries entry
-    → All (IsPartIn entries) (profile_parts origin entry.profile)
+    → All (IsPartIn entries) (profile_parts origin entry)
 are-own entries origin entry there =
     let who : Asker = record { entry = entry; child = None } in
-    All-cons (IsPartIn entries) (profile_part origin entry.profile) (child_parts origin entry.profile 0 entry.profile.children)
+    All-cons (IsPartIn entries) (profile_part origin entry) (child_parts origin entry 0 entry.profile.children)
     (who, (there, tt), record { name = refl; mode = refl; audit = refl; attachments = refl; rules = refl })
     (are-children entries origin entry 0 entry.profile.children there (λ k. ap (slice_get entry.profile.children) (sym (zero-add k))))
 
@@ -144,7 +136,7 @@ pub are-set : (all entries : List Loaded) (origins : List Origin) → ((entry : 
     → All (IsPartIn all) (set_parts entries origins)
 are-set all [] origins there = All-nil (IsPartIn all)
 are-set all (entry ∷ entries) origins there =
-    All-append (IsPartIn all) (profile_parts (first_of origins) entry.profile) (set_parts entries (behind_first origins))
+    All-append (IsPartIn all) (profile_parts (first_of origins) entry) (set_parts entries (behind_first origins))
     (are-own all (first_of origins) entry (there entry (0, omega arith, refl)))
     (are-set all entries (behind_first origins) (λ other is. there other (Contains-append_right (entry ∷ []) entries other is)))
 

@@ -7,7 +7,7 @@ use Rattle.std.specs.List.{All, Contains}
 use Rattle.std.specs.Option.{option_map}
 use Rattle.std.specs.Str.{bytes_eq}
 use Rattle.aa_decide_slots.specs.Entries.{Loaded}
-use Rattle.aa_decide_slots.specs.Named.{entry_named}
+use Rattle.aa_decide_slots.specs.Named.{entry_named, profiles_of}
 use Rattle.aa_decide_ready.specs.Ready.{child_rules, rules_at}
 use Rattle.aa_profile.specs.Assignments.{variables_of}
 use Rattle.aa_profile.specs.FilePlaces.{file_places_in}
@@ -21,20 +21,21 @@ use Rattle.aa_profile_parsing.specs.declared.language.Language.{Language}
 use Rattle.aa_profile_patterns.specs.PatternTokens.{of_profiles}
 use Rattle.aa_profile_patterns.specs.declared.places.ProfilePlaces.{ProfilePlaces}
 use Rattle.aa_profile_patterns.specs.declared.places.SectionPlaces.{SectionPlaces}
-use Rattle.aa_set_manager.specs.Manager.{new_manager_in}
+use Rattle.aa_set_changes.specs.ChangeLaws.{ChangesKeepNamesApart}
 use Rattle.aa_set_answers.specs.Laws.{StandsAt}
 use Rattle.aa_text_files.specs.Files.{File}
 use Rattle.aa_text_splicing.specs.Splicing.{Placed, spliced}
 use Rattle.aa_text_variables.specs.Variables.{Variable}
 use Rattle.aa_set_changes.specs.Changes.{loaded as taken_by}
-use Rattle.aatry_policy.proofs.LoadLemmas.{file-is, loads, profiles_in, taken}
+use Rattle.aatry_folder.specs.Loadings.{file_names}
+use Rattle.aatry_policy.proofs.LoadLemmas.{file-is, folder-profiles, taken}
 use Rattle.aatry_policy.proofs.ReadLemmas.{IsRead, all-read, placed}
 use Rattle.aatry_policy.specs.FolderParts.{parts_in}
-use Rattle.aatry_policy.specs.Folders.{Folder, origins_in, outcomes_in, policy_in}
+use Rattle.aatry_policy.specs.Folders.{Folder, origins_in, outcomes_in, policy_in, read_in}
 use Rattle.aatry_policy.specs.Origins.{file_origins, origin_in, origins_of, places_by, places_in, rule_places, section_rules}
 use Rattle.aatry_policy.specs.Parts.{child_part, child_parts, profile_part, profile_parts, set_parts}
 use Rattle.aatry_policy.specs.PlaceLaws.{AreReadAt, AreWrittenIn, IsFoundAt, IsPartWritten, IsReadAt}
-use Rattle.aatry_policy.specs.Profiles.{FileProfiles, file_at, read_profiles}
+use Rattle.aatry_policy.specs.Profiles.{FileProfiles, file_at, profiles_in}
 use Rattle.aatry_policy.specs.declared.origins.Origin.{Origin}
 
 -- what is known of the places of a file that is read
@@ -126,12 +127,20 @@ files-read made language files (file ∷ read) is =
     (λ k. ap (slice_get file.profiles) (sym (zero-add k))) (λ k. ap (slice_get file.places) (sym (zero-add k))))
     (files-read made language files read (All-tail (IsRead language files) file read is)))
 
+-- in whatever state they are
+in-states : (language : Language) (files : List File) (entries : List Loaded) (origins : List Origin)
+    → AreReadAt language files (map taken (profiles_of entries)) origins → AreReadAt language files entries origins
+in-states language files [] [] all = tt
+in-states language files [] (origin ∷ origins) all = absurd all
+in-states language files (entry ∷ entries) [] all = absurd all
+in-states language files (entry ∷ entries) (origin ∷ origins) all = (all.0, in-states language files entries origins all.1)
+
 -- those that a folder loads
-pub folder-read : FilesAreMade → (folder : Folder) → AreReadAt folder.language folder.files (policy_in folder) (origins_in folder)
-folder-read made folder =
-    let read = read_profiles folder.language folder.files folder.names (outcomes_in folder) in
-    subst (λ entries. AreReadAt folder.language folder.files entries (origins_in folder)) (sym (loads folder.files folder.names (new_manager_in folder.language false)))
-    (files-read made folder.language folder.files read (all-read folder.language folder.files folder.names (outcomes_in folder)))
+pub folder-read : ChangesKeepNamesApart → FilesAreMade → (folder : Folder) → AreReadAt folder.language folder.files (policy_in folder) (origins_in folder)
+folder-read keeps made folder =
+    in-states folder.language folder.files (policy_in folder) (origins_in folder)
+    (subst (λ (profiles : List Profile). AreReadAt folder.language folder.files (map taken profiles) (origins_in folder)) (sym (folder-profiles keeps folder))
+    (files-read made folder.language folder.files (read_in folder) (all-read folder.language folder.files (file_names folder.top) (outcomes_in folder))))
 
 -- the first origin of a name
 pub found-at : (language : Language) (files : List File) (name : List ℕ) (entries : List Loaded) (origins : List Origin) (entry : Loaded)
@@ -235,13 +244,16 @@ written-in made language files profile origin child is stands =
         )
 
 -- the parts of a profile that was read
-module _ (made : FilesAreMade) (language : Language) (files : List File) (profile : Profile) (origin : Origin) (is : IsReadAt language files profile origin) where
+module _ (made : FilesAreMade) (language : Language) (files : List File) (entry : Loaded) (origin : Origin) (is : IsReadAt language files entry.profile origin) where
+  abbrev profile : Profile
+  profile = entry.profile
+
   children-written : (at : ℕ) (children : List Child) → ((k : ℕ) → slice_get children k ≡ slice_get profile.children (at + k))
-      → All (IsPartWritten language files) (child_parts (Some origin) profile at children)
+      → All (IsPartWritten language files) (child_parts (Some origin) entry at children)
   children-written at [] same = All-nil (IsPartWritten language files)
   children-written at (child ∷ children) same =
       let there : slice_get profile.children at ≡ Some child = ap (slice_get profile.children) (sym (add-zero at)) ∙ sym (same 0) in
-      All-cons (IsPartWritten language files) (child_part (Some origin) profile at child) (child_parts (Some origin) profile (at + 1) children) (
+      All-cons (IsPartWritten language files) (child_part (Some origin) entry at child) (child_parts (Some origin) entry (at + 1) children) (
         Some at,
         subst (λ (o : Option Child). AreWrittenIn language files origin.file (Some at) (child_rules o) (rule_places (Some origin) (Some at))) there
             (written-in made language files profile origin (Some at) is (child, there)),
@@ -251,9 +263,9 @@ module _ (made : FilesAreMade) (language : Language) (files : List File) (profil
       more : (k : ℕ) → at + suc k ≡ at + 1 + k
       more k = omega arith
 
-  parts-written : All (IsPartWritten language files) (profile_parts (Some origin) profile)
+  parts-written : All (IsPartWritten language files) (profile_parts (Some origin) entry)
   parts-written =
-      All-cons (IsPartWritten language files) (profile_part (Some origin) profile) (child_parts (Some origin) profile 0 profile.children)
+      All-cons (IsPartWritten language files) (profile_part (Some origin) entry) (child_parts (Some origin) entry 0 profile.children)
       (None, written-in made language files profile origin None is tt)
       (children-written 0 profile.children (λ k. ap (slice_get profile.children) (sym (zero-add k))))
 
@@ -264,12 +276,12 @@ set-written made language files [] [] all = All-nil (IsPartWritten language file
 set-written made language files [] (origin ∷ origins) all = absurd all
 set-written made language files (entry ∷ entries) [] all = absurd all
 set-written made language files (entry ∷ entries) (origin ∷ origins) all =
-    All-append (IsPartWritten language files) (profile_parts (Some origin) entry.profile) (set_parts entries origins)
-    (parts-written made language files entry.profile origin all.0) (set-written made language files entries origins all.1)
+    All-append (IsPartWritten language files) (profile_parts (Some origin) entry) (set_parts entries origins)
+    (parts-written made language files entry origin all.0) (set-written made language files entries origins all.1)
 
-pub folder-written : FilesAreMade → (folder : Folder) → All (IsPartWritten folder.language folder.files) (parts_in folder)
-folder-written made folder = set-written made folder.language folder.files (policy_in folder) (origins_in folder) (folder-read made folder)
+pub folder-written : ChangesKeepNamesApart → FilesAreMade → (folder : Folder) → All (IsPartWritten folder.language folder.files) (parts_in folder)
+folder-written keeps made folder = set-written made folder.language folder.files (policy_in folder) (origins_in folder) (folder-read keeps made folder)
 
-pub named-at : FilesAreMade → (folder : Folder) (name : List ℕ) (entry : Loaded) → entry_named name (policy_in folder) ≡ Some entry
+pub named-at : ChangesKeepNamesApart → FilesAreMade → (folder : Folder) (name : List ℕ) (entry : Loaded) → entry_named name (policy_in folder) ≡ Some entry
     → IsFoundAt folder.language folder.files (origins_in folder) name entry.profile
-named-at made folder name entry is = found-at folder.language folder.files name (policy_in folder) (origins_in folder) entry (folder-read made folder) is
+named-at keeps made folder name entry is = found-at folder.language folder.files name (policy_in folder) (origins_in folder) entry (folder-read keeps made folder) is

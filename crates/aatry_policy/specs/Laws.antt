@@ -1,13 +1,12 @@
 -- What the laws on parts speak of: those that have what who has their full name has.
-use Rattle.std.specs.Prelude.{◌≡◌, ℕ, List, None, Some}
+use Rattle.std.specs.Prelude.{◌≡◌, ℕ, List, Some}
 use Rattle.aa_decide.specs.Exec.{Asker}
-use Rattle.aa_decide_slots.specs.Confinement.{mode_at}
 use Rattle.aa_decide_slots.specs.Entries.{Loaded}
 use Rattle.aa_decide_ready.specs.Ready.{audits, rules_at}
 use Rattle.aa_decide_ready.specs.Visits.{attachments_at}
+use Rattle.aa_explain.specs.AlikePolicies.{mode_in}
 use Rattle.aa_set_answers.specs.Laws.{IsListed}
 use Rattle.aa_set_answers.specs.ProfileNames.{full_name_at}
-use Rattle.aa_set_changes.specs.Changes.{modes_of}
 use Rattle.aatry_policy.specs.Parts.{Part, part_of}
 
 -- the first part of the full name of a profile, child or hat has the rules by which it decides, and is audited as it is
@@ -16,11 +15,11 @@ HasOwnRules parts who =
     (part : Part) × (part_of parts (full_name_at who.entry.profile who.child) ≡ Some part)
     × (part.section.rules ≡ rules_at who.entry.profile who.child) × (part.section.audit ≡ audits who.entry.profile who.child)
 
--- A part is that of a profile, child or hat: it has its full name, the mode of its own flags and whether it is audited, and the same attachments and
--- rules.
+-- A part is that of a profile, child or hat: it has its full name, the mode that it is in or that it is disabled, whether it is audited, and the same
+-- attachments and rules.
 pub record IsPartOf (who : Asker) (part : Part) : Type 0 where
   pub name : part.name ≡ full_name_at who.entry.profile who.child
-  pub mode : part.section.mode ≡ mode_at (modes_of None who.entry.profile) who.child
+  pub mode : part.section.mode ≡ mode_in who.entry.state who.child
   pub audit : part.section.audit ≡ audits who.entry.profile who.child
   pub attachments : part.section.attachments ≡ attachments_at who.entry.profile who.child
   pub rules : part.section.rules ≡ rules_at who.entry.profile who.child

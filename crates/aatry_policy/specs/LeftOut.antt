@@ -1,5 +1,5 @@
 -- What is told of refusals, and of the files that are left out of a policy set.
-use Rattle.std.specs.Prelude.{ℕ, List, [], ◌∷◌, ◌++◌, codes, Option, None, Some}
+use Rattle.std.specs.Prelude.{ℕ, Bool, true, if◌then◌else◌, List, [], ◌∷◌, ◌++◌, codes, Option, None, Some}
 use Rattle.serde_json.specs.Data.{Members}
 use Rattle.aa_bytes.specs.Bytes.{line_feed}
 use Rattle.aa_set_commands.specs.Refusal.{name_of, number_of}
@@ -34,3 +34,27 @@ left_out_line form base name (Some refusal) = left_out_text form (path_below bas
 abbrev pub left_out_lines : Form → List ℕ → List (List ℕ) → List (Option Refusal) → List ℕ
 left_out_lines form base (name ∷ names) (outcome ∷ outcomes) = left_out_line form base name outcome ++ left_out_lines form base names outcomes
 left_out_lines form base _ _ = []
+
+-- a file that is left out: its name, and why it is refused
+pub record LeftOut : Type 0 where
+  pub name : List ℕ
+  pub refusal : Refusal
+
+-- a file by how it came out, if it is left out
+abbrev pub left_out_if : List ℕ → Option Refusal → List LeftOut
+left_out_if name None = []
+left_out_if name (Some refusal) = record { name = name; refusal = refusal } ∷ []
+
+-- those of some files that are left out, by how each came out
+abbrev pub left_out_of : List (List ℕ) → List (Option Refusal) → List LeftOut
+left_out_of (name ∷ names) (outcome ∷ outcomes) = left_out_if name outcome ++ left_out_of names outcomes
+left_out_of _ _ = []
+
+-- each file that is left out is told: by records always, and by lines where they tell at length
+abbrev pub is_listed : Form → Bool → Bool
+is_listed Lines verbose = verbose
+is_listed Records verbose = true
+
+-- what is told of files, at length or not
+abbrev pub listed_lines : Form → Bool → List ℕ → List (List ℕ) → List (Option Refusal) → List ℕ
+listed_lines form verbose base names outcomes = if is_listed form verbose then left_out_lines form base names outcomes else []

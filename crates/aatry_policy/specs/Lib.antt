@@ -2,10 +2,13 @@ pub mod FolderParts
 pub mod Folders
 pub mod Laws
 pub mod LeftOut
+pub mod Loaded
+pub mod Notes
 pub mod Origins
 pub mod Parts
 pub mod PlaceLaws
 pub mod Policies
 pub mod Profiles
+pub mod SeenLeftOut
 pub mod SeenProfiles
 pub mod code

@@ -1,7 +1,9 @@
--- The parts of a policy set: its profiles, and the children and hats of these, each with where its rules are written.
+-- The parts of a policy set: its profiles, and the children and hats of these, each with its state and with where its rules are written.
 use Rattle.std.specs.Prelude.{ℕ, ◌+◌, false, if◌then◌else◌, List, [], ◌∷◌, ◌++◌, Option, None, Some}
 use Rattle.std.specs.Str.{bytes_eq}
 use Rattle.aa_decide_slots.specs.Entries.{Loaded}
+use Rattle.aa_decide_slots.specs.declared.entry.State.{State}
+use Rattle.aa_explain.specs.AlikePolicies.{mode_in}
 use Rattle.aa_explain_diff.specs.Sections.{Section}
 use Rattle.aa_profile_data.specs.declared.profile.Child.{Child}
 use Rattle.aa_profile_data.specs.declared.profile.Profile.{Profile}
@@ -17,10 +19,10 @@ pub record Part : Type 0 where
   pub section : Section
   pub places : List (Option Place)
 
--- what a profile has by itself, with its flags that decide nothing
-abbrev pub profile_section : List (List ℕ) → Profile → Section
-profile_section flags profile = record {
-  mode = profile.mode;
+-- what a profile has by itself, in a state, with its flags that decide nothing
+abbrev pub profile_section : List (List ℕ) → State → Profile → Section
+profile_section flags state profile = record {
+  mode = mode_in state None;
   hat = false;
   audit = profile.audit;
   flags = flags;
@@ -28,10 +30,10 @@ profile_section flags profile = record {
   rules = profile.rules;
 }
 
--- what a child or hat has
-abbrev pub child_section : List (List ℕ) → Child → Section
-child_section flags child = record {
-  mode = child.mode;
+-- what a child or hat has that stands at a place of a profile in a state
+abbrev pub child_section : List (List ℕ) → State → ℕ → Child → Section
+child_section flags state place child = record {
+  mode = mode_in state (Some place);
   hat = child.hat;
   audit = child.audit;
   flags = flags;
@@ -39,32 +41,32 @@ child_section flags child = record {
   rules = child.rules;
 }
 
--- a profile by itself, by its origin
-abbrev pub profile_part : Option Origin → Profile → Part
-profile_part origin profile = record {
-  name = full_name_at profile None;
+-- a loaded profile by itself, by its origin
+abbrev pub profile_part : Option Origin → Loaded → Part
+profile_part origin entry = record {
+  name = full_name_at entry.profile None;
   file = file_of origin;
-  section = profile_section (idle_flags origin None) profile;
+  section = profile_section (idle_flags origin None) entry.state entry.profile;
   places = rule_places origin None;
 }
 
 -- the child or hat at a place of it
-abbrev pub child_part : Option Origin → Profile → ℕ → Child → Part
-child_part origin profile place child = record {
-  name = full_name_at profile (Some place);
+abbrev pub child_part : Option Origin → Loaded → ℕ → Child → Part
+child_part origin entry place child = record {
+  name = full_name_at entry.profile (Some place);
   file = file_of origin;
-  section = child_section (idle_flags origin (Some place)) child;
+  section = child_section (idle_flags origin (Some place)) entry.state place child;
   places = rule_places origin (Some place);
 }
 
 -- its children and hats, where the first stands at this place
-abbrev pub child_parts : Option Origin → Profile → ℕ → List Child → List Part
-child_parts origin profile place [] = []
-child_parts origin profile place (child ∷ children) = child_part origin profile place child ∷ child_parts origin profile (place + 1) children
+abbrev pub child_parts : Option Origin → Loaded → ℕ → List Child → List Part
+child_parts origin entry place [] = []
+child_parts origin entry place (child ∷ children) = child_part origin entry place child ∷ child_parts origin entry (place + 1) children
 
--- a profile, and behind it its children and hats
-abbrev pub profile_parts : Option Origin → Profile → List Part
-profile_parts origin profile = profile_part origin profile ∷ child_parts origin profile 0 profile.children
+-- a loaded profile, and behind it its children and hats
+abbrev pub profile_parts : Option Origin → Loaded → List Part
+profile_parts origin entry = profile_part origin entry ∷ child_parts origin entry 0 entry.profile.children
 
 -- the first of some origins, and those behind it
 abbrev pub first_of : List Origin → Option Origin
@@ -78,7 +80,7 @@ behind_first (origin ∷ origins) = origins
 -- the parts of a policy set, each entry with its own of some origins
 abbrev pub set_parts : List Loaded → List Origin → List Part
 set_parts [] origins = []
-set_parts (entry ∷ entries) origins = profile_parts (first_of origins) entry.profile ++ set_parts entries (behind_first origins)
+set_parts (entry ∷ entries) origins = profile_parts (first_of origins) entry ++ set_parts entries (behind_first origins)
 
 -- the first part of a full name, if there is one
 abbrev pub part_of : List Part → List ℕ → Option Part

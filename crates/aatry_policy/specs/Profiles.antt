@@ -1,5 +1,5 @@
 -- The profiles of the files of a folder that are taken, and where they have what they have.
-use Rattle.std.specs.Prelude.{ℕ, List, [], ◌∷◌, ◌++◌, Option, None, Some, Ok, Err}
+use Rattle.std.specs.Prelude.{ℕ, List, [], ◌∷◌, ◌++◌, flat_map, Option, None, Some, Ok, Err}
 use Rattle.aa_profile.specs.FilePlaces.{file_places_in}
 use Rattle.aa_profile.specs.FileReading.{file_profiles_in}
 use Rattle.aa_profile_data.specs.declared.profile.Profile.{Profile}
@@ -33,3 +33,7 @@ file_if_taken language files name (Some refusal) = []
 abbrev pub read_profiles : Language → List File → List (List ℕ) → List (Option Refusal) → List FileProfiles
 read_profiles language files (name ∷ names) (outcome ∷ outcomes) = file_if_taken language files name outcome ++ read_profiles language files names outcomes
 read_profiles language files _ _ = []
+
+-- all profiles of files that are read
+abbrev pub profiles_in : List FileProfiles → List Profile
+profiles_in read = flat_map (λ file. file.profiles) read

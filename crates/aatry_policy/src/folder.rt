@@ -2,13 +2,14 @@
 
 ghost use Rattle.std.specs.Prelude.{◌≡◌, ◌++◌, IfOk, OnOk};
 ghost use Rattle.aatry_folder.specs.PolicyFiles.{seen_files};
-ghost use Rattle.aatry_policy.specs.Folders.{below, left_out_in, loaded_in, origins_in, outcomes_in, seen_folder};
+ghost use Rattle.aatry_policy.specs.Folders.{below, left_out_in, left_out_note, loaded_in, origins_in, outcomes_in, seen_folder};
 
 use crate::folder_parts::FolderParts;
 use crate::left_out::push_left_out;
+use crate::notes::push_note;
 use crate::parts::Part;
 use crate::policy::{Policy, load};
-use aatry_folder::PolicyFolder;
+use aatry_folder::{PolicyFolder, Report};
 use aatry_report::Teller;
 use std::alloc::{AllocError, Global};
 
@@ -32,22 +33,26 @@ pub fn by_parts<'a>(folder: &'a PolicyFolder<'_>, parts: &'a [Part<'a>]) -> Fold
     }
 }
 
-/// Loads the files at the top of a folder, as `load` does by the folder's language, and appends what is told of those that are left out to a text: a
-/// line of each with its path, the number and the name of its refusal, or a record `left_out` with `file`, `number` and `refusal`.
+/// Loads the files at the top of a folder, as `load` does by the folder's language and as each is to be loaded, and puts what is told and noted of
+/// those that are left out behind a report. Told is, in lines that tell at length, a line of each with its path, the number and the name of its
+/// refusal; in other lines nothing; and in records one of the kind `left_out`, with `file`, `number` and `refusal`. Noted is, where there are any,
+/// how many there are, and the command that tells what is wrong with each.
 ///
 /// # Errors
 ///
-/// Where memory runs out. What is told of some files may have been appended then.
+/// Where memory runs out. What is told of some files may have been put then.
 pub fn load_folder<'a>(
     teller: Teller,
     folder: &'a PolicyFolder<'a>,
-    out: &mut Vec<u8>,
+    report: &mut Report,
 ) -> Result<LoadedFolder<'a>, AllocError>
     ensures folder { IfOk result (λ loaded. loaded.folder.now ≡ folder.now) }
     ensures set { IfOk result (λ loaded. loaded.policy.manager ≡ loaded_in (seen_folder folder.now)) }
     ensures outcomes { IfOk result (λ loaded. loaded.policy.outcomes.items ≡ outcomes_in (seen_folder folder.now)) }
     ensures origins { IfOk result (λ loaded. loaded.policy.origins.items ≡ origins_in (seen_folder folder.now)) }
-    ensures told { OnOk result (out.new.items ≡ out.old.items ++ left_out_in teller.form (seen_folder folder.now)) }
+    ensures told { OnOk result (report.new.text.items
+        ≡ report.old.text.items ++ left_out_in teller.form teller.verbose (seen_folder folder.now)) }
+    ensures noted { OnOk result (report.new.notes.items ≡ report.old.notes.items ++ left_out_note (seen_folder folder.now)) }
 {
     let policy = load(teller.alloc, folder.language, &folder.files, &folder.top)?;
     push_left_out(
@@ -55,7 +60,13 @@ pub fn load_folder<'a>(
         folder.base.as_bytes(),
         &folder.top,
         &policy.outcomes,
-        out,
+        &mut report.text,
+    )?;
+    push_note(
+        folder.language,
+        folder.base,
+        &policy.outcomes,
+        &mut report.notes,
     )?;
     Ok(LoadedFolder { folder, policy })
 }

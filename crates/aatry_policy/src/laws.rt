@@ -57,6 +57,7 @@ pub fn where_loaded_profiles_are_read()
         → IsFoundAt folder.language folder.files (origins_in folder) name entry.profile }
 {
     where_rules_are_made();
+    what_changes_keep();
 }
 
 /// Each rule stands where it is told to: a profile that was read, or its child or hat at a place, has as many rules as its origin has places for it, and
@@ -70,4 +71,5 @@ pub fn where_loaded_rules_are_written()
     ensures of_parts { (folder : Folder) → All (IsPartWritten folder.language folder.files) (parts_in folder) }
 {
     where_rules_are_made();
+    what_changes_keep();
 }

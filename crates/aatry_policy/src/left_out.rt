@@ -1,11 +1,13 @@
 //! What is told of refusals, and of the files that are left out of a policy set.
 
-ghost use Rattle.std.specs.Prelude.{◌≡◌, ◌++◌, IfOk, OnOk, map, string_bytes};
-ghost use Rattle.aatry_policy.specs.LeftOut.{left_out_line, left_out_lines, left_out_record, left_out_text, refusal_text};
+ghost use Rattle.std.specs.Prelude.{◌≡◌, ◌++◌, IfOk, OnOk, map};
+ghost use Rattle.aatry_folder.specs.Loadings.{file_names, seen_top};
+ghost use Rattle.aatry_policy.specs.LeftOut.{is_listed, left_out_line, left_out_lines, left_out_record, left_out_text, listed_lines, refusal_text};
 ghost use Rattle.aatry_report.specs.SeenRecord.{seen_record};
 ghost use Rattle.aatry_report.specs.declared.form.Form.TheVariants as form;
 
 use aa_set_commands::Refusal;
+use aatry_folder::TopFile;
 use aatry_report::{
     Form, Record, Teller, path_below, push_named_refusal, push_shown, put_named_refusal,
 };
@@ -77,7 +79,41 @@ fn push_file(
     }
 }
 
-/// Puts what is told of each file behind a text that is left out, with its path and why it is refused.
+// Puts what is told of each file behind a text that is left out, with its path and why it is refused.
+fn push_each(
+    teller: Teller,
+    base: &[u8],
+    top: &[TopFile],
+    outcomes: &[Option<Refusal>],
+    out: &mut Vec<u8>,
+) -> Result<(), AllocError>
+    ensures { OnOk result (out.new.items ≡ out.old.items ++ left_out_lines teller.form base.now (file_names (map seen_top top.now)) outcomes.now) }
+{
+    let mut left = outcomes;
+    let mut rest = top;
+    while let [file, behind @ ..] = rest {
+        let [outcome, more @ ..] = left else {
+            break;
+        };
+        push_file(teller, base, file.name.as_bytes(), *outcome, out)?;
+        rest = behind;
+        left = more;
+    }
+    Ok(())
+}
+
+// Whether each file that is left out is told: by records always, and by lines where they tell at length.
+fn is_listed(teller: Teller) -> bool
+    ensures { result ≡ is_listed teller.form teller.verbose }
+{
+    match teller.form {
+        Form::Lines => teller.verbose,
+        Form::Records => true,
+    }
+}
+
+/// Puts what is told of each file behind a text that is left out, with its path and why it is refused. In lines nothing is told, unless they tell at
+/// length.
 ///
 /// # Errors
 ///
@@ -85,21 +121,16 @@ fn push_file(
 pub fn push_left_out(
     teller: Teller,
     base: &[u8],
-    names: &[String],
+    top: &[TopFile],
     outcomes: &[Option<Refusal>],
     out: &mut Vec<u8>,
 ) -> Result<(), AllocError>
-    ensures { OnOk result (out.new.items ≡ out.old.items ++ left_out_lines teller.form base.now (map string_bytes names.now) outcomes.now) }
+    ensures { OnOk result (out.new.items
+        ≡ out.old.items ++ listed_lines teller.form teller.verbose base.now (file_names (map seen_top top.now)) outcomes.now) }
 {
-    let mut left = outcomes;
-    let mut rest = names;
-    while let [name, behind @ ..] = rest {
-        let [outcome, more @ ..] = left else {
-            break;
-        };
-        push_file(teller, base, name.as_bytes(), *outcome, out)?;
-        rest = behind;
-        left = more;
+    if is_listed(teller) {
+        push_each(teller, base, top, outcomes, out)
+    } else {
+        Ok(())
     }
-    Ok(())
 }

@@ -6,7 +6,9 @@ mod folder;
 mod folder_parts;
 mod laws;
 mod left_out;
+mod left_out_files;
 mod loaded;
+mod notes;
 mod origins;
 mod parts;
 mod policy;
@@ -17,6 +19,7 @@ pub use laws::{
     where_loaded_profiles_are_read, where_loaded_rules_are_written, which_rules_parts_have,
 };
 pub use left_out::push_refusal;
+pub use left_out_files::{LeftOut, left_out_of};
 pub use loaded::what_folders_load;
 pub use origins::{Origin, file_of, origin_in, origins_of, rule_places};
 pub use parts::{Part, part_of, parts_of};

@@ -1,7 +1,8 @@
-//! The parts of a policy set: its profiles, and the children and hats of these, with where they are written.
+//! The parts of a policy set: its profiles, and the children and hats of these, with their states and with where they are written.
 
 ghost use Rattle.std.specs.Prelude.{◌≡◌, ◌++◌, Some, IfOk, OnOk, map, option_map};
 ghost use Rattle.aa_decide_slots.specs.Slots.{filled};
+ghost use Rattle.aa_explain.specs.AlikePolicies.{mode_in};
 ghost use Rattle.aa_explain_diff.specs.Sections.{seen_section};
 ghost use Rattle.aatry_policy.specs.Parts.{child_part, child_parts, child_section, first_of, part_of, profile_part, profile_parts, profile_section, set_parts};
 ghost use Rattle.aatry_policy.specs.code.Slots.{left_behind, slot_parts};
@@ -9,9 +10,10 @@ ghost use Rattle.aatry_policy.specs.SeenProfiles.{seen_part};
 
 use crate::origins::{Origin, file_of, idle_flags, rule_places};
 use aa_bytes::Sequence;
-use aa_decide::Entry;
+use aa_decide::{Confinement, Entry};
+use aa_decide_rules::Mediation;
 use aa_explain_diff::Section;
-use aa_profile_data::{Child, Profile};
+use aa_profile_data::{Child, Mode};
 use aa_set_answers::full_name;
 use aa_set_changes::PolicySet;
 use aa_text_files::Place;
@@ -30,12 +32,27 @@ pub struct Part<'a> {
     pub places: &'a [Option<Place>],
 }
 
-// What a profile has by itself, with its flags that decide nothing.
-fn profile_section<'a>(flags: &'a [Sequence<u8>], profile: &'a Profile) -> Section<'a>
-    ensures { seen_section result ≡ profile_section flags.now profile.now }
+// The mode in which a loaded profile confines, or its child or hat at a place; none where it is disabled.
+fn mode_in(entry: &Entry, child: Option<usize>) -> Option<Mode>
+    ensures { result ≡ mode_in entry.now.state child }
 {
+    match entry.confinement(child) {
+        Confinement::Unconfined => None,
+        Confinement::ByName => Some(Mode::Unconfined),
+        Confinement::By { mediation, .. } => match mediation {
+            Mediation::Enforcing => Some(Mode::Enforce),
+            Mediation::Complaining => Some(Mode::Complain),
+        },
+    }
+}
+
+// What a loaded profile has by itself, with its flags that decide nothing.
+fn profile_section<'a>(flags: &'a [Sequence<u8>], entry: &'a Entry) -> Section<'a>
+    ensures { seen_section result ≡ profile_section flags.now entry.now.state entry.now.profile }
+{
+    let profile = entry.profile();
     Section {
-        mode: profile.mode,
+        mode: mode_in(entry, None),
         hat: false,
         audit: profile.audit,
         flags,
@@ -44,12 +61,17 @@ fn profile_section<'a>(flags: &'a [Sequence<u8>], profile: &'a Profile) -> Secti
     }
 }
 
-// What a child or hat has.
-fn child_section<'a>(flags: &'a [Sequence<u8>], child: &'a Child) -> Section<'a>
-    ensures { seen_section result ≡ child_section flags.now child.now }
+// What a child or hat has that stands at a place of a loaded profile.
+fn child_section<'a>(
+    flags: &'a [Sequence<u8>],
+    entry: &Entry,
+    place: usize,
+    child: &'a Child,
+) -> Section<'a>
+    ensures { seen_section result ≡ child_section flags.now entry.now.state place child.now }
 {
     Section {
-        mode: child.mode,
+        mode: mode_in(entry, Some(place)),
         hat: child.hat,
         audit: child.audit,
         flags,
@@ -58,75 +80,81 @@ fn child_section<'a>(flags: &'a [Sequence<u8>], child: &'a Child) -> Section<'a>
     }
 }
 
-// The part that a profile is by itself.
+// The part that a loaded profile is by itself.
 fn profile_part<'a>(
     alloc: Global,
     origin: Option<&'a Origin>,
-    profile: &'a Profile,
+    entry: &'a Entry,
 ) -> Result<Part<'a>, AllocError>
-    ensures { IfOk result (λ part. seen_part part ≡ profile_part (option_map (λ origin. origin.now) origin.entry) profile.now) }
+    ensures { IfOk result (λ part. seen_part part ≡ profile_part (option_map (λ origin. origin.now) origin.entry) entry.now) }
 {
-    let name = full_name(alloc, profile, None)?;
+    let name = full_name(alloc, entry.profile(), None)?;
     Ok(Part {
         name: Sequence::from_vec(name),
         file: file_of(origin),
-        section: profile_section(idle_flags(origin, None), profile),
+        section: profile_section(idle_flags(origin, None), entry),
         places: rule_places(origin, None),
     })
 }
 
-// The part that a child or hat of a profile is, at its place.
+// The part that a child or hat of a loaded profile is, at its place.
 fn child_part<'a>(
     alloc: Global,
     origin: Option<&'a Origin>,
-    profile: &Profile,
+    entry: &Entry,
     place: usize,
     child: &'a Child,
 ) -> Result<Part<'a>, AllocError>
-    ensures { IfOk result (λ part. seen_part part ≡ child_part (option_map (λ origin. origin.now) origin.entry) profile.now place child.now) }
+    ensures { IfOk result (λ part. seen_part part ≡ child_part (option_map (λ origin. origin.now) origin.entry) entry.now place child.now) }
 {
-    let name = full_name(alloc, profile, Some(place))?;
+    let name = full_name(alloc, entry.profile(), Some(place))?;
     Ok(Part {
         name: Sequence::from_vec(name),
         file: file_of(origin),
-        section: child_section(idle_flags(origin, Some(place)), child),
+        section: child_section(idle_flags(origin, Some(place)), entry, place, child),
         places: rule_places(origin, Some(place)),
     })
 }
 
-// Appends the parts that children and hats of a profile are.
+// Appends the parts that children and hats of a loaded profile are.
 fn push_children<'a>(
     alloc: Global,
     origin: Option<&'a Origin>,
-    profile: &Profile,
+    entry: &Entry,
     children: &'a [Child],
     parts: &mut Vec<Part<'a>>,
 ) -> Result<(), AllocError>
     ensures { OnOk result (map seen_part parts.new.items
-        ≡ map seen_part parts.old.items ++ child_parts (option_map (λ origin. origin.now) origin.entry) profile.now 0 children.now) }
+        ≡ map seen_part parts.old.items ++ child_parts (option_map (λ origin. origin.now) origin.entry) entry.now 0 children.now) }
 {
     let mut place = 0;
     let mut rest = children;
     while let [child, behind @ ..] = rest {
-        parts.push(child_part(alloc, origin, profile, place, child)?)?;
+        parts.push(child_part(alloc, origin, entry, place, child)?)?;
         place += 1;
         rest = behind;
     }
     Ok(())
 }
 
-// Appends the parts of a profile: itself, and its children and hats.
-fn push_profile<'a>(
+// Appends the parts of a loaded profile: itself, and its children and hats.
+fn push_entry<'a>(
     alloc: Global,
     origin: Option<&'a Origin>,
-    profile: &'a Profile,
+    entry: &'a Entry,
     parts: &mut Vec<Part<'a>>,
 ) -> Result<(), AllocError>
     ensures { OnOk result (map seen_part parts.new.items
-        ≡ map seen_part parts.old.items ++ profile_parts (option_map (λ origin. origin.now) origin.entry) profile.now) }
+        ≡ map seen_part parts.old.items ++ profile_parts (option_map (λ origin. origin.now) origin.entry) entry.now) }
 {
-    parts.push(profile_part(alloc, origin, profile)?)?;
-    push_children(alloc, origin, profile, profile.children.as_slice(), parts)
+    parts.push(profile_part(alloc, origin, entry)?)?;
+    push_children(
+        alloc,
+        origin,
+        entry,
+        entry.profile().children.as_slice(),
+        parts,
+    )
 }
 
 // The first of some origins, if there is one.
@@ -163,7 +191,7 @@ fn push_slot<'a>(
 {
     match slot {
         None => Ok(()),
-        Some(entry) => push_profile(alloc, first_of(origins), entry.profile(), parts),
+        Some(entry) => push_entry(alloc, first_of(origins), entry, parts),
     }
 }
 

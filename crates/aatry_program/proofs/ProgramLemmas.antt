@@ -1,5 +1,5 @@
 -- What is done is what the words ask for.
-use Rattle.std.proofs.Common.{◌≡◌, ◌⊎◌, ℕ, List, Result, Ok, Err, IfErr, IfOk, MatchResult, OnOk, inl, inr, string_bytes, subst}
+use Rattle.std.proofs.Common.{◌≡◌, ◌⊎◌, ℕ, Bool, List, Result, Ok, Err, IfErr, IfOk, MatchResult, OnOk, inl, inr, string_bytes, subst}
 use Rattle.aa_profile_parsing.specs.declared.language.Language.{Language}
 use Rattle.aatry_arguments.specs.Arguments.{CommandAsked, ForCheck, ForDiff, ForLog, ForSession, ForTest, ForWho, ForWhy}
 use Rattle.aa_options.specs.Options.{Asked, ForHelp, ForThis, ForVersion, Nothing}
@@ -9,7 +9,8 @@ use Rattle.aatry_arguments.specs.Given.{meant_call, meant_command}
 use Rattle.aa_options.specs.declared.fault.ArgumentFault.{ArgumentFault}
 use Rattle.aa_options.specs.declared.fault.ArgumentFault.TheVariants.{Help, Version, Bad, Memory}
 use Rattle.aatry_arguments.specs.declared.arguments.Call.{Call}
-use Rattle.aatry_folder.specs.declared.report.Report.{Report}
+use Rattle.aatry_folder.specs.Reports.{Report, seen_report}
+use Rattle.aatry_folder.specs.declared.report.Report.{Report as CodeReport}
 use Rattle.aatry_folder.specs.declared.fault.Fault.{Fault}
 use Rattle.aatry_folder.specs.declared.fault.Fault.TheVariants as fault
 use Rattle.aatry_program.specs.Program.{Input, IsCommandDone, IsDone, IsDoneBy, IsFaultShown, IsOutcomeShown, IsReported, Output}
@@ -19,18 +20,18 @@ use Rattle.aatry_folder.specs.Told.{ToldFolders}
 use Rattle.aaset_start.specs.Known.{Known}
 
 -- a command that came to something is done, if that is shown, and one that a fault ended, if that is reported
-pub command_done : (Tells : List ℕ → ℕ → Type 0) (Ends : Fault → Type 0) (output : Output) (status : ℕ) (outcome : Result Report Fault)
-    → IfOk outcome (λ report. Tells report.text.items report.failed) → IfErr outcome Ends → IsOutcomeShown outcome output status
+pub command_done : (Tells : Report → Type 0) (Ends : Fault → Type 0) (output : Output) (status : ℕ) (outcome : Result CodeReport Fault)
+    → IfOk outcome (λ report. Tells (seen_report report)) → IfErr outcome Ends → IsOutcomeShown outcome output status
     → IsCommandDone Tells Ends output status
-command_done Tells Ends output status (Ok report) told ends shown = inl (report.text.items, report.failed, told, shown)
+command_done Tells Ends output status (Ok report) told ends shown = inl (seen_report report, told, shown)
 command_done Tells Ends output status (Err fault) told ends shown = inr (fault, ends, shown)
 
 -- the call that is given is the one that is asked for
 pub done_by_command : (folders : ToldFolders) (known : Known) (input : Input) (asked : Asked CallAsked) (call : Call) (output : Output)
-    (status : ℕ) → IsGivenFor meant_call asked (Ok call) → IsDoneBy call.language call.form folders known input (meant_command call.command) output status
+    (status : ℕ) → IsGivenFor meant_call asked (Ok call) → IsDoneBy call.language call.form call.verbose folders known input (meant_command call.command) output status
     → IsDone folders known input asked output status
 done_by_command folders known input (ForThis asked) call output status given done =
-    subst (λ a. IsDoneBy a.language a.form folders known input a.command output status) given done
+    subst (λ a. IsDoneBy a.language a.form a.verbose folders known input a.command output status) given done
 done_by_command folders known input ForHelp call output status given done = absurd given
 done_by_command folders known input ForVersion call output status given done = absurd given
 done_by_command folders known input Nothing call output status given done = absurd given
@@ -43,15 +44,15 @@ session_done Had Broken status (Ok done) had broken is = inl (had, is)
 session_done Had Broken status (Err fault) had broken is = inr (fault, broken, is)
 
 -- want of memory may keep the program from any command
-no_memory_done : (language : Language) (form : Form) (folders : ToldFolders) (known : Known) (input : Input) (command : CommandAsked) (output : Output)
-    (status : ℕ) → IsReported fault.NoMemory output status → IsDoneBy language form folders known input command output status
-no_memory_done language form folders known input (ForCheck check) output status is = inr (fault.NoMemory, tt, is)
-no_memory_done language form folders known input (ForTest test) output status is = inr (fault.NoMemory, inl tt, is)
-no_memory_done language form folders known input (ForWho asking) output status is = inr (fault.NoMemory, inl tt, is)
-no_memory_done language form folders known input (ForWhy asking) output status is = inr (fault.NoMemory, inl tt, is)
-no_memory_done language form folders known input (ForLog logs) output status is = inr (fault.NoMemory, inl tt, is)
-no_memory_done language form folders known input (ForDiff comparison) output status is = inr (fault.NoMemory, inl tt, is)
-no_memory_done language form folders known input (ForSession session) output status is = inr (fault.NoMemory, inl (tt, is.0), is.1)
+no_memory_done : (language : Language) (form : Form) (verbose : Bool) (folders : ToldFolders) (known : Known) (input : Input) (command : CommandAsked) (output : Output)
+    (status : ℕ) → IsReported fault.NoMemory output status → IsDoneBy language form verbose folders known input command output status
+no_memory_done language form verbose folders known input (ForCheck check) output status is = inr (fault.NoMemory, tt, is)
+no_memory_done language form verbose folders known input (ForTest test) output status is = inr (fault.NoMemory, inl tt, is)
+no_memory_done language form verbose folders known input (ForWho asking) output status is = inr (fault.NoMemory, inl tt, is)
+no_memory_done language form verbose folders known input (ForWhy asking) output status is = inr (fault.NoMemory, inl tt, is)
+no_memory_done language form verbose folders known input (ForLog logs) output status is = inr (fault.NoMemory, inl tt, is)
+no_memory_done language form verbose folders known input (ForDiff comparison) output status is = inr (fault.NoMemory, inl tt, is)
+no_memory_done language form verbose folders known input (ForSession session) output status is = inr (fault.NoMemory, inl (tt, is.0), is.1)
 
 -- where no command is given, a text is shown that was asked for, or the status tells why
 pub done_by_fault : (folders : ToldFolders) (known : Known) (input : Input) (asked : Asked CallAsked) (told : ArgumentFault) (output : Output)
@@ -60,7 +61,7 @@ done_by_fault folders known input (ForThis command) (Help text) output status gi
 done_by_fault folders known input (ForThis command) (Version text) output status given shown = absurd given
 done_by_fault folders known input (ForThis command) Bad output status given shown = absurd given
 done_by_fault folders known input (ForThis call) Memory output status given shown =
-    no_memory_done call.language call.form folders known input call.command output status shown
+    no_memory_done call.language call.form call.verbose folders known input call.command output status shown
 done_by_fault folders known input ForHelp (Help text) output status given shown = inl (string_bytes text, shown)
 done_by_fault folders known input ForHelp (Version text) output status given shown = absurd given
 done_by_fault folders known input ForHelp Bad output status given shown = absurd given

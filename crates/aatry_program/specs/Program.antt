@@ -20,7 +20,8 @@ use Rattle.aatry_log.specs.Below.{IsLogToldBelow}
 use Rattle.aatry_log.specs.Ends.{IsEndOfLog}
 use Rattle.aatry_test.specs.Below.{IsTestedBelow}
 use Rattle.aatry_test.specs.Ends.{IsEndOfTest}
-use Rattle.aatry_folder.specs.declared.report.Report.{Report}
+use Rattle.aatry_folder.specs.Reports.{Report, seen_report}
+use Rattle.aatry_folder.specs.declared.report.Report.{Report as CodeReport}
 use Rattle.aatry_folder.specs.declared.fault.Fault.{Fault}
 use Rattle.aatry_folder.specs.declared.fault.Fault.TheVariants.{BadArguments, NoMemory}
 use Rattle.aatry_session_run.specs.Broken.{IsBrokenSession}
@@ -41,8 +42,8 @@ pub record Input : Type 0 where
   pub left : Option (List ℕ)
   pub prompt : List ℕ
 
--- A text stands on standard output, and the status is the one that goes with it; or standard output failed, a front of the text stands there, and the status
--- tells that.
+-- A text stands on standard output, and the status is the one that goes with it; or standard output failed, a front of the text stands there, and the
+-- status tells that.
 abbrev pub IsShown : List ℕ → ℕ → Output → ℕ → Type 0
 IsShown text fine output status =
     (Appends output.before output.after text × (status ≡ fine))
@@ -52,9 +53,14 @@ IsShown text fine output status =
 abbrev pub IsReported : Fault → Output → ℕ → Type 0
 IsReported fault output status = (output.after ≡ output.before) × (status ≡ status_of fault)
 
+-- What a command came to is shown: what it told stands on standard output, and the status tells whether some of it failed. Nothing is said here of
+-- standard error, on which stands what is noted.
+abbrev pub IsReportShown : Report → Output → ℕ → Type 0
+IsReportShown report output status = IsShown report.text (failure_status report.failed) output status
+
 -- what a command came to is shown, or why it came to nothing is reported
-abbrev pub IsOutcomeShown : Result Report Fault → Output → ℕ → Type 0
-IsOutcomeShown (Ok report) output status = IsShown report.text.items (failure_status report.failed) output status
+abbrev pub IsOutcomeShown : Result CodeReport Fault → Output → ℕ → Type 0
+IsOutcomeShown (Ok report) output status = IsReportShown (seen_report report) output status
 IsOutcomeShown (Err fault) output status = IsReported fault output status
 
 -- what was asked for in the place of a command is shown, or why there is none is reported
@@ -64,32 +70,32 @@ IsFaultShown (Version text) output status = IsShown (string_bytes text) 0 output
 IsFaultShown Bad output status = IsReported BadArguments output status
 IsFaultShown Memory output status = IsReported NoMemory output status
 
--- What a command came to is shown, the status telling whether some of it failed; or a fault that it may end with kept the program from it, and is reported.
-abbrev pub IsCommandDone : (List ℕ → ℕ → Type 0) → (Fault → Type 0) → Output → ℕ → Type 0
+-- What a command came to is shown; or a fault that it may end with kept the program from it, and is reported.
+abbrev pub IsCommandDone : (Report → Type 0) → (Fault → Type 0) → Output → ℕ → Type 0
 IsCommandDone Tells Ends output status =
-    ((text : List ℕ) × (failed : ℕ) × Tells text failed × IsShown text (failure_status failed) output status)
+    ((report : Report) × Tells report × IsReportShown report output status)
     ⊎ ((fault : Fault) × Ends fault × IsReported fault output status)
 
--- A session over a folder was had by a language to its end, and the status is 0; or some fault ended it, a beginning of what a session writes stands on standard output,
--- and the status is that of the fault.
+-- A session over a folder was had by a language to its end, and the status is 0; or some fault ended it, a beginning of what a session writes stands
+-- on standard output, and the status is that of the fault.
 abbrev pub IsSessionDone : Language → ToldFolders → Known → List ℕ → Input → Output → ℕ → Type 0
 IsSessionDone language folders known base input output status =
     (IsSession language folders known base input.prompt input.left output.before output.after × (status ≡ 0))
     ⊎ ((fault : Fault) × IsBrokenSession language folders known base input.prompt input.left output.before output.after fault × (status ≡ status_of fault))
 
--- A command is done by a language: what it comes to is shown in a form, of a test in lines alone; and a session is had.
-abbrev pub IsDoneBy : Language → Form → ToldFolders → Known → Input → CommandAsked → Output → ℕ → Type 0
-IsDoneBy language form folders known input (ForCheck check) output status = IsCommandDone (IsChecked form language folders known check.base check.names) (IsEndOfCheck folders known check.base) output status
-IsDoneBy language form folders known input (ForTest test) output status = IsCommandDone (IsTestedBelow language folders known test.base test.paths) (IsEndOfTest folders known test.base test.paths) output status
-IsDoneBy language form folders known input (ForWho asking) output status = IsCommandDone (IsWhoToldBelow form language folders known asking.base asking.words) (IsEndOfWho folders known asking.base asking.words) output status
-IsDoneBy language form folders known input (ForWhy asking) output status = IsCommandDone (IsWhyToldBelow form language folders known asking.base asking.words) (IsEndOfWhy folders known asking.base asking.words) output status
-IsDoneBy language form folders known input (ForLog logs) output status = IsCommandDone (IsLogToldBelow form language folders known input.left logs) (IsEndOfLog folders known logs) output status
-IsDoneBy language form folders known input (ForDiff comparison) output status = IsCommandDone (IsComparedBelow form language folders known comparison) (IsEndOfDiff folders known comparison) output status
-IsDoneBy language form folders known input (ForSession session) output status = IsSessionDone language folders known session.base input output status
+-- A command is done by a language: what it comes to is shown in a form, at length or not, of a test in lines alone; and a session is had.
+abbrev pub IsDoneBy : Language → Form → Bool → ToldFolders → Known → Input → CommandAsked → Output → ℕ → Type 0
+IsDoneBy language form verbose folders known input (ForCheck check) output status = IsCommandDone (IsChecked form language folders known check.base check.names) (IsEndOfCheck folders known check.base) output status
+IsDoneBy language form verbose folders known input (ForTest test) output status = IsCommandDone (IsTestedBelow language folders known test.base test.paths) (IsEndOfTest folders known test.base test.paths) output status
+IsDoneBy language form verbose folders known input (ForWho asking) output status = IsCommandDone (IsWhoToldBelow form verbose language folders known asking.base asking.words) (IsEndOfWho folders known asking.base asking.words) output status
+IsDoneBy language form verbose folders known input (ForWhy asking) output status = IsCommandDone (IsWhyToldBelow form verbose language folders known asking.base asking.words) (IsEndOfWhy folders known asking.base asking.words) output status
+IsDoneBy language form verbose folders known input (ForLog logs) output status = IsCommandDone (IsLogToldBelow form verbose language folders known input.left logs) (IsEndOfLog folders known logs) output status
+IsDoneBy language form verbose folders known input (ForDiff comparison) output status = IsCommandDone (IsComparedBelow form verbose language folders known comparison) (IsEndOfDiff folders known comparison) output status
+IsDoneBy language form verbose folders known input (ForSession session) output status = IsSessionDone language folders known session.base input output status
 
 -- What is asked for is done: a command, or help or the version is shown, if memory allows; all else is reported as bad arguments.
 abbrev pub IsDone : ToldFolders → Known → Input → Asked CallAsked → Output → ℕ → Type 0
-IsDone folders known input (ForThis call) output status = IsDoneBy call.language call.form folders known input call.command output status
+IsDone folders known input (ForThis call) output status = IsDoneBy call.language call.form call.verbose folders known input call.command output status
 IsDone folders known input ForHelp output status = ((text : List ℕ) × IsShown text 0 output status) ⊎ IsReported NoMemory output status
 IsDone folders known input ForVersion output status = ((text : List ℕ) × IsShown text 0 output status) ⊎ IsReported NoMemory output status
 IsDone folders known input Nothing output status = IsReported BadArguments output status ⊎ IsReported NoMemory output status

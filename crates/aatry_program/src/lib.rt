@@ -2,6 +2,7 @@
 #![tactic(auto)]
 
 mod program;
+mod questions;
 mod reporting;
 mod status;
 mod streams;

@@ -3,16 +3,22 @@
 ghost use Rattle.std.specs.Prelude.{◌≡◌, ◌≤◌, ◌^◌, MatchResult, drop, map, string_bytes};
 ghost use Rattle.aatry_arguments.specs.Forms.{asked_call};
 ghost use Rattle.aatry_arguments.specs.Given.{meant_command};
-ghost use Rattle.aatry_program.specs.Program.{IsDone, IsDoneBy, IsFaultShown, IsOutcomeShown, IsSessionDone, IsShown, IsStarted, input_of, output_of};
+ghost use Rattle.aaset_start.specs.Gathering.{texts_of};
+ghost use Rattle.aatry_who.specs.Ends.{IsEndOfWho};
+ghost use Rattle.aatry_who.specs.Who.{IsWhoToldBelow};
+ghost use Rattle.aatry_why.specs.Ends.{IsEndOfWhy};
+ghost use Rattle.aatry_why.specs.Why.{IsWhyToldBelow};
+ghost use Rattle.aatry_program.specs.Program.{IsCommandDone, IsDone, IsDoneBy, IsFaultShown, IsOutcomeShown, IsSessionDone, IsShown, IsStarted, input_of, output_of};
 ghost use Rattle.aatry_program.specs.Status.{status_of};
 
-use crate::reporting::report;
+use crate::questions::{who_fault, why_fault};
+use crate::reporting::{report, report_line};
 use crate::status::failure_status;
 use crate::streams::Streams;
 use aa_profile_parsing::Language;
 use aa_set_lines::{Sink, Source, write_all};
 use aaset_start::FileSystem;
-use aatry_arguments::{ArgumentFault, Call, Command, Session, call_of};
+use aatry_arguments::{ArgumentFault, Asking, Call, Command, Session, call_of};
 use aatry_check::check_folder;
 use aatry_diff::diff_folders;
 use aatry_folder::{Fault, Folders, Report};
@@ -39,7 +45,12 @@ fn show<S, W: Sink, E: Sink>(
     }
 }
 
-// Shows what a command came to, or reports why it came to nothing.
+// Writes what is noted beside what a command told. Where that can't be written, no more is lost than the notes.
+fn note<E: Sink>(errors: &mut E, notes: &[u8]) {
+    let _ = write_all(errors, notes);
+}
+
+// Shows what a command came to, or reports why it came to nothing. What is noted comes last, so that it stands at the end of all at a terminal.
 fn show_outcome<S, W: Sink, E: Sink>(
     alloc: Global,
     outcome: Result<Report, Fault>,
@@ -50,7 +61,9 @@ fn show_outcome<S, W: Sink, E: Sink>(
     match outcome {
         Ok(found) => {
             let fine = failure_status(found.failed);
-            show(alloc, found.text.as_slice(), fine, streams)
+            let status = show(alloc, found.text.as_slice(), fine, streams);
+            note(&mut streams.errors, found.notes.as_slice());
+            status
         }
         Err(fault) => report(alloc, &mut streams.errors, &fault),
     }
@@ -93,6 +106,58 @@ fn have_session<F: Folders, D: FileSystem, S: Source, W: Sink, E: Sink>(
     session_status(alloc, outcome, &mut streams.errors)
 }
 
+// Asks a folder why a question is answered as it is; where the words ask none, what is wrong with them is reported.
+fn tell_why<F: Folders, D: FileSystem, S, W: Sink, E: Sink>(
+    teller: Teller,
+    language: Language,
+    asked: Asking,
+    folders: &F,
+    disk: &D,
+    streams: &mut Streams<S, W, E>,
+) -> u8
+    ensures { IsCommandDone (IsWhyToldBelow teller.form teller.verbose language (F.told folders.now) (D.known disk.now) (string_bytes asked.base) (texts_of asked.words))
+        (IsEndOfWhy (F.told folders.now) (D.known disk.now) (string_bytes asked.base) (texts_of asked.words))
+        (output_of (W.written streams.old.output) (W.written streams.new.output) (W.failed streams.new.output)) result }
+{
+    match why_fault(teller.alloc, &asked.words) {
+        Ok(None) => {
+            show_outcome(
+                teller.alloc,
+                why_folder(teller, language, folders, disk, asked),
+                streams,
+            )
+        }
+        Ok(Some(line)) => report_line(&mut streams.errors, &line, &Fault::BadQuestion),
+        Err(_) => report(teller.alloc, &mut streams.errors, &Fault::NoMemory),
+    }
+}
+
+// The same of who would be let through.
+fn tell_who<F: Folders, D: FileSystem, S, W: Sink, E: Sink>(
+    teller: Teller,
+    language: Language,
+    asked: Asking,
+    folders: &F,
+    disk: &D,
+    streams: &mut Streams<S, W, E>,
+) -> u8
+    ensures { IsCommandDone (IsWhoToldBelow teller.form teller.verbose language (F.told folders.now) (D.known disk.now) (string_bytes asked.base) (texts_of asked.words))
+        (IsEndOfWho (F.told folders.now) (D.known disk.now) (string_bytes asked.base) (texts_of asked.words))
+        (output_of (W.written streams.old.output) (W.written streams.new.output) (W.failed streams.new.output)) result }
+{
+    match who_fault(teller.alloc, &asked.words) {
+        Ok(None) => {
+            show_outcome(
+                teller.alloc,
+                who_folder(teller, language, folders, disk, asked),
+                streams,
+            )
+        }
+        Ok(Some(line)) => report_line(&mut streams.errors, &line, &Fault::BadQuestion),
+        Err(_) => report(teller.alloc, &mut streams.errors, &Fault::NoMemory),
+    }
+}
+
 // Does what a call asks for.
 fn perform<F: Folders, D: FileSystem, S: Source, W: Sink, E: Sink>(
     alloc: Global,
@@ -103,16 +168,21 @@ fn perform<F: Folders, D: FileSystem, S: Source, W: Sink, E: Sink>(
     streams: &mut Streams<S, W, E>,
 ) -> u8
     requires { S.reads streams.old.input ≤ 2 ^ 62 }
-    ensures { IsDoneBy call.language call.form (F.told folders.now) (D.known disk.now) (input_of (S.left streams.old.input) prompt.now)
+    ensures { IsDoneBy call.language call.form call.verbose (F.told folders.now) (D.known disk.now) (input_of (S.left streams.old.input) prompt.now)
         (meant_command call.command)
         (output_of (W.written streams.old.output) (W.written streams.new.output) (W.failed streams.new.output)) result }
 {
     let Call {
         language,
         form,
+        verbose,
         command,
     } = call;
-    let teller = Teller { alloc, form };
+    let teller = Teller {
+        alloc,
+        form,
+        verbose,
+    };
     match command {
         Command::Check(asked) => {
             show_outcome(
@@ -128,20 +198,8 @@ fn perform<F: Folders, D: FileSystem, S: Source, W: Sink, E: Sink>(
                 streams,
             )
         }
-        Command::Who(asked) => {
-            show_outcome(
-                alloc,
-                who_folder(teller, language, folders, disk, asked),
-                streams,
-            )
-        }
-        Command::Why(asked) => {
-            show_outcome(
-                alloc,
-                why_folder(teller, language, folders, disk, asked),
-                streams,
-            )
-        }
+        Command::Who(asked) => tell_who(teller, language, asked, folders, disk, streams),
+        Command::Why(asked) => tell_why(teller, language, asked, folders, disk, streams),
         Command::Log(asked) => {
             let outcome = log_folder(teller, language, folders, disk, asked, &mut streams.input);
             show_outcome(alloc, outcome, streams)
@@ -198,10 +256,11 @@ fn do_asked<F: Folders, D: FileSystem, S: Source, W: Sink, E: Sink>(
 
 /// Does what the words of the program's start ask for, and gives the exit status. The first word is the program's own name; where the words
 /// can't be had, `words` is the fault to be reported. What is told stands on standard output; a fault is reported on standard error, on a line of
-/// its own. A session takes its lines from standard input, and writes `prompt` before it reads one; `log` reads it where it names no file. The status is 0
-/// where each file that was checked was taken, each transcript that was tested passed, a question has an answer, somebody would be let through, nothing
-/// differs between two folders, logs were read, a session ended, or a text was asked for and shown; 1 where one of these isn't so; 2 where the arguments or a question are no good, or a folder of
-/// policy or another file can't be read; and 3 where a stream or memory failed.
+/// its own, and so is what a command notes beside what it tells, once that was written. A session takes its lines from standard input, and writes
+/// `prompt` before it reads one; `log` reads it where it names no file. The status is 0 where each file that was checked was taken, each transcript
+/// that was tested passed, a question has an answer, somebody would be let through, nothing differs between two folders, logs were read, a session
+/// ended, or a text was asked for and shown; 1 where one of these isn't so; 2 where the arguments or a question are no good, or a folder of policy or
+/// another file can't be read; and 3 where a stream or memory failed.
 pub fn start<F: Folders, D: FileSystem, S: Source, W: Sink, E: Sink>(
     alloc: Global,
     words: Result<Vec<String>, Fault>,

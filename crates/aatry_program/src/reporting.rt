@@ -31,3 +31,11 @@ pub fn report<E: Sink>(alloc: Global, errors: &mut E, told: &Fault) -> u8
     let _ = write_fault(alloc, errors, told);
     status_of(told)
 }
+
+// Reports a fault on standard error by a line that tells more of it, and gives its exit status.
+pub fn report_line<E: Sink>(errors: &mut E, line: &[u8], told: &Fault) -> u8
+    ensures { result ≡ status_of told.now }
+{
+    let _ = write_all(errors, line);
+    status_of(told)
+}

@@ -7,6 +7,6 @@ pub struct Streams<S, W, E> {
     pub input: S,
     /// Standard output, on which stands what is told.
     pub output: W,
-    /// Standard error, on which a fault is reported.
+    /// Standard error, on which a fault is reported, and what is noted beside what is told.
     pub errors: E,
 }

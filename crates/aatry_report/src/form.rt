@@ -11,11 +11,13 @@ pub enum Form {
     Records,
 }
 
-/// How things are told: in which form, and where memory for what is told comes from.
+/// How things are told: in which form, whether at length, and where memory for what is told comes from.
 #[derive(Clone, Copy)]
 pub struct Teller {
     /// Where memory comes from.
     pub alloc: Global,
     /// The form.
     pub form: Form,
+    /// Whether lines tell at length: each file that is left out too, and not only how many there are. Records always do.
+    pub verbose: bool,
 }

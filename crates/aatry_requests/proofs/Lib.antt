@@ -1,5 +1,5 @@
 mod OrderLemmas
 mod TallyLemmas
-mod InputLemmas
 mod TextLemmas
 mod WordLemmas
+mod WrongLemmas

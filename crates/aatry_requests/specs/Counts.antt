@@ -51,7 +51,11 @@ with_rest gathered members =
 abbrev pub summary_record : Gathered → Share → Members
 summary_record gathered share = with_rest gathered (with_questions gathered share (with_lines gathered (record_of (codes "summary"))))
 
+-- all of these in a line
+abbrev pub counts_text : Gathered → Share → List ℕ
+counts_text gathered share = lines_text gathered ++ questions_text gathered share ++ rest_text gathered
+
 -- what sums up: all of these on a line, or as a record
 abbrev pub summary_text : Form → Gathered → Share → List ℕ
-summary_text Lines gathered share = lines_text gathered ++ questions_text gathered share ++ rest_text gathered ++ line_feed ∷ []
+summary_text Lines gathered share = counts_text gathered share ++ line_feed ∷ []
 summary_text Records gathered share = record_line (summary_record gathered share)

@@ -1,5 +1,5 @@
 -- What is gathered from a source's lines.
-use Rattle.std.specs.Prelude.{ℕ, List, [], fold}
+use Rattle.std.specs.Prelude.{ℕ, List, [], Option, None, fold}
 use Rattle.aa_set_lines.specs.Lines.{lines}
 use Rattle.aatry_log_lines.specs.Lines.{Asks, NoRequest, OtherRequest, Told, Unreadable}
 use Rattle.aatry_requests.specs.Sources.{told_in}
@@ -28,12 +28,17 @@ nothing = record { tallies = []; lines = 0; asked = 0; others = 0; unreadable = 
 abbrev pub with_line : Gathered → Gathered
 with_line so_far = record so_far { lines = one_more so_far.lines }
 
--- one more line that tells of this
+-- one more line that tells of this, at a time, where that is known
+abbrev pub with_told_at : Gathered → Told → Option ℕ → Gathered
+with_told_at so_far (Asks question) time =
+    record (with_line so_far) { tallies = counted_with question time so_far.tallies; asked = one_more so_far.asked }
+with_told_at so_far OtherRequest time = record (with_line so_far) { others = one_more so_far.others }
+with_told_at so_far NoRequest time = with_line so_far
+with_told_at so_far Unreadable time = record (with_line so_far) { unreadable = one_more so_far.unreadable }
+
+-- the same where no time is looked at
 abbrev pub with_told : Gathered → Told → Gathered
-with_told so_far (Asks question) = record (with_line so_far) { tallies = counted_with question so_far.tallies; asked = one_more so_far.asked }
-with_told so_far OtherRequest = record (with_line so_far) { others = one_more so_far.others }
-with_told so_far NoRequest = with_line so_far
-with_told so_far Unreadable = record (with_line so_far) { unreadable = one_more so_far.unreadable }
+with_told so_far told = with_told_at so_far told None
 
 -- what some lines of a source add
 abbrev pub with_lines : Source → Gathered → List (List ℕ) → Gathered

@@ -2,13 +2,14 @@ pub mod AskedWords
 pub mod Counts
 pub mod Ends
 pub mod Gathering
-pub mod Inputs
 pub mod Laws
 pub mod Order
 pub mod Questions
 pub mod SeenShares
 pub mod SeenTallies
 pub mod Sources
+pub mod Spans
 pub mod Tallies
 pub mod Texts
+pub mod WrongWords
 pub mod code

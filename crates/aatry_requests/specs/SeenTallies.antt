@@ -9,7 +9,7 @@ use Rattle.aatry_requests.specs.Texts.{question_text}
 use Rattle.aatry_requests.specs.declared.tallies.Tally.{Tally as CodeTally}
 
 abbrev pub seen_tally : CodeTally → Tally
-seen_tally tally = record { question = seen_logged tally.question; times = tally.times }
+seen_tally tally = record { question = seen_logged tally.question; times = tally.times; span = tally.span }
 
 -- tallies that are lent
 abbrev pub seen_all : List (Bor CodeTally) → List Tally

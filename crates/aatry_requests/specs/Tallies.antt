@@ -1,27 +1,26 @@
--- Questions, and how often each came.
-use Rattle.std.specs.Prelude.{ℕ, ◌+◌, ◌-◌, ◌^◌, min, if◌then◌else◌, List, [], ◌∷◌, fold}
+-- Questions, how often each came, and when.
+use Rattle.std.specs.Prelude.{ℕ, ◌+◌, ◌-◌, ◌^◌, min, if◌then◌else◌, List, [], ◌∷◌, Option, None}
 use Rattle.aa_set_commands.specs.Question.{Question}
+use Rattle.aatry_requests.specs.Spans.{widened}
 use Rattle.aatry_requests.specs.Texts.{is_same}
+use Rattle.aatry_requests.specs.declared.spans.Span.{Span}
 
--- a question, and how often it came
+-- a question, how often it came, and when first and last, where that is known of one time
 pub record Tally : Type 0 where
   pub question : Question
   pub times : ℕ
+  pub span : Option Span
 
 -- one more, as far as a number of the code counts
 abbrev pub one_more : ℕ → ℕ
 one_more n = min (n + 1) (2 ^ 64 - 1)
 
--- a question that came once more
-abbrev pub again : Question → Tally → Tally
-again question tally = record { question = question; times = one_more tally.times }
+-- a question that came once more, at a time, where that is known
+abbrev pub again : Question → Option ℕ → Tally → Tally
+again question time tally = record { question = question; times = one_more tally.times; span = widened time tally.span }
 
 -- One more question: it stands where the same one stands that came before, and else behind all.
-abbrev pub counted_with : Question → List Tally → List Tally
-counted_with question [] = record { question = question; times = 1 } ∷ []
-counted_with question (tally ∷ tallies) =
-    if is_same question tally.question then again question tally ∷ tallies else tally ∷ counted_with question tallies
-
--- each of these questions once, where it first came, with how often it came
-abbrev pub tallied : List Question → List Tally
-tallied questions = fold (λ tallies question. counted_with question tallies) [] questions
+abbrev pub counted_with : Question → Option ℕ → List Tally → List Tally
+counted_with question time [] = record { question = question; times = 1; span = widened time None } ∷ []
+counted_with question time (tally ∷ tallies) =
+    if is_same question tally.question then again question time tally ∷ tallies else tally ∷ counted_with question time tallies

@@ -11,8 +11,8 @@ use aa_set_commands::Question;
 use aatry_log_lines::{LogLine, LoggedQuestion, told_by};
 use std::alloc::{AllocError, Global};
 
-// Appends the bytes of words to others, none of them copied.
-fn push_words<'a>(words: &'a [String], out: &mut Vec<&'a [u8]>) -> Result<(), AllocError>
+/// Appends the bytes of words to others, none of them copied.
+pub fn push_words<'a>(words: &'a [String], out: &mut Vec<&'a [u8]>) -> Result<(), AllocError>
     ensures { OnOk result (map (λ word. word.now) out.new.items ≡ map (λ word. word.now) out.old.items ++ map string_bytes words.now) }
 {
     for word in words {

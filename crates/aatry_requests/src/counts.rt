@@ -3,7 +3,7 @@
 ghost use Rattle.std.specs.Prelude.{◌≡◌, ◌++◌, IfOk, OnOk};
 ghost use Rattle.aatry_report.specs.SeenRecord.{seen_record};
 ghost use Rattle.aatry_report.specs.declared.form.Form.TheVariants.{Lines};
-ghost use Rattle.aatry_requests.specs.Counts.{lines_text, number_text, numbers_text, questions_text, rest_text};
+ghost use Rattle.aatry_requests.specs.Counts.{counts_text, lines_text, number_text, numbers_text, questions_text, rest_text};
 ghost use Rattle.aatry_requests.specs.Counts.{summary_record, summary_text, with_lines, with_questions, with_rest};
 ghost use Rattle.aatry_requests.specs.Gathering.{seen_requests};
 ghost use Rattle.aatry_requests.specs.SeenShares.{seen_share};
@@ -86,13 +86,24 @@ impl<'a> Requests<'a> {
         )
     }
 
+    /// Appends what sums up to a text, as `push_summary` does in a line, without the end of that line.
+    ///
+    /// # Errors
+    ///
+    /// Where memory runs out. A beginning may have been appended then.
+    pub fn push_counts(&self, share: Share<'_>, out: &mut Vec<u8>) -> Result<(), AllocError>
+        ensures { OnOk result (out.new.items ≡ out.old.items ++ counts_text (seen_requests self.now) (seen_share share.entry)) }
+    {
+        self.push_lines(out)?;
+        self.push_questions(share, out)?;
+        self.push_rest(out)
+    }
+
     // Appends the line that sums up to a text.
     fn push_line(&self, share: Share<'_>, out: &mut Vec<u8>) -> Result<(), AllocError>
         ensures { OnOk result (out.new.items ≡ out.old.items ++ summary_text Lines (seen_requests self.now) (seen_share share.entry)) }
     {
-        self.push_lines(out)?;
-        self.push_questions(share, out)?;
-        self.push_rest(out)?;
+        self.push_counts(share, out)?;
         out.push(b'\n')?;
         Ok(())
     }
@@ -126,8 +137,12 @@ impl<'a> Requests<'a> {
         into.put_number(alloc, "unreadable", self.unreadable as usize)
     }
 
-    // The record that sums up.
-    fn summary_record(&self, alloc: Global, share: Share<'_>) -> Result<Record, AllocError>
+    /// The record that sums up, as `push_summary` appends it.
+    ///
+    /// # Errors
+    ///
+    /// Where memory runs out.
+    pub fn summary_record(&self, alloc: Global, share: Share<'_>) -> Result<Record, AllocError>
         ensures { IfOk result (λ made. seen_record made ≡ summary_record (seen_requests self.now) (seen_share share.entry)) }
     {
         let mut made = Record::new(alloc, "summary")?;

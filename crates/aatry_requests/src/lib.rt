@@ -3,14 +3,15 @@
 
 mod asked_words;
 mod counts;
-mod inputs;
 mod laws;
 mod order;
 mod questions;
 mod requests;
 mod sources;
+mod spans;
 mod tallies;
 mod texts;
+mod wrong_words;
 
 pub use asked_words::{asked_by, question_by};
 pub use counts::{Share, push_number};
@@ -19,5 +20,7 @@ pub use order::most_asked_first;
 pub use questions::{rule_request, who_asks};
 pub use requests::{Requests, gather};
 pub use sources::Source;
+pub use spans::Span;
 pub use tallies::{Tallies, Tally};
 pub use texts::push_question;
+pub use wrong_words::{letting_fault, words_fault};

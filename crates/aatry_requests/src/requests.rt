@@ -3,7 +3,7 @@
 ghost use Rattle.std.specs.Prelude.{◌≡◌, false, IfOk, OnOk};
 ghost use Rattle.std.specs.List.{list_any};
 ghost use Rattle.aa_set_lines.specs.Lines.{is_line_feed, lines};
-ghost use Rattle.aatry_requests.specs.Gathering.{gathered, nothing, seen_requests, with_lines, with_told};
+ghost use Rattle.aatry_requests.specs.Gathering.{gathered, nothing, seen_requests, with_lines, with_told, with_told_at};
 ghost use Rattle.aatry_log_lines.specs.Lines.{seen_line};
 ghost use Rattle.aatry_requests.specs.Sources.{told_in};
 
@@ -42,19 +42,24 @@ impl<'a> Requests<'a> {
         }
     }
 
-    /// Counts a line that tells of this.
+    /// Counts a line that tells of this, which came at a time in seconds since 1970 where that is known.
     ///
     /// # Errors
     ///
     /// Where memory runs out. The line may be counted then, and its question isn't.
-    pub fn note(&mut self, alloc: Global, told: LogLine<'a>) -> Result<(), AllocError>
-        ensures { OnOk result (seen_requests self.new ≡ with_told (seen_requests self.old) (seen_line told.entry)) }
+    pub fn note(
+        &mut self,
+        alloc: Global,
+        told: LogLine<'a>,
+        time: Option<u64>,
+    ) -> Result<(), AllocError>
+        ensures { OnOk result (seen_requests self.new ≡ with_told_at (seen_requests self.old) (seen_line told.entry) time) }
     {
         self.lines = self.lines.saturating_add(1);
         match told {
             LogLine::Asks(question) => {
                 self.asked = self.asked.saturating_add(1);
-                self.tallies.count(alloc, question)?;
+                self.tallies.count(alloc, question, time)?;
             }
             LogLine::OtherRequest => self.others = self.others.saturating_add(1),
             LogLine::NoRequest => {}
@@ -68,7 +73,7 @@ impl<'a> Requests<'a> {
         ensures { OnOk result (seen_requests self.new ≡ with_told (seen_requests self.old) (told_in source line.now)) }
     {
         let told = told_in(alloc, source, line)?;
-        self.note(alloc, told)
+        self.note(alloc, told, None)
     }
 
     // What no line feed ends: the last line, or nothing.

@@ -1,24 +1,34 @@
-//! Questions, and how often each came.
+//! Questions, how often each came, and when.
 
 ghost use Rattle.std.specs.Prelude.{◌≡◌, [], OnErr, OnOk, length, option_map, slice_get};
 ghost use Rattle.aatry_log_lines.specs.LoggedQuestions.{seen_logged};
 ghost use Rattle.aatry_requests.specs.Tallies.{counted_with};
 ghost use Rattle.aatry_requests.specs.SeenTallies.{seen_tally};
-ghost use Rattle.aatry_requests.specs.code.Entries.{times_under};
+ghost use Rattle.aatry_requests.specs.code.Entries.{count_under};
 
+use crate::spans::{Span, widened};
 use crate::texts::push_question;
 use aatry_log_lines::LoggedQuestion;
 use indexmap::IndexMap;
 use std::alloc::{AllocError, Global};
 use std::marker::Model;
 
-/// A question, and how often it came.
+/// A question, how often it came, and when.
 #[derive(Drop)]
 pub struct Tally<'a> {
     /// The question.
     pub question: LoggedQuestion<'a>,
     /// How often it came, as far as the number goes.
     pub times: u64,
+    /// When it came first and last, of the times that are known, if one is.
+    pub span: Option<Span>,
+}
+
+// How often something came, and when first and last.
+#[derive(Clone, Copy)]
+pub struct Count {
+    pub times: u64,
+    pub span: Option<Span>,
 }
 
 /// Questions in the order in which they first came, each once.
@@ -39,13 +49,19 @@ impl<'a> Model for Tallies<'a> {
     ghost invariant = { λ t. AreUnderTexts t.by_text.entries };
 }
 
-// How often the question of a text came, with once more.
-fn times_with(by_text: &IndexMap<Vec<u8>, Tally<'_>>, text: &[u8]) -> u64
-    ensures { result ≡ times_under text.now by_text.now.entries }
+// How often and when the question of a text came, with once more.
+fn count_with(by_text: &IndexMap<Vec<u8>, Tally<'_>>, text: &[u8], time: Option<u64>) -> Count
+    ensures { result ≡ count_under time text.now by_text.now.entries }
 {
     match by_text.get(text) {
-        Some(tally) => tally.times.saturating_add(1),
-        None => 1,
+        Some(tally) => Count {
+            times: tally.times.saturating_add(1),
+            span: widened(time, tally.span),
+        },
+        None => Count {
+            times: 1,
+            span: widened(time, None),
+        },
     }
 }
 
@@ -59,19 +75,29 @@ impl<'a> Tallies<'a> {
         }
     }
 
-    /// Counts a question that came.
+    /// Counts a question that came, at a time in seconds since 1970 where that is known.
     ///
     /// # Errors
     ///
     /// Where memory runs out. The tallies are as before then.
-    pub fn count(&mut self, alloc: Global, question: LoggedQuestion<'a>) -> Result<(), AllocError>
-        ensures counted { OnOk result (self.new ≡ counted_with (seen_logged question.entry) self.old) }
+    pub fn count(
+        &mut self,
+        alloc: Global,
+        question: LoggedQuestion<'a>,
+        time: Option<u64>,
+    ) -> Result<(), AllocError>
+        ensures counted { OnOk result (self.new ≡ counted_with (seen_logged question.entry) time self.old) }
         ensures unchanged { OnErr result (self.new ≡ self.old) }
     {
         let mut text = Vec::new(alloc);
         push_question(&mut text, &question.question())?;
-        let times = times_with(&self.by_text, &text);
-        self.by_text.insert(text, Tally { question, times })?;
+        let count = count_with(&self.by_text, &text, time);
+        let tally = Tally {
+            question,
+            times: count.times,
+            span: count.span,
+        };
+        self.by_text.insert(text, tally)?;
         Ok(())
     }
 

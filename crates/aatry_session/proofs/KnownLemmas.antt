@@ -36,12 +36,13 @@ use Rattle.aa_set_commands.specs.declared.refusal.RefusalKind.TheVariants.{Absen
 use Rattle.aa_set_lines.specs.Limits.{longest_line}
 use Rattle.aa_text_files.specs.Files.{File}
 use Rattle.aatry_policy.specs.Origins.{origin_in}
+use Rattle.aatry_folder.specs.declared.loading.Loading.TheVariants as loading
 use Rattle.aatry_policy.specs.PlaceLaws.{AreReadAt, IsFoundAt, IsReadAt}
 use Rattle.aatry_policy.specs.declared.origins.Origin.{Origin}
 use Rattle.aatry_session.specs.History.{change_in}
 use Rattle.aatry_session.specs.Laws.{IsInStep}
 use Rattle.aatry_session.specs.Origins.{change_origins, last_origin, newer_origin, origin_among, origins_at, unplaced_origin}
-use Rattle.aatry_session.specs.PlaceLaws.{AddLeavesKnowing, AddsKnowing, BeginsKnowing, ForgetsForAnyFiles, IsKnown, KnowsEach, KnowsTheLoaded, LeavesKnowing, StaysKnowing}
+use Rattle.aatry_session.specs.PlaceLaws.{AddLeavesKnowing, AddsKnowing, BeginsKnowing, ForgetsForAnyFiles, IsKnown, KnowsEach, KnowsTheLoaded, LeavesKnowing, StaysKnowing, SwitchesKnowing}
 use Rattle.aatry_session.specs.Sayings.{Command, Help, History, NoQuestion, Quit, Reload, Saying, Why, saying_in}
 use Rattle.aatry_session.specs.Turns.{Kept, depth, origins_behind, said_outcome}
 use Rattle.aatry_session.proofs.NamedLemmas.{Before, Came, Own, came-put, has-named, named-is, named-kept, named-put, none-named, none-there}
@@ -380,7 +381,7 @@ stays laws files base words kept line flag step h = by (saying_in line)
     by Quit = h
     by Reload = h
     by (Why question) = h
-    by (NoQuestion refusal) = h
+    by (NoQuestion fault) = h
 
 pub leaves : Laws → LeavesKnowing
 leaves laws files before after line left step h = elim left [
@@ -390,6 +391,11 @@ leaves laws files before after line left step h = elim left [
 
 pub adds : Laws → AddsKnowing
 adds laws files base words kept name flag step h = command_keeps laws files kept flag (Ok (Some (Make (Add name)))) step h
+
+pub switches : Laws → SwitchesKnowing
+switches laws files loading.ByFlags kept name step h = h
+switches laws files loading.ForceComplain kept name step h = command_keeps laws files kept false (Ok (Some (Make (Complain name)))) step h
+switches laws files loading.Disable kept name step h = command_keeps laws files kept false (Ok (Some (Make (Disable name)))) step h
 
 pub leaves_adding : Laws → AddLeavesKnowing
 leaves_adding laws files before after name left step h = elim left [

@@ -1,5 +1,5 @@
 -- The laws of a session.
-use Rattle.std.proofs.Common.{◌≡◌, ◌∙◌, ℕ, Bool, true, List, [], Option, None, Some, Result, Ok, inl, inr, refl, subst, sym, ap, cond, length, map}
+use Rattle.std.proofs.Common.{◌≡◌, ◌∙◌, ℕ, Bool, true, false, List, [], Option, None, Some, Result, Ok, inl, inr, refl, subst, sym, ap, cond, length, map}
 use Rattle.std.specs.Prelude.{nat_le}
 use Rattle.std.proofs.lemmas.Bool.{true≢false}
 use Rattle.std.proofs.lemmas.List.{length-map}
@@ -7,11 +7,11 @@ use Rattle.aa_decide_slots.specs.Entries.{Loaded}
 use Rattle.aa_history.specs.MarkLaws.{StartedMarksItsSets}
 use Rattle.aa_profile_parsing.specs.declared.language.Language.{Language}
 use Rattle.aa_set.specs.Laws.{RefusedLineLeavesAll}
-use Rattle.aa_set_manager.specs.Outcomes.{Outcome as Obeyed, command_in, command_outcome as machine_outcome, line_outcome, refused as left_as}
+use Rattle.aa_set_manager.specs.Outcomes.{Outcome as Obeyed, command_in, command_outcome as machine_outcome, line_outcome, obeyed, refused as left_as}
 use Rattle.aa_set.specs.Reply.{is_refusal}
 use Rattle.aa_set_manager.specs.declared.reply.Reply.{Reply}
 use Rattle.aa_set_manager.specs.declared.reply.Reply.TheVariants.{Answered, Done, Refused, Silent}
-use Rattle.aa_set_commands.specs.Command.{Add, Command as Order, Make, PolicyChange}
+use Rattle.aa_set_commands.specs.Command.{Add, Command as Order, Complain, Disable as DisableChange, Make, PolicyChange}
 use Rattle.aa_set_commands.specs.Refusal.{plain}
 use Rattle.aa_set_commands.specs.declared.refusal.Refusal.{Refusal}
 use Rattle.aa_set_commands.specs.declared.refusal.RefusalKind.TheVariants.{LineTooLong}
@@ -19,9 +19,11 @@ use Rattle.aa_set_lines.specs.Limits.{longest_line}
 use Rattle.aa_text_files.specs.Files.{File}
 use Rattle.aatry_policy.specs.declared.origins.Origin.{Origin}
 use Rattle.aatry_session.specs.History.{change_in}
-use Rattle.aatry_session.specs.Laws.{AddLeavesInStep, AddsAsLinesDo, AddsInStep, BeginsInStep, ForgetsInStep, IsInStep, LeavesInStep, RefusedTurnLeavesAll, StaysInStep}
+use Rattle.aatry_session.specs.Laws.{AddLeavesInStep, AddsAsLinesDo, AddsInStep, BeginsInStep, ForgetsInStep, IsInStep, LeavesInStep, RefusedTurnLeavesAll, StaysInStep, SwitchesInStep}
 use Rattle.aatry_session.specs.Origins.{unplaced_origin}
 use Rattle.aatry_session.specs.Sayings.{Command, Help, History, NoQuestion, Quit, Reload, Saying, Why, saying_in}
+use Rattle.aatry_folder.specs.declared.loading.Loading.TheVariants.{ByFlags, Disable, ForceComplain}
+use Rattle.aatry_session.specs.Switching.{kept_by}
 use Rattle.aatry_session.specs.Turns.{Kept, command_outcome, depth, file_added, kept_after, origins_behind, said_outcome, texts_behind}
 use Rattle.aatry_session.proofs.StepLemmas.{Keeps, Known, command_keeps, known_keeps, line_keeps}
 
@@ -48,7 +50,7 @@ stays known files base words kept line flag h = by (saying_in line)
     by Quit = h
     by Reload = h
     by (Why question) = h
-    by (NoQuestion refusal) = h
+    by (NoQuestion fault) = h
 
 pub leaves : Known → LeavesInStep
 leaves known files before after line left h = elim left [
@@ -60,6 +62,16 @@ pub adds : Known → AddsInStep
 adds known files base words kept name flag h =
     in_step files kept (Some (Add name)) (file_added files kept.managed name flag) h
     (command_keeps known files kept flag (Ok (Some (Make (Add name)))) (h.counted, h.marked))
+
+made-change : Known → (kept : Kept) (change : PolicyChange) → IsInStep kept → IsInStep (kept_by kept change)
+made-change known kept change h =
+    in_step [] kept (Some change) (obeyed [] kept.managed (Make change)) h
+    (command_keeps known [] kept false (Ok (Some (Make change))) (h.counted, h.marked))
+
+pub switches : Known → SwitchesInStep
+switches known ByFlags kept name h = h
+switches known ForceComplain kept name h = made-change known kept (Complain name) h
+switches known Disable kept name h = made-change known kept (DisableChange name) h
 
 pub leaves_adding : Known → AddLeavesInStep
 leaves_adding known files before after name left h = elim left [
@@ -113,4 +125,4 @@ refused leaves files base words kept line flag h = by (saying_in line)
     by Quit = refl
     by Reload = refl
     by (Why question) = refl
-    by (NoQuestion refusal) = refl
+    by (NoQuestion fault) = refl

@@ -8,6 +8,8 @@ use Rattle.aa_set_commands.specs.Command.{Add, Make}
 use Rattle.aa_set_lines.specs.Limits.{longest_line}
 use Rattle.aa_text_files.specs.Files.{File}
 use Rattle.aatry_session.specs.Sayings.{Command, saying_in}
+use Rattle.aatry_folder.specs.declared.loading.Loading.{Loading}
+use Rattle.aatry_session.specs.Switching.{kept_switched}
 use Rattle.aatry_session.specs.Turns.{IsLeft, IsLeftAdding, Kept, add_outcome, begun, turn_outcome, unplaced}
 
 -- The texts are in step with the manager: there are as many as there are changes that can be undone or redone, and of as many changes it is kept
@@ -42,6 +44,10 @@ AddsInStep =
 -- also where memory ran out for it
 abbrev pub AddLeavesInStep : Type 0
 AddLeavesInStep = (files : List File) (before after : Kept) (name : List ℕ) → IsLeftAdding files before after name → IsInStep before → IsInStep after
+
+-- so does the change of a profile by how its file is loaded
+abbrev pub SwitchesInStep : Type 0
+SwitchesInStep = (loading : Loading) (kept : Kept) (name : List ℕ) → IsInStep kept → IsInStep (kept_switched loading kept name)
 
 -- and so does forgetting the places
 abbrev pub ForgetsInStep : Type 0

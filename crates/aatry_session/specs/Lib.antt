@@ -7,4 +7,5 @@ pub mod Refusals
 pub mod Sayings
 pub mod SeenSessions
 pub mod SeenTurns
+pub mod Switching
 pub mod Turns

@@ -10,6 +10,8 @@ use Rattle.aatry_policy.specs.PlaceLaws.{IsReadAt}
 use Rattle.aatry_policy.specs.declared.origins.Origin.{Origin}
 use Rattle.aatry_session.specs.Laws.{IsInStep}
 use Rattle.aatry_session.specs.Origins.{origin_among}
+use Rattle.aatry_folder.specs.declared.loading.Loading.{Loading}
+use Rattle.aatry_session.specs.Switching.{kept_switched}
 use Rattle.aatry_session.specs.Turns.{IsLeft, IsLeftAdding, Kept, add_outcome, begun, origin_of, turn_outcome, unplaced}
 
 -- A profile has an origin, and where its places are known still, its file spells the profile at these by a language.
@@ -54,7 +56,12 @@ AddsKnowing =
     → Knows files kept
     → Knows files (add_outcome files base words kept name flag).kept
 
--- also where memory ran out for it
+-- and the change of a profile by how its file is loaded
+abbrev pub SwitchesKnowing : Type 0
+SwitchesKnowing =
+    (files : List File) (loading : Loading) (kept : Kept) (name : List ℕ) → IsInStep kept → Knows files kept → Knows files (kept_switched loading kept name)
+
+-- also where memory ran out for adding one
 abbrev pub AddLeavesKnowing : Type 0
 AddLeavesKnowing =
     (files : List File) (before after : Kept) (name : List ℕ)

@@ -1,10 +1,11 @@
 -- What is told of a line that is refused.
-use Rattle.std.specs.Prelude.{ℕ, List, codes}
+use Rattle.std.specs.Prelude.{ℕ, List, None, codes}
 use Rattle.aa_set_commands.specs.Refusal.{number_of}
 use Rattle.aa_set_commands.specs.declared.refusal.Refusal.{Refusal}
 use Rattle.aa_set_commands.specs.declared.refusal.RefusalKind.{RefusalKind}
 use Rattle.aa_set_commands.specs.declared.refusal.RefusalKind.TheVariants.{File, Exists, Absent, Disabled, NothingToUndo, NothingToRedo, BadCommand, LineTooLong, BadRequest, NoMark, Memory}
 use Rattle.aa_text_files.specs.Files.{File as NamedFile}
+use Rattle.aatry_questions.specs.Faults.{Found, refusal_of}
 use Rattle.aatry_report.specs.Refusals.{placed_refusal}
 
 -- what is wrong, in words: that of a file in these
@@ -25,3 +26,7 @@ words_for Memory words = codes "memory ran out"
 abbrev pub refusal_told : List NamedFile → List ℕ → List ℕ → Refusal → List ℕ
 refusal_told files base words refusal =
     placed_refusal (words_for refusal.refusal words) files base (codes "refused") (number_of refusal.refusal) refusal.place
+
+-- what is told of words that are no question, in these words: they are refused as what is wrong with them says
+abbrev pub no_question_told : List NamedFile → List ℕ → List ℕ → Found → List ℕ
+no_question_told files base words fault = placed_refusal words files base (codes "refused") (number_of (refusal_of fault.wrong)) None

@@ -5,11 +5,12 @@ use Rattle.aa_set_commands.specs.Question.{IsWellFormed, Question, question_of, 
 use Rattle.aa_set_commands.specs.declared.refusal.Refusal.{Refusal}
 use Rattle.aa_set_lines.specs.Limits.{longest_line}
 use Rattle.aa_set_lines.specs.Words.{words_of}
+use Rattle.aatry_questions.specs.Faults.{Found, question_fault, seen_fault}
 use Rattle.aatry_session.specs.declared.sayings.Saying.{Saying as CodeSaying}
 use Rattle.aatry_session.specs.declared.sayings.Saying.TheVariants as said
 
 -- what a line says: something to the machine, or to tell the commands or the history, to end the session, to read the files anew, to tell the rules behind
--- the answer to a question, or the same with words that are none
+-- the answer to a question, or to tell what is wrong with words that are none
 pub data Saying : Type 0 where
   Command : Saying
   Help : Saying
@@ -17,7 +18,7 @@ pub data Saying : Type 0 where
   Quit : Saying
   Reload : Saying
   Why : (question : Question) → Saying
-  NoQuestion : (refusal : Refusal) → Saying
+  NoQuestion : (fault : Found) → Saying
 
 -- what a line says, in the code
 abbrev pub seen_saying : CodeSaying → Saying
@@ -27,7 +28,7 @@ seen_saying said.History = History
 seen_saying said.Quit = Quit
 seen_saying said.Reload = Reload
 seen_saying (said.Why question) = Why (seen_question question)
-seen_saying (said.NoQuestion refusal) = NoQuestion refusal
+seen_saying (said.NoQuestion fault) = NoQuestion (seen_fault fault)
 
 -- what is asked is well-formed
 abbrev pub IsAskable : CodeSaying → Type 0
@@ -45,14 +46,25 @@ word_saying word =
     if bytes_eq word (codes "quit") then Quit else
     if bytes_eq word (codes "reload") then Reload else Command
 
-abbrev pub why_saying : Result Question Refusal → Saying
-why_saying (Ok question) = Why question
-why_saying (Err refusal) = NoQuestion refusal
+-- what words behind `why` say: a question, or what is wrong with them
+abbrev pub asked_saying : Result Question Refusal → Option Found → Saying
+asked_saying (Ok question) fault = Why question
+asked_saying (Err refusal) (Some fault) = NoQuestion fault
+asked_saying (Err refusal) None = Command
+
+abbrev pub why_saying : List (List ℕ) → Saying
+why_saying words = asked_saying (question_of words) (question_fault words)
+
+-- what words behind `ask` say, by what is wrong with them: they are for the machine, but where they are no question
+abbrev pub ask_saying : Option Found → Saying
+ask_saying None = Command
+ask_saying (Some fault) = NoQuestion fault
 
 -- what a first word and others behind it say: more than a question has are for the machine, which refuses them
 abbrev pub words_saying : List ℕ → List (List ℕ) → Saying
 words_saying first rest =
-    if bytes_eq first (codes "why") && nat_le (length rest) most_asked then why_saying (question_of rest) else Command
+    if bytes_eq first (codes "why") && nat_le (length rest) most_asked then why_saying rest else
+    if bytes_eq first (codes "ask") && nat_le (length rest) most_asked then ask_saying (question_fault rest) else Command
 
 abbrev pub saying_of : List (List ℕ) → Saying
 saying_of [] = Command

@@ -13,7 +13,7 @@ use Rattle.aatry_report.specs.Shown.{shown_lines}
 use Rattle.aatry_session.specs.Help.{help_text}
 use Rattle.aatry_session.specs.History.{change_in, change_text, history_lines, kept_with, moves_text}
 use Rattle.aatry_session.specs.Origins.{change_origins, origin_among, unplaced_origin}
-use Rattle.aatry_session.specs.Refusals.{refusal_told}
+use Rattle.aatry_session.specs.Refusals.{no_question_told, refusal_told}
 use Rattle.aatry_session.specs.Sayings.{Saying, Command, Help, History, Quit, Reload, Why, NoQuestion, saying_in}
 
 -- A session, as contracts see it: the manager, and the texts of its changes, those that are done, oldest first, and then those that are undone, the next
@@ -127,7 +127,7 @@ command_outcome files base words kept change obeyed = record {
   kept = kept_after files kept change obeyed;
 }
 
--- what a line is answered by what it says, with the flag that it found no memory; that a file is refused in these words
+-- what a line is answered by what it says, with the flag that it found no memory; that a file, or words that are no question, are refused in these words
 abbrev pub said_outcome : List File → List ℕ → List ℕ → Kept → List ℕ → Bool → Saying → Outcome
 said_outcome files base words kept line flag Command =
     command_outcome files base words kept (change_in (command_in line)) (line_outcome files kept.managed line flag)
@@ -136,7 +136,7 @@ said_outcome files base words kept line flag History = record { answer = Told (h
 said_outcome files base words kept line flag Quit = record { answer = Ended; kept = kept }
 said_outcome files base words kept line flag Reload = record { answer = Anew; kept = kept }
 said_outcome files base words kept line flag (Why question) = record { answer = Asked question; kept = kept }
-said_outcome files base words kept line flag (NoQuestion refusal) = record { answer = Told (refusal_told files base words refusal); kept = kept }
+said_outcome files base words kept line flag (NoQuestion fault) = record { answer = Told (no_question_told files base words fault); kept = kept }
 
 -- what a line is answered
 abbrev pub turn_outcome : List File → List ℕ → List ℕ → Kept → List ℕ → Bool → Outcome

@@ -1,9 +1,9 @@
 //! What holds of a session whatever it is told, as laws over the definitions that `Session::answer` is proved to follow.
 
 ghost use Rattle.aatry_session.specs.Laws.{AddLeavesInStep, AddsAsLinesDo, AddsInStep, BeginsInStep, ForgetsInStep};
-ghost use Rattle.aatry_session.specs.Laws.{LeavesInStep, RefusedTurnLeavesAll, StaysInStep};
+ghost use Rattle.aatry_session.specs.Laws.{LeavesInStep, RefusedTurnLeavesAll, StaysInStep, SwitchesInStep};
 ghost use Rattle.aatry_session.specs.PlaceLaws.{AddLeavesKnowing, AddsKnowing, BeginsKnowing, ForgetsForAnyFiles};
-ghost use Rattle.aatry_session.specs.PlaceLaws.{KnowsTheLoaded, LeavesKnowing, StaysKnowing};
+ghost use Rattle.aatry_session.specs.PlaceLaws.{KnowsTheLoaded, LeavesKnowing, StaysKnowing, SwitchesKnowing};
 
 use aa_bytes::Sequence;
 use aa_decide::Entry;
@@ -14,16 +14,17 @@ use aa_profile::how_profiles_are_named;
 use aa_set::the_way_back;
 use aatry_policy::where_loaded_profiles_are_read;
 
-/// A session begins with its history in step with its policy set, and stays so whatever it is told, whichever file is added, and where places are
-/// forgotten: there are as many texts as there are changes that can be undone or redone, and of as many it is kept where profiles were read. So it
-/// does where memory runs out for the answer. To add a file by its name comes to what a line comes to that says so. A line that the machine refuses
-/// leaves the policy set, its history, the texts, and where profiles were read, as they were.
+/// A session begins with its history in step with its policy set, and stays so whatever it is told, whichever file is added, however its profiles are
+/// to be loaded, and where places are forgotten: there are as many texts as there are changes that can be undone or redone, and of as many it is kept
+/// where profiles were read. So it does where memory runs out for the answer. To add a file by its name comes to what a line comes to that says so. A
+/// line that the machine refuses leaves the policy set, its history, the texts, and where profiles were read, as they were.
 pub fn the_history_is_in_step()
     ensures begins { BeginsInStep }
     ensures stays { StaysInStep }
     ensures left { LeavesInStep }
     ensures adds { AddsInStep }
     ensures left_adding { AddLeavesInStep }
+    ensures switches { SwitchesInStep }
     ensures forgets { ForgetsInStep }
     ensures as_lines { AddsAsLinesDo }
     ensures refused { RefusedTurnLeavesAll }
@@ -34,16 +35,17 @@ pub fn the_history_is_in_step()
     the_way_back();
 }
 
-/// A session knows of each loaded profile where it was read, and stays so whatever it is told and whichever file is added, also where memory runs out for
-/// the answer: the profile's origin, by the last change that is done and loaded one of its name, is that of a file that spells it, with the places that
-/// this file has for it, where these are known still. It knows so much of each policy set that can be undone or redone too. Where places are
-/// forgotten, that holds for any files, so also for those that are read anew.
+/// A session knows of each loaded profile where it was read, and stays so whatever it is told, whichever file is added and however it is loaded, also
+/// where memory runs out for the answer: the profile's origin, by the last change that is done and loaded one of its name, is that of a file that
+/// spells it, with the places that this file has for it, where these are known still. It knows so much of each policy set that can be undone or
+/// redone too. Where places are forgotten, that holds for any files, so also for those that are read anew.
 pub fn where_profiles_of_a_session_are_read()
     ensures begins { BeginsKnowing }
     ensures stays { StaysKnowing }
     ensures left { LeavesKnowing }
     ensures adds { AddsKnowing }
     ensures left_adding { AddLeavesKnowing }
+    ensures switches { SwitchesKnowing }
     ensures forgets { ForgetsForAnyFiles }
     ensures loaded { KnowsTheLoaded }
 {

@@ -12,6 +12,7 @@ mod origins;
 mod refusals;
 mod sayings;
 mod session;
+mod switching;
 
 pub use laws::{the_history_is_in_step, where_profiles_of_a_session_are_read};
 pub use session::{Session, Turn};

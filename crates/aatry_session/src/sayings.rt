@@ -1,12 +1,13 @@
 //! What the lines of a session say.
 
 ghost use Rattle.std.specs.Prelude.{◌≡◌, ◌<◌, [], map};
-ghost use Rattle.aa_set_commands.specs.Question.{question_of};
 ghost use Rattle.aa_set_lines.specs.Words.{words_of};
-ghost use Rattle.aatry_session.specs.Sayings.{IsAskable, line_saying, saying_in, saying_of, seen_saying, why_saying, word_saying, words_saying};
+ghost use Rattle.aatry_questions.specs.Faults.{question_fault};
+ghost use Rattle.aatry_session.specs.Sayings.{IsAskable, ask_saying, line_saying, saying_in, saying_of, seen_saying, why_saying, word_saying, words_saying};
 
-use aa_set_commands::{Question, Refusal};
+use aa_set_commands::Question;
 use aa_set_lines::{LONGEST_LINE, Words};
+use aatry_questions::{WordFault, question_fault, read};
 
 // The most words of a question.
 const MOST_ASKED: usize = 5;
@@ -26,8 +27,8 @@ pub enum Saying<'a> {
     Reload,
     /// To tell the rules behind the answer to a question.
     Why(Question<'a>),
-    /// The same, where the words are no question.
-    NoQuestion(Refusal),
+    /// To tell what is wrong with words behind `why` or `ask` that are no question.
+    NoQuestion(WordFault<'a>),
 }
 
 // What one word says.
@@ -50,12 +51,23 @@ fn word_saying(word: &[u8]) -> Saying<'_>
 
 // What the words behind `why` say.
 fn why<'a>(words: &[&'a [u8]]) -> Saying<'a>
-    ensures said { seen_saying result ≡ why_saying (question_of (map (λ word. word.now) words.now)) }
+    ensures said { seen_saying result ≡ why_saying (map (λ word. word.now) words.now) }
     ensures askable { IsAskable result }
 {
-    match Question::read(words) {
+    match read(words) {
         Ok(question) => Saying::Why(question),
-        Err(refusal) => Saying::NoQuestion(refusal),
+        Err(fault) => Saying::NoQuestion(fault),
+    }
+}
+
+// What the words behind `ask` say: they are for the machine, but where they are no question.
+fn ask<'a>(words: &[&'a [u8]]) -> Saying<'a>
+    ensures said { seen_saying result ≡ ask_saying (question_fault (map (λ word. word.now) words.now)) }
+    ensures askable { IsAskable result }
+{
+    match question_fault(words) {
+        Some(fault) => Saying::NoQuestion(fault),
+        None => Saying::Command,
     }
 }
 
@@ -66,6 +78,8 @@ fn words_saying<'a>(first: &[u8], rest: &[&'a [u8]]) -> Saying<'a>
 {
     if first == b"why".as_slice() && rest.len() <= MOST_ASKED {
         why(rest)
+    } else if first == b"ask".as_slice() && rest.len() <= MOST_ASKED {
+        ask(rest)
     } else {
         Saying::Command
     }

@@ -1,8 +1,9 @@
 //! A session: a manager, and what is kept of its changes.
 
-ghost use Rattle.std.specs.Prelude.{◌≡◌, Bool, ℕ, List, IfOk, OnErr, option_map};
+ghost use Rattle.std.specs.Prelude.{◌≡◌, Bool, ℕ, List, IfOk, OnErr, OnOk, option_map};
 ghost use Rattle.aatry_session.specs.Help.{help_text};
 ghost use Rattle.aatry_session.specs.History.{history_lines};
+ghost use Rattle.aatry_session.specs.Switching.{kept_switched};
 ghost use Rattle.aatry_session.specs.Turns.{IsLeft, IsLeftAdding, Told, add_outcome, begun, depth, origin_of, turn_outcome, unplaced};
 ghost use Rattle.aatry_session.specs.SeenTurns.{IsAskable, seen_turn};
 
@@ -11,13 +12,15 @@ use crate::help::push_help;
 use crate::history::push_history;
 use crate::obeying::{obey, obey_add};
 use crate::origins::{forget_all, origin_among};
-use crate::refusals::push_refusal;
+use crate::refusals::push_no_question;
 use crate::sayings::{Saying, saying_in};
+use crate::switching::switch;
 use aa_bytes::Sequence;
 use aa_profile_parsing::Language;
 use aa_set_commands::Question;
 use aa_set_manager::Manager;
 use aa_text_files::Files;
+use aatry_folder::Loading;
 use aatry_policy::Origin;
 use std::alloc::{AllocError, Global};
 use std::marker::Model;
@@ -96,13 +99,13 @@ impl Session {
         forget_all(&mut self.changes.origins);
     }
 
-    /// Adds the profiles of a file by its name, and tells what the line `add NAME` would be told. A line can't name each file: none names one that has
-    /// a quote in its name. `files` and `base` are as in `answer`.
+    /// Adds the profiles of a file by its name, and tells what the line `add NAME` would be told. A line can't name each file: none names one that
+    /// has a quote in its name. `files` and `base` are as in `answer`.
     ///
     /// # Errors
     ///
-    /// Where memory runs out: for what is kept of the change, and the change isn't made then; or for what is told, and the change is made and kept then
-    /// all the same. So the policy set and its history stay in step, and the session can go on.
+    /// Where memory runs out: for what is kept of the change, and the change isn't made then; or for what is told, and the change is made and kept
+    /// then all the same. So the policy set and its history stay in step, and the session can go on.
     pub fn add<'a>(
         &mut self,
         alloc: Global,
@@ -128,14 +131,27 @@ impl Session {
         Ok(Turn::Told(Sequence::from_vec(out)))
     }
 
-    /// Answers a line, which has no line feed at its end: a command of the machine (`docs/commands.md`) is obeyed as the machine obeys it, and told in
-    /// words; the session's own commands are `help`, `history`, `quit`, `reload` and `why`. `files` are those that changes load, taken from the folder
-    /// `base`, which has no `/` at its end.
+    /// Puts the loaded profile of a name, which is in force, into complain mode or disables it, as its file is loaded (`aatry_policy::load`), and
+    /// keeps that change, as that of the line `complain NAME` or `disable NAME`. Where the file is loaded by its flags nothing is done.
     ///
     /// # Errors
     ///
-    /// Where memory runs out: for what is kept of a change, and the change isn't made then; or for what is told, and a command of the machine is obeyed
-    /// then all the same, with its change kept. So the policy set and its history stay in step, and the session can go on.
+    /// Where memory runs out. All is as it was then.
+    pub fn switch(&mut self, alloc: Global, loading: Loading, name: &[u8]) -> Result<(), AllocError>
+        ensures ok { OnOk result (self.new ≡ kept_switched loading self.old name.now) }
+        ensures left { OnErr result (self.new ≡ self.old) }
+    {
+        switch(alloc, &mut self.manager, &mut self.changes, loading, name)
+    }
+
+    /// Answers a line, which has no line feed at its end: a command of the machine (`docs/commands.md`) is obeyed as the machine obeys it, and told
+    /// in words; the session's own commands are `help`, `history`, `quit`, `reload` and `why`. `files` are those that changes load, taken from the
+    /// folder `base`, which has no `/` at its end.
+    ///
+    /// # Errors
+    ///
+    /// Where memory runs out: for what is kept of a change, and the change isn't made then; or for what is told, and a command of the machine is
+    /// obeyed then all the same, with its change kept. So the policy set and its history stay in step, and the session can go on.
     pub fn answer<'a>(
         &mut self,
         alloc: Global,
@@ -167,9 +183,9 @@ impl Session {
             Saying::Quit => Ok(Turn::Quit),
             Saying::Reload => Ok(Turn::Reload),
             Saying::Why(question) => Ok(Turn::Why(question)),
-            Saying::NoQuestion(refusal) => {
+            Saying::NoQuestion(fault) => {
                 let mut out = Vec::new(alloc);
-                push_refusal(alloc, files, base.as_bytes(), refusal, &mut out)?;
+                push_no_question(alloc, files, base.as_bytes(), fault, &mut out)?;
                 Ok(Turn::Told(Sequence::from_vec(out)))
             }
         }

@@ -3,6 +3,7 @@ use Rattle.std.specs.Prelude.{◌≡◌, ◌⊎◌, ℕ, Bool, true, false, if�
 use Rattle.std.specs.Io.KnownBytes.{Appends}
 use Rattle.std.specs.Str.{bytes_eq}
 use Rattle.aa_bytes.specs.Bytes.{line_feed}
+use Rattle.aa_profile.specs.FileReading.{file_profiles_in}
 use Rattle.aa_profile_access.specs.FullNames.{full_name}
 use Rattle.aa_profile_parsing.specs.declared.language.Language.{Language}
 use Rattle.aa_set_answers.specs.Answers.{who_asks}
@@ -11,6 +12,7 @@ use Rattle.aa_text_files.specs.Files.{File}
 use Rattle.aaset_start.specs.Gathering.{names_of}
 use Rattle.aatry_why.specs.Why.{answered_text}
 use Rattle.aatry_why.specs.Sources.{Sources}
+use Rattle.aatry_folder.specs.Loadings.{AreTop, TopFile}
 use Rattle.aatry_folder.specs.PolicyFolders.{AreBelow, top_names}
 use Rattle.aatry_folder.specs.Unread.{IsOfFolder}
 use Rattle.aatry_session_run.specs.Faults.{told_line}
@@ -19,6 +21,8 @@ use Rattle.aatry_input.specs.Inputs.{GivesLine}
 use Rattle.aatry_report.specs.Shown.{shown}
 use Rattle.aatry_report.specs.declared.form.Form.TheVariants.{Lines}
 use Rattle.aatry_session.specs.History.{ok_line}
+use Rattle.aatry_policy.specs.Policies.{profile_names}
+use Rattle.aatry_session.specs.Switching.{all_switched}
 use Rattle.aatry_session.specs.Turns.{Answer, Kept, Told, Ended, Anew, Asked, add_outcome, begun, origin_of, turn_outcome, unplaced}
 use Rattle.aatry_folder.specs.Told.{ToldFolders}
 use Rattle.aaset_start.specs.Known.{Known}
@@ -32,24 +36,36 @@ pub record State : Type 0 where
 abbrev pub left_out_line : List ℕ → List ℕ
 left_out_line name = codes "left out: " ++ shown name ++ line_feed ∷ []
 
+-- a file was taken, by what is told of it
+abbrev pub is_taken : Answer → Bool
+is_taken (Told text) = bytes_eq text ok_line
+is_taken answer = false
+
 -- what is told of a file as it is loaded: that it is left out, and why; and nothing of one that is taken
 abbrev pub loading_text : List ℕ → Answer → List ℕ
 loading_text name (Told text) = if bytes_eq text ok_line then [] else left_out_line name ++ text
 loading_text name answer = []
 
--- The profiles of a file were added by its name, as a line of the session would add them, and the text tells whether it is left out.
-abbrev pub LoadsOne : List File → List ℕ → Kept → List ℕ → Kept → List ℕ → Type 0
-LoadsOne files base before name after text =
-    (answer : Answer) × (flag : Bool) × (words : List ℕ)
-    × (record { answer = answer; kept = after } ≡ add_outcome files base words before name flag)
-    × (text ≡ loading_text name answer)
+-- a session after a file was added, with the change of each of its profiles where it is to be loaded in complain mode or disabled, and was taken
+abbrev pub settled : Language → List File → TopFile → Bool → Kept → Kept
+settled language files file taken kept =
+    if taken then all_switched file.loading kept (profile_names (file_profiles_in language files file.name)) else kept
+
+-- The profiles of a file were added by its name, as a line of the session would add them, and loaded as the file says, by a language; and the text
+-- tells whether it is left out.
+abbrev pub LoadsOne : Language → List File → List ℕ → Kept → TopFile → Kept → List ℕ → Type 0
+LoadsOne language files base before file after text =
+    (answer : Answer) × (added : Kept) × (flag : Bool) × (words : List ℕ)
+    × (record { answer = answer; kept = added } ≡ add_outcome files base words before file.name flag)
+    × (after ≡ settled language files file (is_taken answer) added)
+    × (text ≡ loading_text file.name answer)
 
 -- The same of each of these files in its turn.
-abbrev pub LoadsEach : List File → List ℕ → Kept → List (List ℕ) → Kept → List ℕ → Type 0
-LoadsEach files base before [] after text = (after ≡ before) × (text ≡ [])
-LoadsEach files base before (name ∷ names) after text =
+abbrev pub LoadsEach : Language → List File → List ℕ → Kept → List TopFile → Kept → List ℕ → Type 0
+LoadsEach language files base before [] after text = (after ≡ before) × (text ≡ [])
+LoadsEach language files base before (file ∷ top) after text =
     (next : Kept) × (first rest : List ℕ) × (text ≡ first ++ rest)
-    × LoadsOne files base before name next first × LoadsEach files base next names after rest
+    × LoadsOne language files base before file next first × LoadsEach language files base next top after rest
 
 -- The files were read again, which the text tells: the session is the same, but knows of no place in them any more. Or they couldn't be, and the
 -- text tells the fault that kept them from it, and all is as it was.
@@ -120,16 +136,20 @@ IsRun folders known base prompt first last =
     (lines : List (List ℕ)) × (before : Standing)
     × Answers folders known base prompt first lines before × IsLastStep folders known base prompt before last
 
--- All that lies below a folder was read, the profiles of the files at its top were added in their order, by a language, and the text tells of that.
+-- All that lies below a folder was read, the profiles of the files at its top were added, as each file is to be loaded, by a language, and the text
+-- tells of that.
 pub record IsLoaded (language : Language) (folders : ToldFolders) (known : Known) (base : List ℕ) (state : State) (text : List ℕ) : Type 0 where
   pub below : AreBelow folders known base state.files
-  pub each : LoadsEach state.files base (begun language false) (top_names (names_of state.files)) state.kept text
+  pub top : List TopFile
+  pub asked : AreTop folders base (top_names (names_of state.files)) top
+  pub each : LoadsEach language state.files base (begun language false) top state.kept text
 
 -- where a session stands that has read no line
 abbrev pub at_first_line : Option (List ℕ) → Option (List ℕ) → State → Standing
 at_first_line left written state = record { left = left; waits = []; written = written; state = state }
 
--- A session over a folder was had: it was loaded, what is told of that was written, and then the lines of the input were answered to the session's end.
+-- A session over a folder was had: it was loaded, what is told of that was written, and then the lines of the input were answered to the session's
+-- end.
 pub record IsSession (language : Language) (folders : ToldFolders) (known : Known) (base prompt : List ℕ) (left before after : Option (List ℕ)) : Type 0 where
   pub state : State
   pub text : List ℕ

@@ -2,6 +2,10 @@
 
 ghost use Rattle.std.specs.Prelude.{◌≡◌, ◌≤◌, ◌+◌, ◌*◌, ◌^◌, ◌++◌, ℕ, List, [], true, false, IfErr, IfOk, IsErrOf, OnErr, OnOk, map, string_bytes};
 ghost use Rattle.std.specs.Io.KnownBytes.{Appends};
+ghost use Rattle.aa_profile.specs.FileReading.{file_profiles_in};
+ghost use Rattle.aatry_folder.specs.Loadings.{seen_top};
+ghost use Rattle.aatry_policy.specs.Policies.{profile_names};
+ghost use Rattle.aatry_session.specs.Switching.{all_switched};
 ghost use Rattle.aa_set_commands.specs.Question.{IsWellFormed, seen_question};
 ghost use Rattle.aa_set_lines.specs.Streams.{AppendsFront};
 ghost use Rattle.aatry_why.specs.Why.{answered_text};
@@ -11,7 +15,7 @@ ghost use Rattle.aatry_session_run.specs.Ends.{IsEndOfSession};
 ghost use Rattle.aatry_folder.specs.declared.fault.Fault.TheVariants as fault;
 ghost use Rattle.aatry_session_run.specs.Broken.{IsBrokenRun, IsBrokenSession, IsBrokenStep};
 ghost use Rattle.aatry_input.specs.Inputs.{most_reads};
-ghost use Rattle.aatry_session_run.specs.Session.{goes_on, left_out_line, loading_text, sources_of};
+ghost use Rattle.aatry_session_run.specs.Session.{goes_on, is_taken, left_out_line, loading_text, settled, sources_of};
 ghost use Rattle.aatry_session_run.specs.Session.{IsLastStep, IsLoaded, IsReadAnew, IsRun, IsSession, IsStep, IsTold, IsTurn, LoadsEach, LoadsOne};
 ghost use Rattle.aatry_session_run.specs.code.Sessions.{seen_table, standing};
 ghost use Rattle.aatry_report.specs.declared.form.Form.TheVariants as form;
@@ -19,13 +23,14 @@ ghost use Rattle.aatry_session.specs.SeenTurns.{IsAskable, seen_turn};
 ghost use Rattle.aatry_session.specs.Turns.{Told};
 
 use crate::faults::push_told;
+use aa_profile::{Profile, ProfileRefusal, read_file_in};
 use aa_profile_access::cut_full_name;
 use aa_profile_parsing::Language;
 use aa_set_commands::Question;
 use aa_set_lines::{Sink, Source, write_all};
 use aa_text_files::Files;
 use aaset_start::FileSystem;
-use aatry_folder::{Fault, Folders, PolicyFiles, PolicyFolder, policy_below};
+use aatry_folder::{Fault, Folders, Loading, PolicyFiles, PolicyFolder, TopFile, policy_below};
 use aatry_input::{Lines, MOST_LINES, all_lines, next_line};
 use aatry_report::{Form, Teller, push_shown};
 use aatry_requests::who_asks;
@@ -36,7 +41,8 @@ use std::alloc::{AllocError, Global};
 // What is told of a file that is taken, as it is loaded.
 const TAKEN: &[u8] = b"ok\n";
 
-// What stays the same through a session: the language by which it reads policy, its folder of policy on disk, and what is written before a line is read.
+// What stays the same through a session: the language by which it reads policy, its folder of policy on disk, and what is written before a line is
+// read.
 #[derive(Drop)]
 struct Setting<'a, F, D> {
     language: Language,
@@ -76,36 +82,110 @@ fn push_loading(name: &str, turn: &Turn<'_>, out: &mut Vec<u8>) -> Result<(), Al
     }
 }
 
-// Adds the profiles of a file, as a line of the session would, and appends why it is left out, if it is.
-fn load_file(
-    alloc: Global,
-    files: &Files,
-    base: &str,
-    session: &mut Session,
-    name: &str,
-    out: &mut Vec<u8>,
-) -> Result<(), AllocError>
-    ensures { OnOk result ((text : List ℕ) × (out.new.items ≡ out.old.items ++ text)
-        × LoadsOne files.now base.now session.old name.now session.new text) }
+// Whether a file was taken, by what is told of it.
+fn is_taken(turn: &Turn<'_>) -> bool
+    ensures { result ≡ is_taken (seen_turn turn.now) }
 {
-    let turn = session.add(alloc, files, base, name.as_bytes())?;
-    push_loading(name, &turn, out)
+    match turn {
+        Turn::Told(text) => text.as_slice() == TAKEN,
+        _ => false,
+    }
 }
 
-// The same of each file of these names.
-fn load_each(
+// Makes the change of each of some profiles, as their file is loaded.
+fn switch_each(
     alloc: Global,
+    session: &mut Session,
+    loading: Loading,
+    profiles: &[Profile],
+) -> Result<(), AllocError>
+    ensures { OnOk result (session.new ≡ all_switched loading session.old (map (λ profile. profile.name) profiles.now)) }
+{
+    let mut rest = profiles;
+    while let [profile, behind @ ..] = rest {
+        session.switch(alloc, loading, profile.name.as_slice())?;
+        rest = behind;
+    }
+    Ok(())
+}
+
+// Makes the change of each profile of a file that was taken, as the file is loaded. The file is read for their names.
+fn switch_file(
+    alloc: Global,
+    language: Language,
+    files: &Files,
+    session: &mut Session,
+    file: &TopFile,
+) -> Result<(), AllocError>
+    ensures { OnOk result (session.new
+        ≡ all_switched file.now.loading session.old (profile_names (file_profiles_in language files.now (string_bytes file.now.name)))) }
+{
+    match read_file_in(alloc, language, files, file.name.as_bytes()) {
+        Ok(read) => switch_each(alloc, session, file.loading, &read.profiles),
+        Err(error) => {
+            if error.refusal == ProfileRefusal::Memory {
+                return Err(AllocError);
+            }
+            Ok(())
+        }
+    }
+}
+
+// The same, where something is to be changed.
+fn settle(
+    alloc: Global,
+    language: Language,
+    files: &Files,
+    session: &mut Session,
+    file: &TopFile,
+    turn: &Turn<'_>,
+) -> Result<(), AllocError>
+    ensures { OnOk result (session.new ≡ settled language files.now (seen_top file.now) (is_taken (seen_turn turn.now)) session.old) }
+{
+    match file.loading {
+        Loading::ByFlags => Ok(()),
+        Loading::ForceComplain | Loading::Disable => {
+            if is_taken(turn) {
+                switch_file(alloc, language, files, session, file)?;
+            }
+            Ok(())
+        }
+    }
+}
+
+// Adds the profiles of a file, as a line of the session would, loaded as the file says, and appends why it is left out, if it is.
+fn load_file(
+    alloc: Global,
+    language: Language,
     files: &Files,
     base: &str,
     session: &mut Session,
-    names: &[String],
+    file: &TopFile,
     out: &mut Vec<u8>,
 ) -> Result<(), AllocError>
     ensures { OnOk result ((text : List ℕ) × (out.new.items ≡ out.old.items ++ text)
-        × LoadsEach files.now base.now session.old (map string_bytes names.now) session.new text) }
+        × LoadsOne language files.now base.now session.old (seen_top file.now) session.new text) }
 {
-    for name in names {
-        load_file(alloc, files, base, session, name.as_str(), out)?;
+    let turn = session.add(alloc, files, base, file.name.as_bytes())?;
+    settle(alloc, language, files, session, file, &turn)?;
+    push_loading(file.name.as_str(), &turn, out)
+}
+
+// The same of each file of these.
+fn load_each(
+    alloc: Global,
+    language: Language,
+    files: &Files,
+    base: &str,
+    session: &mut Session,
+    top: &[TopFile],
+    out: &mut Vec<u8>,
+) -> Result<(), AllocError>
+    ensures { OnOk result ((text : List ℕ) × (out.new.items ≡ out.old.items ++ text)
+        × LoadsEach language files.now base.now session.old (map seen_top top.now) session.new text) }
+{
+    for file in top {
+        load_file(alloc, language, files, base, session, file, out)?;
     }
     Ok(())
 }
@@ -169,6 +249,7 @@ fn answer_question(
     let teller = Teller {
         alloc,
         form: Form::Lines,
+        verbose: false,
     };
     push_answer(teller, &sources, table.session.manager(), question, out)?;
     Ok(())
@@ -296,7 +377,8 @@ fn run<F: Folders, D: FileSystem, S: Source, W: Sink>(
     Err(Fault::Read)
 }
 
-// Begins a session over a folder: the files at its top are added, each in its turn, and what is told of those that are refused is appended to a text.
+// Begins a session over a folder: the files at its top are added, each in its turn and as it is loaded, and what is told of those that are refused is
+// appended to a text.
 fn begin<F: Folders, D: FileSystem>(
     alloc: Global,
     setting: &Setting<'_, F, D>,
@@ -315,7 +397,15 @@ fn begin<F: Folders, D: FileSystem>(
         setting.base,
     )?;
     let mut session = Session::new(alloc, setting.language, false);
-    load_each(alloc, &files, setting.base, &mut session, &top, out)?;
+    load_each(
+        alloc,
+        setting.language,
+        &files,
+        setting.base,
+        &mut session,
+        &top,
+        out,
+    )?;
     Ok(Table { files, session })
 }
 
@@ -341,11 +431,11 @@ fn have_session<F: Folders, D: FileSystem, S: Source, W: Sink>(
     run(alloc, setting, &mut table, reader, &mut lines, writer)
 }
 
-/// Has a session by a language over the folder of policy that is asked for: reads it as `aatry_folder::policy_below` does, adds the profiles of those at its top, each
-/// file in its turn, and tells those that are refused. Then each line of the input is answered as `aatry_session::Session::answer` answers it, until a
-/// line ends the session, or the input does. `prompt` is written before each line is read. `reload` reads all below the folder again: the policy set and
-/// its history stay, and where in the files the loaded profiles have their rules isn't known any more. `why` is answered with the rules of the loaded
-/// profile, each with the place where it was read, while that is known.
+/// Has a session by a language over the folder of policy that is asked for: reads it as `aatry_folder::policy_below` does, adds the profiles of those
+/// at its top, each file in its turn and as it is to be loaded, and tells those that are refused. Then each line of the input is answered as
+/// `aatry_session::Session::answer` answers it, until a line ends the session, or the input does. `prompt` is written before each line is read.
+/// `reload` reads all below the folder again: the policy set and its history stay, and where in the files the loaded profiles have their rules isn't
+/// known any more. `why` is answered with the rules of the loaded profile, each with the place where it was read, while that is known.
 ///
 /// # Errors
 ///

@@ -6,7 +6,7 @@ use Rattle.aaset_start.specs.Known.{Known}
 use Rattle.aatry_folder.specs.OneFile.{IsFileAt}
 use Rattle.aatry_folder.specs.PolicyFolders.{AreBelow}
 use Rattle.aatry_folder.specs.Told.{ToldFolders}
-use Rattle.aatry_folder.specs.Reports.{failed_by}
+use Rattle.aatry_folder.specs.Reports.{Report, failed_by}
 use Rattle.aatry_test.specs.Tests.{IsTested}
 
 -- The transcript of this path was tested by a language, the text tells how it came out, and so many failed: one or none.
@@ -21,8 +21,10 @@ TestsEach language known files (path ∷ paths) text failed =
     (first rest : List ℕ) × (one left : ℕ) × (text ≡ first ++ rest) × (failed ≡ one + left)
     × IsFileTested language known files path first one × TestsEach language known files paths rest left
 
--- The transcripts were tested over all that lies below the folder, read by a language, the text tells each of them, and so many failed.
-pub record IsTestedBelow (language : Language) (folders : ToldFolders) (known : Known) (base : List ℕ) (paths : List (List ℕ)) (text : List ℕ) (failed : ℕ) : Type 0 where
+-- The transcripts were tested over all that lies below the folder, read by a language: the text tells each of them, nothing is noted, and so many
+-- failed.
+pub record IsTestedBelow (language : Language) (folders : ToldFolders) (known : Known) (base : List ℕ) (paths : List (List ℕ)) (report : Report) : Type 0 where
   pub files : List File
   pub below : AreBelow folders known base files
-  pub each : TestsEach language known files paths text failed
+  pub each : TestsEach language known files paths report.text report.failed
+  pub noted : report.notes ≡ []

@@ -2,13 +2,19 @@
 use Rattle.std.specs.Prelude.{ℕ, Bool, ◌||◌, not, List, [], ◌∷◌, ◌++◌, codes, drop, flat_map, map, take}
 use Rattle.std.specs.Borrow.{Bor}
 use Rattle.std.specs.List.{filter, list_all, prefix_len}
+use Rattle.std.specs.Str.Lines.{strip_carriage_return}
 use Rattle.aa_bytes.specs.Bytes.{hash, line_feed}
 use Rattle.aa_bytes.specs.Texts.{begins_with, begins_with_byte}
+use Rattle.aa_set_lines.specs.Lines.{lines}
 use Rattle.aa_set_lines.specs.Words.{is_command_blank}
 
 -- the lines behind references
 abbrev pub texts : List (Bor (List ℕ)) → List (List ℕ)
 texts lines = map (λ line. line.now) lines
+
+-- the lines of a transcript, each without the carriage return by which other systems end a line, too
+abbrev pub transcript_lines : List ℕ → List (List ℕ)
+transcript_lines text = map strip_carriage_return (lines text)
 
 -- a line that holds a command
 abbrev pub is_command : List ℕ → Bool

@@ -1,7 +1,8 @@
 //! The test of transcripts over a folder of policy on a disk.
 
-ghost use Rattle.std.specs.Prelude.{◌≡◌, ◌++◌, ◌≤◌, ℕ, List, IfErr, IfOk, string_bytes};
+ghost use Rattle.std.specs.Prelude.{◌≡◌, ◌++◌, ◌≤◌, ℕ, List, [], IfErr, IfOk, string_bytes};
 ghost use Rattle.aaset_start.specs.Gathering.{texts_of};
+ghost use Rattle.aatry_folder.specs.Reports.{seen_report};
 ghost use Rattle.aatry_folder.specs.Unread.{IsOfFile, IsOfOneFile};
 ghost use Rattle.aatry_test.specs.Below.{IsFileTested, IsTestedBelow, TestsEach};
 ghost use Rattle.aatry_test.specs.Ends.{IsEndOfTest};
@@ -49,6 +50,7 @@ fn test_each<D: FileSystem>(
     paths: Vec<String>,
 ) -> Result<Report, Fault>
     ensures told { IfOk result (λ report. TestsEach language (D.known disk.now) files.now (texts_of paths) report.text.items report.failed) }
+    ensures noted { IfOk result (λ report. report.notes.items ≡ []) }
     ensures fault { IfErr result (IsOfOneFile (D.known disk.now) (texts_of paths)) }
 {
     let mut text = Vec::new(alloc);
@@ -56,7 +58,11 @@ fn test_each<D: FileSystem>(
     for path in paths {
         failed += test_at(alloc, language, disk, files, path, &mut text)?;
     }
-    Ok(Report { text, failed })
+    Ok(Report {
+        text,
+        notes: Vec::new(alloc),
+        failed,
+    })
 }
 
 /// Tests the transcripts that are asked for over a folder of policy: reads the folder as `aatry_folder::policy_below` does, and tests each transcript as
@@ -75,7 +81,7 @@ pub fn test_folder<F: Folders, D: FileSystem>(
     asked: Test,
 ) -> Result<Report, Fault>
     ensures tested { IfOk result (λ report. IsTestedBelow language (F.told folders.now) (D.known disk.now) (string_bytes asked.base) (texts_of asked.paths)
-        report.text.items report.failed) }
+        (seen_report report)) }
     ensures fault { IfErr result (IsEndOfTest (F.told folders.now) (D.known disk.now) (string_bytes asked.base) (texts_of asked.paths)) }
 {
     let Test { base, paths } = asked;

@@ -1,9 +1,10 @@
-//! The lines of a text.
+//! The lines of a text, and of a transcript.
 
-ghost use Rattle.std.specs.Prelude.{◌≡◌, ◌++◌, ◌∷◌, [], IfOk, OnOk, if◌then◌else◌};
+ghost use Rattle.std.specs.Prelude.{◌≡◌, ◌++◌, ◌∷◌, [], IfOk, OnOk, if◌then◌else◌, map};
+ghost use Rattle.std.specs.Str.Lines.{strip_carriage_return};
 ghost use Rattle.aa_bytes.specs.Texts.{is_empty};
 ghost use Rattle.aa_set_lines.specs.Lines.{lines};
-ghost use Rattle.aatry_test.specs.Transcripts.{texts};
+ghost use Rattle.aatry_test.specs.Transcripts.{texts, transcript_lines};
 
 use aa_set_lines::first_line;
 use std::alloc::{AllocError, Global};
@@ -34,5 +35,31 @@ pub fn lines_of<'a>(alloc: Global, text: &'a [u8]) -> Result<Vec<&'a [u8]>, Allo
         rest = after;
     }
     push_last(&mut found, rest)?;
+    Ok(found)
+}
+
+// A line without the one carriage return at its end, if it has one.
+fn without_return<'a>(line: &'a [u8]) -> &'a [u8]
+    ensures { result.now ≡ strip_carriage_return line.now }
+{
+    match line {
+        [front @ .., b'\r'] => front,
+        _ => line,
+    }
+}
+
+/// The lines of a transcript, as `lines_of` has them, each without the carriage return by which other systems end a line, too.
+///
+/// # Errors
+///
+/// Where memory runs out.
+pub fn transcript_lines<'a>(alloc: Global, text: &'a [u8]) -> Result<Vec<&'a [u8]>, AllocError>
+    ensures { IfOk result (λ found. texts found.items ≡ transcript_lines text.now) }
+{
+    let lines = lines_of(alloc, text)?;
+    let mut found = Vec::with_capacity(alloc, lines.len())?;
+    for line in lines {
+        found.push(without_return(line))?;
+    }
     Ok(found)
 }

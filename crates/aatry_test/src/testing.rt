@@ -1,16 +1,18 @@
 //! The test of a transcript.
 
 ghost use Rattle.std.specs.Prelude.{◌≡◌, ◌++◌, ℕ, Bool, List, IfOk, false};
+ghost use Rattle.std.specs.List.{list_any};
 ghost use Rattle.aa_set.specs.Run.{output};
 ghost use Rattle.aa_set_lines.specs.Lines.{lines};
 ghost use Rattle.aa_set_manager.specs.Manager.{new_manager_in};
-ghost use Rattle.aatry_test.specs.Tests.{IsTested};
+ghost use Rattle.aatry_test.specs.Tests.{IsTested, says_memory};
 ghost use Rattle.aatry_test.specs.Differences.{are_same, comparison};
 ghost use Rattle.aatry_test.specs.Transcripts.{input_of, texts, wanted_in};
 
 use crate::comparing::compare;
-use crate::lines::lines_of;
+use crate::lines::{lines_of, transcript_lines};
 use crate::transcripts::input_of;
+use aa_bytes::begins_with;
 use aa_set::{FromRead, Language, ToWrite, run_in};
 use aa_text_files::Files;
 use std::alloc::{AllocError, Global};
@@ -46,7 +48,26 @@ fn output_for_lines(
     output_for(alloc, language, files, &input)
 }
 
-// Compares a transcript, by its lines, with what a run writes, and puts what is found behind a text.
+// Whether a line says that a command found no memory.
+fn says_memory(line: &[u8]) -> bool
+    ensures { result ≡ says_memory line.now }
+{
+    begins_with(b"refused 99 ", line)
+}
+
+// Whether some line does.
+fn lacked_memory(lines: &[&[u8]]) -> bool
+    ensures { result ≡ list_any says_memory (texts lines.now) }
+{
+    for line in lines {
+        if says_memory(line) {
+            return true;
+        }
+    }
+    false
+}
+
+// Compares a transcript, by its lines, with what a run writes, and puts what is found behind a text. Where a command found no memory, there is none.
 fn compare_with(
     alloc: Global,
     path: &[u8],
@@ -54,21 +75,25 @@ fn compare_with(
     told: &[u8],
     out: &mut Vec<u8>,
 ) -> Result<bool, AllocError>
-    ensures { IfOk result (λ passed. (passed ≡ are_same (lines told.now) (wanted_in (texts wanted.now)))
+    ensures { IfOk result (λ passed. (list_any says_memory (lines told.now) ≡ false)
+        × (passed ≡ are_same (lines told.now) (wanted_in (texts wanted.now)))
         × (out.new.items ≡ out.old.items ++ comparison path.now (texts wanted.now) (lines told.now))) }
 {
     let told = lines_of(alloc, told)?;
+    if lacked_memory(&told) {
+        return Err(AllocError);
+    }
     compare(alloc, path, wanted, &told, out)
 }
 
 /// Runs the commands of a transcript over these files, read by a language, from the empty policy set on, compares what is told with what the
 /// transcript wants, puts what is found behind a text, and says whether the transcript passed: whether all that is told is what it wants. It is told
 /// by `path`. In a transcript a line that begins with `> ` holds a command, a line that begins with `#` and one of blanks are left out, and each
-/// other line is wanted.
+/// other line is wanted. A carriage return at a line's end is left out.
 ///
 /// # Errors
 ///
-/// Where memory runs out. A beginning may have been put then. A command that finds no memory is answered so, as `aa_set::run_in` says.
+/// Where memory runs out, also for a command of the transcript (`aa_set::run_in` answers that 99). A beginning may have been put then.
 pub fn test(
     alloc: Global,
     language: Language,
@@ -80,7 +105,7 @@ pub fn test(
     ensures { IfOk result (λ passed. (text : List ℕ) × (out.new.items ≡ out.old.items ++ text)
         × IsTested language files.now path.now transcript.now passed text) }
 {
-    let wanted = lines_of(alloc, transcript)?;
+    let wanted = transcript_lines(alloc, transcript)?;
     let told = output_for_lines(alloc, language, files, &wanted)?;
     compare_with(alloc, path, &wanted, &told, out)
 }

@@ -3,9 +3,9 @@
 ghost use Rattle.std.specs.Prelude.{◌≡◌, ◌⊎◌, Bool, Ok, IfErr, IfOk, IfSome, IsNone, map, string_bytes};
 ghost use Rattle.aa_set_commands.specs.Question.{question_of, seen_question};
 ghost use Rattle.aaset_start.specs.Gathering.{texts_of};
-ghost use Rattle.aatry_folder.specs.Reports.{failed_by};
+ghost use Rattle.aatry_folder.specs.Reports.{failed_by, seen_report};
 ghost use Rattle.aatry_folder.specs.declared.fault.Fault.TheVariants as fault;
-ghost use Rattle.aatry_policy.specs.Folders.{loaded_in, origins_in, seen_folder};
+ghost use Rattle.aatry_policy.specs.Folders.{left_out_note, loaded_in, origins_in, seen_folder};
 ghost use Rattle.aatry_requests.specs.AskedWords.{AskNothing, letting_words};
 ghost use Rattle.aatry_who.specs.Ends.{IsEndOfWho};
 ghost use Rattle.aatry_who.specs.Who.{IsWhoTold, IsWhoToldBelow, is_let, let_by};
@@ -61,33 +61,31 @@ fn let_by(
     )
 }
 
-// The same of a folder that was read, by words, with what is told of the files that are left out before it.
+// The same of a folder that was read, by words, with what is told of the files that are left out before it, and what is noted of them.
 fn told_of(teller: Teller, folder: &PolicyFolder<'_>, words: &[String]) -> Result<Report, Fault>
-    ensures told { IfOk result (λ report. (found : Bool) × IsWhoTold teller.form (seen_folder folder.now) (map string_bytes words.now) report.text.items found
+    ensures told { IfOk result (λ report. (found : Bool) × IsWhoTold teller.form teller.verbose (seen_folder folder.now) (map string_bytes words.now) report.text.items found
         × (report.failed ≡ failed_by found)) }
+    ensures noted { IfOk result (λ report. report.notes.items ≡ left_out_note (seen_folder folder.now)) }
     ensures fault { IfErr result (λ told. (told ≡ fault.NoMemory)
         ⊎ ((told ≡ fault.BadQuestion) × AskNothing (letting_words (map string_bytes words.now)))) }
 {
     let Some(question) = letting_question(teller.alloc, words)? else {
         return Err(Fault::BadQuestion);
     };
-    let mut text = Vec::new(teller.alloc);
-    let loaded = load_folder(teller, folder, &mut text)?;
+    let mut report = Report::new(teller.alloc);
+    let loaded = load_folder(teller, folder, &mut report)?;
     let own = let_by(teller, &loaded, &question)?;
-    text.extend_from_slice(&own)?;
-    Ok(Report {
-        failed: failed_by(is_let(&own)),
-        text,
-    })
+    report.text.extend_from_slice(&own)?;
+    report.failed = failed_by(is_let(&own));
+    Ok(report)
 }
 
 /// Which profiles, children and hats of a folder, read by a language, would let a request for a file through, by its
 /// access, its owner's word and its path, told in a form: reads the folder as `aatry_folder::policy_below` does. First
-/// come the files that are left out (`aatry_policy::load_folder`). Then comes a line for each, with its full name and
-/// the word of its answer, `allow` or, in complain mode, `complain`; and below one that allows it the rules that allow
-/// something of it (`aatry_why_lines::push_allowing`). One in mode unconfined is told with `unconfined`: none of its
-/// rules is asked, and all is let through. They stand in the order of the set, children and hats behind their profile.
-/// One failed where nobody is told.
+/// come the files that are left out, where they are told, and it is noted how many they are (`aatry_policy::load_folder`). Then comes a line for
+/// each, with its full name and the word of its answer, `allow` or, in complain mode, `complain`; and below one that allows it the rules that allow
+/// something of it (`aatry_why_lines::push_allowing`). One in mode unconfined is told with `unconfined`: none of its rules is asked, and all is let
+/// through. They stand in the order of the set, children and hats behind their profile. One failed where nobody is told.
 ///
 /// As records the lines are of the kind `let`, with the members `name` and `answer`, and of the kind `rule`.
 ///
@@ -104,8 +102,8 @@ pub fn who_folder<F: Folders, D: FileSystem>(
     disk: &D,
     asked: Asking,
 ) -> Result<Report, Fault>
-    ensures told { IfOk result (λ report. IsWhoToldBelow teller.form language (F.told folders.now) (D.known disk.now) (string_bytes asked.base) (texts_of asked.words)
-        report.text.items report.failed) }
+    ensures told { IfOk result (λ report. IsWhoToldBelow teller.form teller.verbose language (F.told folders.now) (D.known disk.now) (string_bytes asked.base)
+        (texts_of asked.words) (seen_report report)) }
     ensures fault { IfErr result (IsEndOfWho (F.told folders.now) (D.known disk.now) (string_bytes asked.base) (texts_of asked.words)) }
 {
     let Asking { base, words } = asked;

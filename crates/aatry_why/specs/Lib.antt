@@ -2,6 +2,7 @@ pub mod AttachmentLines
 pub mod Ends
 pub mod How
 pub mod Laws
+pub mod Meant
 pub mod Sources
 pub mod Transitions
 pub mod Unasked

@@ -3,6 +3,7 @@ use Rattle.std.specs.Prelude.{◌≡◌, ℕ, Bool, true, false, List, [], ◌�
 use Rattle.std.specs.List.{before_first}
 use Rattle.serde_json.specs.Data.{Members}
 use Rattle.aa_bytes.specs.Bytes.{line_feed}
+use Rattle.aa_bytes.specs.Quoting.{written_text}
 use Rattle.aa_decide.specs.Exec.{Asker}
 use Rattle.aa_decide_audit.specs.declared.verdict.Answer.{Answer}
 use Rattle.aa_decide_audit.specs.declared.verdict.Answer.TheVariants.{Allow, Complain, Deny, Refuse}
@@ -18,16 +19,19 @@ use Rattle.aa_set_commands.specs.Refusal.{name_of, number_of}
 use Rattle.aa_set_commands.specs.declared.refusal.Refusal.{Refusal}
 use Rattle.aa_set_lines.specs.Lines.{is_line_feed}
 use Rattle.aatry_why.specs.Sources.{Sources, asked_origin, written_by}
+use Rattle.aaset_start.specs.Gathering.{names_of}
 use Rattle.aaset_start.specs.Known.{Known}
-use Rattle.aatry_folder.specs.PolicyFolders.{AreBelow}
-use Rattle.aatry_folder.specs.Reports.{failed_by}
+use Rattle.aatry_folder.specs.Loadings.{AreTop, TopFile}
+use Rattle.aatry_folder.specs.PolicyFolders.{AreBelow, top_names}
+use Rattle.aatry_folder.specs.Reports.{Report, failed_by}
 use Rattle.aatry_folder.specs.Told.{ToldFolders}
-use Rattle.aatry_policy.specs.Folders.{Folder, below, folder_at, left_out_in, origins_in, policy_in}
+use Rattle.aatry_policy.specs.Folders.{Folder, below, folder_at, left_out_in, left_out_note, origins_in, policy_in}
 use Rattle.aa_text_files.specs.Files.{File}
 use Rattle.aatry_policy.specs.LeftOut.{refusal_text}
 use Rattle.aatry_requests.specs.AskedWords.{asked_by}
 use Rattle.aatry_requests.specs.Questions.{rule_request}
 use Rattle.aatry_why.specs.How.{confinement_of, how_lines}
+use Rattle.aatry_why.specs.Meant.{meant_name}
 use Rattle.aatry_why.specs.Unasked.{unasked_lines}
 use Rattle.aatry_why_lines.specs.Why.{why_lines}
 use Rattle.aatry_report.specs.Records.{record_line, record_of, with_text}
@@ -53,15 +57,27 @@ abbrev pub reply_text : Form → Answered → List ℕ
 reply_text Lines told = lines_of told
 reply_text Records told = record_line (reply_record told)
 
--- a record of a question that is refused
-abbrev pub refused_record : Refusal → Members
-refused_record refusal =
-    with_named_refusal (number_of refusal.refusal) (name_of refusal.refusal) (record_of (codes "refused"))
+-- the name that may have been meant, in a record and on a line of its own, if there is one
+abbrev pub with_meant : Option (List ℕ) → Members → Members
+with_meant None members = members
+with_meant (Some name) members = with_text (codes "near") name members
 
--- what is told of a question that is refused
-abbrev pub refused_text : Form → Refusal → List ℕ
-refused_text Lines refusal = codes "refused " ++ refusal_text refusal ++ line_feed ∷ []
-refused_text Records refusal = record_line (refused_record refusal)
+abbrev pub name_line : List ℕ → List ℕ
+name_line name = codes "did you mean " ++ written_text name ++ codes "?" ++ line_feed ∷ []
+
+abbrev pub meant_line : Option (List ℕ) → List ℕ
+meant_line None = []
+meant_line (Some name) = name_line name
+
+-- a record of a question that is refused
+abbrev pub refused_record : Refusal → Option (List ℕ) → Members
+refused_record refusal meant =
+    with_meant meant (with_named_refusal (number_of refusal.refusal) (name_of refusal.refusal) (record_of (codes "refused")))
+
+-- what is told of a question that is refused, with the name that may have been meant, if there is one
+abbrev pub refused_text : Form → Refusal → Option (List ℕ) → List ℕ
+refused_text Lines refusal meant = codes "refused " ++ refusal_text refusal ++ line_feed ∷ [] ++ meant_line meant
+refused_text Records refusal meant = record_line (refused_record refusal meant)
 
 -- no rule allows something that was asked for, or nothing confines who asks
 abbrev pub is_lacking : Option Answer → Bool
@@ -83,12 +99,13 @@ abbrev pub reasons : Form → Sources → Option (Option Asker) → Request → 
 reasons form sources (Some (Some who)) request lacking = confined_reasons form sources who request lacking (confinement_of who)
 reasons form sources _ request lacking = []
 
--- what is told of what a question is answered: that itself, the rules behind it, and how it came about; or why the question is refused
+-- what is told of what a question is answered: that itself, the rules behind it, and how it came about; or why the question is refused, and where who asks
+-- isn't there, which loaded name may have been meant
 abbrev pub replied_text : Form → Sources → List Loaded → Question → Result Answered Refusal → List ℕ
 replied_text form sources entries question (Ok told) =
     reply_text form told ++ reasons form sources (asker entries (who_asks question)) (rule_request question) (is_lacking told.answer)
     ++ how_of form entries question
-replied_text form sources entries question (Err refusal) = refused_text form refusal
+replied_text form sources entries question (Err refusal) = refused_text form refusal (meant_name entries (who_asks question) refusal.refusal)
 
 -- what a policy set answers to a question, with the rules behind it
 abbrev pub answered_text : Form → Sources → List Loaded → Question → List ℕ
@@ -102,18 +119,21 @@ has_answer entries question = is_ok (answered entries question)
 abbrev pub sources_in : Folder → Question → Sources
 sources_in folder question = record { below = below folder; origin = asked_origin (origins_in folder) question }
 
--- The words ask a question of the policy set of a folder, and a text tells the files that are left out and what is answered.
-abbrev pub IsWhyTold : Form → Folder → List (List ℕ) → List ℕ → Bool → Type 0
-IsWhyTold form folder words text found =
+-- The words ask a question of the policy set of a folder, and a text tells the files that are left out, at length or not, and what is answered.
+abbrev pub IsWhyTold : Form → Bool → Folder → List (List ℕ) → List ℕ → Bool → Type 0
+IsWhyTold form verbose folder words text found =
     (question : Question) × (asked_by words ≡ Some question)
-    × (text ≡ left_out_in form folder ++ answered_text form (sources_in folder question) (policy_in folder) question)
+    × (text ≡ left_out_in form verbose folder ++ answered_text form (sources_in folder question) (policy_in folder) question)
     × (found ≡ has_answer (policy_in folder) question)
 
--- The question was asked of the files at the top of the folder, with all that lies below it, by a language, and the
--- text tells its answer and the rules behind it. It failed where nobody of the name is loaded.
-pub record IsWhyToldBelow (form : Form) (language : Language) (folders : ToldFolders) (known : Known) (base : List ℕ) (words : List (List ℕ)) (text : List ℕ) (failed : ℕ) : Type 0 where
+-- The question was asked of the files at the top of the folder, with all that lies below it, by a language: the text tells its answer and the rules
+-- behind it, and it is noted how many files are left out. It failed where nobody of the name is loaded.
+pub record IsWhyToldBelow (form : Form) (verbose : Bool) (language : Language) (folders : ToldFolders) (known : Known) (base : List ℕ) (words : List (List ℕ)) (report : Report) : Type 0 where
   pub files : List File
   pub below : AreBelow folders known base files
+  pub top : List TopFile
+  pub loaded : AreTop folders base (top_names (names_of files)) top
   pub found : Bool
-  pub told : IsWhyTold form (folder_at language base files) words text found
-  pub counted : failed ≡ failed_by found
+  pub told : IsWhyTold form verbose (folder_at language base files top) words report.text found
+  pub noted : report.notes ≡ left_out_note (folder_at language base files top)
+  pub counted : report.failed ≡ failed_by found

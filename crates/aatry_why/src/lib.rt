@@ -6,6 +6,7 @@ mod attachment;
 mod destinations;
 mod how;
 mod laws;
+mod meant;
 mod records;
 mod replies;
 mod sources;

@@ -2,11 +2,11 @@
 
 ghost use Rattle.std.specs.Prelude.{◌≡◌, ◌++◌, IfOk, OnOk};
 ghost use Rattle.aa_set_answers.specs.Answers.{lines_of};
-ghost use Rattle.aatry_why.specs.Why.{audit_line, is_lacking, refused_record, refused_text, reply_record, reply_text};
+ghost use Rattle.aatry_why.specs.Why.{audit_line, is_lacking, meant_line, name_line, refused_record, refused_text, reply_record, reply_text, with_meant};
 ghost use Rattle.aatry_report.specs.SeenRecord.{seen_record};
 ghost use Rattle.aatry_report.specs.declared.form.Form.TheVariants as form;
 
-use aa_bytes::length_while;
+use aa_bytes::{Sequence, length_while, push_text};
 use aa_decide::Answer;
 use aa_set_answers::Answered;
 use aa_set_commands::Refusal;
@@ -66,35 +66,84 @@ pub fn push_reply(teller: Teller, told: &Answered, out: &mut Vec<u8>) -> Result<
     }
 }
 
-// Appends the line of a question that is refused to a text.
-fn push_refused_line(out: &mut Vec<u8>, refusal: Refusal) -> Result<(), AllocError>
-    ensures { OnOk result (out.new.items ≡ out.old.items ++ refused_text form.Lines refusal) }
+// Appends the line of a name that may have been meant to a text.
+fn push_name_line(out: &mut Vec<u8>, name: &[u8]) -> Result<(), AllocError>
+    ensures { OnOk result (out.new.items ≡ out.old.items ++ name_line name.now) }
 {
-    out.extend_from_slice(b"refused ")?;
-    push_refusal(out, refusal)?;
+    out.extend_from_slice(b"did you mean ")?;
+    push_text(out, name)?;
+    out.push(b'?')?;
     out.push(b'\n')?;
     Ok(())
 }
 
+// The same, if there is one.
+fn push_meant_line(out: &mut Vec<u8>, meant: &Option<Sequence<u8>>) -> Result<(), AllocError>
+    ensures { OnOk result (out.new.items ≡ out.old.items ++ meant_line meant.now) }
+{
+    match meant {
+        Some(name) => push_name_line(out, name.as_slice()),
+        None => Ok(()),
+    }
+}
+
+// Appends the lines of a question that is refused to a text.
+fn push_refused_lines(
+    out: &mut Vec<u8>,
+    refusal: Refusal,
+    meant: &Option<Sequence<u8>>,
+) -> Result<(), AllocError>
+    ensures { OnOk result (out.new.items ≡ out.old.items ++ refused_text form.Lines refusal meant.now) }
+{
+    out.extend_from_slice(b"refused ")?;
+    push_refusal(out, refusal)?;
+    out.push(b'\n')?;
+    push_meant_line(out, meant)
+}
+
+// Puts the name that may have been meant into a record, if there is one.
+fn put_meant(
+    alloc: Global,
+    meant: &Option<Sequence<u8>>,
+    into: &mut Record,
+) -> Result<(), AllocError>
+    ensures { OnOk result (seen_record into.new ≡ with_meant meant.now (seen_record into.old)) }
+{
+    match meant {
+        Some(name) => into.put_text(alloc, "near", name.as_slice()),
+        None => Ok(()),
+    }
+}
+
 // The record of a question that is refused.
-fn refused_record(alloc: Global, refusal: Refusal) -> Result<Record, AllocError>
-    ensures { IfOk result (λ made. seen_record made ≡ refused_record refusal) }
+fn refused_record(
+    alloc: Global,
+    refusal: Refusal,
+    meant: &Option<Sequence<u8>>,
+) -> Result<Record, AllocError>
+    ensures { IfOk result (λ made. seen_record made ≡ refused_record refusal meant.now) }
 {
     let mut made = Record::new(alloc, "refused")?;
     put_named_refusal(alloc, refusal.number(), refusal.name(), &mut made)?;
+    put_meant(alloc, meant, &mut made)?;
     Ok(made)
 }
 
-/// Appends what is told of a question that is refused to a text.
+/// Appends what is told of a question that is refused to a text, with the name that may have been meant, if there is one.
 ///
 /// # Errors
 ///
 /// Where memory runs out. A beginning may have been appended then.
-pub fn push_refused(teller: Teller, refusal: Refusal, out: &mut Vec<u8>) -> Result<(), AllocError>
-    ensures { OnOk result (out.new.items ≡ out.old.items ++ refused_text teller.form refusal) }
+pub fn push_refused(
+    teller: Teller,
+    refusal: Refusal,
+    meant: &Option<Sequence<u8>>,
+    out: &mut Vec<u8>,
+) -> Result<(), AllocError>
+    ensures { OnOk result (out.new.items ≡ out.old.items ++ refused_text teller.form refusal meant.now) }
 {
     match teller.form {
-        Form::Lines => push_refused_line(out, refusal),
-        Form::Records => refused_record(teller.alloc, refusal)?.push(teller.alloc, out),
+        Form::Lines => push_refused_lines(out, refusal, meant),
+        Form::Records => refused_record(teller.alloc, refusal, meant)?.push(teller.alloc, out),
     }
 }

@@ -7,17 +7,19 @@ ghost use Rattle.aa_set_answers.specs.Answers.{who_asks};
 ghost use Rattle.aa_set_answers.specs.Askers.{asker};
 ghost use Rattle.aa_set_commands.specs.Question.{IsWellFormed, seen_question};
 ghost use Rattle.aaset_start.specs.Gathering.{texts_of};
-ghost use Rattle.aatry_folder.specs.Reports.{failed_by};
+ghost use Rattle.aatry_folder.specs.Reports.{failed_by, seen_report};
 ghost use Rattle.aatry_folder.specs.declared.fault.Fault.TheVariants as fault;
-ghost use Rattle.aatry_policy.specs.Folders.{loaded_in, origins_in, policy_in, seen_folder};
+ghost use Rattle.aatry_policy.specs.Folders.{left_out_note, loaded_in, origins_in, policy_in, seen_folder};
 ghost use Rattle.aatry_requests.specs.AskedWords.{AskNothing};
 ghost use Rattle.aatry_requests.specs.Questions.{rule_request};
 ghost use Rattle.aatry_why.specs.Ends.{IsEndOfWhy};
 ghost use Rattle.aatry_why.specs.How.{confinement_of};
+ghost use Rattle.aatry_why.specs.Meant.{meant_name};
 ghost use Rattle.aatry_why.specs.Sources.{seen_sources};
-ghost use Rattle.aatry_why.specs.Why.{IsWhyTold, IsWhyToldBelow, answered_text, confined_reasons, has_answer, how_of, reasons, replied_text, sources_in};
+ghost use Rattle.aatry_why.specs.Why.{IsWhyTold, IsWhyToldBelow, answered_text, confined_reasons, has_answer, how_of, reasons, refused_text, replied_text, sources_in};
 
 use crate::how::push_how;
+use crate::meant::meant_name;
 use crate::replies::{is_lacking, push_refused, push_reply};
 use crate::sources::{Sources, asked_origin, written_by};
 use crate::unasked::push_unasked;
@@ -25,7 +27,7 @@ use aa_decide::{Asker, Confinement};
 use aa_profile_access::Request;
 use aa_profile_parsing::Language;
 use aa_set_answers::{Answered, find_asker};
-use aa_set_commands::{Question, RefusalKind};
+use aa_set_commands::{Question, Refusal, RefusalKind};
 use aa_set_manager::Manager;
 use aaset_start::FileSystem;
 use aatry_arguments::Asking;
@@ -132,6 +134,21 @@ fn push_replied(
     push_how_of(teller, manager, question, out)
 }
 
+// Appends why a question is refused to a text, and which loaded name may have been meant, where who asks isn't there.
+fn push_unanswered(
+    teller: Teller,
+    manager: &Manager,
+    question: &Question<'_>,
+    refusal: Refusal,
+    out: &mut Vec<u8>,
+) -> Result<(), AllocError>
+    ensures { OnOk result (out.new.items ≡ out.old.items
+        ++ refused_text teller.form refusal (meant_name manager.now.machine.now (who_asks (seen_question question.entry.now)) refusal.refusal)) }
+{
+    let meant = meant_name(teller.alloc, manager, who_asks(question), refusal.refusal)?;
+    push_refused(teller, refusal, &meant, out)
+}
+
 /// Appends the answer of a policy set to a question to a text, and behind it the rules by which who asks decides, as
 /// `why` tells them: those of the loaded profile, child or hat, with where they are written; or that no rule is asked,
 /// where it is in mode unconfined. Says whether there is an answer. The caller sees to it that the question is
@@ -161,14 +178,14 @@ pub fn push_answer(
             if refusal.refusal == RefusalKind::Memory {
                 return Err(AllocError);
             }
-            push_refused(teller, refusal, out)?;
+            push_unanswered(teller, manager, question, refusal, out)?;
             Ok(false)
         }
     }
 }
 
-/// Appends the answer of the policy of a loaded folder to a question to a text, with the rules behind it, as `why` tells them, and says whether there is
-/// an answer. What the policy remembers of the question changes nothing of it.
+/// Appends the answer of the policy of a loaded folder to a question to a text, with the rules behind it, as `why` tells them, and says whether there
+/// is an answer. What the policy remembers of the question changes nothing of it.
 ///
 /// # Errors
 ///
@@ -198,36 +215,34 @@ pub fn push_asked(
     push_answer(teller, &sources, &loaded.policy.manager, question, out)
 }
 
-// The same of a folder that was read, by words, with what is told of the files that are left out before it.
+// The same of a folder that was read, by words, with what is told of the files that are left out before it, and what is noted of them.
 fn told_of(teller: Teller, folder: &PolicyFolder<'_>, words: &[String]) -> Result<Report, Fault>
-    ensures told { IfOk result (λ report. (found : Bool) × IsWhyTold teller.form (seen_folder folder.now) (map string_bytes words.now) report.text.items found
+    ensures told { IfOk result (λ report. (found : Bool) × IsWhyTold teller.form teller.verbose (seen_folder folder.now) (map string_bytes words.now) report.text.items found
         × (report.failed ≡ failed_by found)) }
+    ensures noted { IfOk result (λ report. report.notes.items ≡ left_out_note (seen_folder folder.now)) }
     ensures fault { IfErr result (λ told. (told ≡ fault.NoMemory) ⊎ ((told ≡ fault.BadQuestion) × AskNothing (map string_bytes words.now))) }
 {
     let Some(asked) = asked_by(teller.alloc, words)? else {
         return Err(Fault::BadQuestion);
     };
-    let mut text = Vec::new(teller.alloc);
-    let mut loaded = load_folder(teller, folder, &mut text)?;
-    let found = push_asked(teller, &mut loaded, &asked.question(), &mut text)?;
-    Ok(Report {
-        failed: failed_by(found),
-        text,
-    })
+    let mut report = Report::new(teller.alloc);
+    let mut loaded = load_folder(teller, folder, &mut report)?;
+    let found = push_asked(teller, &mut loaded, &asked.question(), &mut report.text)?;
+    report.failed = failed_by(found);
+    Ok(report)
 }
 
 /// What the policy of a folder, read by a language, answers to a question, and the rules behind the answer, told in a
 /// form. The question is that of the words, as behind `ask`; or, where they are one word, that of a line of a log
-/// (`aatry_requests::asked_by`). Reads the folder as `aatry_folder::policy_below` does. First come the files that are left out
-/// (`aatry_policy::load_folder`). Then comes what `ask` would be answered, and behind it the rules, each with the place
-/// where it is written (`aatry_why_lines`); where something isn't allowed, the rule that is missing and the nearest
-/// ones too; and of the start of a program where its transition leads and what its path may be attached to. Where who
-/// asks is in mode unconfined, it is told in place of rules that none is asked. Where nobody of the name is loaded, the
-/// refusal is told, and one failed.
+/// (`aatry_requests::asked_by`). Reads the folder as `aatry_folder::policy_below` does. First come the files that are left out, where they are told,
+/// and it is noted how many they are (`aatry_policy::load_folder`). Then comes what `ask` would be answered, and behind it the rules, each with the
+/// place where it is written (`aatry_why_lines`); where something isn't allowed, the rule that is missing and the nearest ones too; and of the start
+/// of a program where its transition leads and what its path may be attached to. Where who asks is in mode unconfined, it is told in place of rules
+/// that none is asked. Where nobody of the name is loaded, the refusal is told, and one failed; and the loaded name that may have been meant, if one is near.
 ///
 /// As records, the reply is one of the kind `answer`, with the texts `answer` and `audit`, the line that logs it, which
-/// is empty where none does; and a refusal is one of the kind `refused`, with `number` and `refusal`. That no rule is
-/// asked is one of the kind `mode`, with `mode`.
+/// is empty where none does; and a refusal is one of the kind `refused`, with `number` and `refusal`, and with `near`,
+/// the name that may have been meant, where one is near. That no rule is asked is one of the kind `mode`, with `mode`.
 ///
 /// # Errors
 ///
@@ -242,8 +257,8 @@ pub fn why_folder<F: Folders, D: FileSystem>(
     disk: &D,
     asked: Asking,
 ) -> Result<Report, Fault>
-    ensures told { IfOk result (λ report. IsWhyToldBelow teller.form language (F.told folders.now) (D.known disk.now) (string_bytes asked.base) (texts_of asked.words)
-        report.text.items report.failed) }
+    ensures told { IfOk result (λ report. IsWhyToldBelow teller.form teller.verbose language (F.told folders.now) (D.known disk.now) (string_bytes asked.base)
+        (texts_of asked.words) (seen_report report)) }
     ensures fault { IfErr result (IsEndOfWhy (F.told folders.now) (D.known disk.now) (string_bytes asked.base) (texts_of asked.words)) }
 {
     let Asking { base, words } = asked;

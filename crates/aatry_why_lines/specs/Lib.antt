@@ -1,5 +1,6 @@
 pub mod Finding
 pub mod Groups
 pub mod Lines
+pub mod Missing
 pub mod Why
 pub mod Written

@@ -1,10 +1,8 @@
 -- The lines and the records that tell rules with the places where they are written.
 use Rattle.std.specs.Prelude.{ℕ, Bool, false, if◌then◌else◌, List, [], ◌∷◌, ◌++◌, codes, flat_map, Option, None, Some, slice_get}
 use Rattle.serde_json.specs.Data.{Members}
-use Rattle.std.specs.Str.{bytes_eq}
 use Rattle.aa_bytes.specs.Bytes.{line_feed}
 use Rattle.aa_bytes.specs.Texts.{is_empty}
-use Rattle.aa_explain_written.specs.Written.{written_rule}
 use Rattle.aa_profile_data.specs.Ranks.{same_rank}
 use Rattle.aa_profile_data.specs.declared.profile.Rank.TheVariants.{Last}
 use Rattle.aa_profile_data.specs.declared.profile.Rule.{Rule}
@@ -77,21 +75,3 @@ line_at form written words index = elim (slice_get written.rules index) [
 -- the lines of the rules at some indexes, below these words; none where there is no index
 abbrev pub group_lines : Form → Written → List ℕ → List ℕ → List ℕ
 group_lines form written words indexes = if is_empty indexes then [] else heading_line form words ++ flat_map (line_at form written words) indexes
-
--- A rule that isn't there, as a profile's file writes it; one that no file writes, as `show` tells it.
-abbrev pub pasted_rule : Rule → List ℕ
-pasted_rule rule = elim (written_rule rule) [ None ↦ rule_text rule | Some text ↦ text ]
-
--- a record of a rule that isn't there
-abbrev pub missing_record : Rule → Members
-missing_record rule = with_text (codes "rule") (pasted_rule rule) (record_of (codes "missing"))
-
--- The same on a line, where it is shown. Where a terminal obeys one of its bytes it is told as `show` tells it, too: with what is shown in the place of
--- that byte it would be another rule.
-abbrev pub shown_missing : Rule → List ℕ
-shown_missing rule = if bytes_eq (shown (pasted_rule rule)) (pasted_rule rule) then pasted_rule rule else shown_rule rule
-
--- the line of a rule that isn't there, below words of its own
-abbrev pub missing_line : Form → Rule → List ℕ
-missing_line Lines rule = heading_line Lines (codes "missing rule") ++ codes "  " ++ shown_missing rule ++ line_feed ∷ []
-missing_line Records rule = record_line (missing_record rule)

@@ -5,6 +5,7 @@ mod finding;
 mod groups;
 mod laws;
 mod lines;
+mod missing;
 mod why;
 mod written;
 

@@ -6,15 +6,13 @@ ghost use Rattle.std.specs.Str.{bytes_eq};
 ghost use Rattle.aatry_report.specs.Records.{with_text};
 ghost use Rattle.aatry_report.specs.Shown.{shown};
 ghost use Rattle.aatry_report.specs.SeenRecord.{seen_record};
-ghost use Rattle.aatry_why_lines.specs.Lines.{group_lines, is_by_all, line_at, maker_text, missing_line};
-ghost use Rattle.aatry_why_lines.specs.Lines.{missing_record, pasted_rule, place_at, told_line};
-ghost use Rattle.aatry_why_lines.specs.Lines.{rule_record, shown_missing, shown_rule, where_text, with_maker, with_where};
+ghost use Rattle.aatry_why_lines.specs.Lines.{group_lines, is_by_all, line_at, maker_text, place_at, told_line};
+ghost use Rattle.aatry_why_lines.specs.Lines.{rule_record, shown_rule, where_text, with_maker, with_where};
 ghost use Rattle.aatry_why_lines.specs.Written.{seen_rules};
 ghost use Rattle.aatry_report.specs.declared.form.Form.TheVariants.{Lines};
 
 use crate::finding::Finder;
 use crate::written::WrittenRules;
-use aa_explain_written::written_rule;
 use aa_profile_data::{Rank, Rule};
 use aa_set_answers::push_rule;
 use aa_text_files::Place;
@@ -88,7 +86,7 @@ fn put_rule(alloc: Global, rule: &Rule, into: &mut Record) -> Result<(), AllocEr
 }
 
 // Puts a rule behind a text, as `show` tells it: as it is shown.
-fn push_shown_rule(alloc: Global, rule: &Rule, out: &mut Vec<u8>) -> Result<(), AllocError>
+pub fn push_shown_rule(alloc: Global, rule: &Rule, out: &mut Vec<u8>) -> Result<(), AllocError>
     ensures { OnOk result (out.new.items ≡ out.old.items ++ shown_rule rule.now) }
 {
     let mut text = Vec::new(alloc);
@@ -259,76 +257,4 @@ pub fn push_group(
     }
     push_heading(teller.form, words, out)?;
     push_lines(teller, written, words, indexes, out)
-}
-
-// A rule that isn't there, as a profile's file writes it; one that no file writes, as `show` tells it.
-fn pasted_rule(alloc: Global, rule: &Rule) -> Result<Vec<u8>, AllocError>
-    ensures { IfOk result (λ text. text.items ≡ pasted_rule rule.now) }
-{
-    match written_rule(alloc, rule)? {
-        Some(text) => Ok(text),
-        None => {
-            let mut text = Vec::new(alloc);
-            push_rule(&mut text, rule)?;
-            Ok(text)
-        }
-    }
-}
-
-// The record of a rule that isn't there.
-fn missing_record(alloc: Global, rule: &Rule) -> Result<Record, AllocError>
-    ensures { IfOk result (λ made. seen_record made ≡ missing_record rule.now) }
-{
-    let mut made = Record::new(alloc, "missing")?;
-    let text = pasted_rule(alloc, rule)?;
-    made.put_text(alloc, "rule", &text)?;
-    Ok(made)
-}
-
-// Whether a text is shown as it is: a terminal obeys none of its bytes.
-fn is_shown_whole(alloc: Global, text: &[u8]) -> Result<bool, AllocError>
-    ensures { IfOk result (λ whole. whole ≡ bytes_eq (shown text.now) text.now) }
-{
-    let mut told = Vec::new(alloc);
-    push_shown(&mut told, text)?;
-    Ok(told.as_slice() == text)
-}
-
-// Puts a rule that isn't there behind a text, as it is shown.
-fn push_shown_missing(alloc: Global, rule: &Rule, out: &mut Vec<u8>) -> Result<(), AllocError>
-    ensures { OnOk result (out.new.items ≡ out.old.items ++ shown_missing rule.now) }
-{
-    let text = pasted_rule(alloc, rule)?;
-    if is_shown_whole(alloc, &text)? {
-        out.extend_from_slice(&text)
-    } else {
-        push_shown_rule(alloc, rule, out)
-    }
-}
-
-// Puts the line of a rule that isn't there behind a text, below words of its own.
-fn push_missing_line(alloc: Global, rule: &Rule, out: &mut Vec<u8>) -> Result<(), AllocError>
-    ensures { OnOk result (out.new.items ≡ out.old.items ++ missing_line Lines rule.now) }
-{
-    push_heading(Form::Lines, "missing rule", out)?;
-    out.extend_from_slice(b"  ")?;
-    push_shown_missing(alloc, rule, out)?;
-    out.push(b'\n')?;
-    Ok(())
-}
-
-/// Puts the line of a rule that isn't there behind a text, below words of its own; or a record of it, of the kind `missing`. The rule is told as
-/// a profile's file writes it, with a comma behind it; and as `show` tells it where no file writes it, and on a line where a terminal obeys one of
-/// its bytes.
-///
-/// # Errors
-///
-/// Where memory runs out. A beginning may have been put then.
-pub fn push_missing(teller: Teller, rule: &Rule, out: &mut Vec<u8>) -> Result<(), AllocError>
-    ensures { OnOk result (out.new.items ≡ out.old.items ++ missing_line teller.form rule.now) }
-{
-    match teller.form {
-        Form::Lines => push_missing_line(teller.alloc, rule, out),
-        Form::Records => missing_record(teller.alloc, rule)?.push(teller.alloc, out),
-    }
 }

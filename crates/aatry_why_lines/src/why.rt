@@ -2,18 +2,23 @@
 
 ghost use Rattle.std.specs.Prelude.{◌≡◌, ◌++◌, IfOk, OnOk};
 ghost use Rattle.aa_profile_access.specs.SeenRequests.{request_of};
-ghost use Rattle.aatry_why_lines.specs.Why.{allowing_lines, auditing_lines, deciding, deciding_lines, lacking_lines, lines_of};
-ghost use Rattle.aatry_why_lines.specs.Why.{missing_lines, nearest_lines, told_lines, why_lines};
+ghost use Rattle.aatry_why_lines.specs.Why.{adding_lines, allowing_lines, auditing_lines, deciding, deciding_lines, lacking_lines, lines_of};
+ghost use Rattle.aatry_why_lines.specs.Why.{missing_lines, missing_or, nearest_lines, told_lines, why_lines};
 ghost use Rattle.aatry_why_lines.specs.Written.{seen_rules};
 ghost use Rattle.aa_explain_rules.specs.Asked.{audits_of, rules_of};
-ghost use Rattle.aa_explain_rules.specs.Missing.{missing_rule};
+ghost use Rattle.aa_explain_rules.specs.InTheWay.{in_the_way};
 ghost use Rattle.aa_explain_rules.specs.Told.{told};
 
 use crate::groups::{Group, heading, is_denied, places_in};
-use crate::lines::{push_group, push_lines, push_missing};
+use crate::lines::{push_group, push_lines};
+use crate::missing::{Missing, push_missing};
 use crate::written::WrittenRules;
-use aa_explain_rules::{AskedRules, ToldRule, leading_rules, missing_rule, near_rules, told_rules};
+use aa_explain_rules::{
+    AskedRules, ToldRule, leading_rules, missing_rule, near_rules, rules_in_the_way, script_rule,
+    told_rules,
+};
 use aa_profile_access::{Perms, Request};
+use aa_profile_data::Rule;
 use aatry_report::Teller;
 use bitflags::Flags;
 use std::alloc::{AllocError, Global};
@@ -65,19 +70,52 @@ fn push_deciding(
     push_group(teller, written, "decided by", &indexes, out)
 }
 
-// Puts the line of the rule that a request lacks behind a text, if it lacks one.
-fn push_missing_rule(
+// Puts the line of a rule that isn't there behind a text, if there is such a one.
+fn push_rule_of(
     teller: Teller,
-    rules: AskedRules<'_>,
+    case: Missing,
+    rule: Option<Rule>,
+    out: &mut Vec<u8>,
+) -> Result<(), AllocError>
+    ensures { OnOk result (out.new.items ≡ out.old.items ++ missing_lines teller.form case rule) }
+{
+    match rule {
+        None => Ok(()),
+        Some(rule) => push_missing(teller, case, &rule, out),
+    }
+}
+
+// Puts the lines of the rule that a request lacks behind a text, and of the one that it lacks where it starts a script.
+fn push_adding(
+    teller: Teller,
+    written: &WrittenRules<'_>,
     request: &Request<'_>,
     out: &mut Vec<u8>,
 ) -> Result<(), AllocError>
-    ensures { OnOk result (out.new.items ≡ out.old.items ++ missing_lines teller.form (missing_rule (request_of request.entry.now) (rules_of rules.entry))) }
+    ensures { OnOk result (out.new.items ≡ out.old.items ++ adding_lines teller.form (seen_rules written.now) (request_of request.entry.now)) }
 {
-    match missing_rule(teller.alloc, rules, request)? {
-        None => Ok(()),
-        Some(rule) => push_missing(teller, &rule, out),
+    let rule = missing_rule(teller.alloc, written.rules, request)?;
+    push_rule_of(teller, Missing::OfRequest, rule, out)?;
+    let rule = script_rule(teller.alloc, written.rules, request)?;
+    push_rule_of(teller, Missing::OfScript, rule, out)
+}
+
+// Puts these behind a text, or in their place the lines of the rules in the way, if there are any.
+fn push_missing_rules(
+    teller: Teller,
+    written: &WrittenRules<'_>,
+    request: &Request<'_>,
+    out: &mut Vec<u8>,
+) -> Result<(), AllocError>
+    ensures { OnOk result (out.new.items ≡ out.old.items
+        ++ missing_or teller.form (seen_rules written.now) (request_of request.entry.now)
+        (in_the_way (request_of request.entry.now) (rules_of written.now.rules))) }
+{
+    let way = rules_in_the_way(teller.alloc, written.rules, request)?;
+    if way.is_empty() {
+        return push_adding(teller, written, request, out);
     }
+    push_group(teller, written, "in the way", &way, out)
 }
 
 // Puts the lines of the nearest rules behind a text.
@@ -107,7 +145,7 @@ fn push_lacking(
     if !lacking {
         return Ok(());
     }
-    push_missing_rule(teller, written.rules, request, out)?;
+    push_missing_rules(teller, written, request, out)?;
     push_nearest(teller, written, request, out)
 }
 
@@ -180,11 +218,13 @@ fn push_applying(
 /// Appends the rules behind the answer to a request to a text, as they decide it: those that deny, that allow, and by
 /// which the answer is logged, those that decide where a program runs, where its start is asked for, each group below
 /// its words, and, where `lacking` says that something of it isn't allowed, the rule that is missing
-/// (`aa_explain_rules::missing_rule`) and those that are near. A rule that is in two groups is told in both. Each has a
+/// (`aa_explain_rules::missing_rule`), with the one that is where a script is started (`script_rule`), or the rules in the way of
+/// it (`rules_in_the_way`), and those that are near. A rule that is in two groups is told in both. Each has a
 /// line of its own: `base` with the file's name, the line and the column where it is written, and the rule as `show`
 /// tells it; behind one that says where a program goes that no other rule leads it tells that it is by `all`. As
 /// records, of the kind `rule`, these are `file`, `line` and `column`, `rule`, and for such a one `made_by`, with the
-/// words of the group, `group`, in each and none above; the missing rule, of the kind `missing`, has `rule` alone.
+/// words of the group, `group`, in each and none above; a missing rule, of the kind `missing`, has `rule`, and `for` where it
+/// is that of a script.
 ///
 /// # Errors
 ///

@@ -1,5 +1,5 @@
 -- Features are the same exactly where they are equal, but for the numbers of rules.
-use Rattle.std.proofs.Common.{◌≡◌, true, ap, refl, sym, ◌∙◌}
+use Rattle.std.proofs.Common.{◌≡◌, true, Option, None, Some, ap, refl, sym, ◌∙◌}
 use Rattle.std.proofs.lemmas.Slice.Eq.{bytes_eq-Decides}
 use Rattle.std.specs.Bool.{Decides}
 use Rattle.std.specs.Cmp.{IsEquivalence, both_ways, on_equiv}
@@ -8,7 +8,7 @@ use Rattle.aa_profile_data.proofs.SameLemmas.{equal-rule, rule-equal}
 use Rattle.aa_profile_data.specs.declared.profile.Mode.{Mode}
 use Rattle.aa_profile_data.specs.declared.profile.Mode.TheVariants.{Complain, Enforce, Unconfined}
 use Rattle.aa_profile_data.specs.declared.profile.Rule.{Rule}
-use Rattle.aa_explain_diff.specs.Features.{Feature, OfAttachment, OfAudit, OfFlag, OfHat, OfMode, OfRule, same_feature, same_mode, seen_feature}
+use Rattle.aa_explain_diff.specs.Features.{Feature, OfAttachment, OfAudit, OfFlag, OfHat, OfMode, OfRule, same_feature, same_mode, same_state, seen_feature}
 use Rattle.aa_explain_diff.specs.code.Keys.{hashed, same_key}
 use Rattle.aa_explain_diff.specs.declared.features.Feature.{Feature as CodeFeature}
 
@@ -21,7 +21,7 @@ plain (OfFlag flag) = OfFlag flag
 plain (OfAttachment pattern) = OfAttachment pattern
 plain (OfRule rule number) = OfRule rule 0
 
-pub mode-equal : (one other : Mode) → same_mode one other ≡ true → one ≡ other
+mode-equal : (one other : Mode) → same_mode one other ≡ true → one ≡ other
 mode-equal Enforce Enforce same = refl
 mode-equal Complain Complain same = refl
 mode-equal Unconfined Unconfined same = refl
@@ -37,8 +37,18 @@ mode-same Enforce = refl
 mode-same Complain = refl
 mode-same Unconfined = refl
 
+pub state-equal : (one other : Option Mode) → same_state one other ≡ true → one ≡ other
+state-equal (Some one) (Some other) same = ap (λ (mode : Mode). Some mode) (mode-equal one other same)
+state-equal None None same = refl
+state-equal (Some one) None same = absurd (cc)
+state-equal None (Some other) same = absurd (cc)
+
+state-same : (one : Option Mode) → same_state one one ≡ true
+state-same (Some mode) = mode-same mode
+state-same None = refl
+
 pub same-plain : (one other : Feature) → same_feature one other ≡ true → plain one ≡ plain other
-same-plain (OfMode one) (OfMode other) same = ap OfMode (mode-equal one other same)
+same-plain (OfMode one) (OfMode other) same = ap OfMode (state-equal one other same)
 same-plain OfHat OfHat same = refl
 same-plain OfAudit OfAudit same = refl
 same-plain (OfFlag one) (OfFlag other) same = ap OfFlag ((bytes_eq-Decides one other).0 same)
@@ -79,7 +89,7 @@ same-plain (OfRule one m) (OfAttachment other) same = absurd (cc)
 pub plain-same : (one other : Feature) → plain one ≡ plain other → same_feature one other ≡ true
 plain-same (OfMode one) (OfMode other) equal =
     let same : one ≡ other = cc in
-    ap (same_mode one) (sym same) ∙ mode-same one
+    ap (same_state one) (sym same) ∙ state-same one
 plain-same OfHat OfHat equal = refl
 plain-same OfAudit OfAudit equal = refl
 plain-same (OfFlag one) (OfFlag other) equal = (bytes_eq-Decides one other).1 (cc)

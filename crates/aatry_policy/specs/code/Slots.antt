@@ -7,7 +7,7 @@ use Rattle.aatry_policy.specs.declared.origins.Origin.{Origin}
 -- the parts of a slot, of which the first of some origins is that of the entry
 abbrev pub slot_parts : Option Loaded → List Origin → List Part
 slot_parts None origins = []
-slot_parts (Some entry) origins = profile_parts (first_of origins) entry.profile
+slot_parts (Some entry) origins = profile_parts (first_of origins) entry
 
 -- the origins of the slots behind it
 abbrev pub left_behind : Option Loaded → List Origin → List Origin

@@ -1,18 +1,57 @@
-use Rattle.std.proofs.Common.{false, refl}
-use Rattle.aatry_arguments.specs.Arguments.{ForLog}
+use Rattle.std.proofs.Common.{◌≡◌, ◌∙◌, ℕ, Bool, false, List, [], Option, None, Some, ap, refl}
+use Rattle.std.specs.Option.{option_map}
+use Rattle.aa_options.specs.Options.{Asked, asked_as, asked_then}
+use Rattle.aatry_arguments.specs.Arguments.{CommandAsked, ForLog}
+use Rattle.aatry_arguments.specs.Flags.{is_given, without_flag}
 use Rattle.aatry_arguments.specs.CheckWords.{asked_check, check_with}
-use Rattle.aatry_arguments.specs.LogWords.{logs_of, strict_flag}
+use Rattle.aatry_arguments.specs.LogWords.{LogNamed, LogsAsked, all_lines, asked_by_named, asked_logs, denied_flag, lines_with, logs_of, named_in, named_then, named_with, strict_flag, without_flags}
 use Rattle.aatry_arguments.proofs.AskedLemmas.{asked_of_check}
 use Rattle.aatry_arguments.proofs.FlagLemmas.{none_given}
 use Rattle.aatry_arguments.proofs.laws.what_logs_have.Goals as goal
 
 pub returns-clause-alone : goal.returns-clause-alone
+unfolding asked_logs
 returns-clause-alone c = refl
 
 pub returns-clause-strict : goal.returns-clause-strict
+unfolding asked_logs
 returns-clause-strict c = refl
 
+pub returns-clause-denied : goal.returns-clause-denied
+unfolding asked_logs
+returns-clause-denied c = refl
+
+pub returns-clause-profile : goal.returns-clause-profile
+unfolding asked_logs
+returns-clause-profile c name = refl
+
+-- what is asked where a word behind `--since` names this time, or none
+abbrev named_at : Option ℕ → LogNamed
+named_at since = record { profile = None; since = since; words = [] }
+
+abbrev by_time : Option ℕ → Asked CommandAsked
+by_time time = asked_as ForLog (asked_by_named (option_map named_at (option_map (λ time. Some time) time)))
+
+pub returns-clause-since : goal.returns-clause-since
+unfolding asked_logs
+returns-clause-since c word time without is = ap (λ read. asked_as ForLog (asked_by_named (named_then read))) without ∙ ap by_time is
+
+pub returns-clause-no_time : goal.returns-clause-no_time
+unfolding asked_logs
+returns-clause-no_time c word without is = ap (λ read. asked_as ForLog (asked_by_named (named_then read))) without ∙ ap by_time is
+
+-- what words ask by these flags and the others
+abbrev by_flags : Bool → Bool → List (List ℕ) → Asked LogsAsked
+by_flags strict denied words = asked_then (logs_of strict (lines_with denied None None)) (asked_check words)
+
 pub returns-clause-paths : goal.returns-clause-paths
-returns-clause-paths c words base names none asks =
-    let plain = none_given strict_flag words none in
-    rw (none, plain) (asked_of_check ForLog (logs_of false) (asked_check words) (check_with base names) asks)
+unfolding asked_logs
+returns-clause-paths c words base names profile since strict denied asks =
+    let named : named_in words ≡ Some (record { profile = None; since = None; words = words }) = ap named_then profile ∙ ap (named_with None) since in
+    let plain : without_flags words ≡ words = ap (without_flag denied_flag) (none_given strict_flag words strict) ∙ none_given denied_flag words denied in
+    ap (asked_as ForLog)
+    (ap asked_by_named named
+    ∙ (ap (λ strict. by_flags strict (is_given denied_flag words) (without_flags words)) strict
+    ∙ (ap (λ denied. by_flags false denied (without_flags words)) denied
+    ∙ ap (by_flags false false) plain)))
+    ∙ asked_of_check ForLog (logs_of false all_lines) (asked_check words) (check_with base names) asks

@@ -8,7 +8,7 @@ pub returns-clause-of_each_name : goal.returns-clause-of_each_name
 returns-clause-of_each_name c = found-at
 
 pub returns-clause-each : goal.returns-clause-each
-returns-clause-each c = folder-read c.where_rules_are_made.ensures
+returns-clause-each c = folder-read c.what_changes_keep.ensures c.where_rules_are_made.ensures
 
 pub returns-clause-by_name : goal.returns-clause-by_name
-returns-clause-by_name c = named-at c.where_rules_are_made.ensures
+returns-clause-by_name c = named-at c.what_changes_keep.ensures c.where_rules_are_made.ensures

@@ -1,10 +1,6 @@
 use Rattle.std.proofs.Common.{string_bytes}
 use Rattle.aaset_start.specs.Gathering.{texts_of}
 use Rattle.aatry_arguments.specs.Given.{meant_comparison}
-use Rattle.aatry_who.specs.Who.{IsWhoToldBelow}
-use Rattle.aatry_who.specs.Ends.{IsEndOfWho}
-use Rattle.aatry_why.specs.Why.{IsWhyToldBelow}
-use Rattle.aatry_why.specs.Ends.{IsEndOfWhy}
 use Rattle.aatry_check.specs.Below.{IsChecked}
 use Rattle.aatry_check.specs.Ends.{IsEndOfCheck}
 use Rattle.aatry_diff.specs.Below.{IsComparedBelow}
@@ -34,22 +30,10 @@ returns-in-Test g c =
     c.show_outcome-in-Test.result c.test_folder.result c.test_folder.ensures.tested c.test_folder.ensures.fault c.show_outcome-in-Test.ensures)
 
 pub returns-in-Who : goal.returns-in-Who
-returns-in-Who g c =
-    let folders = g.F.Folders.told c.args.folders.now in
-    let known = g.D.FileSystem.known c.args.disk.now in
-    let output = output_of (g.W.Sink.written c.args.streams.now.output) (g.W.Sink.written c.show_outcome-in-Who.new.streams.output) (g.W.Sink.failed c.show_outcome-in-Who.new.streams.output) in
-    let asked = c.in-Who.asked in
-    rw c.in-Who.is (command_done (IsWhoToldBelow c.args.call.form c.args.call.language folders known (string_bytes asked.base) (texts_of asked.words)) (IsEndOfWho folders known (string_bytes asked.base) (texts_of asked.words)) output
-    c.show_outcome-in-Who.result c.who_folder.result c.who_folder.ensures.told c.who_folder.ensures.fault c.show_outcome-in-Who.ensures)
+returns-in-Who g c = rw c.in-Who.is c.tell_who.ensures
 
 pub returns-in-Why : goal.returns-in-Why
-returns-in-Why g c =
-    let folders = g.F.Folders.told c.args.folders.now in
-    let known = g.D.FileSystem.known c.args.disk.now in
-    let output = output_of (g.W.Sink.written c.args.streams.now.output) (g.W.Sink.written c.show_outcome-in-Why.new.streams.output) (g.W.Sink.failed c.show_outcome-in-Why.new.streams.output) in
-    let asked = c.in-Why.asked in
-    rw c.in-Why.is (command_done (IsWhyToldBelow c.args.call.form c.args.call.language folders known (string_bytes asked.base) (texts_of asked.words)) (IsEndOfWhy folders known (string_bytes asked.base) (texts_of asked.words)) output
-    c.show_outcome-in-Why.result c.why_folder.result c.why_folder.ensures.told c.why_folder.ensures.fault c.show_outcome-in-Why.ensures)
+returns-in-Why g c = rw c.in-Why.is c.tell_why.ensures
 
 pub returns-in-Diff : goal.returns-in-Diff
 returns-in-Diff g c =
@@ -57,7 +41,7 @@ returns-in-Diff g c =
     let known = g.D.FileSystem.known c.args.disk.now in
     let output = output_of (g.W.Sink.written c.args.streams.now.output) (g.W.Sink.written c.show_outcome-in-Diff.new.streams.output) (g.W.Sink.failed c.show_outcome-in-Diff.new.streams.output) in
     let asked = c.in-Diff.asked in
-    rw c.in-Diff.is (command_done (IsComparedBelow c.args.call.form c.args.call.language folders known (meant_comparison asked)) (IsEndOfDiff folders known (meant_comparison asked)) output
+    rw c.in-Diff.is (command_done (IsComparedBelow c.args.call.form c.args.call.verbose c.args.call.language folders known (meant_comparison asked)) (IsEndOfDiff folders known (meant_comparison asked)) output
     c.show_outcome-in-Diff.result c.diff_folders.result c.diff_folders.ensures.told c.diff_folders.ensures.fault c.show_outcome-in-Diff.ensures)
 
 pub returns-in-Session : goal.returns-in-Session

@@ -1,4 +1,4 @@
-use Rattle.aatry_session.proofs.LawLemmas.{adds, as_lines, begins, forgets, leaves, leaves_adding, refused, stays}
+use Rattle.aatry_session.proofs.LawLemmas.{adds, as_lines, begins, forgets, leaves, leaves_adding, refused, stays, switches}
 use Rattle.aatry_session.proofs.laws.the_history_is_in_step.Goals as goal
 
 pub returns-clause-begins : goal.returns-clause-begins
@@ -22,6 +22,14 @@ returns-clause-left c = leaves (record {
 
 pub returns-clause-adds : goal.returns-clause-adds
 returns-clause-adds c = adds (record {
+  back = c.where_machines_go_back_to.ensures.lengths_after_back;
+  on = c.where_machines_go_back_to.ensures.lengths_after_on;
+  keep = c.what_going_to_marks_keeps.ensures.mark_keeps_all;
+  marks = c.what_marks_mark.ensures.steps_mark_their_sets;
+})
+
+pub returns-clause-switches : goal.returns-clause-switches
+returns-clause-switches c = switches (record {
   back = c.where_machines_go_back_to.ensures.lengths_after_back;
   on = c.where_machines_go_back_to.ensures.lengths_after_on;
   keep = c.what_going_to_marks_keeps.ensures.mark_keeps_all;

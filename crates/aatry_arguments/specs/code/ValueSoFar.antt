@@ -1,0 +1,25 @@
+-- How far the reading of an option's value has come.
+use Rattle.std.specs.Prelude.{◌≡◌, ℕ, List, ◌++◌, Option, option_map, map, string_bytes}
+use Rattle.aatry_arguments.specs.Values.{ValueOption, WithValue, value_in}
+use Rattle.aatry_arguments.specs.declared.values.NamedOption.{NamedOption}
+use Rattle.aatry_arguments.specs.declared.values.WithValue.{WithValue as CodeValue}
+
+-- an option of the code
+abbrev pub seen_option : NamedOption → ValueOption
+seen_option option = record { word = option.word.now; opening = option.opening.now }
+
+-- what words say, as the code holds it
+abbrev pub seen_value : CodeValue → WithValue
+seen_value read = record { value = option_map (λ value. value.items) read.value; words = map string_bytes read.words.items }
+
+-- the same with words before those that are left
+abbrev pub with_words : List (List ℕ) → WithValue → WithValue
+with_words words read = record { value = read.value; words = words ++ read.words }
+
+-- what words say behind those that were read, of which some are left
+abbrev pub read_behind : ValueOption → (others : List (List ℕ)) → Option (Option (List ℕ)) → List (List ℕ) → Option WithValue
+read_behind option others value words = option_map (with_words others) (value_in option value words)
+
+-- the value that an option has, if none has to come, and the other words
+abbrev pub value_with : List (List ℕ) → Option (Option (List ℕ)) → Option WithValue
+value_with words value = option_map (λ value. record { value = value; words = words }) value

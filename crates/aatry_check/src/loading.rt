@@ -1,0 +1,118 @@
+//! What is told of how a file is loaded.
+
+ghost use Rattle.std.specs.Prelude.{◌≡◌, ◌++◌, IfOk, OnOk, map};
+ghost use Rattle.aatry_check.specs.Loading.{cause_of, loading_in, loading_record, loading_text, state_word, told_loading};
+ghost use Rattle.aatry_folder.specs.Loadings.{seen_top};
+ghost use Rattle.aatry_report.specs.FilePlaces.{path_below};
+ghost use Rattle.aatry_report.specs.SeenRecord.{seen_record};
+
+use aatry_folder::{Loading, TopFile};
+use aatry_report::{Form, Record, Teller, path_below, push_shown};
+use std::alloc::{AllocError, Global};
+
+/// How a file is loaded, by its name: as the first of some says that has the name, and by its flags where none has it. It takes no memory.
+pub fn loading_in(top: &[TopFile], name: &[u8]) -> Loading
+    ensures { result ≡ loading_in (map seen_top top.now) name.now }
+{
+    let mut rest = top;
+    while let [file, behind @ ..] = rest {
+        if file.name.as_bytes() == name {
+            return file.loading;
+        }
+        rest = behind;
+    }
+    Loading::ByFlags
+}
+
+// The word of the state in which a file's profiles are loaded; of those that are loaded by their flags there is none.
+fn state_word(loading: Loading) -> &'static str
+    ensures { result.now ≡ state_word loading }
+{
+    match loading {
+        Loading::ByFlags => "",
+        Loading::ForceComplain => "complain",
+        Loading::Disable => "disabled",
+    }
+}
+
+// The folder in which that stands by which they are in it.
+fn cause_of(loading: Loading) -> &'static str
+    ensures { result.now ≡ cause_of loading }
+{
+    match loading {
+        Loading::ByFlags => "",
+        Loading::ForceComplain => "force-complain/",
+        Loading::Disable => "disable/",
+    }
+}
+
+// What it stands by there.
+fn cause_name(alloc: Global, loading: Loading, name: &[u8]) -> Result<Vec<u8>, AllocError>
+    ensures { IfOk result (λ cause. cause.items ≡ cause_of loading ++ name.now) }
+{
+    let mut cause = Vec::new(alloc);
+    cause.extend_from_slice(cause_of(loading).as_bytes())?;
+    cause.extend_from_slice(name)?;
+    Ok(cause)
+}
+
+// Puts the line of how a file is loaded behind a text, by its path and by what it is so.
+fn push_line(
+    out: &mut Vec<u8>,
+    path: &[u8],
+    loading: Loading,
+    cause: &[u8],
+) -> Result<(), AllocError>
+    ensures { OnOk result (out.new.items ≡ out.old.items ++ loading_text path.now loading cause.now) }
+{
+    push_shown(out, path)?;
+    out.extend_from_slice(b": ")?;
+    out.extend_from_slice(state_word(loading).as_bytes())?;
+    out.extend_from_slice(b", by ")?;
+    push_shown(out, cause)?;
+    out.push(b'\n')?;
+    Ok(())
+}
+
+// The record of how a file is loaded.
+fn loading_record(
+    alloc: Global,
+    path: &[u8],
+    loading: Loading,
+    cause: &[u8],
+) -> Result<Record, AllocError>
+    ensures { IfOk result (λ made. seen_record made ≡ loading_record path.now loading cause.now) }
+{
+    let mut made = Record::new(alloc, "loading")?;
+    made.put_text(alloc, "file", path)?;
+    made.put_text(alloc, "state", state_word(loading).as_bytes())?;
+    made.put_text(alloc, "by", cause)?;
+    Ok(made)
+}
+
+/// Puts how a file is loaded behind a text, with what makes it so, where it isn't by its flags.
+///
+/// # Errors
+///
+/// Where memory runs out. A beginning may have been put then.
+pub fn push_loading(
+    teller: Teller,
+    base: &[u8],
+    name: &[u8],
+    loading: Loading,
+    out: &mut Vec<u8>,
+) -> Result<(), AllocError>
+    ensures { OnOk result (out.new.items ≡ out.old.items ++ told_loading teller.form base.now name.now loading) }
+{
+    if matches!(loading, Loading::ByFlags) {
+        return Ok(());
+    }
+    let path = path_below(teller.alloc, base, name)?;
+    let cause = cause_name(teller.alloc, loading, name)?;
+    match teller.form {
+        Form::Lines => push_line(out, &path, loading, &cause),
+        Form::Records => {
+            loading_record(teller.alloc, &path, loading, &cause)?.push(teller.alloc, out)
+        }
+    }
+}

@@ -1,0 +1,25 @@
+-- What a line of a log tells: what it asks, if it asks something, when that came, and whether the line is passed over.
+use Rattle.std.specs.Prelude.{ℕ, Bool, List, Option, None, Some}
+use Rattle.aatry_log_lines.specs.Lines.{Told, seen_line, told_by_message}
+use Rattle.aatry_log_lines.specs.Messages.{message_in}
+use Rattle.aatry_log_lines.specs.Selections.{Selection, is_passed_over}
+use Rattle.aatry_log_lines.specs.Stamps.{time_in}
+use Rattle.aatry_log_lines.specs.declared.entries.LogEntry.{LogEntry}
+
+pub record Entry : Type 0 where
+  pub told : Told
+  pub time : Option ℕ
+  pub is_passed_over : Bool
+
+-- that of the code
+abbrev pub seen_entry : LogEntry → Entry
+seen_entry entry = record { told = seen_line entry.told; time = entry.time; is_passed_over = entry.is_passed_over }
+
+-- that of a message
+abbrev pub entry_of : Selection → List ℕ → Entry
+entry_of selection message =
+    record { told = told_by_message message; time = time_in message; is_passed_over = is_passed_over selection message }
+
+-- that of a line: by its message, where it is a record of the journal, and else by the line itself
+abbrev pub entry_by : Selection → List ℕ → Entry
+entry_by selection line = elim (message_in line) [ None ↦ entry_of selection line | Some message ↦ entry_of selection message ]

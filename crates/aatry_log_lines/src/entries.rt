@@ -1,0 +1,79 @@
+//! What lines of a log tell, and when.
+
+ghost use Rattle.std.specs.Prelude.{◌≡◌, IfOk};
+ghost use Rattle.aatry_log_lines.specs.Entries.{entry_by, entry_of, seen_entry};
+ghost use Rattle.aatry_log_lines.specs.Selections.{seen_selection};
+
+use crate::lines::{LogLine, told_by_message};
+use crate::messages::message_in;
+use crate::selections::{Selection, is_passed_over};
+use crate::stamps::time_in;
+use std::alloc::{AllocError, Global};
+
+/// What a line of a log tells.
+#[derive(Drop)]
+pub struct LogEntry<'a> {
+    /// What it tells of.
+    pub told: LogLine<'a>,
+    /// When that came, in seconds since 1970, where the line has a stamp.
+    pub time: Option<u64>,
+    /// Whether the line is passed over, since it says that it isn't one of those that are asked for.
+    pub is_passed_over: bool,
+}
+
+impl<'a> LogEntry<'a> {
+    /// The same, that borrows from no line.
+    ///
+    /// # Errors
+    ///
+    /// Where memory runs out.
+    pub fn into_owned<'b>(self, alloc: Global) -> Result<LogEntry<'b>, AllocError>
+        ensures { IfOk result (λ owned. seen_entry owned ≡ seen_entry self.entry) }
+    {
+        let LogEntry {
+            told,
+            time,
+            is_passed_over,
+        } = self;
+        Ok(LogEntry {
+            told: told.into_owned(alloc)?,
+            time,
+            is_passed_over,
+        })
+    }
+}
+
+// What a message tells.
+fn entry_of<'a>(
+    alloc: Global,
+    selection: Selection<'_>,
+    message: &'a [u8],
+) -> Result<LogEntry<'a>, AllocError>
+    ensures { IfOk result (λ entry. seen_entry entry ≡ entry_of (seen_selection selection.entry) message.now) }
+{
+    let is_passed_over = is_passed_over(alloc, selection, message)?;
+    Ok(LogEntry {
+        told: told_by_message(alloc, message)?,
+        time: time_in(message),
+        is_passed_over,
+    })
+}
+
+/// What a line of a log tells, as `told_by` says, when that came, and whether the line is passed over by what is asked for. A record of the journal is
+/// read once.
+///
+/// # Errors
+///
+/// Where memory runs out.
+pub fn entry_by<'a>(
+    alloc: Global,
+    selection: Selection<'_>,
+    line: &'a [u8],
+) -> Result<LogEntry<'a>, AllocError>
+    ensures { IfOk result (λ entry. seen_entry entry ≡ entry_by (seen_selection selection.entry) line.now) }
+{
+    match message_in(alloc, line)? {
+        Some(message) => entry_of(alloc, selection, &message)?.into_owned(alloc),
+        None => entry_of(alloc, selection, line),
+    }
+}

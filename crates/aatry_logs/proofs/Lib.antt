@@ -1,0 +1,2 @@
+mod GatheredLemmas
+mod InputLemmas

@@ -1,0 +1,29 @@
+-- What lines of a log tell, of which those can't be read that are longer than a line may be.
+use Rattle.std.specs.Prelude.{ℕ, Bool, true, false, nat_lt, ◌&&◌, if◌then◌else◌, List, None, length}
+use Rattle.aa_set_lines.specs.Limits.{longest_line}
+use Rattle.aatry_log_lines.specs.Entries.{Entry, entry_by}
+use Rattle.aatry_log_lines.specs.Lines.{Asks, NoRequest, OtherRequest, Told, Unreadable}
+use Rattle.aatry_log_lines.specs.Selections.{Selection}
+
+-- what such a line tells: nothing of what it asks, nor when, nor whether it is asked for
+abbrev pub unreadable_entry : Entry
+unreadable_entry = record { told = Unreadable; time = None; is_passed_over = false }
+
+-- what a line of a log tells
+abbrev pub entry_in_log : Selection → List ℕ → Entry
+entry_in_log selection line = if nat_lt longest_line (length line) then unreadable_entry else entry_by selection line
+
+-- a line tells something of AppArmor's requests
+abbrev pub tells_something : Told → Bool
+tells_something (Asks question) = true
+tells_something OtherRequest = true
+tells_something NoRequest = false
+tells_something Unreadable = true
+
+-- a line that tells something is passed over
+abbrev pub passes_over : Entry → Bool
+passes_over entry = entry.is_passed_over && tells_something entry.told
+
+-- what a line tells that is asked for
+abbrev pub asked_for : Entry → Told
+asked_for entry = if entry.is_passed_over then NoRequest else entry.told

@@ -1,0 +1,24 @@
+-- An input, gathered as a log, which comes line by line.
+use Rattle.std.specs.Prelude.{◌≡◌, ℕ, List, ◌++◌, Option, None, Some, ⊤}
+use Rattle.aa_set_lines.specs.Lines.{lines}
+use Rattle.aatry_log_lines.specs.Selections.{Selection}
+use Rattle.aatry_logs.specs.LogRequests.{LogRequests, begun, with_lines}
+
+-- These lines of an input were given, of which nothing had been read, and the others are those of what waits and of what is left, where that is known.
+abbrev pub AreGiven : (before : Option (List ℕ)) (given : List (List ℕ)) (now : Option (List ℕ)) (waits : List ℕ) → Type 0
+AreGiven None given now waits = ⊤
+AreGiven (Some bytes) given None waits = ⊥
+AreGiven (Some bytes) given (Some rest) waits = lines bytes ≡ given ++ lines (waits ++ rest)
+
+-- These are all lines of an input, where its bytes are known.
+abbrev pub AreAllLines : (left : Option (List ℕ)) (given : List (List ℕ)) → Type 0
+AreAllLines None given = ⊤
+AreAllLines (Some bytes) given = given ≡ lines bytes
+
+-- What was gathered so far of a log that has begun has become this by all lines of an input.
+abbrev pub IsAllTaken : Selection → (file left : Option (List ℕ)) → (before after : LogRequests) → Type 0
+IsAllTaken selection file left before after = (given : List (List ℕ)) × AreAllLines left given × (after ≡ with_lines selection file before given)
+
+-- The same of a log that begins: that at a path, or standard input.
+abbrev pub IsGatheredFrom : Selection → (file left : Option (List ℕ)) → (before after : LogRequests) → Type 0
+IsGatheredFrom selection file left before after = IsAllTaken selection file left (begun before) after

@@ -1,0 +1,7 @@
+pub mod Ends
+pub mod Entries
+pub mod Gathered
+pub mod Inputs
+pub mod LogRequests
+pub mod Unreadable
+pub mod code

@@ -1,0 +1,66 @@
+//! An input, gathered as a log, which comes line by line.
+
+ghost use Rattle.std.specs.Prelude.{◌≡◌, ◌≤◌, ◌⊎◌, ◌^◌, [], IfErr, OnOk, option_map};
+ghost use Rattle.aatry_folder.specs.declared.fault.Fault.TheVariants as fault;
+ghost use Rattle.aatry_log_lines.specs.Selections.{seen_selection};
+ghost use Rattle.aatry_logs.specs.Inputs.{IsAllTaken, IsGatheredFrom};
+ghost use Rattle.aatry_logs.specs.LogRequests.{seen_logs};
+
+use crate::log_requests::LogRequests;
+use aa_set_lines::Source;
+use aatry_folder::Fault;
+use aatry_input::{Lines, MOST_LINES, all_lines, next_line};
+use aatry_log_lines::Selection;
+use std::alloc::Global;
+
+impl<'a> LogRequests<'a> {
+    // The lines of an input of which nothing was read, as those of a log that has begun.
+    fn take_lines<S: Source>(
+        &mut self,
+        alloc: Global,
+        selection: Selection<'_>,
+        file: Option<&str>,
+        reader: &mut S,
+        lines: &mut Lines,
+    ) -> Result<(), Fault>
+        requires countable { S.reads reader.old ≤ 2 ^ 62 }
+        requires nothing_waits { lines.old.input ≡ [] }
+        ensures whole { OnOk result (IsAllTaken (seen_selection selection.entry) (option_map (λ path. path.now) file.entry)
+            (S.left reader.old) (seen_logs self.old) (seen_logs self.new)) }
+        ensures fault { IfErr result (λ told. (told ≡ fault.Read) ⊎ (told ≡ fault.NoMemory)) }
+    {
+        for _count in 0..MOST_LINES {
+            if !next_line(reader, lines)? {
+                return Ok(());
+            }
+            self.take_line(alloc, selection, file, lines.line.as_slice())?;
+        }
+        Err(Fault::Read)
+    }
+
+    /// Takes all lines that an input has left, as those of the log at a path or of standard input, behind those that were taken before. Each line is let go
+    /// once it is taken: memory is kept for each question once, and for the first lines that can't be read.
+    ///
+    /// # Errors
+    ///
+    /// - `Read` where a read failed, a line took more than 2,147,483,648 reads, or 1,073,741,824 lines didn't come to the end.
+    /// - `NoMemory` where memory ran out.
+    ///
+    /// Some lines may have been taken then.
+    pub fn take_input<S: Source>(
+        &mut self,
+        alloc: Global,
+        selection: Selection<'_>,
+        file: Option<&str>,
+        reader: &mut S,
+    ) -> Result<(), Fault>
+        requires { S.reads reader.old ≤ 2 ^ 62 }
+        ensures whole { OnOk result (IsGatheredFrom (seen_selection selection.entry) (option_map (λ path. path.now) file.entry)
+            (S.left reader.old) (seen_logs self.old) (seen_logs self.new)) }
+        ensures fault { IfErr result (λ told. (told ≡ fault.Read) ⊎ (told ≡ fault.NoMemory)) }
+    {
+        self.begin();
+        let mut lines = all_lines(alloc)?;
+        self.take_lines(alloc, selection, file, reader, &mut lines)
+    }
+}

@@ -1,0 +1,25 @@
+-- Words that are wrong, with the known one that may have been meant.
+use Rattle.std.specs.Prelude.{◌≡◌, List, ℕ, [], ◌∷◌, codes, take, option_map}
+use Rattle.aa_profile_tables.specs.Capabilities.{names as capability_names}
+use Rattle.aa_profile_tables.specs.Domains.{names as domain_names}
+use Rattle.aa_profile_tables.specs.Kinds.{names as kind_names}
+use Rattle.aatry_near.specs.Near.{IsNearest}
+use Rattle.aatry_questions.specs.Faults.{Found}
+use Rattle.aatry_questions.specs.declared.faults.Wrong.{Wrong}
+use Rattle.aatry_questions.specs.declared.faults.Wrong.TheVariants.{Capability, Domain, Kind, Owned, SocketType}
+use Rattle.aatry_questions.specs.declared.misspelled.QuestionFault.{QuestionFault}
+
+-- the words that are known where one is wrong: of a capability, a domain or a type the names of its table
+abbrev pub known_words : Wrong → List (List ℕ)
+known_words Kind = codes "file" ∷ codes "exec" ∷ codes "cap" ∷ codes "net" ∷ []
+known_words Owned = codes "owner" ∷ codes "other" ∷ []
+known_words Capability = capability_names
+known_words Domain = domain_names
+known_words SocketType = take 6 kind_names
+known_words _ = []
+
+-- A fault tells what was found, and of the known words the one that is nearest to the wrong one, if one is near.
+pub record Tells (fault : QuestionFault) (told : Found) : Type 0 where
+  pub wrong : fault.wrong ≡ told.wrong
+  pub word : fault.word ≡ told.word
+  pub near : IsNearest (known_words told.wrong) told.word (option_map (λ name. name.now) fault.near)

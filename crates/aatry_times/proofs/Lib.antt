@@ -1,0 +1,2 @@
+mod CalendarLemmas
+mod MomentLemmas

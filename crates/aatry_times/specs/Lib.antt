@@ -1,0 +1,4 @@
+pub mod Moments
+pub mod Named
+pub mod Numbers
+pub mod Told
