@@ -64,7 +64,7 @@ _aatry() {
         case ${COMP_WORDS[1]} in
         check) mapfile -t COMPREPLY < <(compgen -W '-b --json --language -h --help --' -- "$word") ;;
         why | who) mapfile -t COMPREPLY < <(compgen -W '-b --verbose --json --language -h --help --' -- "$word") ;;
-        log) mapfile -t COMPREPLY < <(compgen -W '-b --denied --profile --since --strict --verbose --json --language -h --help --' -- "$word") ;;
+        log) mapfile -t COMPREPLY < <(compgen -W '-b --denied --profile --rules --since --strict --verbose --json --language -h --help --' -- "$word") ;;
         *) mapfile -t COMPREPLY < <(compgen -W '-b --language -h --help --' -- "$word") ;;
         esac
     elif [ "${COMP_WORDS[1]}" = who ] || [ "${COMP_WORDS[1]}" = why ]; then

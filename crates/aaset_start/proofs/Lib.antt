@@ -1,5 +1,6 @@
 mod GatheringLemmas
 mod LawLemmas
 mod NameLemmas
+mod ReadableLemmas
 mod ReadingLemmas
 mod RunLemmas

@@ -1,5 +1,5 @@
 -- Bytes that a reader has left, and those that were read of them.
-use Rattle.std.proofs.Common.{◌⊎◌, ◌+◌, ◌<◌, ◌≤◌, ℕ, List, Option, None, Some, arith, inl, inr, length, length-append, subst, sym}
+use Rattle.std.proofs.Common.{◌+◌, ◌<◌, ◌≤◌, ℕ, List, Option, None, Some, arith, length, length-append, subst, sym}
 use Rattle.std.specs.Prelude.{IfSome, take}
 use Rattle.std.specs.Io.KnownBytes.{Consumes}
 use Rattle.std.proofs.lemmas.List.{length-take-le}
@@ -11,12 +11,6 @@ longer_whole most None new read consumed longer = tt
 longer_whole most (Some all) None read consumed longer = absurd consumed
 longer_whole most (Some all) (Some left) read consumed longer =
     subst (λ bytes. most < length bytes) (sym consumed) (omega (arith, longer, length-append read left))
-
--- the same where a file is unreadable or too long
-pub unreadable_whole : (P : Type 0) (most : ℕ) (old new : Option (List ℕ)) (read : List ℕ) → Consumes old new read
-    → P ⊎ IfSome new (λ left. most < length read + length left) → P ⊎ IfSome old (λ left. most < length left)
-unreadable_whole P most old new read consumed (inl p) = inl p
-unreadable_whole P most old new read consumed (inr longer) = inr (longer_whole most old new read consumed longer)
 
 -- where so many bytes were read that all are too many, what was left was too long
 pub longer_read : (most there count : ℕ) (piece : List ℕ) (old new : Option (List ℕ)) → Consumes old new (take count piece) → count ≤ length piece

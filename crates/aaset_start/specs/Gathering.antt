@@ -24,13 +24,17 @@ IsTakable file = (length file.1 ≤ most_bytes) × (is_bad_file file.0 file.1 �
 abbrev pub IsReadBelow : Known → List ℕ → File → Type 0
 IsReadBelow known base file = IsFalse (is_folder_name file.0) → IfSome (known.bytes_at (path_of base file.0)) (λ bytes. file.1 ≡ bytes)
 
--- No file can be read at a path, or the one that lies there is too long.
-abbrev pub IsUnreadableAt : Known → List ℕ → Type 0
-IsUnreadableAt known path = known.IsUnreadable path ⊎ IfSome (known.bytes_at path) (λ bytes. most_bytes < length bytes)
+-- The file that a name stands for can't be opened or read. A folder isn't read.
+abbrev pub IsUnreadBelow : Known → List ℕ → List ℕ → Type 0
+IsUnreadBelow known base name = IsFalse (is_folder_name name) × known.IsUnreadable (path_of base name)
 
--- The file that a name stands for can't be read. A folder isn't read.
+-- The file that a name stands for is too long.
+abbrev pub IsTooLongBelow : Known → List ℕ → List ℕ → Type 0
+IsTooLongBelow known base name = IsFalse (is_folder_name name) × IfSome (known.bytes_at (path_of base name)) (λ bytes. most_bytes < length bytes)
+
+-- The file that a name stands for can't be read, or is too long.
 abbrev pub IsUnreadableBelow : Known → List ℕ → List ℕ → Type 0
-IsUnreadableBelow known base name = IsFalse (is_folder_name name) × IsUnreadableAt known (path_of base name)
+IsUnreadableBelow known base name = IsUnreadBelow known base name ⊎ IsTooLongBelow known base name
 
 -- The fault of a name behind these: the name is told where it is refused, whatever its file is, or its file can't be read. Memory is never told of
 -- one that is refused, which is found without it.

@@ -4,4 +4,5 @@ pub mod Gathering
 pub mod Known
 pub mod Names
 pub mod Plan
+pub mod Readable
 pub mod Reading

@@ -4,11 +4,12 @@ ghost use Rattle.std.specs.List.{All};
 ghost use Rattle.aa_text_files.specs.Files.{has_control_byte};
 ghost use Rattle.aaset_start.specs.Gathering.{names_of, texts_of, IsFaultBehind, IsFirstFault, IsReadBelow, IsTakable};
 ghost use Rattle.aaset_start.specs.Names.{AreGoodNames, is_bad_name, is_refused_behind};
+ghost use Rattle.aaset_start.specs.declared.gathering.GatherFault.TheVariants as fault;
 
 use crate::file_system::FileSystem;
 use crate::reading::{ReadFault, bytes_of};
 use aa_text_files::Files;
-use std::alloc::Global;
+use std::alloc::{AllocError, Global};
 use thiserror::Error;
 
 /// Why the files that are named couldn't be taken.
@@ -21,6 +22,14 @@ pub enum GatherFault {
     /// Memory ran out.
     #[error("memory ran out")]
     Memory,
+}
+
+impl From<AllocError> for GatherFault {
+    ghost from_gives = { λ _ told. told ≡ fault.Memory };
+
+    fn from(_error: AllocError) -> GatherFault {
+        GatherFault::Memory
+    }
 }
 
 // Whether a name holds a byte below the space.
@@ -37,8 +46,8 @@ fn is_bad_name(name: &[u8]) -> bool
     name.is_empty() || has_control(name)
 }
 
-// Whether a name can't come behind those of these files, whatever its own file is.
-fn is_refused(files: &Files, name: &[u8]) -> bool
+/// Whether a name can't come behind those of these files, whatever its own file is.
+pub fn is_refused(files: &Files, name: &[u8]) -> bool
     ensures { result ≡ is_refused_behind (names_of files.now) name.now }
 {
     is_bad_name(name) || files.has(name)
@@ -63,6 +72,7 @@ fn take<D: FileSystem>(
     let bytes = match bytes_of(disk, alloc, base, name.as_str()) {
         Ok(bytes) => bytes,
         Err(ReadFault::Unreadable) => return Err(GatherFault::Untaken(name)),
+        Err(ReadFault::TooLong) => return Err(GatherFault::Untaken(name)),
         Err(ReadFault::Memory) => return Err(GatherFault::Memory),
     };
     // Such a name is refused for want of memory alone.

@@ -8,6 +8,7 @@ mod file_system;
 mod gathering;
 mod laws;
 mod planning;
+mod readable;
 mod reading;
 
 pub use aa_options::{ArgumentFault as ArgFault, VERSION};
@@ -16,3 +17,4 @@ pub use file_system::{FileSystem, RuntimeFiles};
 pub use gathering::{GatherFault, gather};
 pub use laws::what_runs_have;
 pub use planning::plan;
+pub use readable::{ReadableFiles, UnreadFault, gather_readable, is_stand_in, unread_in};

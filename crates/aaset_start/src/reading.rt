@@ -1,10 +1,10 @@
 //! Reading of a file's bytes, whole.
-ghost use Rattle.std.specs.Prelude.{◌≡◌, ◌⊎◌, ◌+◌, ◌<◌, ◌≤◌, [], IsFalse, IsTrue, IfErr, IfOk, IfSome, OnOk, IsOkAnd, length, string_bytes, vec_len};
+ghost use Rattle.std.specs.Prelude.{◌≡◌, ◌+◌, ◌<◌, ◌≤◌, [], IsFalse, IsTrue, IfErr, IfOk, IfSome, OnOk, IsOkAnd, length, string_bytes, vec_len};
 ghost use Rattle.std.specs.Io.KnownBytes.{IsAtEnd};
 ghost use Rattle.std.specs.IoError.{error_kind};
 ghost use Rattle.aa_text_files.specs.Files.{is_folder_name};
 ghost use Rattle.aa_text_files.specs.Limit.{most_bytes};
-ghost use Rattle.aaset_start.specs.Gathering.{IsReadBelow, IsUnreadableBelow};
+ghost use Rattle.aaset_start.specs.Gathering.{IsReadBelow, IsTooLongBelow, IsUnreadBelow};
 ghost use Rattle.aaset_start.specs.Reading.{ReadsBehind, is_whole_path, path_of, read_fault_of};
 ghost use Rattle.aaset_start.specs.declared.reading.ReadFault.TheVariants as read;
 
@@ -16,8 +16,10 @@ use std::io::{self, ErrorKind};
 /// Why the bytes of a file aren't there.
 #[derive(Clone, Copy, Debug, PartialEq, Eq)]
 pub enum ReadFault {
-    /// The file can't be opened or read, or it is too long.
+    /// The file can't be opened or read.
     Unreadable,
+    /// It is too long.
+    TooLong,
     /// Memory ran out.
     Memory,
 }
@@ -58,12 +60,13 @@ fn is_read_to_end<D: FileSystem>(
     ensures read { OnOk result (ReadsBehind (D.File.remaining file.old) bytes.old.items (D.File.remaining file.new) bytes.new.items) }
     ensures grows { IfOk result (λ at_end. IsFalse at_end → vec_len bytes.old < vec_len bytes.new) }
     ensures end { IfOk result (λ at_end. IsTrue at_end → IsAtEnd (D.File.remaining file.new)) }
-    ensures err { IfErr result (λ fault. fault ≡ read.Unreadable → (D.known disk.now).IsUnreadable path.now
-        ⊎ IfSome (D.File.remaining file.old) (λ left. most_bytes < vec_len bytes.old + length left)) }
+    ensures unreadable { IfErr result (λ fault. fault ≡ read.Unreadable → (D.known disk.now).IsUnreadable path.now) }
+    ensures too_long { IfErr result (λ fault. fault ≡ read.TooLong
+        → IfSome (D.File.remaining file.old) (λ left. most_bytes < vec_len bytes.old + length left)) }
 {
     let count = disk.read_piece(path, file, piece)?;
     if count > MOST_BYTES - bytes.len() {
-        return Err(ReadFault::Unreadable);
+        return Err(ReadFault::TooLong);
     }
     bytes.extend_from_slice(&piece[..count])?;
     Ok(count == 0)
@@ -85,8 +88,8 @@ fn read_whole<D: FileSystem>(
 ) -> Result<Vec<u8>, ReadFault>
     ensures within { IfOk result (λ bytes. vec_len bytes ≤ most_bytes) }
     ensures whole { IfOk result (λ bytes. IfSome (D.File.remaining file.old) (λ left. bytes.items ≡ left)) }
-    ensures err { IfErr result (λ fault. fault ≡ read.Unreadable → (D.known disk.now).IsUnreadable path.now
-        ⊎ IfSome (D.File.remaining file.old) (λ left. most_bytes < length left)) }
+    ensures unreadable { IfErr result (λ fault. fault ≡ read.Unreadable → (D.known disk.now).IsUnreadable path.now) }
+    ensures too_long { IfErr result (λ fault. fault ≡ read.TooLong → IfSome (D.File.remaining file.old) (λ left. most_bytes < length left)) }
 {
     let mut piece = piece_room(alloc)?;
     let mut bytes = Vec::new(alloc);
@@ -96,7 +99,7 @@ fn read_whole<D: FileSystem>(
             return Ok(bytes);
         }
     }
-    Err(ReadFault::Unreadable)
+    Err(ReadFault::TooLong)
 }
 
 // Whether a name is a whole path: it begins with `/`.
@@ -127,7 +130,8 @@ fn path_of(alloc: Global, base: &str, name: &str) -> Result<String, AllocError>
 ///
 /// # Errors
 ///
-/// - `Unreadable` where the file can't be opened or read, as the file system says, or is longer than 16,777,216 bytes.
+/// - `Unreadable` where the file can't be opened or read, as the file system says.
+/// - `TooLong` where it is longer than 16,777,216 bytes.
 /// - `Memory` where memory ran out.
 pub fn bytes_of<D: FileSystem>(
     disk: &D,
@@ -138,7 +142,8 @@ pub fn bytes_of<D: FileSystem>(
     ensures folder { IsTrue (is_folder_name name.now) → IsOkAnd result (λ bytes. bytes.items ≡ []) }
     ensures within { IfOk result (λ bytes. vec_len bytes ≤ most_bytes) }
     ensures read { IfOk result (λ bytes. IsReadBelow (D.known disk.now) base.now (name.now, bytes.items)) }
-    ensures err { IfErr result (λ fault. fault ≡ read.Unreadable → IsUnreadableBelow (D.known disk.now) base.now name.now) }
+    ensures unreadable { IfErr result (λ fault. fault ≡ read.Unreadable → IsUnreadBelow (D.known disk.now) base.now name.now) }
+    ensures too_long { IfErr result (λ fault. fault ≡ read.TooLong → IsTooLongBelow (D.known disk.now) base.now name.now) }
 {
     if Files::is_folder(name.as_bytes()) {
         return Ok(Vec::new(alloc));

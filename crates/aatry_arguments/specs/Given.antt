@@ -42,7 +42,7 @@ meant_lines lines = lines_with lines.denied (option_map (λ name. name.items) li
 
 -- what logs ask that are meant
 abbrev pub meant_logs : Logs → LogsAsked
-meant_logs logs = logs_with (string_bytes logs.base) (texts logs.paths) logs.strict (meant_lines logs.lines)
+meant_logs logs = logs_with (string_bytes logs.base) (texts logs.paths) logs.strict logs.rules (meant_lines logs.lines)
 
 -- the source of requests that is meant
 abbrev pub meant_source : RequestSource → SourceAsked

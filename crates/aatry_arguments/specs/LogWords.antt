@@ -21,20 +21,24 @@ abbrev pub all_lines : LogLinesAsked
 all_lines = lines_with false None None
 
 -- what logs ask of a folder of policy: the folder, the paths of the logs, or none for standard input, whether the status is to tell of lines that ask
--- nothing that is answered, and which lines are asked for
+-- nothing that is answered, whether rules are to be told that can be pasted, and which lines are asked for
 pub record LogsAsked : Type 0 where
   pub base : List ℕ
   pub paths : List (List ℕ)
   pub strict : Bool
+  pub rules : Bool
   pub lines : LogLinesAsked
 
--- what logs ask, by its four parts
-abbrev pub logs_with : List ℕ → List (List ℕ) → Bool → LogLinesAsked → LogsAsked
-logs_with base paths strict lines = record { base = base; paths = paths; strict = strict; lines = lines }
+-- what logs ask, by its five parts
+abbrev pub logs_with : List ℕ → List (List ℕ) → Bool → Bool → LogLinesAsked → LogsAsked
+logs_with base paths strict rules lines = record { base = base; paths = paths; strict = strict; rules = rules; lines = lines }
 
--- the flags that ask for the status, and for requests that were denied
+-- the flags that ask for the status, for rules that can be pasted, and for requests that were denied
 abbrev pub strict_flag : List ℕ
 strict_flag = codes "--strict"
+
+abbrev pub rules_flag : List ℕ
+rules_flag = codes "--rules"
 
 abbrev pub denied_flag : List ℕ
 denied_flag = codes "--denied"
@@ -47,8 +51,8 @@ abbrev pub since_option : ValueOption
 since_option = record { word = codes "--since"; opening = codes "--since=" }
 
 -- what would be a check asks by logs: its names are their paths
-abbrev pub logs_of : Bool → LogLinesAsked → CheckAsked → Asked LogsAsked
-logs_of strict lines check = ForThis (logs_with check.base check.names strict lines)
+abbrev pub logs_of : Bool → Bool → LogLinesAsked → CheckAsked → Asked LogsAsked
+logs_of strict rules lines check = ForThis (logs_with check.base check.names strict rules lines)
 
 -- the profile and the time that words name, if they name some, and the other words
 pub record LogNamed : Type 0 where
@@ -76,12 +80,13 @@ named_in words = named_then (value_of profile_option words)
 
 -- the words without the flags
 abbrev pub without_flags : List (List ℕ) → List (List ℕ)
-without_flags words = without_flag denied_flag (without_flag strict_flag words)
+without_flags words = without_flag denied_flag (without_flag rules_flag (without_flag strict_flag words))
 
 -- what words ask, of which these name the profile and the time: without the flags, the others are read as those behind `check`
 abbrev pub asked_named : LogNamed → Asked LogsAsked
 asked_named named =
-    asked_then (logs_of (is_given strict_flag named.words) (lines_with (is_given denied_flag named.words) named.profile named.since))
+    asked_then
+    (logs_of (is_given strict_flag named.words) (is_given rules_flag named.words) (lines_with (is_given denied_flag named.words) named.profile named.since))
     (asked_check (without_flags named.words))
 
 -- the same where they name these well, and else nothing

@@ -71,6 +71,8 @@ pub struct Logs {
     pub paths: Vec<String>,
     /// Whether the exit status is to tell of a line that can't be read, or that asks for somebody who isn't there.
     pub strict: bool,
+    /// Whether rules are to be told that can be pasted into profiles, in place of the answers.
+    pub rules: bool,
     /// Which lines are asked for.
     pub lines: LogLines,
 }

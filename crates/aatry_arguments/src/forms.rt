@@ -159,7 +159,7 @@ fn call_behind(alloc: Global, words: &[String]) -> Result<Call, ArgumentFault>
 ///
 /// The word `--json`, ahead of the first `--`, asks for records, and is none of the words above: the command is the one that the others ask for. Nor
 /// is `--verbose` there, which asks for lines that tell at length, each file that is left out too; nor `--strict` behind `log`, which asks for a
-/// status that tells of lines without an answer. Nor are
+/// status that tells of lines without an answer, or `--rules`, which asks for rules that can be pasted. Nor are
 /// the word `--language` and the one behind it, or a word that begins with `--language=`, ahead of the first `--`: they name a language by its
 /// number, 3 or 4. Where one is named again, the last counts, and where none is, policy is read by language 4 (docs/policy.md, "Languages").
 ///

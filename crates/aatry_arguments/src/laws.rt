@@ -13,7 +13,7 @@ ghost use Rattle.aatry_arguments.specs.DiffWords.{comparison_with, given_behind,
 ghost use Rattle.aa_profile_parsing.specs.Languages.{language_named, word_of};
 ghost use Rattle.aa_profile_parsing.specs.declared.language.Language.{Language};
 ghost use Rattle.aatry_arguments.specs.Languages.{by_language};
-ghost use Rattle.aatry_arguments.specs.LogWords.{all_lines, denied_flag, lines_with, logs_with, profile_option, since_option, strict_flag};
+ghost use Rattle.aatry_arguments.specs.LogWords.{all_lines, denied_flag, lines_with, logs_with, profile_option, rules_flag, since_option, strict_flag};
 ghost use Rattle.aatry_arguments.specs.Flags.{is_given};
 ghost use Rattle.aatry_arguments.specs.SessionWords.{session_with};
 ghost use Rattle.aatry_arguments.specs.TestWords.{test_with};
@@ -74,21 +74,22 @@ pub fn what_askings_have()
         → asked_by_first (codes "why") words ≡ ForThis (ForWhy (asking_with base (word ∷ more))) }
 {}
 
-/// `log` alone asks by all lines of standard input, of /etc/apparmor.d; `log --strict` for the status too; and with `--denied`, `--profile` and a name, or
+/// `log` alone asks by all lines of standard input, of /etc/apparmor.d; `log --strict` for the status too, `log --rules` for rules; and with `--denied`, `--profile` and a name, or
 /// `--since` and a time, by those lines. Words without these that would ask of `check` for some files ask of `log` by all lines of the logs at these paths,
 /// over the same folder. Where a word behind `--since` names no time, the words ask for nothing that there is.
 pub fn what_logs_have()
-    ensures alone { asked (codes "log" ∷ []) ≡ ForThis (ForLog (logs_with (codes "/etc/apparmor.d") [] false all_lines)) }
-    ensures strict { asked (codes "log" ∷ codes "--strict" ∷ []) ≡ ForThis (ForLog (logs_with (codes "/etc/apparmor.d") [] true all_lines)) }
+    ensures alone { asked (codes "log" ∷ []) ≡ ForThis (ForLog (logs_with (codes "/etc/apparmor.d") [] false false all_lines)) }
+    ensures strict { asked (codes "log" ∷ codes "--strict" ∷ []) ≡ ForThis (ForLog (logs_with (codes "/etc/apparmor.d") [] true false all_lines)) }
+    ensures rules { asked (codes "log" ∷ codes "--rules" ∷ []) ≡ ForThis (ForLog (logs_with (codes "/etc/apparmor.d") [] false true all_lines)) }
     ensures denied { asked (codes "log" ∷ codes "--denied" ∷ [])
-        ≡ ForThis (ForLog (logs_with (codes "/etc/apparmor.d") [] false (lines_with true None None))) }
+        ≡ ForThis (ForLog (logs_with (codes "/etc/apparmor.d") [] false false (lines_with true None None))) }
     ensures profile { (name : List ℕ) → asked (codes "log" ∷ codes "--profile" ∷ name ∷ [])
-        ≡ ForThis (ForLog (logs_with (codes "/etc/apparmor.d") [] false (lines_with false (Some name) None))) }
+        ≡ ForThis (ForLog (logs_with (codes "/etc/apparmor.d") [] false false (lines_with false (Some name) None))) }
     ensures since { (word : List ℕ) (time : ℕ)
         → IsWithout profile_option (codes "--since" ∷ word ∷ [])
         → time_named word ≡ Some time
         → asked (codes "log" ∷ codes "--since" ∷ word ∷ [])
-        ≡ ForThis (ForLog (logs_with (codes "/etc/apparmor.d") [] false (lines_with false None (Some time)))) }
+        ≡ ForThis (ForLog (logs_with (codes "/etc/apparmor.d") [] false false (lines_with false None (Some time)))) }
     ensures no_time { (word : List ℕ)
         → IsWithout profile_option (codes "--since" ∷ word ∷ [])
         → time_named word ≡ None
@@ -97,9 +98,10 @@ pub fn what_logs_have()
         → IsWithout profile_option words
         → IsWithout since_option words
         → is_given strict_flag words ≡ false
+        → is_given rules_flag words ≡ false
         → is_given denied_flag words ≡ false
         → asked_by_first (codes "check") words ≡ ForThis (ForCheck (check_with base names))
-        → asked_by_first (codes "log") words ≡ ForThis (ForLog (logs_with base names false all_lines)) }
+        → asked_by_first (codes "log") words ≡ ForThis (ForLog (logs_with base names false false all_lines)) }
 {}
 
 /// `--profile` and `--since` have their value in the next word, or behind a `=` in their own, and of two the last counts. Behind `--` they have none. Where no

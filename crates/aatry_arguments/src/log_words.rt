@@ -20,6 +20,9 @@ use std::alloc::{AllocError, Global};
 // The flag that asks for a status that tells of lines without an answer.
 const STRICT: &str = "--strict";
 
+// The flag that asks for rules that can be pasted.
+const RULES: &str = "--rules";
+
 // The flag that asks for requests that were denied.
 const DENIED: &str = "--denied";
 
@@ -40,6 +43,7 @@ Options:
                     profile of the full name NAME, its children and its hats
   --since <WHEN>    Passes over lines that are stamped before WHEN: @SECONDS since 1970, or in
                     UTC \"YYYY-MM-DD\", \"YYYY-MM-DD HH:MM\" or \"YYYY-MM-DD HH:MM:SS\"
+  --rules           Tells what to add, as rules that can be pasted, in place of the answers
   --strict          Ends with 1 where a line can't be read, or asks for somebody who isn't there
   --verbose         Tells each file first that is left out, and why
   --json            Tells in records of JSON, one a line
@@ -54,6 +58,10 @@ and below it the answer of DIR now with the rules behind it, as why tells them. 
 ten lines that can't be read, each behind its FILE and number. The last line counts the lines,
 requests and questions, those who ask and aren't there, requests that no question asks, lines that
 can't be read, and lines that are passed over.
+
+With --rules it tells below each profile the rules with which its requests are allowed that lack
+something now, one a path; then, as comments, each request that a rule denies, and each path whose
+rule can't be added or written. Look at what is told before it is pasted.
 
 Exit status:
   0  The logs were read, or help was asked for
@@ -115,14 +123,15 @@ fn named_in(alloc: Global, words: &[String]) -> Result<Option<LogNamed>, AllocEr
 }
 
 // What logs ask by what would be a check.
-fn logs_with(check: Check, strict: bool, lines: LogLines) -> Logs
-    ensures { ForThis (meant_logs result) ≡ logs_of strict (meant_lines lines) (meant_check check) }
+fn logs_with(check: Check, strict: bool, rules: bool, lines: LogLines) -> Logs
+    ensures { ForThis (meant_logs result) ≡ logs_of strict rules (meant_lines lines) (meant_check check) }
 {
     let Check { base, names: paths } = check;
     Logs {
         base,
         paths,
         strict,
+        rules,
         lines,
     }
 }
@@ -132,12 +141,13 @@ fn logs_by(
     alloc: Global,
     words: &[String],
     strict: bool,
+    rules: bool,
     lines: LogLines,
 ) -> Result<Logs, ArgumentFault>
-    ensures { IsGivenFor meant_logs (asked_then (logs_of strict (meant_lines lines)) (asked_check (map string_bytes words.now))) result }
+    ensures { IsGivenFor meant_logs (asked_then (logs_of strict rules (meant_lines lines)) (asked_check (map string_bytes words.now))) result }
 {
     match check_of(alloc, words) {
-        Ok(check) => Ok(logs_with(check, strict, lines)),
+        Ok(check) => Ok(logs_with(check, strict, rules, lines)),
         Err(fault) => Err(passed_on(alloc, fault, HELP)),
     }
 }
@@ -147,6 +157,7 @@ fn without_flags(alloc: Global, words: &[String]) -> Result<Vec<String>, AllocEr
     ensures { IfOk result (λ others. map string_bytes others.items ≡ without_flags (map string_bytes words.now)) }
 {
     let others = without_flag(alloc, STRICT, words)?;
+    let others = without_flag(alloc, RULES, &others)?;
     without_flag(alloc, DENIED, &others)
 }
 
@@ -160,13 +171,14 @@ fn logs_named(alloc: Global, named: LogNamed) -> Result<Logs, ArgumentFault>
         words,
     } = named;
     let strict = is_given(STRICT, &words);
+    let rules = is_given(RULES, &words);
     let lines = LogLines {
         denied: is_given(DENIED, &words),
         profile,
         since,
     };
     match without_flags(alloc, &words) {
-        Ok(others) => logs_by(alloc, &others, strict, lines),
+        Ok(others) => logs_by(alloc, &others, strict, rules, lines),
         Err(_) => Err(ArgumentFault::Memory),
     }
 }

@@ -1,86 +1,120 @@
--- Something is told of parts exactly where they are counted.
-use Rattle.std.proofs.Common.{◌≡◌, ℕ, zero, suc, ◌+◌, ◌==◌, Bool, true, false, not, ◌&&◌, cond, List, [], ◌∷◌, ◌++◌, codes, filter, flat_map, length, Option, None, Some, is_none, refl, sym, ap, ◌∙◌, arith}
+-- What changes is counted.
+use Rattle.std.proofs.Common.{◌≡◌, ℕ, ◌+◌, ◌==◌, Bool, true, false, not, cond, List, [], ◌∷◌, ◌++◌, filter, flat_map, length, length-append, Option, None, Some, is_none, refl, sym, ap, ◌∙◌, arith}
 use Rattle.std.proofs.Math.Dec.{eqb-suc-zero}
-use Rattle.std.proofs.Math.Nat.{zero-add}
-use Rattle.serde_json.specs.Data.{object}
-use Rattle.serde_json.specs.Written.{compact_text}
-use Rattle.aa_bytes.specs.Bytes.{line_feed}
 use Rattle.aa_bytes.specs.Texts.{is_empty}
 use Rattle.aa_explain_diff.specs.Features.{Feature}
-use Rattle.aatry_changes.specs.Changes.{below_text, change_lines, changed_by, changed_count, differ, headed, headed_record, is_gone_or_changed}
-use Rattle.aatry_changes.specs.Changes.{alone, is_gone_or_changed_by, is_new, new_text, new_text_by, old_text, old_text_by}
+use Rattle.aatry_changes.proofs.ToldLemmas.{AreReal, folded-told}
+use Rattle.aatry_changes.specs.Changes.{change_lines}
+use Rattle.aatry_changes.specs.PartChanges.{OfChanged, PartChange, alone, changed_by, changed_count, differ, is_gone_or_changed}
+use Rattle.aatry_changes.specs.PartChanges.{is_gone_or_changed_by, is_new, new_change, new_change_by, old_change, old_change_by, part_changes}
 use Rattle.aatry_policy.specs.FolderParts.{FolderParts}
 use Rattle.aatry_policy.specs.Parts.{Part, part_of}
-use Rattle.aatry_report.specs.Shown.{shown}
 use Rattle.aatry_report.specs.declared.form.Form.{Form}
-use Rattle.aatry_report.specs.declared.form.Form.TheVariants.{Lines, Records}
 
--- a text with another behind it is empty where both are
-empty-both : (text more : List ℕ) → is_empty (text ++ more) ≡ (is_empty text && is_empty more)
-empty-both [] more = refl
-empty-both (b ∷ text) more = refl
+-- one, or none
+abbrev one-if : Bool → ℕ
+one-if counted = cond counted 1 0
 
--- one that ends in something isn't
-filled : (front behind : List ℕ) → is_empty behind ≡ false → is_empty (front ++ behind) ≡ false
-filled [] behind h = h
-filled (b ∷ front) behind h = refl
-
--- something stands before the lines of a part
-headed-told : (form : Form) (word name : List ℕ) → is_empty (headed form word name) ≡ false
-headed-told Lines word name = filled (word ++ codes ": " ++ shown name) (line_feed ∷ []) refl
-headed-told Records word name = filled (compact_text (object (headed_record word name))) (line_feed ∷ []) refl
-
-changed-told : (form : Form) (old new : FolderParts) (part other : Part) (less more : List Feature)
-    → is_empty (changed_by form old new part other less more) ≡ not (differ less more)
-changed-told form old new part other less more = by (differ less more)
+-- so much changes of a part
+changed-counted : (part other : Part) (less more : List Feature) → length (changed_by part other less more) ≡ one-if (differ less more)
+changed-counted part other less more = by (differ less more)
   where
-    by : (changed : Bool)
-        → is_empty (cond changed (headed form (codes "changed") part.name ++ below_text form old new part other less more) []) ≡ not changed
-    by true =
-        let below = below_text form old new part other less more in
-        empty-both (headed form (codes "changed") part.name) below
-        ∙ ap (λ b. b && is_empty below) (headed-told form (codes "changed") part.name)
+    by : (differs : Bool) → length (cond differs (OfChanged part other less more ∷ []) []) ≡ one-if differs
+    by true = refl
     by false = refl
 
--- a part of the old folder is told where it is gone or changed
-pub old-told : (form : Form) (old new : FolderParts) (part : Part) → is_empty (old_text form old new part) ≡ not (is_gone_or_changed new part)
-old-told form old new part = by (part_of new.parts part.name)
+old-counted : (new : FolderParts) (part : Part) → length (old_change new part) ≡ one-if (is_gone_or_changed new part)
+old-counted new part = by (part_of new.parts part.name)
   where
-    by : (found : Option Part) → is_empty (old_text_by form old new part found) ≡ not (is_gone_or_changed_by part found)
-    by None = headed-told form (codes "gone") part.name
-    by (Some other) = changed-told form old new part other (alone part other) (alone other part)
+    by : (found : Option Part) → length (old_change_by part found) ≡ one-if (is_gone_or_changed_by part found)
+    by None = refl
+    by (Some other) = changed-counted part other (alone part other) (alone other part)
 
--- one of the new folder is told where it is new
-pub new-told : (form : Form) (old : FolderParts) (part : Part) → is_empty (new_text form old part) ≡ not (is_new old part)
-new-told form old part = by (part_of old.parts part.name)
+new-counted : (old : FolderParts) (part : Part) → length (new_change old part) ≡ one-if (is_new old part)
+new-counted old part = by (part_of old.parts part.name)
   where
-    by : (found : Option Part) → is_empty (new_text_by form part found) ≡ not (is_none found)
-    by None = headed-told form (codes "new") part.name
+    by : (found : Option Part) → length (new_change_by part found) ≡ one-if (is_none found)
+    by None = refl
     by (Some other) = refl
 
--- where a part is told exactly where it is counted, some are told where some are counted
-all-told : (text : Part → List ℕ) (counts : Part → Bool) → ((part : Part) → is_empty (text part) ≡ not (counts part))
-    → (parts : List Part) → is_empty (flat_map text parts) ≡ (length (filter counts parts) == 0)
-all-told text counts each [] = refl
-all-told text counts each (part ∷ parts) =
-    empty-both (text part) (flat_map text parts) ∙ (λ i. each part i && all-told text counts each parts i) ∙ by (counts part)
+-- what changes of some parts is as much as they are that are counted
+all-counted : (changes : Part → List PartChange) (counts : Part → Bool) → ((part : Part) → length (changes part) ≡ one-if (counts part))
+    → (parts : List Part) → length (flat_map changes parts) ≡ length (filter counts parts)
+all-counted changes counts each [] = refl
+all-counted changes counts each (part ∷ parts) =
+    length-append (changes part) (flat_map changes parts)
+    ∙ (λ i. each part i + all-counted changes counts each parts i) ∙ by (counts part)
   where
-    by : (counted : Bool)
-        → (not counted && (length (filter counts parts) == 0)) ≡ (length (cond counted (part ∷ filter counts parts) (filter counts parts)) == 0)
-    by true = sym (eqb-suc-zero (length (filter counts parts)))
-    by false = refl
+    by : (counted : Bool) → one-if counted + length (filter counts parts) ≡ length (cond counted (part ∷ filter counts parts) (filter counts parts))
+    by true = omega arith
+    by false = omega arith
 
--- none are counted of both where none are of either
-none-both : (m n : ℕ) → ((m == 0) && (n == 0)) ≡ (m + n == 0)
-none-both zero n = ap (λ k. k == 0) (sym (zero-add n))
-none-both (suc m) n =
-    let more : suc (m + n) ≡ suc m + n = omega arith in
-    ap (λ b. b && (n == 0)) (eqb-suc-zero m) ∙ sym (eqb-suc-zero (m + n)) ∙ ap (λ k. k == 0) more
+-- what changes of two folders is counted
+pub changes-counted : (old new : FolderParts) → length (part_changes old new) ≡ changed_count old new
+changes-counted old new =
+    length-append (flat_map (old_change new) old.parts) (flat_map (new_change old) new.parts)
+    ∙ (λ i. all-counted (old_change new) (is_gone_or_changed new) (old-counted new) old.parts i
+    + all-counted (new_change old) (is_new old) (new-counted old) new.parts i)
+
+-- what is as long as something counts is empty where that isn't
+none-of : (changes : List PartChange) (counted : Bool) → length changes ≡ one-if counted → is_empty changes ≡ not counted
+none-of [] true h = absurd (omega (arith, h))
+none-of [] false h = refl
+none-of (change ∷ changes) true h = refl
+none-of (change ∷ changes) false h = absurd (omega (arith, h))
+
+-- something changes of a part of the old folder where it is gone or changed
+pub old-told : (new : FolderParts) (part : Part) → is_empty (old_change new part) ≡ not (is_gone_or_changed new part)
+old-told new part = none-of (old_change new part) (is_gone_or_changed new part) (old-counted new part)
+
+-- and of one of the new folder where it is new
+pub new-told : (old : FolderParts) (part : Part) → is_empty (new_change old part) ≡ not (is_new old part)
+new-told old part = none-of (new_change old part) (is_new old part) (new-counted old part)
+
+-- what changes of a part is something
+changed-real : (part other : Part) (less more : List Feature) → AreReal (changed_by part other less more)
+changed-real part other less more = by (differ less more) refl
+  where
+    by : (differs : Bool) → differ less more ≡ differs → AreReal (cond differs (OfChanged part other less more ∷ []) [])
+    by true e = (e, tt)
+    by false e = tt
+
+old-real : (new : FolderParts) (part : Part) → AreReal (old_change new part)
+old-real new part = by (part_of new.parts part.name)
+  where
+    by : (found : Option Part) → AreReal (old_change_by part found)
+    by None = (tt, tt)
+    by (Some other) = changed-real part other (alone part other) (alone other part)
+
+new-real : (old : FolderParts) (part : Part) → AreReal (new_change old part)
+new-real old part = by (part_of old.parts part.name)
+  where
+    by : (found : Option Part) → AreReal (new_change_by part found)
+    by None = (tt, tt)
+    by (Some other) = tt
+
+real-both : (changes others : List PartChange) → AreReal changes → AreReal others → AreReal (changes ++ others)
+real-both [] others one two = two
+real-both (change ∷ changes) others one two = (one.0, real-both changes others one.1 two)
+
+all-real : (changes : Part → List PartChange) → ((part : Part) → AreReal (changes part)) → (parts : List Part) → AreReal (flat_map changes parts)
+all-real changes each [] = tt
+all-real changes each (part ∷ parts) = real-both (changes part) (flat_map changes parts) (each part) (all-real changes each parts)
+
+pub are-real : (old new : FolderParts) → AreReal (part_changes old new)
+are-real old new =
+    real-both (flat_map (old_change new) old.parts) (flat_map (new_change old) new.parts)
+    (all-real (old_change new) (old-real new) old.parts) (all-real (new_change old) (new-real old) new.parts)
+
+-- what is told of two folders is nothing where nothing changes
+pub changes-told : (form : Form) (old new : FolderParts) → is_empty (change_lines form old new) ≡ is_empty (part_changes old new)
+changes-told form old new = folded-told form old new (part_changes old new) (are-real old new)
+
+none-long : (changes : List PartChange) → is_empty changes ≡ (length changes == 0)
+none-long [] = refl
+none-long (change ∷ changes) = sym (eqb-suc-zero (length changes))
 
 -- something is told of two folders where some part is counted
 pub some-told : (form : Form) (old new : FolderParts) → is_empty (change_lines form old new) ≡ (changed_count old new == 0)
 some-told form old new =
-    empty-both (flat_map (old_text form old new) old.parts) (flat_map (new_text form old) new.parts)
-    ∙ (λ i. all-told (old_text form old new) (is_gone_or_changed new) (old-told form old new) old.parts i
-    && all-told (new_text form old) (is_new old) (new-told form old) new.parts i)
-    ∙ none-both (length (filter (is_gone_or_changed new) old.parts)) (length (filter (is_new old) new.parts))
+    changes-told form old new ∙ none-long (part_changes old new) ∙ ap (λ n. n == 0) (changes-counted old new)

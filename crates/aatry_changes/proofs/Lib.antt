@@ -1,2 +1,4 @@
 mod CountLemmas
+mod FoldLemmas
 mod LawLemmas
+mod ToldLemmas

@@ -1,14 +1,18 @@
--- What the laws on changes speak of: parts that are alike, and that answer alike.
-use Rattle.std.specs.Prelude.{◌≡◌, ◌<◌, ◌^◌, ℕ, Bool, true, List, [], ◌∷◌, Some}
-use Rattle.std.specs.List.{All}
+-- What the laws on changes speak of: parts that are alike, and that answer alike; and where a change is told.
+use Rattle.std.specs.Prelude.{◌≡◌, ◌<◌, ◌^◌, ◌⊎◌, ℕ, Bool, true, false, List, [], ◌∷◌, Some}
+use Rattle.std.specs.List.{All, Contains}
 use Rattle.aa_decide_exec_rules.specs.Choices.{choice}
 use Rattle.aa_decide_rules.specs.Verdict.{verdict}
 use Rattle.aa_decide_rules.specs.declared.verdict.Mediation.{Mediation}
-use Rattle.aa_explain_diff.specs.Features.{are_alike}
+use Rattle.aa_explain_diff.specs.Features.{Feature, are_alike}
 use Rattle.aa_profile_access.specs.Request.{Request}
 use Rattle.aa_profile_data.specs.ConflictLaws.{HasReadPattern}
 use Rattle.aa_profile_data.specs.Conflicts.{agree}
+use Rattle.aatry_changes.specs.Folded.{is_own, own_features}
 use Rattle.aatry_policy.specs.Parts.{Part, part_of}
+use Rattle.aatry_shared.specs.Sharing.{Change, Group, change_at, shared}
+use Rattle.aatry_shared.specs.SharingLaws.{IsNamedOnce}
+use Rattle.aatry_shared.specs.declared.side.Side.{Side}
 
 -- some parts have one of the full name of another, and neither of the two has something that the other lacks
 abbrev pub HasAlike : List Part → Part → Type 0
@@ -35,3 +39,18 @@ pub record AnswerAlike (part other : Part) : Type 0 where
 -- some parts have one of the full name of another that answers alike
 abbrev pub HasAnsweringAlike : List Part → Part → Type 0
 HasAnsweringAlike others part = (other : Part) × (part_of others part.name ≡ Some other) × AnswerAlike part other
+
+-- a feature that one side of a part has alone is told below the part
+abbrev pub IsToldBelow : List Group → Part → Side → List Feature → Feature → Type 0
+IsToldBelow groups part side features feature =
+    (is_own groups part side feature ≡ true) × Contains (own_features groups part side features) feature
+
+-- it isn't, and exactly one change among those that are shared is this one and names the part
+abbrev pub IsToldShared : List Group → Part → Side → Feature → Type 0
+IsToldShared groups part side feature =
+    (is_own groups part side feature ≡ false)
+    × ((change : Change) × (change_at part side feature ≡ Some change) × IsNamedOnce (shared groups) (record { name = part.name; change = change }))
+
+-- it is told in one of the two ways
+abbrev pub IsTold : List Group → Part → Side → List Feature → Feature → Type 0
+IsTold groups part side features feature = IsToldBelow groups part side features feature ⊎ IsToldShared groups part side feature

@@ -1,6 +1,5 @@
-pub mod Causes
 pub mod Changes
-pub mod Differing
+pub mod Folded
 pub mod Laws
-pub mod PartFeatures
-pub mod Sides
+pub mod PartChanges
+pub mod code

@@ -1,20 +1,25 @@
-//! Profiles, children and hats that are new, gone or changed.
+//! What is told of profiles, children and hats that are new, gone or changed.
 
-ghost use Rattle.std.specs.Prelude.{◌≡◌, ◌++◌, IfOk, OnOk, length, map, filter, flat_map};
-ghost use Rattle.aa_explain_diff.specs.Features.{lacking, seen_feature};
-ghost use Rattle.aatry_changes.specs.Changes.{below_text, change_lines, changed_by, changed_count, changed_text, differ, headed, headed_line};
-ghost use Rattle.aatry_changes.specs.Changes.{headed_record, is_changed, is_gone_or_changed, is_new, new_text, old_text};
-ghost use Rattle.aatry_changes.specs.Sides.{FindIn};
+ghost use Rattle.std.specs.Prelude.{◌≡◌, ◌++◌, IfOk, OnOk, flat_map, map};
+ghost use Rattle.aa_explain_diff.specs.Features.{seen_feature};
+ghost use Rattle.aatry_changes.specs.Changes.{below_text, change_lines, changed_heading, headed, headed_line, headed_record, own_text};
+ghost use Rattle.aatry_changes.specs.Changes.{told_change, told_changes};
+ghost use Rattle.aatry_changes.specs.Folded.{own_features};
+ghost use Rattle.aatry_changes.specs.PartChanges.{changed_count, seen_change, seen_changes};
 ghost use Rattle.aatry_policy.specs.FolderParts.{seen_folder};
 ghost use Rattle.aatry_policy.specs.SeenProfiles.{seen_part};
 ghost use Rattle.aatry_report.specs.SeenRecord.{seen_record};
-ghost use Rattle.aatry_report.specs.Taken.{counted};
+ghost use Rattle.aatry_shared.specs.Sides.{FindIn};
+ghost use Rattle.aatry_shared.specs.declared.side.Side.TheVariants.{New, Old};
 
-use crate::differing::push_lines;
-use crate::side::{Finders, PartPair, Side, SidePart, finders_in};
-use aa_explain_diff::{Feature, features_of, lacking};
-use aatry_policy::{FolderParts, Part, part_of};
+use crate::folded::{own_features, sharing_of};
+use crate::part_changes::{PartChange, part_changes};
+use aa_explain_diff::Feature;
+use aatry_policy::FolderParts;
 use aatry_report::{Form, Record, Teller, push_shown};
+use aatry_shared::{
+    Finders, PartPair, Sharing, Side, SidePart, finders_in, push_lines, push_shared,
+};
 use std::alloc::{AllocError, Global};
 
 // Appends the line of a part to a text: a word, and its full name.
@@ -47,6 +52,29 @@ fn push_headed(teller: Teller, word: &str, name: &[u8], out: &mut Vec<u8>) -> Re
     }
 }
 
+// Appends what is told of a part that is changed before its lines to a text, by those that it has by itself.
+fn push_heading(
+    teller: Teller,
+    name: &[u8],
+    less: &[Feature<'_>],
+    more: &[Feature<'_>],
+    out: &mut Vec<u8>,
+) -> Result<(), AllocError>
+    ensures { OnOk result (out.new.items
+        ≡ out.old.items ++ changed_heading teller.form name.now (map seen_feature less.now) (map seen_feature more.now)) }
+{
+    match teller.form {
+        Form::Lines => {
+            if less.is_empty() && more.is_empty() {
+                Ok(())
+            } else {
+                push_headed(teller, "changed", name, out)
+            }
+        }
+        Form::Records => push_headed(teller, "changed", name, out),
+    }
+}
+
 // Appends the lines to a text that the old part has alone, and then those that the new one has alone.
 fn push_below(
     finders: &mut Finders<'_>,
@@ -76,175 +104,135 @@ fn push_below(
     push_lines(&mut finders.of_new, teller, &new, "", more, out)
 }
 
-// Appends what is told of a part of both folders to a text, by the lines that either has alone, and says whether it is changed.
-fn push_differing(
+// Appends what is told of a part that is changed to a text, by what it has by itself.
+fn push_own(
     finders: &mut Finders<'_>,
     teller: Teller,
     pair: &PartPair<'_>,
     less: &[Feature<'_>],
     more: &[Feature<'_>],
     out: &mut Vec<u8>,
-) -> Result<bool, AllocError>
+) -> Result<(), AllocError>
     requires { FindIn (seen_folder pair.now.old.now) (seen_folder pair.now.new.now) finders.old }
     ensures told { OnOk result (out.new.items ≡ out.old.items
-        ++ changed_by teller.form (seen_folder pair.now.old.now) (seen_folder pair.now.new.now) (seen_part pair.now.part.now) (seen_part pair.now.other.now)
+        ++ own_text teller.form (seen_folder pair.now.old.now) (seen_folder pair.now.new.now) (seen_part pair.now.part.now) (seen_part pair.now.other.now)
         (map seen_feature less.now) (map seen_feature more.now)) }
-    ensures whether { IfOk result (λ told. told ≡ differ (map seen_feature less.now) (map seen_feature more.now)) }
     ensures same { finders.new ≡ finders.old }
 {
-    if less.is_empty() && more.is_empty() {
-        return Ok(false);
-    }
-    push_headed(teller, "changed", pair.part.name.as_slice(), out)?;
-    push_below(finders, teller, pair, less, more, out)?;
-    Ok(true)
+    push_heading(teller, pair.part.name.as_slice(), less, more, out)?;
+    push_below(finders, teller, pair, less, more, out)
 }
 
-// The same by the lines of both.
-fn push_between(
-    finders: &mut Finders<'_>,
-    teller: Teller,
-    pair: &PartPair<'_>,
-    before: &[Feature<'_>],
-    after: &[Feature<'_>],
-    out: &mut Vec<u8>,
-) -> Result<bool, AllocError>
-    requires { FindIn (seen_folder pair.now.old.now) (seen_folder pair.now.new.now) finders.old }
-    ensures told { OnOk result (out.new.items ≡ out.old.items
-        ++ changed_by teller.form (seen_folder pair.now.old.now) (seen_folder pair.now.new.now) (seen_part pair.now.part.now) (seen_part pair.now.other.now)
-        (lacking (map seen_feature after.now) (map seen_feature before.now)) (lacking (map seen_feature before.now) (map seen_feature after.now))) }
-    ensures whether { IfOk result (λ told. told ≡ differ (lacking (map seen_feature after.now) (map seen_feature before.now)) (lacking (map seen_feature before.now) (map seen_feature after.now))) }
-    ensures same { finders.new ≡ finders.old }
-{
-    let less = lacking(teller.alloc, after, before)?;
-    let more = lacking(teller.alloc, before, after)?;
-    push_differing(finders, teller, pair, &less, &more, out)
-}
-
-// Appends what is told of a part of both folders to a text, and says whether it is changed.
+// The same by all that it has alone, and by what is shared.
 fn push_changed(
     finders: &mut Finders<'_>,
     teller: Teller,
     pair: &PartPair<'_>,
+    sharing: &Sharing<'_>,
+    less: &[Feature<'_>],
+    more: &[Feature<'_>],
     out: &mut Vec<u8>,
-) -> Result<bool, AllocError>
+) -> Result<(), AllocError>
     requires { FindIn (seen_folder pair.now.old.now) (seen_folder pair.now.new.now) finders.old }
     ensures told { OnOk result (out.new.items ≡ out.old.items
-        ++ changed_text teller.form (seen_folder pair.now.old.now) (seen_folder pair.now.new.now) (seen_part pair.now.part.now)
-        (seen_part pair.now.other.now)) }
-    ensures whether { IfOk result (λ told. told ≡ is_changed (seen_part pair.now.part.now) (seen_part pair.now.other.now)) }
+        ++ own_text teller.form (seen_folder pair.now.old.now) (seen_folder pair.now.new.now) (seen_part pair.now.part.now) (seen_part pair.now.other.now)
+        (own_features sharing.now (seen_part pair.now.part.now) Old (map seen_feature less.now))
+        (own_features sharing.now (seen_part pair.now.other.now) New (map seen_feature more.now))) }
     ensures same { finders.new ≡ finders.old }
 {
-    let before = features_of(teller.alloc, &pair.part.section)?;
-    let after = features_of(teller.alloc, &pair.other.section)?;
-    push_between(finders, teller, pair, &before, &after, out)
+    let less = own_features(teller.alloc, sharing, pair.part, Side::Old, less)?;
+    let more = own_features(teller.alloc, sharing, pair.other, Side::New, more)?;
+    push_own(finders, teller, pair, &less, &more, out)
 }
 
-// Appends what is told of a part of the old folder to a text, and says whether it is gone or changed.
-fn push_old(
+// Appends what is told of what changes of a part to a text.
+fn push_change(
     finders: &mut Finders<'_>,
     teller: Teller,
     old: &FolderParts<'_>,
     new: &FolderParts<'_>,
-    part: &Part<'_>,
+    sharing: &Sharing<'_>,
+    change: &PartChange<'_>,
     out: &mut Vec<u8>,
-) -> Result<bool, AllocError>
+) -> Result<(), AllocError>
     requires { FindIn (seen_folder old.now) (seen_folder new.now) finders.old }
-    ensures told { OnOk result (out.new.items ≡ out.old.items ++ old_text teller.form (seen_folder old.now) (seen_folder new.now) (seen_part part.now)) }
-    ensures whether { IfOk result (λ told. told ≡ is_gone_or_changed (seen_folder new.now) (seen_part part.now)) }
+    ensures told { OnOk result (out.new.items
+        ≡ out.old.items ++ told_change teller.form (seen_folder old.now) (seen_folder new.now) sharing.now (seen_change change.now)) }
     ensures same { finders.new ≡ finders.old }
 {
-    match part_of(new.parts, part.name.as_slice()) {
-        None => {
-            push_headed(teller, "gone", part.name.as_slice(), out)?;
-            Ok(true)
-        }
-        Some(other) => {
+    match change {
+        PartChange::Gone(part) => push_headed(teller, "gone", part.name.as_slice(), out),
+        PartChange::New(part) => push_headed(teller, "new", part.name.as_slice(), out),
+        PartChange::Changed(changed) => {
             let pair = PartPair {
                 old,
                 new,
-                part,
-                other,
+                part: changed.part,
+                other: changed.other,
             };
-            push_changed(finders, teller, &pair, out)
+            push_changed(
+                finders,
+                teller,
+                &pair,
+                sharing,
+                &changed.less,
+                &changed.more,
+                out,
+            )
         }
     }
 }
 
-// Appends what is told of a part of the new folder to a text, and says whether it is new.
-fn push_new(
-    teller: Teller,
-    old: &FolderParts<'_>,
-    part: &Part<'_>,
-    out: &mut Vec<u8>,
-) -> Result<bool, AllocError>
-    ensures told { OnOk result (out.new.items ≡ out.old.items ++ new_text teller.form (seen_folder old.now) (seen_part part.now)) }
-    ensures whether { IfOk result (λ told. told ≡ is_new (seen_folder old.now) (seen_part part.now)) }
-{
-    match part_of(old.parts, part.name.as_slice()) {
-        None => {
-            push_headed(teller, "new", part.name.as_slice(), out)?;
-            Ok(true)
-        }
-        Some(_) => Ok(false),
-    }
-}
-
-// Appends what is told of parts of the old folder to a text, and says how many are gone or changed.
-fn push_old_parts(
+// The same of some parts.
+fn push_each(
     finders: &mut Finders<'_>,
     teller: Teller,
     old: &FolderParts<'_>,
     new: &FolderParts<'_>,
-    parts: &[Part<'_>],
+    sharing: &Sharing<'_>,
+    changes: &[PartChange<'_>],
     out: &mut Vec<u8>,
-) -> Result<usize, AllocError>
+) -> Result<(), AllocError>
     requires { FindIn (seen_folder old.now) (seen_folder new.now) finders.old }
-    ensures told { OnOk result (out.new.items
-        ≡ out.old.items ++ flat_map (old_text teller.form (seen_folder old.now) (seen_folder new.now)) (map seen_part parts.now)) }
-    ensures count { IfOk result (λ count. count ≡ length (filter (is_gone_or_changed (seen_folder new.now)) (map seen_part parts.now))) }
+    ensures told { OnOk result (out.new.items ≡ out.old.items
+        ++ flat_map (told_change teller.form (seen_folder old.now) (seen_folder new.now) sharing.now) (seen_changes changes.now)) }
     ensures same { finders.new ≡ finders.old }
 {
-    let mut count = 0;
-    let mut rest = parts;
-    while let [part, behind @ ..] = rest {
-        if push_old(finders, teller, old, new, part, out)? {
-            count += 1;
-        }
+    let mut rest = changes;
+    while let [change, behind @ ..] = rest {
+        push_change(finders, teller, old, new, sharing, change, out)?;
         rest = behind;
     }
-    Ok(count)
+    Ok(())
 }
 
-// Appends what is told of parts of the new folder to a text, and says how many are new.
-fn push_new_parts(
+// Appends what is told of what changes to a text: what is shared first, and then what each part has by itself.
+fn push_folded(
     teller: Teller,
     old: &FolderParts<'_>,
-    parts: &[Part<'_>],
+    new: &FolderParts<'_>,
+    sharing: &Sharing<'_>,
+    changes: &[PartChange<'_>],
     out: &mut Vec<u8>,
-) -> Result<usize, AllocError>
-    ensures told { OnOk result (out.new.items ≡ out.old.items ++ flat_map (new_text teller.form (seen_folder old.now)) (map seen_part parts.now)) }
-    ensures count { IfOk result (λ count. count ≡ length (filter (is_new (seen_folder old.now)) (map seen_part parts.now))) }
+) -> Result<(), AllocError>
+    ensures { OnOk result (out.new.items
+        ≡ out.old.items ++ told_changes teller.form (seen_folder old.now) (seen_folder new.now) sharing.now (seen_changes changes.now)) }
 {
-    let mut count = 0;
-    let mut rest = parts;
-    while let [part, behind @ ..] = rest {
-        if push_new(teller, old, part, out)? {
-            count += 1;
-        }
-        rest = behind;
-    }
-    Ok(count)
+    let mut finders = finders_in(teller.alloc, old, new);
+    push_shared(&mut finders, teller, sharing, out)?;
+    push_each(&mut finders, teller, old, new, sharing, changes, out)
 }
 
-/// Puts what a change of policy changes behind a text: each part of the old folder that is gone or changed, in their order, and then each of the new
-/// folder that is new. Behind one that is changed stands each line that tells of the old part alone, and then each that tells of the new one alone:
-/// its mode, a flag, an attachment, or a rule, with the place where it is written. Lines that tell the same are equal, wherever they are
-/// written. Gives how many parts are gone, changed or new, as far as the number goes.
+/// Puts what a change of policy changes behind a text. First stands each change that two or more parts have, a rule that is written at one place and told
+/// alike, once, with the full names of those that have it (`aatry_shared::push_shared`). Then stands each part of the old folder that is gone or
+/// changed, in their order, and then each of the new folder that is new. Behind one that is changed stands each line that tells of the old part
+/// alone, and then each that tells of the new one alone, but for those that are shared: its mode, a flag, an attachment, or a rule, with the
+/// place where it is written. Lines that tell the same are equal, wherever they are written. Gives how many parts are gone, changed or new.
 ///
-/// As lines, a word and the full name tell a part, and the lines of the old part alone stand behind `- `, and those of the new one behind `+ `. As
-/// records, a part's kind is `gone`, `changed` or `new`, with its full name (`name`), and its lines are of the kinds `less` and `more`,
-/// with the part's full name (`name`), what is told (`text`), and of a rule where it stands (`aatry_why_lines::put_where`).
+/// As lines, a word and the full name tell a part, and the lines of the old part alone stand behind `- `, and those of the new one behind `+ `; one of
+/// which all that is changed is shared is told by that alone. As records, a part's kind is `gone`, `changed` or `new`, with its full name
+/// (`name`), and its lines are of the kinds `less` and `more`, with the part's full name (`name`), what is told (`text`), and of a rule where
+/// it stands (`aatry_why_lines::put_where`).
 ///
 /// # Errors
 ///
@@ -256,10 +244,10 @@ pub fn push_changes(
     out: &mut Vec<u8>,
 ) -> Result<usize, AllocError>
     ensures told { OnOk result (out.new.items ≡ out.old.items ++ change_lines teller.form (seen_folder old.now) (seen_folder new.now)) }
-    ensures count { IfOk result (λ count. count ≡ counted (changed_count (seen_folder old.now) (seen_folder new.now))) }
+    ensures count { IfOk result (λ count. count ≡ changed_count (seen_folder old.now) (seen_folder new.now)) }
 {
-    let mut finders = finders_in(teller.alloc, old, new);
-    let before = push_old_parts(&mut finders, teller, old, new, old.parts, out)?;
-    let after = push_new_parts(teller, old, new.parts, out)?;
-    Ok(before.saturating_add(after))
+    let changes = part_changes(teller.alloc, old, new)?;
+    let sharing = sharing_of(teller.alloc, &changes)?;
+    push_folded(teller, old, new, &sharing, &changes, out)?;
+    Ok(changes.len())
 }

@@ -1,13 +1,13 @@
-//! What a change of policy changes: profiles, children and hats that are new, gone or changed, and the rules that make a difference.
+//! What a change of policy changes: profiles, children and hats that are new, gone or changed.
 #![tactic(auto)]
 
-mod causes;
 mod changes;
-mod differing;
+mod folded;
 mod laws;
-mod part_features;
-mod side;
+mod part_changes;
 
-pub use causes::push_causes;
 pub use changes::push_changes;
-pub use laws::{what_is_counted_is_told, what_is_not_told_answers_alike, when_nothing_is_told};
+pub use laws::{
+    what_is_counted_is_told, what_is_folded_is_told, what_is_not_told_answers_alike,
+    when_nothing_is_told,
+};

@@ -1,12 +1,13 @@
 -- What a check of a folder of policy comes to.
-use Rattle.std.specs.Prelude.{◌≡◌, ◌==◌, ℕ, List, [], if◌then◌else◌, length}
+use Rattle.std.specs.Prelude.{◌≡◌, ◌==◌, ℕ, List, [], if◌then◌else◌, length, Option}
 use Rattle.aa_profile_parsing.specs.declared.language.Language.{Language}
 use Rattle.aa_text_files.specs.Files.{File}
 use Rattle.aaset_start.specs.Gathering.{names_of}
 use Rattle.aaset_start.specs.Known.{Known}
+use Rattle.aaset_start.specs.declared.readable.UnreadFault.{UnreadFault}
 use Rattle.aatry_check.specs.Checks.{TellsEach, refused_count}
 use Rattle.aatry_folder.specs.Loadings.{AreTop, TopFile, file_names}
-use Rattle.aatry_folder.specs.PolicyFolders.{AreBelow, top_names}
+use Rattle.aatry_folder.specs.PolicyFolders.{AreBelow, tried_names}
 use Rattle.aatry_folder.specs.Reports.{Report}
 use Rattle.aatry_folder.specs.Told.{ToldFolders}
 use Rattle.aatry_report.specs.declared.form.Form.{Form}
@@ -15,7 +16,7 @@ use Rattle.aatry_report.specs.declared.form.Form.{Form}
 abbrev pub given_or : List (List ℕ) → List (List ℕ) → List (List ℕ)
 given_or others given = if length given == 0 then others else given
 
--- the files that are meant: those that are given, and all at the top where none is
+-- the files that are meant: those that are given, and all that are tried where none is
 abbrev pub meant : List TopFile → List (List ℕ) → List (List ℕ)
 meant top given = given_or (file_names top) given
 
@@ -23,9 +24,10 @@ meant top given = given_or (file_names top) given
 -- nothing is noted, and so many failed as were refused.
 pub record IsChecked (form : Form) (language : Language) (folders : ToldFolders) (known : Known) (base : List ℕ) (given : List (List ℕ)) (report : Report) : Type 0 where
   pub files : List File
-  pub below : AreBelow folders known base files
+  pub unread : List (Option UnreadFault)
+  pub below : AreBelow folders known base files unread
   pub top : List TopFile
-  pub loaded : AreTop folders base (top_names (names_of files)) top
-  pub told : TellsEach form language files base top (meant top given) report.text
+  pub loaded : AreTop folders base (tried_names (names_of files) unread) top
+  pub told : TellsEach form language files unread base top (meant top given) report.text
   pub noted : report.notes ≡ []
   pub counted : report.failed ≡ refused_count language files (meant top given)

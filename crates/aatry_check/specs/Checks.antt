@@ -10,9 +10,11 @@ use Rattle.aa_profile_data.specs.declared.profile.Profile.{Profile}
 use Rattle.aa_profile_errors.specs.ProfileError.{number_of}
 use Rattle.aa_profile_errors.specs.declared.profile_error.ProfileError.{ProfileError}
 use Rattle.aa_profile_parsing.specs.declared.language.Language.{Language}
+use Rattle.aaset_start.specs.Readable.{unread_in, words_of}
+use Rattle.aaset_start.specs.declared.readable.UnreadFault.{UnreadFault}
 use Rattle.aatry_check.specs.Loading.{loading_in, told_loading}
 use Rattle.aatry_folder.specs.Loadings.{TopFile}
-use Rattle.aatry_report.specs.Faults.{with_fault}
+use Rattle.aatry_report.specs.Faults.{fault_lines, with_fault}
 use Rattle.aatry_report.specs.FilePlaces.{path_below}
 use Rattle.aatry_report.specs.Records.{record_line, record_of, with_text}
 use Rattle.aatry_report.specs.Refusals.{placed_refusal}
@@ -51,18 +53,37 @@ refusal_lines Lines words files base name number place =
     placed_refusal words files base (path_below base name) number place ++ included_lines files base name place
 refusal_lines Records words files base name number place = record_line (refusal_record words files base name number place)
 
+-- lines of a file that is refused since another one of these names, or itself, wasn't read, for which these are the words
+abbrev pub unread_text : List ℕ → List ℕ → List ℕ → ℕ → List ℕ → List ℕ
+unread_text base name unread number words = fault_lines words (path_below base unread) number None [] ++ included_line base name unread
+
+-- a record of it
+abbrev pub unread_record : List ℕ → List ℕ → List ℕ → ℕ → List ℕ → Members
+unread_record base name unread number words =
+    with_included base name unread (with_fault words (path_below base unread) number None [] (record_of (codes "refused")))
+
+-- one of them
+abbrev pub unread_lines : Form → List ℕ → List ℕ → List ℕ → ℕ → List ℕ → List ℕ
+unread_lines Lines base name unread number words = unread_text base name unread number words
+unread_lines Records base name unread number words = record_line (unread_record base name unread number words)
+
+-- what is told of a file that is refused, in these words; but where the fault stands in a file that wasn't read, in the words of that
+abbrev pub told_refusal : Form → List ℕ → List File → List ℕ → List ℕ → ℕ → Option Place → Option (ℕ × UnreadFault) → List ℕ
+told_refusal form words files base name number place None = refusal_lines form words files base name number place
+told_refusal form words files base name number place (Some unread) = unread_lines form base name (name_at files unread.0) number (words_of unread.1)
+
 -- lines tell how the reading of a file came out
-abbrev pub TellsReading : Form → List File → List ℕ → List ℕ → Result (List Profile) ProfileError → List ℕ → Type 0
-TellsReading form files base name (Ok profiles) lines = lines ≡ taken_line form (path_below base name) profiles
-TellsReading form files base name (Err error) lines =
-    (words : List ℕ) × (lines ≡ refusal_lines form words files base name (number_of error.refusal) error.place)
+abbrev pub TellsReading : Form → List File → List (Option UnreadFault) → List ℕ → List ℕ → Result (List Profile) ProfileError → List ℕ → Type 0
+TellsReading form files unread base name (Ok profiles) lines = lines ≡ taken_line form (path_below base name) profiles
+TellsReading form files unread base name (Err error) lines =
+    (words : List ℕ) × (lines ≡ told_refusal form words files base name (number_of error.refusal) error.place (unread_in unread error.place))
 
 -- lines tell a file: that it was taken, or why it is refused, exactly as its reading by a language says; and how it is loaded, by the files at the
 -- top
-abbrev pub Tells : Form → Language → List File → List ℕ → List TopFile → List ℕ → List ℕ → Type 0
-Tells form language files base top name lines =
+abbrev pub Tells : Form → Language → List File → List (Option UnreadFault) → List ℕ → List TopFile → List ℕ → List ℕ → Type 0
+Tells form language files unread base top name lines =
     (first : List ℕ) × (lines ≡ first ++ told_loading form base name (loading_in top name))
-    × TellsReading form files base name (file_profiles_in language files name) first
+    × TellsReading form files unread base name (file_profiles_in language files name) first
 
 -- one file is refused, or none: its reading gives no profiles
 abbrev pub refused_in : Language → List File → List ℕ → ℕ
@@ -74,7 +95,8 @@ refused_count language files [] = 0
 refused_count language files (name ∷ names) = refused_in language files name + refused_count language files names
 
 -- lines tell each of these files in turn
-abbrev pub TellsEach : Form → Language → List File → List ℕ → List TopFile → List (List ℕ) → List ℕ → Type 0
-TellsEach form language files base top [] lines = lines ≡ []
-TellsEach form language files base top (name ∷ names) lines =
-    (first rest : List ℕ) × (lines ≡ first ++ rest) × Tells form language files base top name first × TellsEach form language files base top names rest
+abbrev pub TellsEach : Form → Language → List File → List (Option UnreadFault) → List ℕ → List TopFile → List (List ℕ) → List ℕ → Type 0
+TellsEach form language files unread base top [] lines = lines ≡ []
+TellsEach form language files unread base top (name ∷ names) lines =
+    (first rest : List ℕ) × (lines ≡ first ++ rest) × Tells form language files unread base top name first
+    × TellsEach form language files unread base top names rest

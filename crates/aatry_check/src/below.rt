@@ -11,13 +11,13 @@ ghost use Rattle.aatry_check.specs.Ends.{IsEndOfCheck};
 use crate::checked::check;
 use aa_profile::Language;
 use aa_text_files::Files;
-use aaset_start::FileSystem;
+use aaset_start::{FileSystem, UnreadFault};
 use aatry_arguments::Check;
 use aatry_folder::{Fault, Folders, PolicyFolder, Report, TopFile, policy_below};
 use aatry_report::Teller;
 use std::alloc::{AllocError, Global};
 
-// The names of files at the top.
+// The names of files that are tried.
 fn names_of(alloc: Global, top: &[TopFile]) -> Result<Vec<String>, AllocError>
     ensures { IfOk result (λ names. texts_of names ≡ file_names (map seen_top top.now)) }
 {
@@ -28,7 +28,7 @@ fn names_of(alloc: Global, top: &[TopFile]) -> Result<Vec<String>, AllocError>
     Ok(names)
 }
 
-// The files that are meant: those that are given, and all at the top where none is.
+// The files that are meant: those that are given, and all that are tried where none is.
 fn meant(alloc: Global, top: &[TopFile], given: Vec<String>) -> Result<Vec<String>, AllocError>
     ensures { IfOk result (λ names. texts_of names ≡ meant (map seen_top top.now) (texts_of given)) }
 {
@@ -44,16 +44,17 @@ fn report_on(
     teller: Teller,
     language: Language,
     files: &Files,
+    unread: &[Option<UnreadFault>],
     base: &str,
     top: &[TopFile],
     names: &[String],
 ) -> Result<Report, AllocError>
-    ensures told { IfOk result (λ report. TellsEach teller.form language files.now base.now (map seen_top top.now) (map string_bytes names.now) report.text.items) }
+    ensures told { IfOk result (λ report. TellsEach teller.form language files.now unread.now base.now (map seen_top top.now) (map string_bytes names.now) report.text.items) }
     ensures noted { IfOk result (λ report. report.notes.items ≡ []) }
     ensures counted { IfOk result (λ report. report.failed ≡ refused_count language files.now (map string_bytes names.now)) }
 {
     let mut text = Vec::new(teller.alloc);
-    let checked = check(teller, language, files, base, top, names, &mut text)?;
+    let checked = check(teller, language, files, unread, base, top, names, &mut text)?;
     Ok(Report {
         text,
         notes: Vec::new(teller.alloc),
@@ -61,12 +62,12 @@ fn report_on(
     })
 }
 
-/// Checks the files that are asked of a folder of policy, or all at its top where none is named: reads the folder as `aatry_folder::policy_below` does, and
-/// tells of each file that is meant as `aatry_check::check` does, by a language.
+/// Checks the files that are asked of a folder of policy; or, where none is named, all at its top, and behind these all others that can't be read: reads the
+/// folder as `aatry_folder::policy_below` does, and tells of each file that is meant as `aatry_check::check` does, by a language.
 ///
 /// # Errors
 ///
-/// - `Unreadable` with the first folder or file that can't be read.
+/// - `Unreadable` with the first folder that can't be read, or the first name that is none for a file.
 /// - `TooMany` where there are more than 65,536 files and folders.
 /// - `NoMemory` where memory ran out.
 pub fn check_folder<F: Folders, D: FileSystem>(
@@ -78,15 +79,16 @@ pub fn check_folder<F: Folders, D: FileSystem>(
 ) -> Result<Report, Fault>
     ensures checked { IfOk result (λ report. IsChecked teller.form language (F.told folders.now) (D.known disk.now) (string_bytes asked.base) (texts_of asked.names)
         (seen_report report)) }
-    ensures fault { IfErr result (IsEndOfCheck (F.told folders.now) (D.known disk.now) (string_bytes asked.base)) }
+    ensures fault { IfErr result (IsEndOfCheck (F.told folders.now) (string_bytes asked.base)) }
 {
     let Check { base, names: given } = asked;
     let PolicyFolder {
         base,
         files,
+        unread,
         top,
         ..
     } = policy_below(teller.alloc, language, folders, disk, base.as_str())?;
     let meant = meant(teller.alloc, &top, given)?;
-    Ok(report_on(teller, language, &files, base, &top, &meant)?)
+    Ok(report_on(teller, language, &files, &unread, base, &top, &meant)?)
 }

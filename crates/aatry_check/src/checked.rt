@@ -8,9 +8,10 @@ ghost use Rattle.aatry_folder.specs.Loadings.{seen_top};
 ghost use Rattle.aatry_report.specs.FilePlaces.{path_below};
 
 use crate::loading::{loading_in, push_loading};
-use crate::refusal::push_refusal;
+use crate::unread::push_told;
 use aa_profile::{Language, Profile, ProfileRefusal, read_file_in};
 use aa_text_files::Files;
+use aaset_start::UnreadFault;
 use aatry_folder::TopFile;
 use aatry_report::{Teller, path_below, push_taken};
 use std::alloc::{AllocError, Global};
@@ -43,6 +44,7 @@ fn check_reading(
     teller: Teller,
     language: Language,
     files: &Files,
+    unread: &[Option<UnreadFault>],
     base: &[u8],
     name: &[u8],
     out: &mut Vec<u8>,
@@ -50,7 +52,7 @@ fn check_reading(
     ensures refused { IfOk result (λ refused. refused ≡ refused_in language files.now name.now) }
     ensures few { IfOk result (λ refused. refused ≤ 1) }
     ensures told { OnOk result ((lines : List ℕ) × (out.new.items ≡ out.old.items ++ lines)
-        × TellsReading teller.form files.now base.now name.now (file_profiles_in language files.now name.now) lines) }
+        × TellsReading teller.form files.now unread.now base.now name.now (file_profiles_in language files.now name.now) lines) }
 {
     match read_file_in(teller.alloc, language, files, name) {
         Ok(read) => {
@@ -61,7 +63,7 @@ fn check_reading(
             if error.refusal == ProfileRefusal::Memory {
                 return Err(AllocError);
             }
-            push_refusal(teller, files, base, name, error, out)?;
+            push_told(teller, files, unread, base, name, error, out)?;
             Ok(1)
         }
     }
@@ -72,6 +74,7 @@ fn check_file(
     teller: Teller,
     language: Language,
     files: &Files,
+    unread: &[Option<UnreadFault>],
     base: &[u8],
     top: &[TopFile],
     name: &[u8],
@@ -80,9 +83,9 @@ fn check_file(
     ensures refused { IfOk result (λ refused. refused ≡ refused_in language files.now name.now) }
     ensures few { IfOk result (λ refused. refused ≤ 1) }
     ensures told { OnOk result ((lines : List ℕ) × (out.new.items ≡ out.old.items ++ lines)
-        × Tells teller.form language files.now base.now (map seen_top top.now) name.now lines) }
+        × Tells teller.form language files.now unread.now base.now (map seen_top top.now) name.now lines) }
 {
-    let refused = check_reading(teller, language, files, base, name, out)?;
+    let refused = check_reading(teller, language, files, unread, base, name, out)?;
     push_loading(teller, base, name, loading_in(top, name), out)?;
     Ok(refused)
 }
@@ -90,7 +93,8 @@ fn check_file(
 /// Checks files of policy by a language, each by itself, with the files that they include, and puts what is told of each behind a text, in their
 /// order: that it was taken, or why it is refused and where; and behind that, that its profiles are disabled or loaded in complain mode, where they
 /// are by the files at the top of the folder, which `top` has. `base` is the folder that `files` were taken from, without a `/` at its end; each file
-/// is told by its path below that. A name that no file has is told as such.
+/// is told by its path below that. A name that no file has is told as such. `unread` says of each of `files`, in their order, why it wasn't read, if
+/// it wasn't: a file that is refused where such a one is entered is told with that, and with no place.
 ///
 /// The record of a file that was taken is that of `aatry_report::push_taken`. That of one that is refused is of the kind `refused`, with the file
 /// that the fault stands in and the fault as `aatry_report::put_fault_at` puts it, or `put_fault` where it has no place; and with `included_from`,
@@ -104,6 +108,7 @@ pub fn check(
     teller: Teller,
     language: Language,
     files: &Files,
+    unread: &[Option<UnreadFault>],
     base: &str,
     top: &[TopFile],
     names: &[String],
@@ -111,7 +116,7 @@ pub fn check(
 ) -> Result<Checked, AllocError>
     ensures all { IfOk result (λ checked. checked.taken + checked.refused ≡ length names.now) }
     ensures refused { IfOk result (λ checked. checked.refused ≡ refused_count language files.now (map string_bytes names.now)) }
-    ensures told { OnOk result ((lines : List ℕ) × (out.new.items ≡ out.old.items ++ lines) × TellsEach teller.form language files.now base.now (map seen_top top.now) (map string_bytes names.now) lines) }
+    ensures told { OnOk result ((lines : List ℕ) × (out.new.items ≡ out.old.items ++ lines) × TellsEach teller.form language files.now unread.now base.now (map seen_top top.now) (map string_bytes names.now) lines) }
 {
     let mut refused = 0;
     for name in names {
@@ -119,6 +124,7 @@ pub fn check(
             teller,
             language,
             files,
+            unread,
             base.as_bytes(),
             top,
             name.as_bytes(),

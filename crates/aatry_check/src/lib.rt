@@ -6,6 +6,7 @@ mod checked;
 mod loading;
 mod records;
 mod refusal;
+mod unread;
 
 pub use below::check_folder;
 pub use checked::{Checked, check};

@@ -13,8 +13,8 @@ use aa_text_files::{Files, Place};
 use aatry_report::{Record, path_below, put_fault, put_fault_at};
 use std::alloc::{AllocError, Global};
 
-// Puts which file includes the one that a fault stands in into a record, where it isn't that file itself.
-fn put_included(
+/// Puts which file includes the one that a fault stands in into a record, where it isn't that file itself.
+pub fn put_included(
     alloc: Global,
     base: &[u8],
     name: &[u8],

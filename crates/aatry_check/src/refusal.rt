@@ -11,8 +11,8 @@ use aa_text_files::{Files, Place};
 use aatry_report::{Form, Teller, path_below, push_placed_refusal, push_shown, words_of};
 use std::alloc::{AllocError, Global};
 
-// Puts which file includes the one that a fault stands in behind a text, where it isn't that file itself.
-fn push_included(
+/// Puts which file includes the one that a fault stands in behind a text, where it isn't that file itself.
+pub fn push_included(
     alloc: Global,
     base: &[u8],
     name: &[u8],

@@ -7,7 +7,7 @@ use Rattle.std.specs.Str.{bytes_eq}
 use Rattle.std.proofs.lemmas.Bool.{and_parts, eqb-true}
 use Rattle.aa_bytes.specs.Texts.{is_empty}
 use Rattle.aa_explain_diff.specs.Features.{are_alike as are_sections_alike}
-use Rattle.aatry_changes.specs.Changes.{alone, changed_count, is_changed, is_gone_or_changed, is_gone_or_changed_by, is_new}
+use Rattle.aatry_changes.specs.PartChanges.{alone, changed_count, is_changed, is_gone_or_changed, is_gone_or_changed_by, is_new}
 use Rattle.aatry_changes.specs.Laws.{HasAlike}
 use Rattle.aatry_diff.specs.Comparing.{are_alike}
 use Rattle.aatry_diff.specs.Sources.{differing_count}

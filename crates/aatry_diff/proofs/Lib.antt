@@ -1,4 +1,5 @@
 mod AlikeAnswerLemmas
+mod BelowLemmas
 mod CountLemmas
 mod DifferenceLemmas
 mod LawLemmas

@@ -4,11 +4,12 @@ use Rattle.aa_profile_parsing.specs.declared.language.Language.{Language}
 use Rattle.aa_text_files.specs.Files.{File}
 use Rattle.aaset_start.specs.Gathering.{names_of}
 use Rattle.aaset_start.specs.Known.{Known}
+use Rattle.aaset_start.specs.declared.readable.UnreadFault.{UnreadFault}
 use Rattle.aatry_arguments.specs.DiffWords.{ComparisonAsked, LogAt, QuestionsAt, SourceAsked}
 use Rattle.aatry_diff.specs.Comparing.{diff_notes, diff_text, is_unchanged}
 use Rattle.aatry_folder.specs.Loadings.{AreTop, TopFile}
 use Rattle.aatry_folder.specs.OneFile.{IsFileAt}
-use Rattle.aatry_folder.specs.PolicyFolders.{AreBelow, top_names}
+use Rattle.aatry_folder.specs.PolicyFolders.{AreBelow, tried_names}
 use Rattle.aatry_folder.specs.Reports.{Report, failed_by}
 use Rattle.aatry_folder.specs.Told.{ToldFolders}
 use Rattle.aatry_policy.specs.Folders.{folder_at}
@@ -40,14 +41,16 @@ pub record IsComparedBelow
     (form : Form) (verbose : Bool) (language : Language) (folders : ToldFolders) (known : Known) (asked : ComparisonAsked) (report : Report) : Type 0 where
   pub old_files : List File
   pub new_files : List File
-  pub old_below : AreBelow folders known asked.old old_files
-  pub new_below : AreBelow folders known asked.new new_files
+  pub old_unread : List (Option UnreadFault)
+  pub new_unread : List (Option UnreadFault)
+  pub old_below : AreBelow folders known asked.old old_files old_unread
+  pub new_below : AreBelow folders known asked.new new_files new_unread
   pub old_top : List TopFile
   pub new_top : List TopFile
-  pub old_loaded : AreTop folders asked.old (top_names (names_of old_files)) old_top
-  pub new_loaded : AreTop folders asked.new (top_names (names_of new_files)) new_top
+  pub old_loaded : AreTop folders asked.old (tried_names (names_of old_files) old_unread) old_top
+  pub new_loaded : AreTop folders asked.new (tried_names (names_of new_files) new_unread) new_top
   pub requests : Option Gathered
   pub gathered : IsGathered known asked.source requests
-  pub told : report.text ≡ diff_text form verbose (folder_at language asked.old old_files old_top) (folder_at language asked.new new_files new_top) requests
-  pub noted : report.notes ≡ diff_notes (folder_at language asked.old old_files old_top) (folder_at language asked.new new_files new_top)
-  pub counted : report.failed ≡ failed_by (is_unchanged (folder_at language asked.old old_files old_top) (folder_at language asked.new new_files new_top) requests)
+  pub told : report.text ≡ diff_text form verbose (folder_at language asked.old old_files old_unread old_top) (folder_at language asked.new new_files new_unread new_top) requests
+  pub noted : report.notes ≡ diff_notes (folder_at language asked.old old_files old_unread old_top) (folder_at language asked.new new_files new_unread new_top)
+  pub counted : report.failed ≡ failed_by (is_unchanged (folder_at language asked.old old_files old_unread old_top) (folder_at language asked.new new_files new_unread new_top) requests)

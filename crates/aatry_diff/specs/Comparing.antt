@@ -1,7 +1,8 @@
 -- What is told of two folders of policy that are compared (docs/aatry.md).
 use Rattle.std.specs.Prelude.{ℕ, Bool, ◌==◌, ◌&&◌, List, ◌++◌, Option}
 use Rattle.aa_bytes.specs.Texts.{is_empty}
-use Rattle.aatry_changes.specs.Changes.{change_lines, changed_count}
+use Rattle.aatry_changes.specs.Changes.{change_lines}
+use Rattle.aatry_changes.specs.PartChanges.{changed_count}
 use Rattle.aatry_diff.specs.Sources.{differing_count, requests_text}
 use Rattle.aatry_diff.specs.Folders.{BothFolders}
 use Rattle.aatry_diff.specs.NewlyLeftOut.{newly_left_out, newly_lines}
@@ -18,7 +19,7 @@ both old new = record { old = by_parts old; new = by_parts new }
 -- changed or new, and the requests
 abbrev pub diff_text : Form → Bool → Folder → Folder → Option Gathered → List ℕ
 diff_text form verbose old new requests =
-    left_out_in form verbose old ++ left_out_in form verbose new ++ newly_lines form new.base (newly_left_out old new)
+    left_out_in form verbose old ++ left_out_in form verbose new ++ newly_lines form new (newly_left_out old new)
     ++ change_lines form (by_parts old) (by_parts new)
     ++ requests_text form (both old new) (policy_in old) (policy_in new) requests
 

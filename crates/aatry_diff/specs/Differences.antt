@@ -6,7 +6,7 @@ use Rattle.aa_bytes.specs.Bytes.{line_feed}
 use Rattle.aa_decide_slots.specs.Entries.{Loaded}
 use Rattle.aa_set_commands.specs.Question.{Question}
 use Rattle.aa_set_answers.specs.Answers.{who_asks}
-use Rattle.aatry_changes.specs.Causes.{cause_lines}
+use Rattle.aatry_shared.specs.Causes.{cause_lines}
 use Rattle.aatry_diff.specs.Differing.{Difference, differences}
 use Rattle.aatry_diff.specs.Folders.{BothFolders}
 use Rattle.aatry_requests.specs.Questions.{rule_request}

@@ -14,4 +14,4 @@ IsOfSource known source fault = MatchOption source ⊥ (λ asked. IsOfFile known
 -- A comparison may end with this fault: one of the two folders can't be read, or the source of requests can't be, if there is one.
 abbrev pub IsEndOfDiff : ToldFolders → Known → ComparisonAsked → Fault → Type 0
 IsEndOfDiff folders known asked fault =
-    IsOfFolder folders known asked.old fault ⊎ IsOfFolder folders known asked.new fault ⊎ IsOfSource known asked.source fault
+    IsOfFolder folders asked.old fault ⊎ IsOfFolder folders asked.new fault ⊎ IsOfSource known asked.source fault

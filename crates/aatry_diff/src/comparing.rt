@@ -102,7 +102,7 @@ fn push_all(
         && nothing_differs (both_loaded old.old new.old)
         (differences_of old.old.policy.manager.machine.now new.old.policy.manager.machine.now (option_map seen_requests requests.now)))) }
     ensures told { OnOk result (out.new.items ≡ out.old.items
-        ++ (newly_lines teller.form new.old.folder.now.base.now (newly_loaded old.old new.old)
+        ++ (newly_lines teller.form (seen_folder new.old.folder.now) (newly_loaded old.old new.old)
         ++ compared_text teller.form (both_loaded old.old new.old) (option_map seen_requests requests.now)
         (differences_of old.old.policy.manager.machine.now new.old.policy.manager.machine.now (option_map seen_requests requests.now)))) }
 {

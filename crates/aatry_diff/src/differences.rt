@@ -12,9 +12,9 @@ ghost use Rattle.aatry_requests.specs.Texts.{question_text};
 use crate::finding::Difference;
 use crate::folders::BothFolders;
 use aa_set_commands::Question;
-use aatry_changes::push_causes;
 use aatry_report::{Form, Record, Teller};
 use aatry_requests::{push_number, push_question, rule_request, who_asks};
+use aatry_shared::push_causes;
 use std::alloc::{AllocError, Global};
 
 // Appends how often a question came to a text.
@@ -130,7 +130,7 @@ fn push_difference(
 
 /// Appends what is told of each of some questions to a text that two policy sets answer otherwise: the question, the answer before and after, and how
 /// often it came. Behind it stand the rules that lead to one of the answers alone, as the folders have them that made the policy sets
-/// (`aatry_changes::push_causes`). That is a line, or a record of the kind `question` with the texts `question`, `before` and `after` and the
+/// (`aatry_shared::push_causes`). That is a line, or a record of the kind `question` with the texts `question`, `before` and `after` and the
 /// number `times`.
 ///
 /// # Errors

@@ -1,15 +1,15 @@
 //! The files that are left out of a new folder of policy and not of the old one.
 
-ghost use Rattle.std.specs.Prelude.{◌≡◌, ◌++◌, ◌∷◌, [], IfOk, OnOk};
+ghost use Rattle.std.specs.Prelude.{◌≡◌, ◌++◌, IfOk, OnOk};
 ghost use Rattle.aa_bytes.specs.Texts.{is_empty};
 ghost use Rattle.aatry_diff.specs.Folders.{newly_loaded};
-ghost use Rattle.aatry_diff.specs.NewlyLeftOut.{has_name, newly, newly_if, newly_line, newly_lines, newly_record, newly_text, newly_told};
+ghost use Rattle.aatry_diff.specs.NewlyLeftOut.{has_name, newly, newly_if, newly_lines};
+ghost use Rattle.aatry_policy.specs.Folders.{seen_folder};
 ghost use Rattle.aatry_policy.specs.SeenLeftOut.{all_left_out, seen_left_out};
-ghost use Rattle.aatry_report.specs.SeenRecord.{seen_record};
 
-use aa_set_commands::Refusal;
-use aatry_policy::{LeftOut, LoadedFolder, left_out_of, push_refusal};
-use aatry_report::{Form, Record, Teller, path_below, push_shown, put_named_refusal};
+use aatry_folder::PolicyFolder;
+use aatry_policy::{LeftOut, LeftOutWords, LoadedFolder, left_out_of, push_files};
+use aatry_report::Teller;
 use std::alloc::{AllocError, Global};
 
 // Whether a file of this name is among some.
@@ -59,71 +59,21 @@ fn newly<'a>(
     Ok(files)
 }
 
-// Appends the line of such a file to a text, by its path.
-fn push_line(out: &mut Vec<u8>, path: &[u8], refusal: Refusal) -> Result<(), AllocError>
-    ensures { OnOk result (out.new.items ≡ out.old.items ++ newly_line path.now refusal) }
-{
-    out.extend_from_slice(b"newly left out: ")?;
-    push_shown(out, path)?;
-    out.extend_from_slice(b": ")?;
-    push_refusal(out, refusal)?;
-    out.push(b'\n')?;
-    Ok(())
-}
-
-// The record of such a file.
-fn newly_record(alloc: Global, path: &[u8], refusal: Refusal) -> Result<Record, AllocError>
-    ensures { IfOk result (λ made. seen_record made ≡ newly_record path.now refusal) }
-{
-    let mut made = Record::new(alloc, "newly_left_out")?;
-    made.put_text(alloc, "file", path)?;
-    put_named_refusal(alloc, refusal.number(), refusal.name(), &mut made)?;
-    Ok(made)
-}
-
-// Appends what is told of such a file to a text, by its path.
-fn push_text(
+// Appends what is told of such files of a folder to a text.
+fn push_told(
     teller: Teller,
-    path: &[u8],
-    refusal: Refusal,
-    out: &mut Vec<u8>,
-) -> Result<(), AllocError>
-    ensures { OnOk result (out.new.items ≡ out.old.items ++ newly_text teller.form path.now refusal) }
-{
-    match teller.form {
-        Form::Lines => push_line(out, path, refusal),
-        Form::Records => newly_record(teller.alloc, path, refusal)?.push(teller.alloc, out),
-    }
-}
-
-// Appends what is told of such a file of a folder to a text.
-fn push_file(
-    teller: Teller,
-    base: &[u8],
-    file: LeftOut<'_>,
-    out: &mut Vec<u8>,
-) -> Result<(), AllocError>
-    ensures { OnOk result (out.new.items ≡ out.old.items ++ newly_told teller.form base.now (seen_left_out file.entry)) }
-{
-    let path = path_below(teller.alloc, base, file.name.as_bytes())?;
-    push_text(teller, &path, file.refusal, out)
-}
-
-// Appends what is told of some to a text.
-fn push_files(
-    teller: Teller,
-    base: &[u8],
+    folder: &PolicyFolder<'_>,
     files: &[LeftOut<'_>],
     out: &mut Vec<u8>,
 ) -> Result<(), AllocError>
-    ensures { OnOk result (out.new.items ≡ out.old.items ++ newly_lines teller.form base.now (all_left_out files.now)) }
+    ensures { OnOk result (out.new.items ≡ out.old.items ++ newly_lines teller.form (seen_folder folder.now) (all_left_out files.now)) }
 {
-    let mut rest = files;
-    while let [file, behind @ ..] = rest {
-        push_file(teller, base, *file, out)?;
-        rest = behind;
-    }
-    Ok(())
+    let words = LeftOutWords {
+        kind: "newly_left_out",
+        before: "newly left out: ",
+        behind: ": ",
+    };
+    push_files(teller, words, folder, files, out)
 }
 
 // The files that are newly left out of a folder that is loaded.
@@ -140,7 +90,7 @@ fn newly_of<'a>(
 }
 
 /// Appends what is told of the files to a text that are left out of a new folder and not of the old one, by their names, and says whether there are none: a
-/// line of each with its path and why it is refused, or a record `newly_left_out` with `file`, `number` and `refusal`.
+/// line of each with its path and why it is (`aatry_policy::push_reason`), or a record `newly_left_out` with `file` and what `aatry_policy::put_reason` puts.
 ///
 /// # Errors
 ///
@@ -153,9 +103,9 @@ pub fn push_newly(
 ) -> Result<bool, AllocError>
     ensures none { IfOk result (λ none. none ≡ is_empty (newly_loaded old.now new.now)) }
     ensures told { OnOk result (out.new.items
-        ≡ out.old.items ++ newly_lines teller.form new.now.folder.now.base.now (newly_loaded old.now new.now)) }
+        ≡ out.old.items ++ newly_lines teller.form (seen_folder new.now.folder.now) (newly_loaded old.now new.now)) }
 {
     let files = newly_of(teller.alloc, old, new)?;
-    push_files(teller, new.folder.base.as_bytes(), &files, out)?;
+    push_told(teller, new.folder, &files, out)?;
     Ok(files.is_empty())
 }

@@ -1,3 +1,4 @@
+mod EnteringLemmas
 mod OneFileLemmas
 mod UnreadLemmas
 pub mod FoundLemmas

@@ -4,6 +4,7 @@ use Rattle.std.specs.Prelude.{IsTrue, codes, ◌||◌}
 use Rattle.aaset_start.specs.Gathering.{IsFaultBehind, IsFirstFault}
 use Rattle.aaset_start.specs.Known.{Known}
 use Rattle.aaset_start.specs.Names.{is_bad_name}
+use Rattle.aaset_start.specs.Readable.{IsFirstRefusal}
 use Rattle.aaset_start.specs.declared.gathering.GatherFault.{GatherFault}
 use Rattle.aaset_start.specs.declared.gathering.GatherFault.TheVariants as files
 use Rattle.aatry_folder.specs.Unread.{IsOfFile, IsOfFolder}
@@ -14,19 +15,17 @@ use Rattle.aatry_folder.specs.declared.below.FolderFault.{FolderFault}
 use Rattle.aatry_folder.specs.declared.below.FolderFault.TheVariants as folder
 
 -- the names can't be told
-pub of_names : (folders : ToldFolders) (known : Known) (base : List ℕ) (given : FolderFault) → IsFault folders base given
-    → IsOfFolder folders known base (fault_of_folder given)
-of_names folders known base (folder.Unreadable name) fault = inl fault
-of_names folders known base folder.TooMany fault = fault
-of_names folders known base folder.Memory fault = tt
+pub of_names : (folders : ToldFolders) (base : List ℕ) (given : FolderFault) → IsFault folders base given → IsOfFolder folders base (fault_of_folder given)
+of_names folders base (folder.Unreadable name) fault = inl fault
+of_names folders base folder.TooMany fault = fault
+of_names folders base folder.Memory fault = tt
 
 -- the files of the names can't be taken
-pub of_files : (folders : ToldFolders) (known : Known) (base : List ℕ) (answers : List Answer) (names : List (List ℕ)) (given : GatherFault)
-    → IsWalk folders base answers names → AreFound folders base [] names → IsFirstFault known base names given
-    → IsOfFolder folders known base (fault_of_files given)
-of_files folders known base answers names (files.Untaken name) walked found first =
+pub of_files : (folders : ToldFolders) (base : List ℕ) (answers : List Answer) (names : List (List ℕ)) (given : GatherFault)
+    → IsWalk folders base answers names → AreFound folders base [] names → IsFirstRefusal names given → IsOfFolder folders base (fault_of_files given)
+of_files folders base answers names (files.Untaken name) walked found first =
     inr (record { answers = answers; names = names; walked = walked; found = found; first = first })
-of_files folders known base answers names files.Memory walked found first = tt
+of_files folders base answers names files.Memory walked found first = tt
 
 -- what stands in a list of one is that one
 alone : (path : List ℕ) (before : List (List ℕ)) (name : List ℕ) (behind : List (List ℕ)) → path ∷ [] ≡ before ++ name ∷ behind

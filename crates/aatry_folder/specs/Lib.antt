@@ -8,6 +8,7 @@ pub mod OneFile
 pub mod PassedOver
 pub mod PolicyFiles
 pub mod PolicyFolders
+pub mod Reaching
 pub mod Reports
 pub mod Told
 pub mod Unread

@@ -1,10 +1,12 @@
 -- Folders of policy that were read: what lies below them, and the files at their top.
-use Rattle.std.specs.Prelude.{ℕ, Bool, not, List, [], All, filter}
+use Rattle.std.specs.Prelude.{ℕ, Bool, not, if◌then◌else◌, List, [], ◌∷◌, ◌++◌, All, Option, None, Some, filter}
 use Rattle.aa_bytes.specs.Bytes.{slash}
 use Rattle.aa_bytes.specs.Texts.{has_byte}
 use Rattle.aa_text_files.specs.Files.{File}
-use Rattle.aaset_start.specs.Gathering.{IsReadBelow, IsTakable, names_of}
+use Rattle.aaset_start.specs.Gathering.{IsTakable, names_of}
 use Rattle.aaset_start.specs.Known.{Known}
+use Rattle.aaset_start.specs.Readable.{AreTakenSo}
+use Rattle.aaset_start.specs.declared.readable.UnreadFault.{UnreadFault}
 use Rattle.aatry_folder.specs.NamesBelow.{Answer, AreFound, IsWalk}
 use Rattle.aatry_folder.specs.Told.{ToldFolders}
 
@@ -15,11 +17,26 @@ is_at_top name = not (has_byte slash name)
 abbrev pub top_names : List (List ℕ) → List (List ℕ)
 top_names names = filter is_at_top names
 
+-- the name of a file that wasn't read, and doesn't stand at the top
+abbrev pub unread_if : List ℕ → Option UnreadFault → List (List ℕ)
+unread_if name None = []
+unread_if name (Some fault) = if is_at_top name then [] else name ∷ []
+
+-- those of some files, by why each wasn't read, if it wasn't
+abbrev pub unread_below : List (List ℕ) → List (Option UnreadFault) → List (List ℕ)
+unread_below (name ∷ names) (fault ∷ unread) = unread_if name fault ++ unread_below names unread
+unread_below _ _ = []
+
+-- The files that are tried: those at the top, and behind them all others that weren't read, of which nothing can be taken.
+abbrev pub tried_names : List (List ℕ) → List (Option UnreadFault) → List (List ℕ)
+tried_names names unread = top_names names ++ unread_below names unread
+
 -- Files and folders are those below the folder of policy: they come of a walk, in which each folder was asked for its members, so that each that stands
--- there and isn't passed over is among them; no other is; and each has the bytes that lie at its path, where these are known.
-pub record AreBelow (folders : ToldFolders) (known : Known) (base : List ℕ) (files : List File) : Type 0 where
+-- there and isn't passed over is among them; no other is; and each has the bytes that lie at its path, where these are known, or there is a reason why
+-- it wasn't read, and a text that is refused stands in its place.
+pub record AreBelow (folders : ToldFolders) (known : Known) (base : List ℕ) (files : List File) (unread : List (Option UnreadFault)) : Type 0 where
   pub answers : List Answer
   pub walked : IsWalk folders base answers (names_of files)
   pub found : AreFound folders base [] (names_of files)
   pub takable : All IsTakable files
-  pub read : All (IsReadBelow known base) files
+  pub read : AreTakenSo known base files unread

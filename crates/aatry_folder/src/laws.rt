@@ -1,16 +1,20 @@
-//! What holds of includes whose files aren't there, as laws over the definitions that the calls are proved to follow.
+//! What holds of includes whose files aren't there, or weren't read, as laws over the definitions that the calls are proved to follow.
 
-ghost use Rattle.std.specs.Prelude.{◌≡◌, ℕ, [], ◌∷◌, IsTrue, List, Contains, None, Some, Err};
-ghost use Rattle.aa_text_files.specs.Files.{File};
+ghost use Rattle.std.specs.Prelude.{◌≡◌, ℕ, [], ◌∷◌, IsTrue, List, Contains, Option, None, Some, Err, is_err, true};
+ghost use Rattle.aa_text_files.specs.Files.{File, file_at};
 ghost use Rattle.aa_text_files.specs.declared.text_error.Place.{Place};
 ghost use Rattle.aa_text_files.specs.declared.text_error.TextRefusal.TheVariants.{NoFile};
 ghost use Rattle.aa_text_splicing.specs.Splicing.{spliced};
 ghost use Rattle.aaset_start.specs.Gathering.{names_of};
+ghost use Rattle.aaset_start.specs.Readable.{AreTakenSo, unread_at};
+ghost use Rattle.aaset_start.specs.declared.readable.UnreadFault.{UnreadFault};
 ghost use Rattle.aatry_folder.specs.Includes.{Answered, IsMissing, IsMissingAsAWhole, IsSteady, Lacks, NothingStandsFor, Stands, ToldBelow};
 ghost use Rattle.aatry_folder.specs.Members.{is_folder};
 ghost use Rattle.aatry_folder.specs.NamesBelow.{Answer, IsWalk};
+ghost use Rattle.aatry_folder.specs.Reaching.{Reaches};
 
 use crate::folders::Folders;
+use aaset_start::FileSystem;
 
 /// Where names come of a walk, as those that `aatry_folder::names_below` finds, each file and folder that stands in the folder of policy and isn't passed
 /// over is among them, however deep it lies: each that stands there by what the file system answered in the walk, which asked for the members of the base
@@ -46,4 +50,15 @@ pub fn nothing_that_stands_is_missing<F: Folders>(folders: &F)
         → IsSteady (F.told folders.now)
         → spliced files name ≡ Err (NoFile, Some place)
         → IsMissing files place (NothingStandsFor (ToldBelow (F.told folders.now) base)) }
+{}
+
+/// Nothing is read as policy of a file that couldn't be read, nor of any other that leads to it by includes, through however many files: where files
+/// are taken as `policy_below` takes them, splicing such a file by its name comes to a fault.
+pub fn what_cannot_be_read_is_never_entered<D: FileSystem>(disk: &D)
+    ensures { (base : List ℕ) (files : List File) (unread : List (Option UnreadFault)) (name : List ℕ) (one other : ℕ) (way : List ℕ) (fault : UnreadFault)
+        → AreTakenSo (D.known disk.now) base files unread
+        → file_at files name ≡ Some one
+        → Reaches files one way other
+        → unread_at unread other ≡ Some fault
+        → is_err (spliced files name) ≡ true }
 {}

@@ -18,7 +18,8 @@ pub use below::{FolderFault, MOST_NAMES, names_below};
 pub use fault::Fault;
 pub use folders::{Folders, RuntimeFolders};
 pub use laws::{
-    nothing_that_stands_is_missing, what_is_missing_is_asked_for, what_stands_is_among_the_names,
+    nothing_that_stands_is_missing, what_cannot_be_read_is_never_entered,
+    what_is_missing_is_asked_for, what_stands_is_among_the_names,
 };
 pub use loading::{Loading, TopFile};
 pub use one_file::file_at;

@@ -4,7 +4,7 @@ ghost use Rattle.std.specs.Prelude.{◌≡◌, ◌++◌, ◌∷◌, [], IfErr, I
 ghost use Rattle.aaset_start.specs.Gathering.{names_of, texts_of};
 ghost use Rattle.aatry_folder.specs.Loadings.{AreTop, seen_top};
 ghost use Rattle.aatry_folder.specs.PolicyFiles.{seen_files};
-ghost use Rattle.aatry_folder.specs.PolicyFolders.{AreBelow, is_at_top, top_names};
+ghost use Rattle.aatry_folder.specs.PolicyFolders.{AreBelow, is_at_top, top_names, tried_names, unread_below, unread_if};
 ghost use Rattle.aatry_folder.specs.Unread.{IsOfFolder};
 
 use crate::below::names_below;
@@ -15,7 +15,7 @@ use crate::policy_files::PolicyFiles;
 use aa_bytes::has_byte;
 use aa_profile_parsing::Language;
 use aa_text_files::Files;
-use aaset_start::{FileSystem, gather};
+use aaset_start::{FileSystem, ReadableFiles, UnreadFault, gather_readable};
 use std::alloc::{AllocError, Global};
 
 /// A folder of policy that was read.
@@ -25,9 +25,12 @@ pub struct PolicyFolder<'a> {
     pub language: Language,
     /// Its path.
     pub base: &'a str,
-    /// All files and folders below it, by their names in it.
+    /// All files and folders below it, by their names in it. A text that is refused stands in place of each that wasn't read.
     pub files: Files,
-    /// The files at its top, whose profiles are loaded: in the order of their names, but those that are disabled behind all others.
+    /// For each of them, in their order, why it wasn't read; nothing where it was.
+    pub unread: Vec<Option<UnreadFault>>,
+    /// The files that are tried: those at its top, whose profiles are loaded, in the order of their names, and all others that weren't read, of which
+    /// nothing is. Those that are disabled come behind all others.
     pub top: Vec<TopFile>,
 }
 
@@ -71,13 +74,64 @@ fn top_names(alloc: Global, names: &[String]) -> Result<Vec<String>, AllocError>
     Ok(top)
 }
 
-/// A folder of policy, of which all files and folders are found, as `names_below` does, and their bytes read, as `aaset_start::gather` does. So
-/// nothing that an include asks for is missing where it stands in the folder and isn't passed over. Of each file at the top it is asked how its
-/// profiles are loaded, as `top_files` does. The language is the one by which they are to be read as policy.
+// Appends the name of a file to others that wasn't read, if it doesn't stand at the top of the folder.
+fn push_unread(
+    alloc: Global,
+    names: &mut Vec<String>,
+    name: &str,
+    fault: Option<UnreadFault>,
+) -> Result<(), AllocError>
+    ensures { OnOk result (texts_of names.new ≡ texts_of names.old ++ unread_if name.now fault) }
+{
+    if fault.is_some() && !is_at_top(name) {
+        names.push(String::from_str(alloc, name)?)?;
+    }
+    Ok(())
+}
+
+// Appends the names of all files to others that weren't read, and don't stand at the top of the folder.
+fn push_each_unread(
+    alloc: Global,
+    top: &mut Vec<String>,
+    names: &[String],
+    unread: &[Option<UnreadFault>],
+) -> Result<(), AllocError>
+    ensures { OnOk result (texts_of top.new ≡ texts_of top.old ++ unread_below (map string_bytes names.now) unread.now) }
+{
+    let mut rest = names;
+    let mut left = unread;
+    while let [name, behind @ ..] = rest {
+        let [fault, more @ ..] = left else {
+            break;
+        };
+        push_unread(alloc, top, name.as_str(), *fault)?;
+        rest = behind;
+        left = more;
+    }
+    Ok(())
+}
+
+// The names of the files that are tried.
+fn tried_names(
+    alloc: Global,
+    names: &[String],
+    unread: &[Option<UnreadFault>],
+) -> Result<Vec<String>, AllocError>
+    ensures { IfOk result (λ tried. texts_of tried ≡ tried_names (map string_bytes names.now) unread.now) }
+{
+    let mut tried = top_names(alloc, names)?;
+    push_each_unread(alloc, &mut tried, names, unread)?;
+    Ok(tried)
+}
+
+/// A folder of policy, of which all files and folders are found, as `names_below` does, and their bytes read, as `aaset_start::gather_readable` does. So
+/// nothing that an include asks for is missing where it stands in the folder and isn't passed over, and nothing is taken of a file that includes one
+/// that can't be read. Of each file that is tried it is asked how its profiles are loaded, as `top_files` does. The language is the one by which they
+/// are to be read as policy.
 ///
 /// # Errors
 ///
-/// - `Unreadable` with the first folder or file that can't be read.
+/// - `Unreadable` with the first folder that can't be read, or the first name that is none for a file, since it holds a byte below the space.
 /// - `TooMany` where there are more than 65,536 files and folders.
 /// - `NoMemory` where memory ran out.
 pub fn policy_below<'a, F: Folders, D: FileSystem>(
@@ -89,18 +143,19 @@ pub fn policy_below<'a, F: Folders, D: FileSystem>(
 ) -> Result<PolicyFolder<'a>, Fault>
     ensures language { IfOk result (λ policy. policy.language ≡ language) }
     ensures base { IfOk result (λ policy. policy.base.now ≡ base.now) }
-    ensures below { IfOk result (λ policy. AreBelow (F.told folders.now) (D.known disk.now) base.now policy.files) }
+    ensures below { IfOk result (λ policy. AreBelow (F.told folders.now) (D.known disk.now) base.now policy.files policy.unread.items) }
     ensures top { IfOk result (λ policy.
-        AreTop (F.told folders.now) base.now (top_names (names_of policy.files)) (map seen_top policy.top.items)) }
-    ensures fault { IfErr result (IsOfFolder (F.told folders.now) (D.known disk.now) base.now) }
+        AreTop (F.told folders.now) base.now (tried_names (names_of policy.files) policy.unread.items) (map seen_top policy.top.items)) }
+    ensures fault { IfErr result (IsOfFolder (F.told folders.now) base.now) }
 {
     let names = names_below(folders, alloc, base)?;
-    let top = top_files(folders, alloc, base, top_names(alloc, &names)?)?;
-    let files = gather(disk, alloc, base, names)?;
+    let ReadableFiles { files, unread } = gather_readable(disk, alloc, base, &names)?;
+    let top = top_files(folders, alloc, base, tried_names(alloc, &names, &unread)?)?;
     Ok(PolicyFolder {
         language,
         base,
         files,
+        unread,
         top,
     })
 }

@@ -4,12 +4,13 @@ use Rattle.aa_profile_parsing.specs.declared.language.Language.{Language}
 use Rattle.aa_text_files.specs.Files.{File}
 use Rattle.aaset_start.specs.Gathering.{names_of}
 use Rattle.aaset_start.specs.Known.{Known}
+use Rattle.aaset_start.specs.declared.readable.UnreadFault.{UnreadFault}
 use Rattle.aatry_arguments.specs.LogWords.{LogLinesAsked, LogsAsked}
 use Rattle.aatry_folder.specs.Loadings.{AreTop, TopFile}
-use Rattle.aatry_folder.specs.PolicyFolders.{AreBelow, top_names}
+use Rattle.aatry_folder.specs.PolicyFolders.{AreBelow, tried_names}
 use Rattle.aatry_folder.specs.Reports.{Report}
 use Rattle.aatry_folder.specs.Told.{ToldFolders}
-use Rattle.aatry_log.specs.Log.{IsLogTold}
+use Rattle.aatry_log.specs.Rules.{IsLogAnswered}
 use Rattle.aatry_log_lines.specs.Selections.{Selection}
 use Rattle.aatry_logs.specs.Gathered.{AreGathered, meant_paths}
 use Rattle.aatry_logs.specs.LogRequests.{LogRequests, nothing}
@@ -21,14 +22,15 @@ abbrev pub selection_by : LogLinesAsked → Selection
 selection_by lines = record { denied = lines.denied; profile = lines.profile; since = lines.since }
 
 -- The requests of all logs that are named, of the lines that are asked for, were asked of the files at the top of the folder, with all that lies below
--- it, by a language: the text tells what they come to, and it is noted how many files are left out. One failed where the logs don't pass.
+-- it, by a language: the text tells what they come to, or the rules with which they are allowed, and it is noted how many files are left out. One failed where the logs don't pass.
 pub record IsLogToldBelow (form : Form) (verbose : Bool) (language : Language) (folders : ToldFolders) (known : Known) (left : Option (List ℕ)) (asked : LogsAsked)
     (report : Report) : Type 0 where
   pub files : List File
-  pub below : AreBelow folders known asked.base files
+  pub unread : List (Option UnreadFault)
+  pub below : AreBelow folders known asked.base files unread
   pub top : List TopFile
-  pub loaded : AreTop folders asked.base (top_names (names_of files)) top
+  pub loaded : AreTop folders asked.base (tried_names (names_of files) unread) top
   pub logs : LogRequests
   pub read : AreGathered (selection_by asked.lines) known left (meant_paths asked.paths) nothing logs
-  pub told : IsLogTold form verbose (folder_at language asked.base files top) asked.strict logs report.text report.failed
-  pub noted : report.notes ≡ left_out_note (folder_at language asked.base files top)
+  pub told : IsLogAnswered asked.rules form verbose (folder_at language asked.base files unread top) asked.strict logs report.text report.failed
+  pub noted : report.notes ≡ left_out_note (folder_at language asked.base files unread top)

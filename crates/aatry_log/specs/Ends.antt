@@ -10,4 +10,4 @@ use Rattle.aatry_logs.specs.Gathered.{meant_paths}
 
 -- `log` may end with this fault: its folder can't be read, or one of its logs.
 abbrev pub IsEndOfLog : ToldFolders → Known → LogsAsked → Fault → Type 0
-IsEndOfLog folders known asked fault = IsOfFolder folders known asked.base fault ⊎ IsOfOneLog known (meant_paths asked.paths) fault
+IsEndOfLog folders known asked fault = IsOfFolder folders asked.base fault ⊎ IsOfOneLog known (meant_paths asked.paths) fault

@@ -1,24 +1,20 @@
 -- What is told of the requests of a log (docs/aatry.md).
 use Rattle.std.specs.Prelude.{◌≡◌, ℕ, ◌+◌, ◌==◌, if◌then◌else◌, List, [], ◌∷◌, ◌++◌, Option, None, Some, codes, flat_map}
-use Rattle.std.specs.Fmt.{decimal}
 use Rattle.serde_json.specs.Data.{Members}
 use Rattle.aa_bytes.specs.Bytes.{line_feed}
-use Rattle.aa_set_lines.specs.Lines.{lines}
 use Rattle.aatry_folder.specs.Reports.{failed_by}
+use Rattle.aatry_log.specs.Prefixed.{prefixed_text}
 use Rattle.aatry_policy.specs.Folders.{Folder, policy_in}
 use Rattle.aatry_report.specs.Records.{record_line, record_of, with_number, with_text}
 use Rattle.aatry_report.specs.declared.form.Form.{Form}
 use Rattle.aatry_report.specs.declared.form.Form.TheVariants.{Lines, Records}
+use Rattle.aatry_requests.specs.Counts.{times_text}
 use Rattle.aatry_requests.specs.Order.{IsMostAskedFirst}
 use Rattle.aatry_requests.specs.Tallies.{Tally}
 use Rattle.aatry_requests.specs.Texts.{question_text}
 use Rattle.aatry_requests.specs.declared.spans.Span.{Span}
 use Rattle.aatry_times.specs.Told.{time_text}
 use Rattle.aatry_why.specs.Why.{answered_text, has_answer, sources_in}
-
--- how often a request came, as its line begins
-abbrev pub times_text : ℕ → List ℕ
-times_text times = if times == 1 then codes "once" else decimal times ++ codes " times"
 
 -- when it came first and last: one time, where these are the same, and nothing where no time is known
 abbrev pub last_text : Span → List ℕ
@@ -48,20 +44,11 @@ abbrev pub head_text : Form → Tally → List ℕ
 head_text Lines tally = request_line tally
 head_text Records tally = record_line (request_record tally)
 
--- a line, two spaces further in
-abbrev pub indented : List ℕ → List ℕ
-indented line = codes "  " ++ line ++ line_feed ∷ []
-
--- what stands below a request: lines are indented, and records stand as they are
-abbrev pub below_head : Form → List ℕ → List ℕ
-below_head Lines text = flat_map indented (lines text)
-below_head Records text = text
-
--- a request, and below it what the policy of a folder answers to it now, as `why` tells it
+-- a request, and below it, two spaces in, what the policy of a folder answers to it now, as `why` tells it
 abbrev pub request_text : Form → Folder → Tally → List ℕ
 request_text form folder tally =
     head_text form tally
-    ++ below_head form (answered_text form (sources_in folder tally.question) (policy_in folder) tally.question)
+    ++ prefixed_text form (codes "  ") (answered_text form (sources_in folder tally.question) (policy_in folder) tally.question)
 
 -- requests, in this order
 abbrev pub requests_text : Form → Folder → List Tally → List ℕ

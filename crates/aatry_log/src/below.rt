@@ -7,6 +7,7 @@ ghost use Rattle.aatry_log.specs.Below.{IsLogToldBelow, selection_by};
 ghost use Rattle.aatry_log.specs.Ends.{IsEndOfLog};
 ghost use Rattle.aatry_log_lines.specs.Selections.{seen_selection};
 
+use crate::rules::log_rules;
 use crate::telling::log;
 use aa_profile_parsing::Language;
 use aa_set_lines::Source;
@@ -32,7 +33,7 @@ fn selection_of(lines: &LogLines) -> Selection<'_>
 }
 
 /// What the policy of a folder, read by a language, answers now to what logs asked: reads the folder as `aatry_folder::policy_below` does, and then
-/// the logs that are named, or standard input where none is, and tells them as `log` does.
+/// the logs that are named, or standard input where none is, and tells them as `log` does, or as `log_rules` where rules are asked for.
 ///
 /// # Errors
 ///
@@ -57,11 +58,17 @@ pub fn log_folder<F: Folders, D: FileSystem, S: Source>(
         base,
         paths,
         strict,
+        rules,
         lines,
     } = asked;
     let folder = policy_below(teller.alloc, language, folders, disk, base.as_str())?;
     let meant = meant_paths(teller.alloc, paths)?;
     let selection = selection_of(&lines);
     let logs = gather_logs(teller.alloc, selection, disk, &meant, input)?;
-    Ok(log(teller, &folder, strict, &logs)?)
+    let report = if rules {
+        log_rules(teller, &folder, strict, &logs)?
+    } else {
+        log(teller, &folder, strict, &logs)?
+    };
+    Ok(report)
 }

@@ -1,7 +1,7 @@
 //! What is told of a request by itself.
 
 ghost use Rattle.std.specs.Prelude.{◌≡◌, ◌++◌, IfOk, OnOk, codes};
-ghost use Rattle.aatry_log.specs.Requests.{head_text, last_text, request_line, request_record, span_text, times_text, with_span};
+ghost use Rattle.aatry_log.specs.Requests.{head_text, last_text, request_line, request_record, span_text, with_span};
 ghost use Rattle.aatry_report.specs.Records.{with_text};
 ghost use Rattle.aatry_report.specs.SeenRecord.{seen_record};
 ghost use Rattle.aatry_requests.specs.SeenTallies.{seen_tally};
@@ -9,19 +9,9 @@ ghost use Rattle.aatry_requests.specs.Texts.{question_text};
 ghost use Rattle.aatry_times.specs.Told.{time_text};
 
 use aatry_report::{Form, Record, Teller};
-use aatry_requests::{Span, Tally, push_number, push_question};
+use aatry_requests::{Span, Tally, push_question, push_times};
 use aatry_times::push_time;
 use std::alloc::{AllocError, Global};
-
-// Appends how often a request came to a text.
-fn push_times(out: &mut Vec<u8>, times: u64) -> Result<(), AllocError>
-    ensures { OnOk result (out.new.items ≡ out.old.items ++ times_text times) }
-{
-    if times == 1 {
-        return out.extend_from_slice(b"once");
-    }
-    push_number(out, times, b" times")
-}
 
 // Appends the last time to a text, where it isn't the first.
 fn push_last(out: &mut Vec<u8>, span: Span) -> Result<(), AllocError>

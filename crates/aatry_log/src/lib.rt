@@ -3,8 +3,9 @@
 
 mod below;
 mod heads;
-mod indenting;
+mod prefixing;
 mod requests;
+mod rules;
 mod summary;
 mod telling;
 mod unreadable;

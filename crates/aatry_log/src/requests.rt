@@ -8,7 +8,7 @@ ghost use Rattle.aatry_requests.specs.SeenTallies.{seen_tally};
 ghost use Rattle.aatry_why.specs.Why.{has_answer};
 
 use crate::heads::push_head;
-use crate::indenting::push_below;
+use crate::prefixing::push_prefixed;
 use aatry_folder::failed_by;
 use aatry_policy::LoadedFolder;
 use aatry_report::Teller;
@@ -36,7 +36,7 @@ fn push_request(
     push_head(teller, tally, out)?;
     let mut told = Vec::new(teller.alloc);
     let found = push_asked(teller, loaded, &tally.question.question(), &mut told)?;
-    push_below(teller.form, &told, out)?;
+    push_prefixed(teller.form, b"  ", &told, out)?;
     Ok(failed_by(found))
 }
 

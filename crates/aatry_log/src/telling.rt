@@ -14,8 +14,8 @@ use aatry_policy::load_folder;
 use aatry_report::Teller;
 use std::alloc::AllocError;
 
-// Whether logs pass: where they are taken strictly, each of their lines can be read, and none asks for somebody who isn't there.
-fn passes(strict: bool, logs: &LogRequests<'_>, nobody: usize) -> bool
+/// Whether logs pass: where they are taken strictly, each of their lines can be read, and none asks for somebody who isn't there.
+pub fn passes(strict: bool, logs: &LogRequests<'_>, nobody: usize) -> bool
     ensures { result ≡ passes strict (seen_logs logs.now) nobody }
 {
     !strict || (logs.requests.unreadable == 0 && nobody == 0)

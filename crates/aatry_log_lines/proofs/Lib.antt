@@ -1,4 +1,3 @@
-mod MaskLemmas
 mod PairLemmas
 mod QuoteLemmas
 mod SeveralLemmas

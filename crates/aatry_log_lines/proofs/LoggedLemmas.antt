@@ -28,7 +28,7 @@ use Rattle.aatry_log_lines.specs.Laws.{CanBeLogged, as_logged}
 use Rattle.aatry_log_lines.specs.Lines.{Asks, Told, asked_by, asker_of, has_asked_class, is_local, is_of_host, owned_in, request_told, sockets_told, told_as, told_by, told_by_message, told_of}
 use Rattle.aatry_log_lines.specs.Messages.{message_in}
 use Rattle.aatry_log_lines.specs.LoggedQuestions.{path_question}
-use Rattle.aatry_log_lines.specs.Masks.{needs_of_mask}
+use Rattle.aatry_kernel_words.specs.Masks.{needs_of_mask}
 use Rattle.aatry_log_lines.specs.Pairs.{is_gap, value_among, value_of, words}
 use Rattle.aatry_log_lines.specs.Values.{quoted_text}
 use Rattle.aatry_log_lines.proofs.LineLemmas.{lines-ended, none-pass}

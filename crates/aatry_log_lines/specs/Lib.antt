@@ -3,7 +3,6 @@ pub mod Entries
 pub mod Laws
 pub mod Lines
 pub mod LoggedQuestions
-pub mod Masks
 pub mod Messages
 pub mod Pairs
 pub mod Selections

@@ -9,7 +9,6 @@ mod entries;
 mod laws;
 mod lines;
 mod logged_questions;
-mod masks;
 mod messages;
 mod pairs;
 mod selections;

@@ -5,3 +5,4 @@ mod PartLemmas
 mod PlaceLemmas
 mod ReadLemmas
 mod SwitchLemmas
+mod UnreadLemmas

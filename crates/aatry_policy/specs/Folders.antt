@@ -5,6 +5,7 @@ use Rattle.aa_profile_parsing.specs.declared.language.Language.{Language}
 use Rattle.aa_set_manager.specs.Manager.{Managed, new_manager_in}
 use Rattle.aa_set_commands.specs.declared.refusal.Refusal.{Refusal}
 use Rattle.aa_text_files.specs.Files.{File}
+use Rattle.aaset_start.specs.declared.readable.UnreadFault.{UnreadFault}
 use Rattle.aatry_folder.specs.Loadings.{TopFile, file_names, seen_top}
 use Rattle.aatry_folder.specs.declared.policy_folder.PolicyFolder.{PolicyFolder}
 use Rattle.aatry_folder.specs.PolicyFiles.{PolicyFiles}
@@ -16,25 +17,32 @@ use Rattle.aatry_policy.specs.Profiles.{FileProfiles, read_profiles}
 use Rattle.aatry_policy.specs.declared.origins.Origin.{Origin}
 use Rattle.aatry_report.specs.declared.form.Form.{Form}
 
--- a folder of policy: the language by which its files are read, all that lies below it, its path, and the files whose profiles are loaded, with how
--- they are, in that order
+-- a folder of policy: the language by which its files are read, all that lies below it, with why each file wasn't read, if it wasn't, its path, and the
+-- files whose profiles are loaded, with how they are, in that order
 pub record Folder : Type 0 where
   pub language : Language
   pub files : List File
+  pub unread : List (Option UnreadFault)
   pub base : List ℕ
   pub top : List TopFile
 
 -- a folder that was read
 abbrev pub seen_folder : PolicyFolder → Folder
-seen_folder folder = record { language = folder.language; files = folder.files; base = folder.base.now; top = map seen_top folder.top.items }
+seen_folder folder = record {
+  language = folder.language;
+  files = folder.files;
+  unread = folder.unread.items;
+  base = folder.base.now;
+  top = map seen_top folder.top.items;
+}
 
 -- what lies below it
 abbrev pub below : Folder → PolicyFiles
 below folder = record { files = folder.files; base = folder.base }
 
--- a folder by its path and all that lies below it, of which these files at the top are loaded, by a language
-abbrev pub folder_at : Language → List ℕ → List File → List TopFile → Folder
-folder_at language base files top = record { language = language; files = files; base = base; top = top }
+-- a folder by its path and all that lies below it, of which these files are loaded, by a language
+abbrev pub folder_at : Language → List ℕ → List File → List (Option UnreadFault) → List TopFile → Folder
+folder_at language base files unread top = record { language = language; files = files; unread = unread; base = base; top = top }
 
 -- what its files make, each added in its turn
 abbrev pub loaded_in : Folder → Managed
@@ -58,7 +66,7 @@ origins_in folder = origins_of (read_in folder)
 
 -- what is told of those that are left out, at length or not
 abbrev pub left_out_in : Form → Bool → Folder → List ℕ
-left_out_in form verbose folder = listed_lines form verbose folder.base (file_names folder.top) (outcomes_in folder)
+left_out_in form verbose folder = listed_lines form verbose folder.base folder.files folder.unread (file_names folder.top) (outcomes_in folder)
 
 -- those themselves
 abbrev pub files_left_out : Folder → List LeftOut

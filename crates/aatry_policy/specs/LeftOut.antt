@@ -1,9 +1,12 @@
 -- What is told of refusals, and of the files that are left out of a policy set.
-use Rattle.std.specs.Prelude.{ℕ, Bool, true, if◌then◌else◌, List, [], ◌∷◌, ◌++◌, codes, Option, None, Some}
+use Rattle.std.specs.Prelude.{ℕ, Bool, true, if◌then◌else◌, List, [], ◌∷◌, ◌++◌, codes, flat_map, Option, None, Some}
 use Rattle.serde_json.specs.Data.{Members}
 use Rattle.aa_bytes.specs.Bytes.{line_feed}
 use Rattle.aa_set_commands.specs.Refusal.{name_of, number_of}
 use Rattle.aa_set_commands.specs.declared.refusal.Refusal.{Refusal}
+use Rattle.aa_text_files.specs.Files.{File, name_at}
+use Rattle.aaset_start.specs.Readable.{unread_in, words_of}
+use Rattle.aaset_start.specs.declared.readable.UnreadFault.{UnreadFault}
 use Rattle.aatry_report.specs.FilePlaces.{path_below}
 use Rattle.aatry_report.specs.Records.{record_line, record_of, with_text}
 use Rattle.aatry_report.specs.Refusals.{named_refusal, with_named_refusal}
@@ -15,25 +18,22 @@ use Rattle.aatry_report.specs.declared.form.Form.TheVariants.{Lines, Records}
 abbrev pub refusal_text : Refusal → List ℕ
 refusal_text refusal = named_refusal (number_of refusal.refusal) (name_of refusal.refusal)
 
--- a record of a file that is left out, by its path
-abbrev pub left_out_record : List ℕ → Refusal → Members
-left_out_record path refusal =
-    with_named_refusal (number_of refusal.refusal) (name_of refusal.refusal) (with_text (codes "file") path (record_of (codes "left_out")))
+-- why a file is left out: by its refusal; or, where that stands in a file that wasn't read, by the path of this and why it wasn't, in words
+abbrev pub reason_by : List ℕ → List File → Refusal → Option (ℕ × UnreadFault) → List ℕ
+reason_by base files refusal None = refusal_text refusal
+reason_by base files refusal (Some unread) = shown (path_below base (name_at files unread.0)) ++ codes ": " ++ words_of unread.1
 
--- what is told of a file that is left out, by its path
-abbrev pub left_out_text : Form → List ℕ → Refusal → List ℕ
-left_out_text Lines path refusal = shown path ++ codes ": left out: " ++ refusal_text refusal ++ line_feed ∷ []
-left_out_text Records path refusal = record_line (left_out_record path refusal)
+abbrev pub reason_text : List ℕ → List File → List (Option UnreadFault) → Refusal → List ℕ
+reason_text base files unread refusal = reason_by base files refusal (unread_in unread refusal.place)
 
--- what is told of a file that is left out; of one that is taken nothing is
-abbrev pub left_out_line : Form → List ℕ → List ℕ → Option Refusal → List ℕ
-left_out_line form base name None = []
-left_out_line form base name (Some refusal) = left_out_text form (path_below base name) refusal
+-- a record with the same
+abbrev pub with_reason_by : List ℕ → List File → Refusal → Option (ℕ × UnreadFault) → Members → Members
+with_reason_by base files refusal None members = with_named_refusal (number_of refusal.refusal) (name_of refusal.refusal) members
+with_reason_by base files refusal (Some unread) members =
+    with_text (codes "words") (words_of unread.1) (with_text (codes "unread") (path_below base (name_at files unread.0)) members)
 
--- what is told of files, by how each came out
-abbrev pub left_out_lines : Form → List ℕ → List (List ℕ) → List (Option Refusal) → List ℕ
-left_out_lines form base (name ∷ names) (outcome ∷ outcomes) = left_out_line form base name outcome ++ left_out_lines form base names outcomes
-left_out_lines form base _ _ = []
+abbrev pub with_reason : List ℕ → List File → List (Option UnreadFault) → Refusal → Members → Members
+with_reason base files unread refusal members = with_reason_by base files refusal (unread_in unread refusal.place) members
 
 -- a file that is left out: its name, and why it is refused
 pub record LeftOut : Type 0 where
@@ -50,11 +50,44 @@ abbrev pub left_out_of : List (List ℕ) → List (Option Refusal) → List Left
 left_out_of (name ∷ names) (outcome ∷ outcomes) = left_out_if name outcome ++ left_out_of names outcomes
 left_out_of _ _ = []
 
+-- the words that tell a file that is left out: the kind of its record, and what stands before and behind its path on its line
+pub record LeftOutWords : Type 0 where
+  pub kind : List ℕ
+  pub before : List ℕ
+  pub behind : List ℕ
+
+-- the line of such a file, by its path
+abbrev pub file_line : LeftOutWords → List ℕ → List File → List (Option UnreadFault) → List ℕ → Refusal → List ℕ
+file_line words base files unread path refusal =
+    words.before ++ shown path ++ words.behind ++ reason_text base files unread refusal ++ line_feed ∷ []
+
+-- its record
+abbrev pub file_record : LeftOutWords → List ℕ → List File → List (Option UnreadFault) → List ℕ → Refusal → Members
+file_record words base files unread path refusal = with_reason base files unread refusal (with_text (codes "file") path (record_of words.kind))
+
+-- what is told of it
+abbrev pub file_text : Form → LeftOutWords → List ℕ → List File → List (Option UnreadFault) → List ℕ → Refusal → List ℕ
+file_text Lines words base files unread path refusal = file_line words base files unread path refusal
+file_text Records words base files unread path refusal = record_line (file_record words base files unread path refusal)
+
+-- what is told of such a file of a folder
+abbrev pub told_file : Form → LeftOutWords → List ℕ → List File → List (Option UnreadFault) → LeftOut → List ℕ
+told_file form words base files unread file = file_text form words base files unread (path_below base file.name) file.refusal
+
+-- and of some
+abbrev pub told_files : Form → LeftOutWords → List ℕ → List File → List (Option UnreadFault) → List LeftOut → List ℕ
+told_files form words base files unread left_out = flat_map (told_file form words base files unread) left_out
+
+-- the words that tell each file that is left out
+abbrev pub left_out_words : LeftOutWords
+left_out_words = record { kind = codes "left_out"; before = []; behind = codes ": left out: " }
+
 -- each file that is left out is told: by records always, and by lines where they tell at length
 abbrev pub is_listed : Form → Bool → Bool
 is_listed Lines verbose = verbose
 is_listed Records verbose = true
 
 -- what is told of files, at length or not
-abbrev pub listed_lines : Form → Bool → List ℕ → List (List ℕ) → List (Option Refusal) → List ℕ
-listed_lines form verbose base names outcomes = if is_listed form verbose then left_out_lines form base names outcomes else []
+abbrev pub listed_lines : Form → Bool → List ℕ → List File → List (Option UnreadFault) → List (List ℕ) → List (Option Refusal) → List ℕ
+listed_lines form verbose base files unread names outcomes =
+    if is_listed form verbose then told_files form left_out_words base files unread (left_out_of names outcomes) else []

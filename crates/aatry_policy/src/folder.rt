@@ -35,8 +35,9 @@ pub fn by_parts<'a>(folder: &'a PolicyFolder<'_>, parts: &'a [Part<'a>]) -> Fold
 
 /// Loads the files at the top of a folder, as `load` does by the folder's language and as each is to be loaded, and puts what is told and noted of
 /// those that are left out behind a report. Told is, in lines that tell at length, a line of each with its path, the number and the name of its
-/// refusal; in other lines nothing; and in records one of the kind `left_out`, with `file`, `number` and `refusal`. Noted is, where there are any,
-/// how many there are, and the command that tells what is wrong with each.
+/// refusal; in other lines nothing; and in records one of the kind `left_out`, with `file`, `number` and `refusal`. Where a file is left out since another
+/// one, or itself, wasn't read, the path of that and why it wasn't come in place of the refusal, in records as `unread` and `words`. Noted is, where
+/// there are any, how many there are, and the command that tells what is wrong with each.
 ///
 /// # Errors
 ///
@@ -55,13 +56,7 @@ pub fn load_folder<'a>(
     ensures noted { OnOk result (report.new.notes.items ≡ report.old.notes.items ++ left_out_note (seen_folder folder.now)) }
 {
     let policy = load(teller.alloc, folder.language, &folder.files, &folder.top)?;
-    push_left_out(
-        teller,
-        folder.base.as_bytes(),
-        &folder.top,
-        &policy.outcomes,
-        &mut report.text,
-    )?;
+    push_left_out(teller, folder, &policy.outcomes, &mut report.text)?;
     push_note(
         folder.language,
         folder.base,

@@ -1,6 +1,6 @@
 //! What holds of the profiles and the parts of a folder, as laws over the definitions that the calls are proved to follow.
 
-ghost use Rattle.std.specs.Prelude.{◌≡◌, ℕ, Bool, List, Ok, Option, Some, map};
+ghost use Rattle.std.specs.Prelude.{◌≡◌, ℕ, Bool, List, Ok, Option, Some, is_err, map, true};
 ghost use Rattle.std.specs.List.{All};
 ghost use Rattle.aa_decide.specs.Exec.{Asker};
 ghost use Rattle.aa_decide_slots.specs.Entries.{Loaded};
@@ -13,7 +13,10 @@ ghost use Rattle.aa_set_answers.specs.Askers.{asker};
 ghost use Rattle.aa_set_answers.specs.Laws.{IsListed, StandsAt};
 ghost use Rattle.aa_set_answers.specs.ProfileNames.{full_name_at};
 ghost use Rattle.aa_set_changes.specs.Changes.{loaded};
-ghost use Rattle.aa_text_files.specs.Files.{File};
+ghost use Rattle.aa_text_files.specs.Files.{File, file_at as place_of};
+ghost use Rattle.aaset_start.specs.Readable.{AreTakenSo, unread_at};
+ghost use Rattle.aaset_start.specs.declared.readable.UnreadFault.{UnreadFault};
+ghost use Rattle.aatry_folder.specs.Reaching.{Reaches};
 ghost use Rattle.aatry_policy.specs.Laws.{HasOwnRules};
 ghost use Rattle.aatry_policy.specs.Folders.{Folder, origins_in, policy_in};
 ghost use Rattle.aatry_policy.specs.FolderParts.{parts_in};
@@ -25,6 +28,8 @@ ghost use Rattle.aatry_policy.specs.declared.origins.Origin.{Origin};
 use aa_profile::{how_profiles_are_named, where_rules_are_made};
 use aa_set_answers::where_listed_names_lead;
 use aa_set_changes::what_changes_keep;
+use aaset_start::FileSystem;
+use aatry_folder::what_cannot_be_read_is_never_entered;
 
 /// Of each profile, child and hat that the files of a folder load, its full name leads back to it as a name that asks; and the folder has a part of that
 /// name, of which the first has exactly the rules by which it decides, and its flag that audits them. So what `aatry who` tells below a name are rules
@@ -72,4 +77,17 @@ pub fn where_loaded_rules_are_written()
 {
     where_rules_are_made();
     what_changes_keep();
+}
+
+/// No profile is read of a file that couldn't be read, nor of any other that leads to it by includes, through however many files: where files are
+/// taken as `aatry_folder::policy_below` takes them, reading such a file by its name comes to a fault, so that it loads nothing.
+pub fn what_cannot_be_read_gives_no_profile<D: FileSystem>(disk: &D)
+    ensures { (language : Language) (base : List ℕ) (files : List File) (unread : List (Option UnreadFault)) (name : List ℕ) (one other : ℕ) (way : List ℕ) (fault : UnreadFault)
+        → AreTakenSo (D.known disk.now) base files unread
+        → place_of files name ≡ Some one
+        → Reaches files one way other
+        → unread_at unread other ≡ Some fault
+        → is_err (file_profiles_in language files name) ≡ true }
+{
+    what_cannot_be_read_is_never_entered(disk);
 }

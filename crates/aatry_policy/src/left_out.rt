@@ -1,17 +1,34 @@
 //! What is told of refusals, and of the files that are left out of a policy set.
 
-ghost use Rattle.std.specs.Prelude.{◌≡◌, ◌++◌, IfOk, OnOk, map};
+ghost use Rattle.std.specs.Prelude.{◌≡◌, ◌++◌, IfOk, OnOk, codes, map};
 ghost use Rattle.aatry_folder.specs.Loadings.{file_names, seen_top};
-ghost use Rattle.aatry_policy.specs.LeftOut.{is_listed, left_out_line, left_out_lines, left_out_record, left_out_text, listed_lines, refusal_text};
+ghost use Rattle.aatry_policy.specs.LeftOut.{file_line, file_record, file_text, is_listed, left_out_of, left_out_words, listed_lines};
+ghost use Rattle.aatry_policy.specs.LeftOut.{reason_text, refusal_text, told_file, told_files, with_reason};
+ghost use Rattle.aatry_policy.specs.SeenLeftOut.{all_left_out, seen_left_out, seen_words};
+ghost use Rattle.aatry_report.specs.FilePlaces.{path_below};
+ghost use Rattle.aatry_report.specs.Records.{with_text};
 ghost use Rattle.aatry_report.specs.SeenRecord.{seen_record};
-ghost use Rattle.aatry_report.specs.declared.form.Form.TheVariants as form;
+ghost use Rattle.aatry_report.specs.Shown.{shown};
 
+use crate::left_out_files::{LeftOut, left_out_of};
 use aa_set_commands::Refusal;
-use aatry_folder::TopFile;
+use aaset_start::unread_in;
+use aatry_folder::PolicyFolder;
 use aatry_report::{
     Form, Record, Teller, path_below, push_named_refusal, push_shown, put_named_refusal,
 };
 use std::alloc::{AllocError, Global};
+
+/// The words that tell a file that is left out.
+#[derive(Clone, Copy)]
+pub struct LeftOutWords<'a> {
+    /// The kind of its record.
+    pub kind: &'a str,
+    /// What stands before its path on its line.
+    pub before: &'a str,
+    /// What stands behind its path there, and before why it is left out.
+    pub behind: &'a str,
+}
 
 /// Puts the number and the name of a refusal behind a text.
 ///
@@ -24,82 +41,205 @@ pub fn push_refusal(out: &mut Vec<u8>, refusal: Refusal) -> Result<(), AllocErro
     push_named_refusal(out, refusal.number(), refusal.name())
 }
 
-// Puts the line of a file that is left out behind a text.
-fn push_line(out: &mut Vec<u8>, path: &[u8], refusal: Refusal) -> Result<(), AllocError>
-    ensures { OnOk result (out.new.items ≡ out.old.items ++ left_out_text form.Lines path.now refusal) }
+// Puts why a file wasn't read behind a text, by its name in its folder.
+fn push_unread(
+    alloc: Global,
+    base: &[u8],
+    name: &[u8],
+    words: &str,
+    out: &mut Vec<u8>,
+) -> Result<(), AllocError>
+    ensures { OnOk result (out.new.items ≡ out.old.items ++ shown (path_below base.now name.now) ++ codes ": " ++ words.now) }
 {
-    push_shown(out, path)?;
-    out.extend_from_slice(b": left out: ")?;
-    push_refusal(out, refusal)?;
-    out.push(b'\n')?;
-    Ok(())
+    let path = path_below(alloc, base, name)?;
+    push_shown(out, &path)?;
+    out.extend_from_slice(b": ")?;
+    out.extend_from_slice(words.as_bytes())
 }
 
-// The record of a file that is left out.
-fn left_out_record(alloc: Global, path: &[u8], refusal: Refusal) -> Result<Record, AllocError>
-    ensures { IfOk result (λ made. seen_record made ≡ left_out_record path.now refusal) }
+// Puts it into a record.
+fn put_unread(
+    alloc: Global,
+    base: &[u8],
+    name: &[u8],
+    words: &str,
+    into: &mut Record,
+) -> Result<(), AllocError>
+    ensures { OnOk result (seen_record into.new
+        ≡ with_text (codes "words") words.now (with_text (codes "unread") (path_below base.now name.now) (seen_record into.old))) }
 {
-    let mut made = Record::new(alloc, "left_out")?;
-    made.put_text(alloc, "file", path)?;
-    put_named_refusal(alloc, refusal.number(), refusal.name(), &mut made)?;
-    Ok(made)
+    let path = path_below(alloc, base, name)?;
+    into.put_text(alloc, "unread", &path)?;
+    into.put_text(alloc, "words", words.as_bytes())
 }
 
-// Puts what is told of a file that is left out behind a text.
-fn push_text(
-    teller: Teller,
+/// Puts why a file of a folder is left out behind a text: the number and the name of its refusal; or, where the refusal stands in a file that wasn't
+/// read, be it another one or itself, the path of that and why it wasn't.
+///
+/// # Errors
+///
+/// Where memory runs out. A beginning may have been put then.
+pub fn push_reason(
+    alloc: Global,
+    folder: &PolicyFolder<'_>,
+    refusal: Refusal,
+    out: &mut Vec<u8>,
+) -> Result<(), AllocError>
+    ensures { OnOk result (out.new.items
+        ≡ out.old.items ++ reason_text folder.now.base.now folder.now.files folder.now.unread.items refusal) }
+{
+    match unread_in(&folder.unread, refusal.place) {
+        None => push_refusal(out, refusal),
+        Some((file, fault)) => push_unread(
+            alloc,
+            folder.base.as_bytes(),
+            folder.files.name_at(file),
+            fault.words(),
+            out,
+        ),
+    }
+}
+
+/// Puts the same into a record: as `number` and `refusal`, or as `unread` and `words`.
+///
+/// # Errors
+///
+/// Where memory runs out. A part may have been put then.
+pub fn put_reason(
+    alloc: Global,
+    folder: &PolicyFolder<'_>,
+    refusal: Refusal,
+    into: &mut Record,
+) -> Result<(), AllocError>
+    ensures { OnOk result (seen_record into.new
+        ≡ with_reason folder.now.base.now folder.now.files folder.now.unread.items refusal (seen_record into.old)) }
+{
+    match unread_in(&folder.unread, refusal.place) {
+        None => put_named_refusal(alloc, refusal.number(), refusal.name(), into),
+        Some((file, fault)) => put_unread(
+            alloc,
+            folder.base.as_bytes(),
+            folder.files.name_at(file),
+            fault.words(),
+            into,
+        ),
+    }
+}
+
+// Puts the line of a file that is left out behind a text, by its path.
+fn push_line(
+    alloc: Global,
+    words: LeftOutWords<'_>,
+    folder: &PolicyFolder<'_>,
     path: &[u8],
     refusal: Refusal,
     out: &mut Vec<u8>,
 ) -> Result<(), AllocError>
-    ensures { OnOk result (out.new.items ≡ out.old.items ++ left_out_text teller.form path.now refusal) }
+    ensures { OnOk result (out.new.items
+        ≡ out.old.items ++ file_line (seen_words words.entry) folder.now.base.now folder.now.files folder.now.unread.items path.now refusal) }
 {
-    match teller.form {
-        Form::Lines => push_line(out, path, refusal),
-        Form::Records => left_out_record(teller.alloc, path, refusal)?.push(teller.alloc, out),
-    }
+    out.extend_from_slice(words.before.as_bytes())?;
+    push_shown(out, path)?;
+    out.extend_from_slice(words.behind.as_bytes())?;
+    push_reason(alloc, folder, refusal, out)?;
+    out.push(b'\n')?;
+    Ok(())
 }
 
-// Puts it there, if the file is left out.
-fn push_file(
+// The record of a file that is left out, by its path.
+fn file_record(
+    alloc: Global,
+    words: LeftOutWords<'_>,
+    folder: &PolicyFolder<'_>,
+    path: &[u8],
+    refusal: Refusal,
+) -> Result<Record, AllocError>
+    ensures { IfOk result (λ made. seen_record made
+        ≡ file_record (seen_words words.entry) folder.now.base.now folder.now.files folder.now.unread.items path.now refusal) }
+{
+    let mut made = Record::new(alloc, words.kind)?;
+    made.put_text(alloc, "file", path)?;
+    put_reason(alloc, folder, refusal, &mut made)?;
+    Ok(made)
+}
+
+// Puts what is told of a file that is left out behind a text, by its path.
+fn push_text(
     teller: Teller,
-    base: &[u8],
-    name: &[u8],
-    outcome: Option<Refusal>,
+    words: LeftOutWords<'_>,
+    folder: &PolicyFolder<'_>,
+    path: &[u8],
+    refusal: Refusal,
     out: &mut Vec<u8>,
 ) -> Result<(), AllocError>
-    ensures { OnOk result (out.new.items ≡ out.old.items ++ left_out_line teller.form base.now name.now outcome) }
+    ensures { OnOk result (out.new.items ≡ out.old.items
+        ++ file_text teller.form (seen_words words.entry) folder.now.base.now folder.now.files folder.now.unread.items path.now refusal) }
 {
-    match outcome {
-        None => Ok(()),
-        Some(refusal) => {
-            let path = path_below(teller.alloc, base, name)?;
-            push_text(teller, &path, refusal, out)
+    match teller.form {
+        Form::Lines => push_line(teller.alloc, words, folder, path, refusal, out),
+        Form::Records => {
+            file_record(teller.alloc, words, folder, path, refusal)?.push(teller.alloc, out)
         }
     }
 }
 
-// Puts what is told of each file behind a text that is left out, with its path and why it is refused.
+// Puts what is told of a file of a folder behind a text that is left out.
+fn push_file(
+    teller: Teller,
+    words: LeftOutWords<'_>,
+    folder: &PolicyFolder<'_>,
+    file: LeftOut<'_>,
+    out: &mut Vec<u8>,
+) -> Result<(), AllocError>
+    ensures { OnOk result (out.new.items ≡ out.old.items
+        ++ told_file teller.form (seen_words words.entry) folder.now.base.now folder.now.files folder.now.unread.items (seen_left_out file.entry)) }
+{
+    let path = path_below(teller.alloc, folder.base.as_bytes(), file.name.as_bytes())?;
+    push_text(teller, words, folder, &path, file.refusal, out)
+}
+
+/// Puts what is told of files of a folder behind a text that are left out: a line of each, with words before and behind its path, and then why it is left
+/// out (`push_reason`); or a record of the kind that the words name, with `file` and the same (`put_reason`).
+///
+/// # Errors
+///
+/// Where memory runs out. What is told of some files may have been put then.
+pub fn push_files(
+    teller: Teller,
+    words: LeftOutWords<'_>,
+    folder: &PolicyFolder<'_>,
+    files: &[LeftOut<'_>],
+    out: &mut Vec<u8>,
+) -> Result<(), AllocError>
+    ensures { OnOk result (out.new.items ≡ out.old.items
+        ++ told_files teller.form (seen_words words.entry) folder.now.base.now folder.now.files folder.now.unread.items (all_left_out files.now)) }
+{
+    let mut rest = files;
+    while let [file, behind @ ..] = rest {
+        push_file(teller, words, folder, *file, out)?;
+        rest = behind;
+    }
+    Ok(())
+}
+
+// Puts what is told of each file behind a text that is left out, with its path and why it is.
 fn push_each(
     teller: Teller,
-    base: &[u8],
-    top: &[TopFile],
+    folder: &PolicyFolder<'_>,
     outcomes: &[Option<Refusal>],
     out: &mut Vec<u8>,
 ) -> Result<(), AllocError>
-    ensures { OnOk result (out.new.items ≡ out.old.items ++ left_out_lines teller.form base.now (file_names (map seen_top top.now)) outcomes.now) }
+    ensures { OnOk result (out.new.items ≡ out.old.items
+        ++ told_files teller.form left_out_words folder.now.base.now folder.now.files folder.now.unread.items
+        (left_out_of (file_names (map seen_top folder.now.top.items)) outcomes.now)) }
 {
-    let mut left = outcomes;
-    let mut rest = top;
-    while let [file, behind @ ..] = rest {
-        let [outcome, more @ ..] = left else {
-            break;
-        };
-        push_file(teller, base, file.name.as_bytes(), *outcome, out)?;
-        rest = behind;
-        left = more;
-    }
-    Ok(())
+    let files = left_out_of(teller.alloc, &folder.top, outcomes)?;
+    let words = LeftOutWords {
+        kind: "left_out",
+        before: "",
+        behind: ": left out: ",
+    };
+    push_files(teller, words, folder, &files, out)
 }
 
 // Whether each file that is left out is told: by records always, and by lines where they tell at length.
@@ -112,24 +252,23 @@ fn is_listed(teller: Teller) -> bool
     }
 }
 
-/// Puts what is told of each file behind a text that is left out, with its path and why it is refused. In lines nothing is told, unless they tell at
-/// length.
+/// Puts what is told of each file of a folder behind a text that is left out, with its path and why it is: why it is refused, or why another file that
+/// it includes, or itself, wasn't read, with the path of that. In lines nothing is told, unless they tell at length.
 ///
 /// # Errors
 ///
 /// Where memory runs out. A beginning may have been put then.
 pub fn push_left_out(
     teller: Teller,
-    base: &[u8],
-    top: &[TopFile],
+    folder: &PolicyFolder<'_>,
     outcomes: &[Option<Refusal>],
     out: &mut Vec<u8>,
 ) -> Result<(), AllocError>
-    ensures { OnOk result (out.new.items
-        ≡ out.old.items ++ listed_lines teller.form teller.verbose base.now (file_names (map seen_top top.now)) outcomes.now) }
+    ensures { OnOk result (out.new.items ≡ out.old.items ++ listed_lines teller.form teller.verbose folder.now.base.now folder.now.files
+        folder.now.unread.items (file_names (map seen_top folder.now.top.items)) outcomes.now) }
 {
     if is_listed(teller) {
-        push_each(teller, base, top, outcomes, out)
+        push_each(teller, folder, outcomes, out)
     } else {
         Ok(())
     }

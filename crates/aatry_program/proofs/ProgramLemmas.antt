@@ -1,5 +1,5 @@
 -- What is done is what the words ask for.
-use Rattle.std.proofs.Common.{◌≡◌, ◌⊎◌, ℕ, Bool, List, Result, Ok, Err, IfErr, IfOk, MatchResult, OnOk, inl, inr, string_bytes, subst}
+use Rattle.std.proofs.Common.{◌≡◌, ◌⊎◌, ℕ, Bool, List, Result, Ok, Err, IfErr, IfOk, MatchResult, OnOk, inl, inr, refl, string_bytes, subst}
 use Rattle.aa_profile_parsing.specs.declared.language.Language.{Language}
 use Rattle.aatry_arguments.specs.Arguments.{CommandAsked, ForCheck, ForDiff, ForLog, ForSession, ForTest, ForWho, ForWhy}
 use Rattle.aa_options.specs.Options.{Asked, ForHelp, ForThis, ForVersion, Nothing}
@@ -14,8 +14,12 @@ use Rattle.aatry_folder.specs.declared.report.Report.{Report as CodeReport}
 use Rattle.aatry_folder.specs.declared.fault.Fault.{Fault}
 use Rattle.aatry_folder.specs.declared.fault.Fault.TheVariants as fault
 use Rattle.aatry_program.specs.Program.{Input, IsCommandDone, IsDone, IsDoneBy, IsFaultShown, IsOutcomeShown, IsReported, Output}
+use Rattle.aatry_program.specs.Questions.{IsEndOf, IsToldBelow, words_asking}
 use Rattle.aatry_program.specs.Status.{status_of}
+use Rattle.aatry_program.specs.declared.questions.Inquiry.{Inquiry}
+use Rattle.aatry_program.specs.declared.questions.Inquiry.TheVariants.{Who, Why}
 use Rattle.aatry_report.specs.declared.form.Form.{Form}
+use Rattle.aatry_requests.specs.AskedWords.{AskNothing}
 use Rattle.aatry_folder.specs.Told.{ToldFolders}
 use Rattle.aaset_start.specs.Known.{Known}
 
@@ -25,6 +29,20 @@ pub command_done : (Tells : Report → Type 0) (Ends : Fault → Type 0) (output
     → IsCommandDone Tells Ends output status
 command_done Tells Ends output status (Ok report) told ends shown = inl (seen_report report, told, shown)
 command_done Tells Ends output status (Err fault) told ends shown = inr (fault, ends, shown)
+
+-- where the words of a question ask none, that is reported
+pub words_told : (inquiry : Inquiry) (form : Form) (verbose : Bool) (language : Language) (folders : ToldFolders) (known : Known) (base : List ℕ) (words : List (List ℕ))
+    (output : Output) (status : ℕ) → AskNothing (words_asking inquiry words) → output.after ≡ output.before → status ≡ status_of fault.BadQuestion
+    → IsCommandDone (IsToldBelow inquiry form verbose language folders known base words) (IsEndOf inquiry folders base words) output status
+words_told Why form verbose language folders known base words output status nothing same is = inr (fault.BadQuestion, inr (refl, nothing), (same, is))
+words_told Who form verbose language folders known base words output status nothing same is = inr (fault.BadQuestion, inr (refl, nothing), (same, is))
+
+-- and so is want of memory
+pub no_memory_told : (inquiry : Inquiry) (form : Form) (verbose : Bool) (language : Language) (folders : ToldFolders) (known : Known) (base : List ℕ) (words : List (List ℕ))
+    (output : Output) (status : ℕ) → output.after ≡ output.before → status ≡ status_of fault.NoMemory
+    → IsCommandDone (IsToldBelow inquiry form verbose language folders known base words) (IsEndOf inquiry folders base words) output status
+no_memory_told Why form verbose language folders known base words output status same is = inr (fault.NoMemory, inl tt, (same, is))
+no_memory_told Who form verbose language folders known base words output status same is = inr (fault.NoMemory, inl tt, (same, is))
 
 -- the call that is given is the one that is asked for
 pub done_by_command : (folders : ToldFolders) (known : Known) (input : Input) (asked : Asked CallAsked) (call : Call) (output : Output)

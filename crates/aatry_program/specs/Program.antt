@@ -85,10 +85,10 @@ IsSessionDone language folders known base input output status =
 
 -- A command is done by a language: what it comes to is shown in a form, at length or not, of a test in lines alone; and a session is had.
 abbrev pub IsDoneBy : Language → Form → Bool → ToldFolders → Known → Input → CommandAsked → Output → ℕ → Type 0
-IsDoneBy language form verbose folders known input (ForCheck check) output status = IsCommandDone (IsChecked form language folders known check.base check.names) (IsEndOfCheck folders known check.base) output status
+IsDoneBy language form verbose folders known input (ForCheck check) output status = IsCommandDone (IsChecked form language folders known check.base check.names) (IsEndOfCheck folders check.base) output status
 IsDoneBy language form verbose folders known input (ForTest test) output status = IsCommandDone (IsTestedBelow language folders known test.base test.paths) (IsEndOfTest folders known test.base test.paths) output status
-IsDoneBy language form verbose folders known input (ForWho asking) output status = IsCommandDone (IsWhoToldBelow form verbose language folders known asking.base asking.words) (IsEndOfWho folders known asking.base asking.words) output status
-IsDoneBy language form verbose folders known input (ForWhy asking) output status = IsCommandDone (IsWhyToldBelow form verbose language folders known asking.base asking.words) (IsEndOfWhy folders known asking.base asking.words) output status
+IsDoneBy language form verbose folders known input (ForWho asking) output status = IsCommandDone (IsWhoToldBelow form verbose language folders known asking.base asking.words) (IsEndOfWho folders asking.base asking.words) output status
+IsDoneBy language form verbose folders known input (ForWhy asking) output status = IsCommandDone (IsWhyToldBelow form verbose language folders known asking.base asking.words) (IsEndOfWhy folders asking.base asking.words) output status
 IsDoneBy language form verbose folders known input (ForLog logs) output status = IsCommandDone (IsLogToldBelow form verbose language folders known input.left logs) (IsEndOfLog folders known logs) output status
 IsDoneBy language form verbose folders known input (ForDiff comparison) output status = IsCommandDone (IsComparedBelow form verbose language folders known comparison) (IsEndOfDiff folders known comparison) output status
 IsDoneBy language form verbose folders known input (ForSession session) output status = IsSessionDone language folders known session.base input output status

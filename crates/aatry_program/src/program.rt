@@ -4,14 +4,11 @@ ghost use Rattle.std.specs.Prelude.{◌≡◌, ◌≤◌, ◌^◌, MatchResult, 
 ghost use Rattle.aatry_arguments.specs.Forms.{asked_call};
 ghost use Rattle.aatry_arguments.specs.Given.{meant_command};
 ghost use Rattle.aaset_start.specs.Gathering.{texts_of};
-ghost use Rattle.aatry_who.specs.Ends.{IsEndOfWho};
-ghost use Rattle.aatry_who.specs.Who.{IsWhoToldBelow};
-ghost use Rattle.aatry_why.specs.Ends.{IsEndOfWhy};
-ghost use Rattle.aatry_why.specs.Why.{IsWhyToldBelow};
 ghost use Rattle.aatry_program.specs.Program.{IsCommandDone, IsDone, IsDoneBy, IsFaultShown, IsOutcomeShown, IsSessionDone, IsShown, IsStarted, input_of, output_of};
+ghost use Rattle.aatry_program.specs.Questions.{IsEndOf, IsToldBelow};
 ghost use Rattle.aatry_program.specs.Status.{status_of};
 
-use crate::questions::{who_fault, why_fault};
+use crate::questions::{Inquiry, inquire, inquiry_fault};
 use crate::reporting::{report, report_line};
 use crate::status::failure_status;
 use crate::streams::Streams;
@@ -26,8 +23,6 @@ use aatry_log::log_folder;
 use aatry_report::Teller;
 use aatry_session_run::session_folder;
 use aatry_test::test_folder;
-use aatry_who::who_folder;
-use aatry_why::why_folder;
 use std::alloc::Global;
 
 // Shows a text, and gives the exit status: the one that goes with the text, or that of the fault of standard output.
@@ -106,50 +101,25 @@ fn have_session<F: Folders, D: FileSystem, S: Source, W: Sink, E: Sink>(
     session_status(alloc, outcome, &mut streams.errors)
 }
 
-// Asks a folder why a question is answered as it is; where the words ask none, what is wrong with them is reported.
-fn tell_why<F: Folders, D: FileSystem, S, W: Sink, E: Sink>(
+// Asks a folder a question, and shows what it comes to; where the words ask none, what is wrong with them is reported.
+fn tell_question<F: Folders, D: FileSystem, S, W: Sink, E: Sink>(
     teller: Teller,
+    inquiry: Inquiry,
     language: Language,
     asked: Asking,
     folders: &F,
     disk: &D,
     streams: &mut Streams<S, W, E>,
 ) -> u8
-    ensures { IsCommandDone (IsWhyToldBelow teller.form teller.verbose language (F.told folders.now) (D.known disk.now) (string_bytes asked.base) (texts_of asked.words))
-        (IsEndOfWhy (F.told folders.now) (D.known disk.now) (string_bytes asked.base) (texts_of asked.words))
+    ensures { IsCommandDone (IsToldBelow inquiry teller.form teller.verbose language (F.told folders.now) (D.known disk.now) (string_bytes asked.base) (texts_of asked.words))
+        (IsEndOf inquiry (F.told folders.now) (string_bytes asked.base) (texts_of asked.words))
         (output_of (W.written streams.old.output) (W.written streams.new.output) (W.failed streams.new.output)) result }
 {
-    match why_fault(teller.alloc, &asked.words) {
+    match inquiry_fault(teller.alloc, inquiry, &asked.words) {
         Ok(None) => {
             show_outcome(
                 teller.alloc,
-                why_folder(teller, language, folders, disk, asked),
-                streams,
-            )
-        }
-        Ok(Some(line)) => report_line(&mut streams.errors, &line, &Fault::BadQuestion),
-        Err(_) => report(teller.alloc, &mut streams.errors, &Fault::NoMemory),
-    }
-}
-
-// The same of who would be let through.
-fn tell_who<F: Folders, D: FileSystem, S, W: Sink, E: Sink>(
-    teller: Teller,
-    language: Language,
-    asked: Asking,
-    folders: &F,
-    disk: &D,
-    streams: &mut Streams<S, W, E>,
-) -> u8
-    ensures { IsCommandDone (IsWhoToldBelow teller.form teller.verbose language (F.told folders.now) (D.known disk.now) (string_bytes asked.base) (texts_of asked.words))
-        (IsEndOfWho (F.told folders.now) (D.known disk.now) (string_bytes asked.base) (texts_of asked.words))
-        (output_of (W.written streams.old.output) (W.written streams.new.output) (W.failed streams.new.output)) result }
-{
-    match who_fault(teller.alloc, &asked.words) {
-        Ok(None) => {
-            show_outcome(
-                teller.alloc,
-                who_folder(teller, language, folders, disk, asked),
+                inquire(teller, inquiry, language, folders, disk, asked),
                 streams,
             )
         }
@@ -198,8 +168,24 @@ fn perform<F: Folders, D: FileSystem, S: Source, W: Sink, E: Sink>(
                 streams,
             )
         }
-        Command::Who(asked) => tell_who(teller, language, asked, folders, disk, streams),
-        Command::Why(asked) => tell_why(teller, language, asked, folders, disk, streams),
+        Command::Who(asked) => tell_question(
+            teller,
+            Inquiry::Who,
+            language,
+            asked,
+            folders,
+            disk,
+            streams,
+        ),
+        Command::Why(asked) => tell_question(
+            teller,
+            Inquiry::Why,
+            language,
+            asked,
+            folders,
+            disk,
+            streams,
+        ),
         Command::Log(asked) => {
             let outcome = log_folder(teller, language, folders, disk, asked, &mut streams.input);
             show_outcome(alloc, outcome, streams)

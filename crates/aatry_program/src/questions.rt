@@ -1,11 +1,30 @@
-//! What is wrong with the words of a question, as it is reported.
+//! Commands that ask a folder of policy a question by words, and what is wrong with words that ask none.
 
-ghost use Rattle.std.specs.Prelude.{IfOk, IsSome, map, string_bytes};
+ghost use Rattle.std.specs.Prelude.{IfErr, IfOk, IsSome, map, string_bytes};
+ghost use Rattle.aaset_start.specs.Gathering.{texts_of};
+ghost use Rattle.aatry_folder.specs.Reports.{seen_report};
+ghost use Rattle.aatry_program.specs.Questions.{IsEndOf, IsToldBelow, words_asking};
 ghost use Rattle.aatry_requests.specs.AskedWords.{AskNothing, letting_words};
 
+use aa_profile_parsing::Language;
+use aaset_start::FileSystem;
+use aatry_arguments::Asking;
+use aatry_folder::{Fault, Folders, Report};
 use aatry_questions::{QuestionFault, push_words_fault};
+use aatry_report::Teller;
 use aatry_requests::{letting_fault, words_fault};
+use aatry_who::who_folder;
+use aatry_why::why_folder;
 use std::alloc::{AllocError, Global};
+
+/// Which of these commands it is.
+#[derive(Clone, Copy)]
+pub enum Inquiry {
+    /// Why a question is answered as it is.
+    Why,
+    /// Who would be let through.
+    Who,
+}
 
 // The line that tells what is wrong with the words of a question.
 fn fault_line(alloc: Global, fault: &QuestionFault) -> Result<Vec<u8>, AllocError> {
@@ -26,7 +45,7 @@ fn line_of(alloc: Global, found: Option<QuestionFault>) -> Result<Option<Vec<u8>
 }
 
 // The line that tells what is wrong with the words behind `why`, where they ask no question.
-pub fn why_fault(alloc: Global, words: &[String]) -> Result<Option<Vec<u8>>, AllocError>
+fn why_fault(alloc: Global, words: &[String]) -> Result<Option<Vec<u8>>, AllocError>
     ensures { IfOk result (λ line. IsSome line → AskNothing (map string_bytes words.now)) }
 {
     let found = words_fault(alloc, words)?;
@@ -34,9 +53,42 @@ pub fn why_fault(alloc: Global, words: &[String]) -> Result<Option<Vec<u8>>, All
 }
 
 // The same of the words behind `who`.
-pub fn who_fault(alloc: Global, words: &[String]) -> Result<Option<Vec<u8>>, AllocError>
+fn who_fault(alloc: Global, words: &[String]) -> Result<Option<Vec<u8>>, AllocError>
     ensures { IfOk result (λ line. IsSome line → AskNothing (letting_words (map string_bytes words.now))) }
 {
     let found = letting_fault(alloc, words)?;
     line_of(alloc, found)
+}
+
+// The line that tells what is wrong with the words of either command.
+pub fn inquiry_fault(
+    alloc: Global,
+    inquiry: Inquiry,
+    words: &[String],
+) -> Result<Option<Vec<u8>>, AllocError>
+    ensures { IfOk result (λ line. IsSome line → AskNothing (words_asking inquiry (map string_bytes words.now))) }
+{
+    match inquiry {
+        Inquiry::Why => why_fault(alloc, words),
+        Inquiry::Who => who_fault(alloc, words),
+    }
+}
+
+// What either command comes to.
+pub fn inquire<F: Folders, D: FileSystem>(
+    teller: Teller,
+    inquiry: Inquiry,
+    language: Language,
+    folders: &F,
+    disk: &D,
+    asked: Asking,
+) -> Result<Report, Fault>
+    ensures told { IfOk result (λ report. IsToldBelow inquiry teller.form teller.verbose language (F.told folders.now) (D.known disk.now)
+        (string_bytes asked.base) (texts_of asked.words) (seen_report report)) }
+    ensures fault { IfErr result (IsEndOf inquiry (F.told folders.now) (string_bytes asked.base) (texts_of asked.words)) }
+{
+    match inquiry {
+        Inquiry::Why => why_folder(teller, language, folders, disk, asked),
+        Inquiry::Who => who_folder(teller, language, folders, disk, asked),
+    }
 }

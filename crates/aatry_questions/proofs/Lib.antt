@@ -1,2 +1,4 @@
 pub mod FaultLemmas
+mod MeantLemmas
 pub mod TableLemmas
+mod WordLemmas

@@ -1,10 +1,10 @@
 -- What is wrong with the words of a question (docs/commands.md, "Questions").
-use Rattle.std.specs.Prelude.{◌≡◌, ℕ, ◌||◌, ⊤, Bool, if◌then◌else◌, List, [], ◌∷◌, Option, None, Some, Result, Ok, Err, codes, is_some}
+use Rattle.std.specs.Prelude.{◌≡◌, ℕ, ⊤, Bool, if◌then◌else◌, List, [], ◌∷◌, Option, None, Some, Result, Ok, Err, codes, is_some}
 use Rattle.std.specs.Str.{bytes_eq}
 use Rattle.aa_profile_access.specs.Access.{bit_of, has, union}
 use Rattle.aa_profile_tables.specs.Capabilities.{capability_number}
 use Rattle.aa_profile_tables.specs.Domains.{domain_number}
-use Rattle.aa_set_commands.specs.Question.{Question, is_path, type_number}
+use Rattle.aa_set_commands.specs.Question.{Question, is_path, owned_of, type_number}
 use Rattle.aa_set_commands.specs.Refusal.{plain}
 use Rattle.aa_set_commands.specs.declared.refusal.Refusal.{Refusal}
 use Rattle.aa_set_commands.specs.declared.refusal.RefusalKind.{RefusalKind}
@@ -49,15 +49,9 @@ abbrev pub access_fault : List ℕ → Option Found
 access_fault [] = Some (found NoLetter [])
 access_fault (letter ∷ more) = letters_fault 0 (letter ∷ more)
 
-abbrev pub is_owned_word : List ℕ → Bool
-is_owned_word word = bytes_eq word (codes "owner") || bytes_eq word (codes "other")
-
 -- what is wrong with the words behind who asks: the first of them that is wrong
 abbrev pub exec_fault : List ℕ → List ℕ → Option Found
-exec_fault owned path = first_fault (unless (is_owned_word owned) Owned owned) (unless (is_path path) Path path)
-
-abbrev pub file_fault : List ℕ → List ℕ → List ℕ → Option Found
-file_fault access owned path = first_fault (access_fault access) (exec_fault owned path)
+exec_fault owned path = first_fault (unless (is_some (owned_of owned)) Owned owned) (unless (is_path path) Path path)
 
 abbrev pub socket_fault : List ℕ → List ℕ → Option Found
 socket_fault domain sort =
@@ -78,33 +72,30 @@ kind_fault kind = elim (kind_of kind) [
   | Some of_kind ↦ found (Count of_kind) []
 ]
 
--- what is wrong with one word behind a kind and who asks, with two and with three
-abbrev pub of_one : List ℕ → List ℕ → Option Found
-of_one kind name =
-    if bytes_eq kind (codes "cap") then unless (is_some (capability_number name)) Capability name else Some (kind_fault kind)
+-- what is wrong with one word behind a kind and who asks, which names the capability of this number, if it names one
+abbrev pub of_one : List ℕ → List ℕ → Option ℕ → Option Found
+of_one kind name number =
+    if bytes_eq kind (codes "cap") then unless (is_some number) Capability name else Some (kind_fault kind)
 
+-- what is wrong with two
 abbrev pub of_two : List ℕ → List ℕ → List ℕ → Option Found
 of_two kind first second =
     if bytes_eq kind (codes "net") then socket_fault first second else
     if bytes_eq kind (codes "exec") then exec_fault first second else Some (kind_fault kind)
 
-abbrev pub of_three : List ℕ → List ℕ → List ℕ → List ℕ → Option Found
+-- what is wrong with three, of which the first is an access with which this is wrong, if something is
+abbrev pub of_three : List ℕ → Option Found → List ℕ → List ℕ → Option Found
 of_three kind access owned path =
-    if bytes_eq kind (codes "file") then file_fault access owned path else Some (kind_fault kind)
-
--- what is wrong with the words behind a kind and who asks
-abbrev pub behind_who : List ℕ → List (List ℕ) → Option Found
-behind_who kind (name ∷ []) = of_one kind name
-behind_who kind (first ∷ second ∷ []) = of_two kind first second
-behind_who kind (access ∷ owned ∷ path ∷ []) = of_three kind access owned path
-behind_who kind _ = Some (kind_fault kind)
+    if bytes_eq kind (codes "file") then first_fault access (exec_fault owned path) else Some (kind_fault kind)
 
 -- What is wrong with words behind `ask`, if they ask no question: with the first word, with how many there are, or with the first behind who asks that
 -- is wrong.
 abbrev pub question_fault : List (List ℕ) → Option Found
 question_fault [] = Some (found Kind [])
-question_fault (kind ∷ []) = Some (kind_fault kind)
-question_fault (kind ∷ who ∷ words) = behind_who kind words
+question_fault (kind ∷ who ∷ name ∷ []) = of_one kind name (capability_number name)
+question_fault (kind ∷ who ∷ first ∷ second ∷ []) = of_two kind first second
+question_fault (kind ∷ who ∷ access ∷ owned ∷ path ∷ []) = of_three kind (access_fault access) owned path
+question_fault (kind ∷ words) = Some (kind_fault kind)
 
 -- how a command with such words is refused: as none where their kind or their number is wrong, and else as one with a bad request
 abbrev pub refusal_of : Wrong → RefusalKind

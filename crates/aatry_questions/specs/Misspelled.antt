@@ -3,6 +3,7 @@ use Rattle.std.specs.Prelude.{◌≡◌, List, ℕ, [], ◌∷◌, codes, take, 
 use Rattle.aa_profile_tables.specs.Capabilities.{names as capability_names}
 use Rattle.aa_profile_tables.specs.Domains.{names as domain_names}
 use Rattle.aa_profile_tables.specs.Kinds.{names as kind_names}
+use Rattle.aatry_kernel_words.specs.Capabilities.{likely_name}
 use Rattle.aatry_near.specs.Near.{IsNearest}
 use Rattle.aatry_questions.specs.Faults.{Found}
 use Rattle.aatry_questions.specs.declared.faults.Wrong.{Wrong}
@@ -18,8 +19,13 @@ known_words Domain = domain_names
 known_words SocketType = take 6 kind_names
 known_words _ = []
 
+-- the word that is compared with those that are known where it is wrong
+abbrev pub likely_word : Wrong → List ℕ → List ℕ
+likely_word Capability word = likely_name word
+likely_word _ word = word
+
 -- A fault tells what was found, and of the known words the one that is nearest to the wrong one, if one is near.
 pub record Tells (fault : QuestionFault) (told : Found) : Type 0 where
   pub wrong : fault.wrong ≡ told.wrong
   pub word : fault.word ≡ told.word
-  pub near : IsNearest (known_words told.wrong) told.word (option_map (λ name. name.now) fault.near)
+  pub near : IsNearest (known_words told.wrong) (likely_word told.wrong told.word) (option_map (λ name. name.now) fault.near)

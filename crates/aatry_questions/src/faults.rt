@@ -1,8 +1,9 @@
 //! What is wrong with the words of a question.
 
-ghost use Rattle.std.specs.Prelude.{◌≡◌, ◌∷◌, Some, map, option_map};
+ghost use Rattle.std.specs.Prelude.{◌≡◌, Some, map, option_map};
+ghost use Rattle.aa_set_commands.specs.Question.{owned_of};
 ghost use Rattle.aa_set_commands.specs.Refusal.{plain};
-ghost use Rattle.aatry_questions.specs.Faults.{access_fault, behind_who, exec_fault, file_fault, first_fault, is_owned_word, kind_fault, kind_of, letters_fault};
+ghost use Rattle.aatry_questions.specs.Faults.{access_fault, exec_fault, first_fault, kind_fault, kind_of, letters_fault};
 ghost use Rattle.aatry_questions.specs.Faults.{of_one, of_three, of_two, question_fault, refusal_of, seen_fault, socket_fault, unless};
 
 use aa_profile_access::Perms;
@@ -123,7 +124,7 @@ fn letters_fault(letters: &[u8]) -> Option<WordFault<'_>>
 }
 
 // What is wrong with an access.
-fn access_fault(access: &[u8]) -> Option<WordFault<'_>>
+pub fn access_fault(access: &[u8]) -> Option<WordFault<'_>>
     ensures { option_map seen_fault result ≡ access_fault access.now }
 {
     if access.is_empty() {
@@ -135,18 +136,17 @@ fn access_fault(access: &[u8]) -> Option<WordFault<'_>>
     letters_fault(access)
 }
 
-// Whether a word says whether the file is owned.
-fn is_owned_word(word: &[u8]) -> bool
-    ensures { result ≡ is_owned_word word.now }
+/// Whether a word says that the file is owned, or that it is another's. It takes no memory.
+pub fn owned_of(word: &[u8]) -> Option<bool>
+    ensures { result ≡ owned_of word.now }
 {
-    word == b"owner".as_slice() || word == b"other".as_slice()
-}
-
-// What is wrong with the words behind `file` and who asks.
-fn file_fault<'a>(access: &'a [u8], owned: &'a [u8], path: &'a [u8]) -> Option<WordFault<'a>>
-    ensures { option_map seen_fault result ≡ file_fault access.entry.now owned.entry.now path.entry.now }
-{
-    first_fault(access_fault(access), exec_fault(owned, path))
+    if word == b"owner".as_slice() {
+        Some(true)
+    } else if word == b"other".as_slice() {
+        Some(false)
+    } else {
+        None
+    }
 }
 
 // What is wrong with the words behind `exec` and who asks.
@@ -154,7 +154,7 @@ fn exec_fault<'a>(owned: &'a [u8], path: &'a [u8]) -> Option<WordFault<'a>>
     ensures { option_map seen_fault result ≡ exec_fault owned.entry.now path.entry.now }
 {
     first_fault(
-        unless(is_owned_word(owned), Wrong::Owned, owned),
+        unless(owned_of(owned).is_some(), Wrong::Owned, owned),
         unless(is_path(path), Wrong::Path, path),
     )
 }
@@ -202,12 +202,12 @@ fn kind_fault(kind: &[u8]) -> Option<WordFault<'_>>
     }
 }
 
-// What is wrong with one word behind a kind and who asks.
-fn of_one<'a>(kind: &'a [u8], name: &'a [u8]) -> Option<WordFault<'a>>
-    ensures { option_map seen_fault result ≡ of_one kind.entry.now name.entry.now }
+// What is wrong with one word behind a kind and who asks, which names the capability of this number, if it names one.
+pub fn of_one<'a>(kind: &'a [u8], name: &'a [u8], number: Option<u8>) -> Option<WordFault<'a>>
+    ensures { option_map seen_fault result ≡ of_one kind.entry.now name.entry.now number }
 {
     if kind == b"cap".as_slice() {
-        return unless(capability_number(name).is_some(), Wrong::Capability, name);
+        return unless(number.is_some(), Wrong::Capability, name);
     }
     kind_fault(kind)
 }
@@ -225,76 +225,22 @@ fn of_two<'a>(kind: &'a [u8], first: &'a [u8], second: &'a [u8]) -> Option<WordF
     kind_fault(kind)
 }
 
-// What is wrong with three.
-fn of_three<'a>(
+// What is wrong with three, of which the first is an access with which this is wrong, if something is.
+pub fn of_three<'a>(
     kind: &'a [u8],
-    access: &'a [u8],
+    access: Option<WordFault<'a>>,
     owned: &'a [u8],
     path: &'a [u8],
 ) -> Option<WordFault<'a>>
-    ensures { option_map seen_fault result ≡ of_three kind.entry.now access.entry.now owned.entry.now path.entry.now }
+    ensures { option_map seen_fault result ≡ of_three kind.entry.now (option_map seen_fault access.entry) owned.entry.now path.entry.now }
 {
     if kind == b"file".as_slice() {
-        return file_fault(access, owned, path);
+        return first_fault(access, exec_fault(owned, path));
     }
     kind_fault(kind)
 }
 
-// What is wrong with three words behind a kind and who asks, and with more.
-fn behind_two<'a>(
-    kind: &'a [u8],
-    first: &'a [u8],
-    second: &'a [u8],
-    third: &'a [u8],
-    more: &[&'a [u8]],
-) -> Option<WordFault<'a>>
-    ensures { option_map seen_fault result
-        ≡ behind_who kind.entry.now (first.entry.now ∷ second.entry.now ∷ third.entry.now ∷ map (λ word. word.now) more.now) }
-{
-    match more {
-        [] => of_three(kind, first, second, third),
-        [_fourth, _behind @ ..] => kind_fault(kind),
-    }
-}
-
-// What is wrong with two words, and with more.
-fn behind_one<'a>(
-    kind: &'a [u8],
-    first: &'a [u8],
-    second: &'a [u8],
-    more: &[&'a [u8]],
-) -> Option<WordFault<'a>>
-    ensures { option_map seen_fault result
-        ≡ behind_who kind.entry.now (first.entry.now ∷ second.entry.now ∷ map (λ word. word.now) more.now) }
-{
-    match more {
-        [] => of_two(kind, first, second),
-        [third, behind @ ..] => behind_two(kind, first, second, third, behind),
-    }
-}
-
-// What is wrong with one word, and with more.
-fn behind_none<'a>(kind: &'a [u8], first: &'a [u8], more: &[&'a [u8]]) -> Option<WordFault<'a>>
-    ensures { option_map seen_fault result ≡ behind_who kind.entry.now (first.entry.now ∷ map (λ word. word.now) more.now) }
-{
-    match more {
-        [] => of_one(kind, first),
-        [second, behind @ ..] => behind_one(kind, first, second, behind),
-    }
-}
-
-// What is wrong with the words behind a kind and who asks.
-fn behind_who<'a>(kind: &'a [u8], words: &[&'a [u8]]) -> Option<WordFault<'a>>
-    ensures { option_map seen_fault result ≡ behind_who kind.entry.now (map (λ word. word.now) words.now) }
-{
-    match words {
-        [] => kind_fault(kind),
-        [first, behind @ ..] => behind_none(kind, first, behind),
-    }
-}
-
-/// What is wrong with words that stand behind `ask`, or in its place behind `why`: nothing where they ask a question (`aa_set_commands::Question::read`).
-/// It takes no memory.
+/// What is wrong with words that stand behind `ask`: nothing where they ask a question (`aa_set_commands::Question::read`). It takes no memory.
 ///
 /// `Kind` is told where the first word is no kind of questions, and `Count` where it is one that has more words, or fewer; and else the first word behind
 /// who asks that is wrong.
@@ -302,11 +248,15 @@ pub fn question_fault<'a>(words: &[&'a [u8]]) -> Option<WordFault<'a>>
     ensures { option_map seen_fault result ≡ question_fault (map (λ word. word.now) words.now) }
 {
     match words {
-        [kind, _, behind @ ..] => behind_who(kind, behind),
-        [kind] => kind_fault(kind),
         [] => Some(WordFault {
             wrong: Wrong::Kind,
             word: b"",
         }),
+        [kind] => kind_fault(kind),
+        [kind, _] => kind_fault(kind),
+        [kind, _, name] => of_one(kind, name, capability_number(name)),
+        [kind, _, first, second] => of_two(kind, first, second),
+        [kind, _, access, owned, path] => of_three(kind, access_fault(access), owned, path),
+        [kind, _, _, _, _, _, ..] => kind_fault(kind),
     }
 }

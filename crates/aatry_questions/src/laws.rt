@@ -1,11 +1,23 @@
-//! What holds of the faults of words, as laws over the definitions that the calls are proved to follow.
+//! What holds of the words of questions and of their faults, as laws over the definitions that the calls are proved to follow.
 
-ghost use Rattle.std.specs.Prelude.{ℕ, List};
-ghost use Rattle.aa_set_commands.specs.Question.{question_of};
+ghost use Rattle.std.specs.Prelude.{◌≡◌, ℕ, List, Ok};
+ghost use Rattle.aa_set_commands.specs.Question.{Question, question_of};
 ghost use Rattle.aatry_questions.specs.Faults.{Agree, question_fault};
+ghost use Rattle.aatry_questions.specs.Meant.{meant_fault, question_meant};
 
-/// Something is found to be wrong with words exactly where they ask no question, and a command with them is refused as what is wrong says: by 65 where
-/// it is their kind or their number, and else by 67.
+use aatry_kernel_words::{what_letters_mean, what_names_mean};
+
+/// Something is found to be wrong with words exactly where they ask no question, or mean none, and a command with them is refused as what is wrong says:
+/// by 65 where it is their kind or their number, and else by 67.
 pub fn how_wrong_words_are_refused()
-    ensures { (words : List (List ℕ)) → Agree (question_fault words) (question_of words) }
+    ensures asked { (words : List (List ℕ)) → Agree (question_fault words) (question_of words) }
+    ensures meant { (words : List (List ℕ)) → Agree (meant_fault words) (question_meant words) }
 {}
+
+/// Words that ask a question behind `ask` mean that very question: how the kernel writes things takes no word's meaning away.
+pub fn what_words_mean()
+    ensures { (words : List (List ℕ)) (question : Question) → question_of words ≡ Ok question → question_meant words ≡ Ok question }
+{
+    what_letters_mean();
+    what_names_mean();
+}

@@ -8,7 +8,7 @@ mod reading;
 mod texts;
 
 pub use faults::{QuestionKind, WordFault, Wrong, question_fault, refusal_of};
-pub use laws::how_wrong_words_are_refused;
+pub use laws::{how_wrong_words_are_refused, what_words_mean};
 pub use misspelled::{QuestionFault, with_nearest};
-pub use reading::read;
+pub use reading::{meant_fault, question_meant, read};
 pub use texts::push_words_fault;

@@ -4,11 +4,12 @@ ghost use Rattle.std.specs.Prelude.{◌≡◌, ◌++◌, IfOk, OnOk, map, option
 ghost use Rattle.std.specs.Option.{option_to_list};
 ghost use Rattle.aa_profile_tables.specs.Domains.{names as domain_names};
 ghost use Rattle.aatry_questions.specs.Faults.{seen_fault};
-ghost use Rattle.aatry_questions.specs.Misspelled.{Tells, known_words};
+ghost use Rattle.aatry_questions.specs.Misspelled.{Tells, known_words, likely_word};
 
 use crate::faults::{WordFault, Wrong};
 use aa_bytes::Sequence;
 use aa_profile_tables::{CAPABILITIES, domain_name, which_names_tables_hold};
+use aatry_kernel_words::likely_name;
 use aatry_near::nearest_text;
 use std::alloc::{AllocError, Global};
 
@@ -72,7 +73,18 @@ fn known_words(alloc: Global, wrong: Wrong) -> Result<Vec<&'static str>, AllocEr
     }
 }
 
-/// A fault with the known word that is nearest to the wrong one, if one is near: of several the first in the order of their table.
+// The word that is compared with those that are known where it is wrong.
+fn likely_word(alloc: Global, wrong: Wrong, word: &[u8]) -> Result<Vec<u8>, AllocError>
+    ensures { IfOk result (λ likely. likely.items ≡ likely_word wrong word.now) }
+{
+    match wrong {
+        Wrong::Capability => likely_name(alloc, word),
+        _ => Vec::from_slice(alloc, word),
+    }
+}
+
+/// A fault with the known word that is nearest to the wrong one, if one is near: of several the first in the order of their table. That of a capability
+/// is compared as the kernel's and its tools' names are meant (`aatry_kernel_words::likely_name`).
 ///
 /// # Errors
 ///
@@ -81,7 +93,8 @@ pub fn with_nearest(alloc: Global, fault: WordFault<'_>) -> Result<QuestionFault
     ensures { IfOk result (λ told. Tells told (seen_fault fault.entry)) }
 {
     let known = known_words(alloc, fault.wrong)?;
-    let near = nearest_text(alloc, fault.word, &known)?;
+    let likely = likely_word(alloc, fault.wrong, fault.word)?;
+    let near = nearest_text(alloc, &likely, &known)?;
     Ok(QuestionFault {
         wrong: fault.wrong,
         word: Sequence::from_slice(alloc, fault.word)?,

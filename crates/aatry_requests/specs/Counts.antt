@@ -1,5 +1,5 @@
 -- How many lines, requests and questions a log has, as what sums up tells them.
-use Rattle.std.specs.Prelude.{ℕ, List, [], ◌∷◌, ◌++◌, codes, length}
+use Rattle.std.specs.Prelude.{ℕ, ◌==◌, if◌then◌else◌, List, [], ◌∷◌, ◌++◌, codes, length}
 use Rattle.std.specs.Fmt.{decimal}
 use Rattle.serde_json.specs.Data.{Members}
 use Rattle.aa_bytes.specs.Bytes.{line_feed}
@@ -11,6 +11,10 @@ use Rattle.aatry_requests.specs.Gathering.{Gathered}
 -- a number, and of what
 abbrev pub number_text : ℕ → List ℕ → List ℕ
 number_text number words = decimal number ++ words
+
+-- how often something came
+abbrev pub times_text : ℕ → List ℕ
+times_text times = if times == 1 then codes "once" else number_text times (codes " times")
 
 -- two numbers
 abbrev pub numbers_text : ℕ → List ℕ → ℕ → List ℕ → List ℕ

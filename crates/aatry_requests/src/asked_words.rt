@@ -2,13 +2,15 @@
 
 ghost use Rattle.std.specs.Prelude.{◌≡◌, ◌++◌, None, Ok, IfOk, IfSome, IsNone, OnOk, map, option_map, string_bytes};
 ghost use Rattle.std.specs.Result.{result_ok};
-ghost use Rattle.aa_set_commands.specs.Question.{IsWellFormed, question_of, seen_question};
+ghost use Rattle.aa_set_commands.specs.Question.{IsWellFormed, seen_question};
 ghost use Rattle.aatry_log_lines.specs.LoggedQuestions.{seen_logged};
 ghost use Rattle.aatry_log_lines.specs.Lines.{told_by};
+ghost use Rattle.aatry_questions.specs.Meant.{question_meant};
 ghost use Rattle.aatry_requests.specs.AskedWords.{asked_by, asked_in};
 
 use aa_set_commands::Question;
 use aatry_log_lines::{LogLine, LoggedQuestion, told_by};
+use aatry_questions::question_meant;
 use std::alloc::{AllocError, Global};
 
 /// Appends the bytes of words to others, none of them copied.
@@ -21,8 +23,7 @@ pub fn push_words<'a>(words: &'a [String], out: &mut Vec<&'a [u8]>) -> Result<()
     Ok(())
 }
 
-/// The question that some words ask, behind some that stand before them, as those behind `ask` do (`aa_set_commands::Question::read`); none where they ask
-/// none.
+/// The question that some words mean, behind some that stand before them (`aatry_questions::question_meant`); none where they mean none.
 ///
 /// # Errors
 ///
@@ -33,15 +34,15 @@ pub fn question_by<'a>(
     words: &'a [String],
 ) -> Result<Option<Question<'a>>, AllocError>
     ensures some { IfOk result (λ found. IfSome found (λ question.
-        question_of (map (λ word. word.now) before.now ++ map string_bytes words.now) ≡ Ok (seen_question question))) }
+        question_meant (map (λ word. word.now) before.now ++ map string_bytes words.now) ≡ Ok (seen_question question))) }
     ensures known { IfOk result (λ found. IfSome found IsWellFormed) }
     ensures none { IfOk result (λ found. IsNone found
-        → result_ok (question_of (map (λ word. word.now) before.now ++ map string_bytes words.now)) ≡ None) }
+        → result_ok (question_meant (map (λ word. word.now) before.now ++ map string_bytes words.now)) ≡ None) }
 {
     let mut all = Vec::new(alloc);
     all.extend_from_slice(before)?;
     push_words(words, &mut all)?;
-    match Question::read(&all) {
+    match question_meant(&all) {
         Ok(question) => Ok(Some(question)),
         Err(_) => Ok(None),
     }
@@ -57,12 +58,12 @@ fn asked_in_line(alloc: Global, line: &[u8]) -> Result<Option<LoggedQuestion<'_>
     }
 }
 
-// The question that some words ask as those behind `ask` do.
+// The question that some words mean.
 fn asked_in_words<'a>(
     alloc: Global,
     words: &'a [String],
 ) -> Result<Option<LoggedQuestion<'a>>, AllocError>
-    ensures { IfOk result (λ found. option_map seen_logged found ≡ result_ok (question_of (map string_bytes words.now))) }
+    ensures { IfOk result (λ found. option_map seen_logged found ≡ result_ok (question_meant (map string_bytes words.now))) }
 {
     match question_by(alloc, &[], words)? {
         Some(question) => Ok(Some(LoggedQuestion::of(question))),
@@ -70,8 +71,8 @@ fn asked_in_words<'a>(
     }
 }
 
-/// The question that some words ask: a word alone is a line of a log (`aatry_log_lines::told_by`), and more of them are those that stand behind `ask`
-/// (`aa_set_commands::Question::read`). None where they ask none.
+/// The question that some words ask: a word alone is a line of a log (`aatry_log_lines::told_by`), and more of them ask what they mean
+/// (`aatry_questions::question_meant`). None where they ask none.
 ///
 /// # Errors
 ///

@@ -3,7 +3,7 @@
 ghost use Rattle.std.specs.Prelude.{◌≡◌, ◌++◌, IfOk, OnOk};
 ghost use Rattle.aatry_report.specs.SeenRecord.{seen_record};
 ghost use Rattle.aatry_report.specs.declared.form.Form.TheVariants.{Lines};
-ghost use Rattle.aatry_requests.specs.Counts.{counts_text, lines_text, number_text, numbers_text, questions_text, rest_text};
+ghost use Rattle.aatry_requests.specs.Counts.{counts_text, lines_text, number_text, numbers_text, questions_text, rest_text, times_text};
 ghost use Rattle.aatry_requests.specs.Counts.{summary_record, summary_text, with_lines, with_questions, with_rest};
 ghost use Rattle.aatry_requests.specs.Gathering.{seen_requests};
 ghost use Rattle.aatry_requests.specs.SeenShares.{seen_share};
@@ -25,6 +25,20 @@ pub fn push_number(out: &mut Vec<u8>, number: u64, behind: &[u8]) -> Result<(), 
     out.extend_from_slice(digits.format(number).as_bytes())?;
     out.extend_from_slice(behind)?;
     Ok(())
+}
+
+/// Appends how often something came to a text: `once`, or the number and `times`.
+///
+/// # Errors
+///
+/// Where memory runs out. A beginning may have been appended then.
+pub fn push_times(out: &mut Vec<u8>, times: u64) -> Result<(), AllocError>
+    ensures { OnOk result (out.new.items ≡ out.old.items ++ times_text times) }
+{
+    if times == 1 {
+        return out.extend_from_slice(b"once");
+    }
+    push_number(out, times, b" times")
 }
 
 // Appends two numbers, each with what stands behind it, to a text.

@@ -5,9 +5,9 @@ ghost use Rattle.aa_set_lines.specs.Words.{words_of};
 ghost use Rattle.aatry_log_lines.specs.Lines.{seen_line};
 ghost use Rattle.aatry_requests.specs.Sources.{told_by_words, told_in, told_in_log};
 
-use aa_set_commands::Question;
 use aa_set_lines::{LONGEST_LINE, Words};
 use aatry_log_lines::{LogLine, LoggedQuestion, told_by};
+use aatry_questions::question_meant;
 use std::alloc::{AllocError, Global};
 
 /// What the lines are from which requests are read.
@@ -15,7 +15,7 @@ use std::alloc::{AllocError, Global};
 pub enum Source {
     /// Lines of a kernel's log, as audit.log or syslog has them. One of more than 65,536 bytes can't be read.
     Log,
-    /// Questions, each in the words that stand after `ask` in a command.
+    /// Questions, each in the words that mean one (`aatry_questions::question_meant`), as those after `ask` in a command do.
     Questions,
 }
 
@@ -29,7 +29,7 @@ fn told_by_question(line: &[u8]) -> LogLine<'_>
     if words.as_slice().is_empty() {
         return LogLine::NoRequest;
     }
-    match Question::read(words.as_slice()) {
+    match question_meant(words.as_slice()) {
         Ok(question) => LogLine::Asks(LoggedQuestion::of(question)),
         Err(_) => LogLine::Unreadable,
     }

@@ -2,14 +2,15 @@
 
 ghost use Rattle.std.specs.Prelude.{◌≡◌, ◌++◌, IfOk, IsSome, map, option_map, string_bytes};
 ghost use Rattle.aatry_log_lines.specs.Lines.{told_by};
-ghost use Rattle.aatry_questions.specs.Faults.{question_fault, seen_fault};
+ghost use Rattle.aatry_questions.specs.Faults.{seen_fault};
+ghost use Rattle.aatry_questions.specs.Meant.{meant_fault};
 ghost use Rattle.aatry_requests.specs.AskedWords.{AskNothing, letting_words};
 ghost use Rattle.aatry_requests.specs.WrongWords.{TellsAny, line_fault, words_fault};
 
 use crate::asked_words::push_words;
 use aatry_log_lines::{LogLine, told_by};
 use aatry_questions::{
-    QuestionFault, WordFault, Wrong, how_wrong_words_are_refused, question_fault, with_nearest,
+    QuestionFault, WordFault, Wrong, how_wrong_words_are_refused, meant_fault, with_nearest,
 };
 use std::alloc::{AllocError, Global};
 
@@ -39,18 +40,18 @@ fn told_fault(
     }
 }
 
-// What is wrong with words that stand behind others, as those behind `ask` do.
+// What is wrong with words that stand behind others, by what they mean.
 fn fault_behind(
     alloc: Global,
     before: &[&[u8]],
     words: &[String],
 ) -> Result<Option<QuestionFault>, AllocError>
-    ensures { IfOk result (TellsAny (question_fault (map (λ word. word.now) before.now ++ map string_bytes words.now))) }
+    ensures { IfOk result (TellsAny (meant_fault (map (λ word. word.now) before.now ++ map string_bytes words.now))) }
 {
     let mut all = Vec::new(alloc);
     all.extend_from_slice(before)?;
     push_words(words, &mut all)?;
-    told_fault(alloc, question_fault(&all))
+    told_fault(alloc, meant_fault(&all))
 }
 
 // What is wrong with a word alone.

@@ -1,11 +1,12 @@
 -- What the lines of a session say: some are for the session itself, all others for the machine over commands (docs/commands.md).
 use Rattle.std.specs.Prelude.{ℕ, ◌&&◌, nat_le, if◌then◌else◌, List, [], ◌∷◌, length, Option, None, Some, Result, Ok, Err, codes}
 use Rattle.std.specs.Str.{bytes_eq}
-use Rattle.aa_set_commands.specs.Question.{IsWellFormed, Question, question_of, seen_question}
+use Rattle.aa_set_commands.specs.Question.{IsWellFormed, Question, seen_question}
 use Rattle.aa_set_commands.specs.declared.refusal.Refusal.{Refusal}
 use Rattle.aa_set_lines.specs.Limits.{longest_line}
 use Rattle.aa_set_lines.specs.Words.{words_of}
 use Rattle.aatry_questions.specs.Faults.{Found, question_fault, seen_fault}
+use Rattle.aatry_questions.specs.Meant.{meant_fault, question_meant}
 use Rattle.aatry_session.specs.declared.sayings.Saying.{Saying as CodeSaying}
 use Rattle.aatry_session.specs.declared.sayings.Saying.TheVariants as said
 
@@ -46,14 +47,14 @@ word_saying word =
     if bytes_eq word (codes "quit") then Quit else
     if bytes_eq word (codes "reload") then Reload else Command
 
--- what words behind `why` say: a question, or what is wrong with them
+-- what words behind `why` say: the question that they mean, or what is wrong with them
 abbrev pub asked_saying : Result Question Refusal → Option Found → Saying
 asked_saying (Ok question) fault = Why question
 asked_saying (Err refusal) (Some fault) = NoQuestion fault
 asked_saying (Err refusal) None = Command
 
 abbrev pub why_saying : List (List ℕ) → Saying
-why_saying words = asked_saying (question_of words) (question_fault words)
+why_saying words = asked_saying (question_meant words) (meant_fault words)
 
 -- what words behind `ask` say, by what is wrong with them: they are for the machine, but where they are no question
 abbrev pub ask_saying : Option Found → Saying

@@ -1,15 +1,19 @@
 //! What is told of a line that is refused.
 
-ghost use Rattle.std.specs.Prelude.{◌≡◌, ◌++◌, ℕ, List, [], OnOk, codes};
+ghost use Rattle.std.specs.Prelude.{◌≡◌, ◌++◌, ℕ, List, [], None, OnOk, codes};
 ghost use Rattle.aa_set_commands.specs.Refusal.{number_of};
+ghost use Rattle.aa_text_files.specs.Files.{name_at};
+ghost use Rattle.aatry_report.specs.Faults.{fault_lines};
+ghost use Rattle.aatry_report.specs.FilePlaces.{path_below};
 ghost use Rattle.aatry_report.specs.Refusals.{placed_refusal};
 ghost use Rattle.aatry_questions.specs.Faults.{seen_fault};
-ghost use Rattle.aatry_session.specs.Refusals.{no_question_told, refusal_told, words_for};
+ghost use Rattle.aatry_session.specs.Refusals.{no_question_told, refusal_told, told_by, unread_at, words_for};
 
 use aa_set_commands::{Refusal, RefusalKind};
-use aa_text_files::Files;
+use aa_text_files::{Files, Place};
+use aaset_start::is_stand_in;
 use aatry_questions::{WordFault, push_words_fault, refusal_of, with_nearest};
-use aatry_report::{push_placed_refusal, words_of};
+use aatry_report::{path_below, push_fault, push_placed_refusal, words_of};
 use std::alloc::{AllocError, Global};
 use std::str::from_utf8;
 
@@ -88,7 +92,51 @@ fn push_in_words(
     )
 }
 
-/// Puts what is told of a refusal behind a text: where it has a place in a file, as a check of that file tells it.
+// The file that a place stands in, by how many of the files came before it, where that wasn't read.
+fn unread_at(files: &Files, place: Option<Place>) -> Option<usize>
+    ensures { result ≡ unread_at files.now place }
+{
+    match place {
+        Some(place) if is_stand_in(files.bytes_at(place.file)) => Some(place.file),
+        _ => None,
+    }
+}
+
+// Puts behind a text that a file wasn't read, by how many of the files came before it.
+fn push_unread(
+    alloc: Global,
+    files: &Files,
+    base: &[u8],
+    file: usize,
+    number: u8,
+    out: &mut Vec<u8>,
+) -> Result<(), AllocError>
+    ensures { OnOk result (out.new.items
+        ≡ out.old.items ++ fault_lines (codes "the file wasn't read") (path_below base.now (name_at files.now file)) number None []) }
+{
+    let path = path_below(alloc, base, files.name_at(file))?;
+    push_fault(out, &path, "the file wasn't read", number)
+}
+
+// Puts what is told of a refusal that stands in no file that wasn't read.
+fn push_plain(
+    alloc: Global,
+    files: &Files,
+    base: &[u8],
+    refusal: Refusal,
+    out: &mut Vec<u8>,
+) -> Result<(), AllocError>
+    ensures { OnOk result ((words : List ℕ) × (out.new.items ≡ out.old.items ++ told_by None files.now base.now words refusal)) }
+{
+    let RefusalKind::File(fault) = refusal.refusal else {
+        return push_in_words(alloc, files, base, own_words(refusal.refusal), refusal, out);
+    };
+    let words = words_of(alloc, fault)?;
+    push_in_words(alloc, files, base, words.as_str(), refusal, out)
+}
+
+/// Puts what is told of a refusal behind a text: where it has a place in a file, as a check of that file tells it; but where that file wasn't read,
+/// that it wasn't, without why.
 ///
 /// # Errors
 ///
@@ -102,9 +150,8 @@ pub fn push_refusal(
 ) -> Result<(), AllocError>
     ensures { OnOk result ((words : List ℕ) × (out.new.items ≡ out.old.items ++ refusal_told files.now base.now words refusal)) }
 {
-    let RefusalKind::File(fault) = refusal.refusal else {
-        return push_in_words(alloc, files, base, own_words(refusal.refusal), refusal, out);
-    };
-    let words = words_of(alloc, fault)?;
-    push_in_words(alloc, files, base, words.as_str(), refusal, out)
+    match unread_at(files, refusal.place) {
+        None => push_plain(alloc, files, base, refusal, out),
+        Some(file) => push_unread(alloc, files, base, file, refusal.number(), out),
+    }
 }

@@ -46,10 +46,10 @@ next_taken f xs i x within is = rw (add-one, take-suc xs i x within, map-append,
 
 -- the fault that ended the run of a session's lines is one that a session may end with
 pub run_ends : (folders : ToldFolders) (known : Known) (base prompt : List ℕ) (first : Standing) (after : Option (List ℕ)) (told : Fault)
-    → IsBrokenRun folders known base prompt first after told → IsEndOfSession folders known base told
+    → IsBrokenRun folders known base prompt first after told → IsEndOfSession folders base told
 run_ends folders known base prompt first after told (lines, before, answered, inl broken) = step_ends told broken
   where
-    step_ends : (told : Fault) → IsBrokenStep folders known base prompt before after told → IsEndOfSession folders known base told
+    step_ends : (told : Fault) → IsBrokenStep folders known base prompt before after told → IsEndOfSession folders base told
     step_ends fault.Read broken = inr (inl refl)
     step_ends fault.NoMemory broken = inl tt
     step_ends fault.Write broken = inr (inr refl)

@@ -40,7 +40,7 @@ IsBrokenRun folders known base prompt first after fault =
 -- then the lines of the input were answered until the fault came.
 abbrev pub IsBrokenSession : Language → ToldFolders → Known → (base prompt : List ℕ) → (left before after : Option (List ℕ)) → Fault → Type 0
 IsBrokenSession language folders known base prompt left before after fault =
-    (IsOfFolder folders known base fault × (after ≡ before))
+    (IsOfFolder folders base fault × (after ≡ before))
     ⊎ ((state : State) × (text : List ℕ) × IsLoaded language folders known base state text
     × (((fault ≡ Write) × AppendsFront before after text)
     ⊎ ((written : Option (List ℕ)) × Appends before written text

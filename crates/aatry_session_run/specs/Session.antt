@@ -10,10 +10,11 @@ use Rattle.aa_set_answers.specs.Answers.{who_asks}
 use Rattle.aa_set_commands.specs.Question.{Question}
 use Rattle.aa_text_files.specs.Files.{File}
 use Rattle.aaset_start.specs.Gathering.{names_of}
+use Rattle.aaset_start.specs.declared.readable.UnreadFault.{UnreadFault}
 use Rattle.aatry_why.specs.Why.{answered_text}
 use Rattle.aatry_why.specs.Sources.{Sources}
 use Rattle.aatry_folder.specs.Loadings.{AreTop, TopFile}
-use Rattle.aatry_folder.specs.PolicyFolders.{AreBelow, top_names}
+use Rattle.aatry_folder.specs.PolicyFolders.{AreBelow, tried_names}
 use Rattle.aatry_folder.specs.Unread.{IsOfFolder}
 use Rattle.aatry_session_run.specs.Faults.{told_line}
 use Rattle.aatry_folder.specs.declared.fault.Fault.{Fault}
@@ -71,8 +72,8 @@ LoadsEach language files base before (file ∷ top) after text =
 -- text tells the fault that kept them from it, and all is as it was.
 abbrev pub IsReadAnew : ToldFolders → Known → List ℕ → (before after : State) → List ℕ → Type 0
 IsReadAnew folders known base before after text =
-    (AreBelow folders known base after.files × (after.kept ≡ unplaced before.kept) × (text ≡ ok_line))
-    ⊎ ((after ≡ before) × ((fault : Fault) × IsOfFolder folders known base fault × (text ≡ told_line fault)))
+    (((unread : List (Option UnreadFault)) × AreBelow folders known base after.files unread) × (after.kept ≡ unplaced before.kept) × (text ≡ ok_line))
+    ⊎ ((after ≡ before) × ((fault : Fault) × IsOfFolder folders base fault × (text ≡ told_line fault)))
 
 -- where the rules of who asks are written: in the files that were read last, and where the loaded profile was read, as far as the session knows
 abbrev pub sources_of : List ℕ → State → Question → Sources
@@ -139,9 +140,10 @@ IsRun folders known base prompt first last =
 -- All that lies below a folder was read, the profiles of the files at its top were added, as each file is to be loaded, by a language, and the text
 -- tells of that.
 pub record IsLoaded (language : Language) (folders : ToldFolders) (known : Known) (base : List ℕ) (state : State) (text : List ℕ) : Type 0 where
-  pub below : AreBelow folders known base state.files
+  pub unread : List (Option UnreadFault)
+  pub below : AreBelow folders known base state.files unread
   pub top : List TopFile
-  pub asked : AreTop folders base (top_names (names_of state.files)) top
+  pub asked : AreTop folders base (tried_names (names_of state.files) unread) top
   pub each : LoadsEach language state.files base (begun language false) top state.kept text
 
 -- where a session stands that has read no line

@@ -387,7 +387,7 @@ fn begin<F: Folders, D: FileSystem>(
     ensures loaded { IfOk result (λ table. (text : List ℕ) × (out.new.items ≡ out.old.items ++ text)
         × IsLoaded setting.now.language (F.told setting.now.folders.now) (D.known setting.now.disk.now) setting.now.base.now
         (seen_table table) text) }
-    ensures fault { IfErr result (IsOfFolder (F.told setting.now.folders.now) (D.known setting.now.disk.now) setting.now.base.now) }
+    ensures fault { IfErr result (IsOfFolder (F.told setting.now.folders.now) setting.now.base.now) }
 {
     let PolicyFolder { files, top, .. } = policy_below(
         alloc,
@@ -421,7 +421,7 @@ fn have_session<F: Folders, D: FileSystem, S: Source, W: Sink>(
         (S.left reader.old) (W.written writer.old) (W.written writer.new)) }
     ensures broken { IfErr result (IsBrokenSession setting.now.language (F.told setting.now.folders.now) (D.known setting.now.disk.now) setting.now.base.now setting.now.prompt.now
         (S.left reader.old) (W.written writer.old) (W.written writer.new)) }
-    ensures fault { IfErr result (IsEndOfSession (F.told setting.now.folders.now) (D.known setting.now.disk.now) setting.now.base.now) }
+    ensures fault { IfErr result (IsEndOfSession (F.told setting.now.folders.now) setting.now.base.now) }
     ensures failed { IsErrOf result Fault.Write → W.failed writer.new ≡ true }
 {
     let mut text = Vec::new(alloc);
@@ -459,7 +459,7 @@ pub fn session_folder<F: Folders, D: FileSystem, S: Source, W: Sink>(
         (S.left reader.old) (W.written writer.old) (W.written writer.new)) }
     ensures broken { IfErr result (IsBrokenSession language (F.told folders.now) (D.known disk.now) (string_bytes asked.base) prompt.now
         (S.left reader.old) (W.written writer.old) (W.written writer.new)) }
-    ensures fault { IfErr result (IsEndOfSession (F.told folders.now) (D.known disk.now) (string_bytes asked.base)) }
+    ensures fault { IfErr result (IsEndOfSession (F.told folders.now) (string_bytes asked.base)) }
     ensures failed { IsErrOf result Fault.Write → W.failed writer.new ≡ true }
 {
     let aatry_arguments::Session { base } = asked;

@@ -1,8 +1,9 @@
 -- What a test of transcripts over a folder of policy comes to.
-use Rattle.std.specs.Prelude.{◌≡◌, ◌+◌, ℕ, Bool, List, [], ◌∷◌, ◌++◌}
+use Rattle.std.specs.Prelude.{◌≡◌, ◌+◌, ℕ, Bool, List, [], ◌∷◌, ◌++◌, Option}
 use Rattle.aa_profile_parsing.specs.declared.language.Language.{Language}
 use Rattle.aa_text_files.specs.Files.{File}
 use Rattle.aaset_start.specs.Known.{Known}
+use Rattle.aaset_start.specs.declared.readable.UnreadFault.{UnreadFault}
 use Rattle.aatry_folder.specs.OneFile.{IsFileAt}
 use Rattle.aatry_folder.specs.PolicyFolders.{AreBelow}
 use Rattle.aatry_folder.specs.Told.{ToldFolders}
@@ -25,6 +26,7 @@ TestsEach language known files (path ∷ paths) text failed =
 -- failed.
 pub record IsTestedBelow (language : Language) (folders : ToldFolders) (known : Known) (base : List ℕ) (paths : List (List ℕ)) (report : Report) : Type 0 where
   pub files : List File
-  pub below : AreBelow folders known base files
+  pub unread : List (Option UnreadFault)
+  pub below : AreBelow folders known base files unread
   pub each : TestsEach language known files paths report.text report.failed
   pub noted : report.notes ≡ []

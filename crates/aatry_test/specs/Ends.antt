@@ -7,4 +7,4 @@ use Rattle.aatry_folder.specs.declared.fault.Fault.{Fault}
 
 -- A test may end with this fault: its folder can't be read, or one of the transcripts.
 abbrev pub IsEndOfTest : ToldFolders → Known → List ℕ → List (List ℕ) → Fault → Type 0
-IsEndOfTest folders known base paths fault = IsOfFolder folders known base fault ⊎ IsOfOneFile known paths fault
+IsEndOfTest folders known base paths fault = IsOfFolder folders base fault ⊎ IsOfOneFile known paths fault

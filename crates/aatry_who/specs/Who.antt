@@ -1,19 +1,20 @@
 -- What is told of who would be let through by the policy of a folder (docs/aatry.md).
-use Rattle.std.specs.Prelude.{◌≡◌, ℕ, Bool, not, List, ◌++◌, Ok}
+use Rattle.std.specs.Prelude.{◌≡◌, ℕ, Bool, not, List, ◌++◌, Ok, Option}
 use Rattle.aa_bytes.specs.Texts.{is_empty}
 use Rattle.aa_profile_parsing.specs.declared.language.Language.{Language}
-use Rattle.aa_set_commands.specs.Question.{Question, question_of}
+use Rattle.aa_set_commands.specs.Question.{Question}
 use Rattle.aa_text_files.specs.Files.{File}
 use Rattle.aaset_start.specs.Gathering.{names_of}
 use Rattle.aaset_start.specs.Known.{Known}
+use Rattle.aaset_start.specs.declared.readable.UnreadFault.{UnreadFault}
 use Rattle.aatry_folder.specs.Loadings.{AreTop, TopFile}
-use Rattle.aatry_folder.specs.PolicyFolders.{AreBelow, top_names}
+use Rattle.aatry_folder.specs.PolicyFolders.{AreBelow, tried_names}
 use Rattle.aatry_folder.specs.Reports.{Report, failed_by}
 use Rattle.aatry_folder.specs.Told.{ToldFolders}
 use Rattle.aatry_policy.specs.FolderParts.{by_parts}
 use Rattle.aatry_policy.specs.Folders.{Folder, folder_at, left_out_in, left_out_note, policy_in}
 use Rattle.aatry_report.specs.declared.form.Form.{Form}
-use Rattle.aatry_requests.specs.AskedWords.{letting_words}
+use Rattle.aatry_requests.specs.AskedWords.{letting_question}
 use Rattle.aatry_requests.specs.Questions.{rule_request}
 use Rattle.aatry_who.specs.Letting.{who_lines}
 
@@ -28,7 +29,7 @@ is_let text = not (is_empty text)
 -- The words ask for a file, and a text tells the files that are left out, at length or not, and who would be let through.
 abbrev pub IsWhoTold : Form → Bool → Folder → List (List ℕ) → List ℕ → Bool → Type 0
 IsWhoTold form verbose folder words text found =
-    (question : Question) × (question_of (letting_words words) ≡ Ok question)
+    (question : Question) × (letting_question words ≡ Ok question)
     × (text ≡ left_out_in form verbose folder ++ let_by form folder question)
     × (found ≡ is_let (let_by form folder question))
 
@@ -36,10 +37,11 @@ IsWhoTold form verbose folder words text found =
 -- noted how many files are left out. It failed where nobody would.
 pub record IsWhoToldBelow (form : Form) (verbose : Bool) (language : Language) (folders : ToldFolders) (known : Known) (base : List ℕ) (words : List (List ℕ)) (report : Report) : Type 0 where
   pub files : List File
-  pub below : AreBelow folders known base files
+  pub unread : List (Option UnreadFault)
+  pub below : AreBelow folders known base files unread
   pub top : List TopFile
-  pub loaded : AreTop folders base (top_names (names_of files)) top
+  pub loaded : AreTop folders base (tried_names (names_of files) unread) top
   pub found : Bool
-  pub told : IsWhoTold form verbose (folder_at language base files top) words report.text found
-  pub noted : report.notes ≡ left_out_note (folder_at language base files top)
+  pub told : IsWhoTold form verbose (folder_at language base files unread top) words report.text found
+  pub noted : report.notes ≡ left_out_note (folder_at language base files unread top)
   pub counted : report.failed ≡ failed_by found

@@ -1,12 +1,12 @@
 //! Who would be let through by the policy of a folder.
 
 ghost use Rattle.std.specs.Prelude.{◌≡◌, ◌⊎◌, Bool, Ok, IfErr, IfOk, IfSome, IsNone, map, string_bytes};
-ghost use Rattle.aa_set_commands.specs.Question.{question_of, seen_question};
+ghost use Rattle.aa_set_commands.specs.Question.{seen_question};
 ghost use Rattle.aaset_start.specs.Gathering.{texts_of};
 ghost use Rattle.aatry_folder.specs.Reports.{failed_by, seen_report};
 ghost use Rattle.aatry_folder.specs.declared.fault.Fault.TheVariants as fault;
 ghost use Rattle.aatry_policy.specs.Folders.{left_out_note, loaded_in, origins_in, seen_folder};
-ghost use Rattle.aatry_requests.specs.AskedWords.{AskNothing, letting_words};
+ghost use Rattle.aatry_requests.specs.AskedWords.{AskNothing, letting_question, letting_words};
 ghost use Rattle.aatry_who.specs.Ends.{IsEndOfWho};
 ghost use Rattle.aatry_who.specs.Who.{IsWhoTold, IsWhoToldBelow, is_let, let_by};
 
@@ -34,7 +34,7 @@ fn letting_question<'a>(
     words: &'a [String],
 ) -> Result<Option<Question<'a>>, AllocError>
     ensures some { IfOk result (λ found. IfSome found (λ question.
-        question_of (letting_words (map string_bytes words.now)) ≡ Ok (seen_question question))) }
+        letting_question (map string_bytes words.now) ≡ Ok (seen_question question))) }
     ensures none { IfOk result (λ found. IsNone found → AskNothing (letting_words (map string_bytes words.now))) }
 {
     let before = [b"file".as_slice(), b"unconfined".as_slice()];
@@ -104,7 +104,7 @@ pub fn who_folder<F: Folders, D: FileSystem>(
 ) -> Result<Report, Fault>
     ensures told { IfOk result (λ report. IsWhoToldBelow teller.form teller.verbose language (F.told folders.now) (D.known disk.now) (string_bytes asked.base)
         (texts_of asked.words) (seen_report report)) }
-    ensures fault { IfErr result (IsEndOfWho (F.told folders.now) (D.known disk.now) (string_bytes asked.base) (texts_of asked.words)) }
+    ensures fault { IfErr result (IsEndOfWho (F.told folders.now) (string_bytes asked.base) (texts_of asked.words)) }
 {
     let Asking { base, words } = asked;
     let folder = policy_below(teller.alloc, language, folders, disk, base.as_str())?;

@@ -21,8 +21,9 @@ use Rattle.aa_set_lines.specs.Lines.{is_line_feed}
 use Rattle.aatry_why.specs.Sources.{Sources, asked_origin, written_by}
 use Rattle.aaset_start.specs.Gathering.{names_of}
 use Rattle.aaset_start.specs.Known.{Known}
+use Rattle.aaset_start.specs.declared.readable.UnreadFault.{UnreadFault}
 use Rattle.aatry_folder.specs.Loadings.{AreTop, TopFile}
-use Rattle.aatry_folder.specs.PolicyFolders.{AreBelow, top_names}
+use Rattle.aatry_folder.specs.PolicyFolders.{AreBelow, tried_names}
 use Rattle.aatry_folder.specs.Reports.{Report, failed_by}
 use Rattle.aatry_folder.specs.Told.{ToldFolders}
 use Rattle.aatry_policy.specs.Folders.{Folder, below, folder_at, left_out_in, left_out_note, origins_in, policy_in}
@@ -130,10 +131,11 @@ IsWhyTold form verbose folder words text found =
 -- behind it, and it is noted how many files are left out. It failed where nobody of the name is loaded.
 pub record IsWhyToldBelow (form : Form) (verbose : Bool) (language : Language) (folders : ToldFolders) (known : Known) (base : List ℕ) (words : List (List ℕ)) (report : Report) : Type 0 where
   pub files : List File
-  pub below : AreBelow folders known base files
+  pub unread : List (Option UnreadFault)
+  pub below : AreBelow folders known base files unread
   pub top : List TopFile
-  pub loaded : AreTop folders base (top_names (names_of files)) top
+  pub loaded : AreTop folders base (tried_names (names_of files) unread) top
   pub found : Bool
-  pub told : IsWhyTold form verbose (folder_at language base files top) words report.text found
-  pub noted : report.notes ≡ left_out_note (folder_at language base files top)
+  pub told : IsWhyTold form verbose (folder_at language base files unread top) words report.text found
+  pub noted : report.notes ≡ left_out_note (folder_at language base files unread top)
   pub counted : report.failed ≡ failed_by found

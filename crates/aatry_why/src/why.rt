@@ -259,7 +259,7 @@ pub fn why_folder<F: Folders, D: FileSystem>(
 ) -> Result<Report, Fault>
     ensures told { IfOk result (λ report. IsWhyToldBelow teller.form teller.verbose language (F.told folders.now) (D.known disk.now) (string_bytes asked.base)
         (texts_of asked.words) (seen_report report)) }
-    ensures fault { IfErr result (IsEndOfWhy (F.told folders.now) (D.known disk.now) (string_bytes asked.base) (texts_of asked.words)) }
+    ensures fault { IfErr result (IsEndOfWhy (F.told folders.now) (string_bytes asked.base) (texts_of asked.words)) }
 {
     let Asking { base, words } = asked;
     let folder = policy_below(teller.alloc, language, folders, disk, base.as_str())?;

@@ -23,8 +23,12 @@ pub enum Missing {
     OfScript,
 }
 
-// A rule that isn't there, as a profile's file writes it; one that no file writes, as `show` tells it.
-fn pasted_rule(alloc: Global, rule: &Rule) -> Result<Vec<u8>, AllocError>
+/// A rule that isn't there, as a profile's file writes it, so that it can be pasted; one that no file writes, as `show` tells it.
+///
+/// # Errors
+///
+/// Where memory runs out.
+pub fn pasted_rule(alloc: Global, rule: &Rule) -> Result<Vec<u8>, AllocError>
     ensures { IfOk result (λ text. text.items ≡ pasted_rule rule.now) }
 {
     match written_rule(alloc, rule)? {
@@ -77,8 +81,12 @@ fn is_shown_whole(alloc: Global, text: &[u8]) -> Result<bool, AllocError>
     Ok(told.as_slice() == text)
 }
 
-// Puts a rule that isn't there behind a text, as it is shown.
-fn push_shown_missing(alloc: Global, rule: &Rule, out: &mut Vec<u8>) -> Result<(), AllocError>
+/// Appends a rule that isn't there to a text, as `pasted_rule` has it; where a terminal would obey one of its bytes, as `show` tells it.
+///
+/// # Errors
+///
+/// Where memory runs out. A beginning may have been appended then.
+pub fn push_shown_missing(alloc: Global, rule: &Rule, out: &mut Vec<u8>) -> Result<(), AllocError>
     ensures { OnOk result (out.new.items ≡ out.old.items ++ shown_missing rule.now) }
 {
     let text = pasted_rule(alloc, rule)?;

@@ -1,7 +1,8 @@
 -- What is found of one question, and what is told of folders by what is found.
 use Rattle.std.specs.Prelude.{ℕ, Bool, ◌==◌, ◌&&◌, if◌then◌else◌, List, [], ◌∷◌, ◌++◌, Option, None, Some, length}
 use Rattle.aa_decide_slots.specs.Entries.{Loaded}
-use Rattle.aatry_changes.specs.Changes.{change_lines, changed_count}
+use Rattle.aatry_changes.specs.Changes.{change_lines}
+use Rattle.aatry_changes.specs.PartChanges.{changed_count}
 use Rattle.aatry_diff.specs.Differing.{Difference, difference_of, differs}
 use Rattle.aatry_diff.specs.Folders.{BothFolders}
 use Rattle.aatry_diff.specs.Sources.{told_requests}

@@ -4,7 +4,7 @@ use Rattle.aa_options.specs.Options.{Asked, asked_as, asked_then}
 use Rattle.aatry_arguments.specs.Arguments.{CommandAsked, ForLog}
 use Rattle.aatry_arguments.specs.Flags.{is_given, without_flag}
 use Rattle.aatry_arguments.specs.CheckWords.{asked_check, check_with}
-use Rattle.aatry_arguments.specs.LogWords.{LogNamed, LogsAsked, all_lines, asked_by_named, asked_logs, denied_flag, lines_with, logs_of, named_in, named_then, named_with, strict_flag, without_flags}
+use Rattle.aatry_arguments.specs.LogWords.{LogNamed, LogsAsked, all_lines, asked_by_named, asked_logs, denied_flag, lines_with, logs_of, named_in, named_then, named_with, rules_flag, strict_flag, without_flags}
 use Rattle.aatry_arguments.proofs.AskedLemmas.{asked_of_check}
 use Rattle.aatry_arguments.proofs.FlagLemmas.{none_given}
 use Rattle.aatry_arguments.proofs.laws.what_logs_have.Goals as goal
@@ -16,6 +16,10 @@ returns-clause-alone c = refl
 pub returns-clause-strict : goal.returns-clause-strict
 unfolding asked_logs
 returns-clause-strict c = refl
+
+pub returns-clause-rules : goal.returns-clause-rules
+unfolding asked_logs
+returns-clause-rules c = refl
 
 pub returns-clause-denied : goal.returns-clause-denied
 unfolding asked_logs
@@ -41,17 +45,19 @@ unfolding asked_logs
 returns-clause-no_time c word without is = ap (λ read. asked_as ForLog (asked_by_named (named_then read))) without ∙ ap by_time is
 
 -- what words ask by these flags and the others
-abbrev by_flags : Bool → Bool → List (List ℕ) → Asked LogsAsked
-by_flags strict denied words = asked_then (logs_of strict (lines_with denied None None)) (asked_check words)
+abbrev by_flags : Bool → Bool → Bool → List (List ℕ) → Asked LogsAsked
+by_flags strict rules denied words = asked_then (logs_of strict rules (lines_with denied None None)) (asked_check words)
 
 pub returns-clause-paths : goal.returns-clause-paths
 unfolding asked_logs
-returns-clause-paths c words base names profile since strict denied asks =
+returns-clause-paths c words base names profile since strict rules denied asks =
     let named : named_in words ≡ Some (record { profile = None; since = None; words = words }) = ap named_then profile ∙ ap (named_with None) since in
-    let plain : without_flags words ≡ words = ap (without_flag denied_flag) (none_given strict_flag words strict) ∙ none_given denied_flag words denied in
+    let plain : without_flags words ≡ words = ap (λ others. without_flag denied_flag (without_flag rules_flag others)) (none_given strict_flag words strict)
+    ∙ (ap (without_flag denied_flag) (none_given rules_flag words rules) ∙ none_given denied_flag words denied) in
     ap (asked_as ForLog)
     (ap asked_by_named named
-    ∙ (ap (λ strict. by_flags strict (is_given denied_flag words) (without_flags words)) strict
-    ∙ (ap (λ denied. by_flags false denied (without_flags words)) denied
-    ∙ ap (by_flags false false) plain)))
-    ∙ asked_of_check ForLog (logs_of false all_lines) (asked_check words) (check_with base names) asks
+    ∙ (ap (λ strict. by_flags strict (is_given rules_flag words) (is_given denied_flag words) (without_flags words)) strict
+    ∙ (ap (λ rules. by_flags false rules (is_given denied_flag words) (without_flags words)) rules
+    ∙ (ap (λ denied. by_flags false false denied (without_flags words)) denied
+    ∙ ap (by_flags false false false) plain))))
+    ∙ asked_of_check ForLog (logs_of false false all_lines) (asked_check words) (check_with base names) asks

@@ -7,5 +7,5 @@ use Rattle.aatry_arguments.proofs.log_words.logs_by.Goals as goal
 
 pub returns-in-Err : goal.returns-in-Err
 returns-in-Err c =
-    fault_given meant_check meant_logs (logs_of c.args.strict (meant_lines c.args.lines)) (asked_check (map string_bytes c.args.words.now)) c.in-Err.fault c.passed_on.result c.in-Err.ensures
+    fault_given meant_check meant_logs (logs_of c.args.strict c.args.rules (meant_lines c.args.lines)) (asked_check (map string_bytes c.args.words.now)) c.in-Err.fault c.passed_on.result c.in-Err.ensures
     c.passed_on.ensures

@@ -2,8 +2,8 @@ use Rattle.aatry_changes.proofs.LawLemmas.{old-untold}
 use Rattle.aatry_changes.proofs.laws.what_is_not_told_answers_alike.Goals as goal
 
 pub returns-clause-of_a_part : goal.returns-clause-of_a_part
-returns-clause-of_a_part c form old new part none =
-    let (other, found, alike) = c.when_nothing_is_told.ensures.only_of_alike form old new part none in
+returns-clause-of_a_part c new part none =
+    let (other, found, alike) = c.when_nothing_is_told.ensures.only_of_alike new part none in
     let law = c.sections_alike_answer_alike.ensures in (
       other,
       found,
@@ -16,7 +16,7 @@ returns-clause-of_a_part c form old new part none =
 
 pub returns-clause-of_all : goal.returns-clause-of_all
 returns-clause-of_all c form old new part none there =
-    let (other, found, alike) = c.when_nothing_is_told.ensures.only_of_alike form old new part (old-untold form old new none part there) in
+    let (other, found, alike) = c.when_nothing_is_told.ensures.only_of_alike new part (old-untold form old new none part there) in
     let law = c.sections_alike_answer_alike.ensures in (
       other,
       found,

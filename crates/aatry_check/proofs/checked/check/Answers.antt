@@ -10,6 +10,7 @@ loop-name-preserved c =
     let form = c.args.teller.form in
     let language = c.args.language in
     let files = c.args.files.now in
+    let unread = c.args.unread.now in
     let base = c.args.base.now in
     let top = map seen_top c.args.top.now in
     let names = c.args.names.now in
@@ -21,14 +22,14 @@ loop-name-preserved c =
     let one : c.in_ok-refused.field-0 ≡ refused_in language files (string_bytes name) = c.in_ok-refused.ensures.refused ∙ ap (refused_in language files) text in
     let left = ap (refused_count language files) (next_left string_bytes names i name c.loop-name-test.true c.name-item.is) in
     let told_below = c.as_bytes.result.now in
-    let tells = subst (λ b. Tells form language files b top (string_bytes name) own.0) c.as_bytes.ensures.value (subst (λ n. Tells form language files told_below top n own.0) text own.2) in
+    let tells = subst (λ b. Tells form language files unread b top (string_bytes name) own.0) c.as_bytes.ensures.value (subst (λ n. Tells form language files unread told_below top n own.0) text own.2) in
     record {
       few = omega (arith, so_far.few, few);
       refused = omega (arith, so_far.refused, one, left);
       told = (
         so_far.told.0 ++ own.0,
         own.1 ∙ ap (λ t. t ++ own.0) so_far.told.1 ∙ append_assoc c.args.out.now.items so_far.told.0 own.0,
-        subst (λ ns. TellsEach form language files base top ns (so_far.told.0 ++ own.0)) (sym (next_taken string_bytes names i name c.loop-name-test.true c.name-item.is))
-            (tells_one_more form language files base top (map string_bytes (take i names)) so_far.told.0 (string_bytes name) own.0 so_far.told.2 tells),
+        subst (λ ns. TellsEach form language files unread base top ns (so_far.told.0 ++ own.0)) (sym (next_taken string_bytes names i name c.loop-name-test.true c.name-item.is))
+            (tells_one_more form language files unread base top (map string_bytes (take i names)) so_far.told.0 (string_bytes name) own.0 so_far.told.2 tells),
       );
     }

@@ -8,5 +8,5 @@ abbrev pub invariant-loop-name : goal.invariant-loop-name
 invariant-loop-name l = record {
   few : l.refused ≤ l.name-index;
   refused : l.refused + refused_count l.language l.files (map string_bytes (drop l.name-index l.names)) ≡ refused_count l.language l.files (map string_bytes l.names);
-  told : (lines : List ℕ) × (l.out.items ≡ l.initial.out.items ++ lines) × TellsEach l.teller.form l.language l.files l.base (map seen_top l.top) (map string_bytes (take l.name-index l.names)) lines;
+  told : (lines : List ℕ) × (l.out.items ≡ l.initial.out.items ++ lines) × TellsEach l.teller.form l.language l.files l.unread l.base (map seen_top l.top) (map string_bytes (take l.name-index l.names)) lines;
 }

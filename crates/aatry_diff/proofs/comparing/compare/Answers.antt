@@ -20,5 +20,5 @@ returns-clause-told c =
     let new = seen_folder c.args.new.now in
     let requests = option_map seen_requests c.args.requests.now in
     rw (text, after.told, before.told, c.new-report.ensures.text, after.folder, before.folder, after.outcomes, before.outcomes, after.set, before.set, after.origins, before.origins)
-    (part_by_part (left_out_in form verbose old) (left_out_in form verbose new) (newly_lines form new.base (newly_left_out old new))
+    (part_by_part (left_out_in form verbose old) (left_out_in form verbose new) (newly_lines form new (newly_left_out old new))
     (change_lines form (by_parts old) (by_parts new)) (requests_text form (both old new) (policy_in old) (policy_in new) requests))

@@ -17,7 +17,7 @@ returns-in-Check g c =
     let known = g.D.FileSystem.known c.args.disk.now in
     let output = output_of (g.W.Sink.written c.args.streams.now.output) (g.W.Sink.written c.show_outcome.new.streams.output) (g.W.Sink.failed c.show_outcome.new.streams.output) in
     let asked = c.in-Check.asked in
-    rw c.in-Check.is (command_done (IsChecked c.args.call.form c.args.call.language folders known (string_bytes asked.base) (texts_of asked.names)) (IsEndOfCheck folders known (string_bytes asked.base)) output
+    rw c.in-Check.is (command_done (IsChecked c.args.call.form c.args.call.language folders known (string_bytes asked.base) (texts_of asked.names)) (IsEndOfCheck folders (string_bytes asked.base)) output
     c.show_outcome.result c.check_folder.result c.check_folder.ensures.checked c.check_folder.ensures.fault c.show_outcome.ensures)
 
 pub returns-in-Test : goal.returns-in-Test
@@ -30,10 +30,10 @@ returns-in-Test g c =
     c.show_outcome-in-Test.result c.test_folder.result c.test_folder.ensures.tested c.test_folder.ensures.fault c.show_outcome-in-Test.ensures)
 
 pub returns-in-Who : goal.returns-in-Who
-returns-in-Who g c = rw c.in-Who.is c.tell_who.ensures
+returns-in-Who g c = rw c.in-Who.is c.tell_question.ensures
 
 pub returns-in-Why : goal.returns-in-Why
-returns-in-Why g c = rw c.in-Why.is c.tell_why.ensures
+returns-in-Why g c = rw c.in-Why.is c.tell_question-in-Why.ensures
 
 pub returns-in-Diff : goal.returns-in-Diff
 returns-in-Diff g c =

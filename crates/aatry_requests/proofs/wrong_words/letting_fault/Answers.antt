@@ -13,5 +13,5 @@ returns-clause-nothing c =
     let told : IfOk c.fault_behind.result (TellsAny (words_fault asked)) = search rules in
     let Wrong : Option QuestionFault → Type 0 = λ found. TellsAny (words_fault asked) found in
     let Nothing : Option QuestionFault → Type 0 = λ found. IsSome found → AskNothing asked in
-    let nothing : (found : Option QuestionFault) → Wrong found → Nothing found = λ found h some. asks_nothing c.how_wrong_words_are_refused.ensures asked found h some in
+    let nothing : (found : Option QuestionFault) → Wrong found → Nothing found = λ found h some. asks_nothing c.how_wrong_words_are_refused.ensures.meant asked found h some in
     IfOk-weaker c.fault_behind.result Wrong Nothing nothing told

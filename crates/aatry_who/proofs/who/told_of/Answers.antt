@@ -1,7 +1,7 @@
 use Rattle.std.proofs.Common.{◌≡◌, ◌++◌, ◌∙◌, Ok, ap, map, string_bytes}
-use Rattle.aa_set_commands.specs.Question.{question_of, seen_question}
+use Rattle.aa_set_commands.specs.Question.{seen_question}
 use Rattle.aatry_policy.specs.Folders.{left_out_in, seen_folder}
-use Rattle.aatry_requests.specs.AskedWords.{letting_words}
+use Rattle.aatry_requests.specs.AskedWords.{letting_question}
 use Rattle.aatry_who.specs.Who.{is_let, let_by}
 use Rattle.aatry_who.proofs.who.told_of.Goals as goal
 
@@ -10,7 +10,7 @@ returns-clause-told c =
     let form = c.args.teller.form in
     let folder = seen_folder c.args.folder.now in
     let question = seen_question c.in-Some.question in
-    let asked : question_of (letting_words (map string_bytes c.args.words.now)) ≡ Ok question = rw c.in-Some.is at c.in_ok-question.ensures.some in
+    let asked : letting_question (map string_bytes c.args.words.now) ≡ Ok question = rw c.in-Some.is at c.in_ok-question.ensures.some in
     let own : c.in_ok-own.own.items ≡ let_by form folder question =
     c.in_ok-own.ensures ∙ ap (λ f. let_by form (seen_folder f) question) c.in_ok-loaded.ensures.folder in
     let before : c.load_folder.new.report.text.items ≡ left_out_in form c.args.teller.verbose folder =

@@ -1,0 +1,8 @@
+//! Requests, joined: what some ask for of one path together, and what the one rule lets that they lack.
+#![tactic(auto)]
+
+mod joining;
+mod laws;
+
+pub use joining::joined;
+pub use laws::what_joined_requests_let;

@@ -1,0 +1,98 @@
+//! What is told of a file that is refused since it wasn't read, or one that it includes.
+
+ghost use Rattle.std.specs.Prelude.{◌≡◌, ◌++◌, ℕ, List, IfOk, OnOk};
+ghost use Rattle.aa_profile_errors.specs.ProfileError.{number_of};
+ghost use Rattle.aaset_start.specs.Readable.{unread_in};
+ghost use Rattle.aatry_check.specs.Checks.{told_refusal, unread_lines, unread_record, unread_text};
+ghost use Rattle.aatry_report.specs.SeenRecord.{seen_record};
+
+use crate::records::put_included;
+use crate::refusal::{push_included, push_refusal};
+use aa_profile::ProfileError;
+use aa_text_files::Files;
+use aaset_start::{UnreadFault, unread_in};
+use aatry_report::{Form, Record, Teller, path_below, push_fault, put_fault};
+use std::alloc::{AllocError, Global};
+
+// Puts the lines of a file behind a text that is refused since this one wasn't read, in these words.
+fn push_lines(
+    alloc: Global,
+    base: &[u8],
+    name: &[u8],
+    unread: &[u8],
+    number: u8,
+    words: &str,
+    out: &mut Vec<u8>,
+) -> Result<(), AllocError>
+    ensures { OnOk result (out.new.items ≡ out.old.items ++ unread_text base.now name.now unread.now number words.now) }
+{
+    let path = path_below(alloc, base, unread)?;
+    push_fault(out, &path, words, number)?;
+    push_included(alloc, base, name, unread, out)
+}
+
+// The record of such a file.
+fn unread_record(
+    alloc: Global,
+    base: &[u8],
+    name: &[u8],
+    unread: &[u8],
+    number: u8,
+    words: &str,
+) -> Result<Record, AllocError>
+    ensures { IfOk result (λ made. seen_record made ≡ unread_record base.now name.now unread.now number words.now) }
+{
+    let path = path_below(alloc, base, unread)?;
+    let mut made = Record::new(alloc, "refused")?;
+    put_fault(alloc, &path, words, number, &mut made)?;
+    put_included(alloc, base, name, unread, &mut made)?;
+    Ok(made)
+}
+
+// Puts what is told of it behind a text.
+fn push_unread(
+    teller: Teller,
+    base: &[u8],
+    name: &[u8],
+    unread: &[u8],
+    number: u8,
+    words: &str,
+    out: &mut Vec<u8>,
+) -> Result<(), AllocError>
+    ensures { OnOk result (out.new.items ≡ out.old.items ++ unread_lines teller.form base.now name.now unread.now number words.now) }
+{
+    match teller.form {
+        Form::Lines => push_lines(teller.alloc, base, name, unread, number, words, out),
+        Form::Records => unread_record(teller.alloc, base, name, unread, number, words)?.push(
+            teller.alloc,
+            out,
+        ),
+    }
+}
+
+/// Puts what is told of a file that is refused behind a text: where its fault stands in a file that wasn't read, why that wasn't, and with no place.
+pub fn push_told(
+    teller: Teller,
+    files: &Files,
+    unread: &[Option<UnreadFault>],
+    base: &[u8],
+    name: &[u8],
+    error: ProfileError,
+    out: &mut Vec<u8>,
+) -> Result<(), AllocError>
+    ensures { OnOk result ((words : List ℕ) × (out.new.items ≡ out.old.items ++ told_refusal teller.form words files.now base.now name.now
+        (number_of error.refusal) error.place (unread_in unread.now error.place))) }
+{
+    match unread_in(unread, error.place) {
+        None => push_refusal(teller, files, base, name, error, out),
+        Some((file, fault)) => push_unread(
+            teller,
+            base,
+            name,
+            files.name_at(file),
+            error.number(),
+            fault.words(),
+            out,
+        ),
+    }
+}

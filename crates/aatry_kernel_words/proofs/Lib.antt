@@ -1,0 +1,3 @@
+mod LetterLemmas
+mod MaskLemmas
+mod NameLemmas

@@ -1,0 +1,3 @@
+pub mod Capabilities
+pub mod Laws
+pub mod Masks

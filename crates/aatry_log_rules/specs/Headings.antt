@@ -1,0 +1,30 @@
+-- Whose rules come next.
+use Rattle.std.specs.Prelude.{ℕ, Bool, false, if◌then◌else◌, List, [], ◌∷◌, ◌++◌, Option, None, Some, codes}
+use Rattle.std.specs.Str.{bytes_eq}
+use Rattle.aa_bytes.specs.Bytes.{line_feed}
+use Rattle.aa_bytes.specs.Quoting.{written_text}
+use Rattle.aa_profile_access.specs.FullNames.{full_name}
+use Rattle.aatry_policy.specs.Origins.{file_of, origin_in}
+use Rattle.aatry_policy.specs.declared.origins.Origin.{Origin}
+use Rattle.aatry_report.specs.FilePlaces.{path_below}
+use Rattle.aatry_report.specs.Shown.{shown}
+use Rattle.aatry_report.specs.declared.form.Form.{Form}
+use Rattle.aatry_report.specs.declared.form.Form.TheVariants.{Lines, Records}
+
+-- the path of the file in which the profile of who asks was read
+abbrev pub file_for : List ℕ → List Origin → List ℕ → List ℕ
+file_for base origins who = path_below base (file_of (origin_in (full_name who).profile origins))
+
+-- the line that tells whose rules come next, by the path of their file
+abbrev pub heading : List ℕ → List ℕ → List ℕ
+heading path who = codes "# " ++ shown path ++ codes ": profile " ++ written_text who ++ line_feed ∷ []
+
+-- what came last is of who asks, too
+abbrev pub is_of : Option (List ℕ) → List ℕ → Bool
+is_of None who = false
+is_of (Some name) who = bytes_eq name who
+
+-- the same line, where what came last was of somebody else; records have none
+abbrev pub heading_behind : Form → Option (List ℕ) → List ℕ → List ℕ → List ℕ
+heading_behind Records last path who = []
+heading_behind Lines last path who = if is_of last who then [] else heading path who

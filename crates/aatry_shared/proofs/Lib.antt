@@ -1,0 +1,4 @@
+mod EntryLemmas
+mod GroupLemmas
+mod LineLemmas
+mod NameLemmas

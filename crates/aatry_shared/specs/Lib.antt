@@ -1,0 +1,9 @@
+pub mod Causes
+pub mod Differing
+pub mod PartFeatures
+pub mod SeenSharing
+pub mod Sharing
+pub mod SharingLaws
+pub mod SharedLines
+pub mod Sides
+pub mod code

@@ -1,0 +1,20 @@
+//! What holds of changes that several profiles have in common, as a law over the definitions that the calls are proved to follow.
+
+ghost use Rattle.std.specs.Prelude.{◌≡◌, ℕ, List, true};
+ghost use Rattle.std.specs.List.{Contains};
+ghost use Rattle.aatry_shared.specs.Sharing.{Group, Having, are_several, gathered, is_shared, shared};
+ghost use Rattle.aatry_shared.specs.SharingLaws.{IsNamedOnce};
+
+/// Whatever changes profiles, children and hats have: where one that somebody has is shared, it stands among the shared ones exactly once, and names who has
+/// it. Each that stands there is one that two or more have, each of whom has it that it names.
+pub fn what_is_shared_is_told_once()
+    ensures each { (havings : List Having) (having : Having)
+        → Contains havings having
+        → is_shared (gathered havings) having.change ≡ true
+        → IsNamedOnce (shared (gathered havings)) having }
+    ensures no_other { (havings : List Having) (group : Group) (name : List ℕ)
+        → Contains (shared (gathered havings)) group
+        → Contains group.names name
+        → Contains havings (record { name = name; change = group.change }) }
+    ensures of_several { (havings : List Having) (group : Group) → Contains (shared (gathered havings)) group → are_several group.names ≡ true }
+{}
