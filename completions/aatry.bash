@@ -1,5 +1,21 @@
 # Completions of aatry for bash: source this file, or put it into /usr/share/bash-completion/completions/ as aatry.
 
+# The names of the tables of capabilities, and of the domains and types of sockets.
+_aatry_capabilities='
+    chown dac_override dac_read_search fowner fsetid kill setgid setuid setpcap linux_immutable net_bind_service
+    net_broadcast net_admin net_raw ipc_lock ipc_owner sys_module sys_rawio sys_chroot sys_ptrace sys_pacct
+    sys_admin sys_boot sys_nice sys_resource sys_time sys_tty_config mknod lease audit_write audit_control
+    setfcap mac_override mac_admin syslog wake_alarm block_suspend audit_read perfmon bpf checkpoint_restore
+'
+_aatry_domains='
+    unix inet ax25 ipx appletalk netrom bridge atmpvc x25 inet6 rose netbeui security key netlink packet ash
+    econet atmsvc rds sna irda pppox wanpipe llc ib mpls can tipc bluetooth iucv rxrpc isdn phonet ieee802154
+    caif alg nfc vsock kcm qipcrtr smc xdp mctp
+'
+_aatry_types='
+    stream dgram seqpacket rdm raw packet
+'
+
 # A word as it was typed, without quotes and backslashes, and with the home folder in the place of a `~` at its beginning.
 _aatry_bare() {
     local word=$1
@@ -7,90 +23,128 @@ _aatry_bare() {
     printf '%s' "${word//[\\\"\']/}"
 }
 
+# Offers those of some words that begin with what is typed.
+_aatry_offer() {
+    mapfile -t COMPREPLY < <(compgen -W "$1" -- "$word")
+}
+
+# Offers the names of the profiles of the folder, as `aatry check` tells them now, and other ones. A name that JSON has to write otherwise than it is
+# isn't offered. They are compared here, since compgen would expand them as the shell expands words.
+_aatry_offer_names() {
+    local typed found
+    typed=$(_aatry_bare "$word")
+    while IFS= read -r found; do
+        if [[ $found == "$typed"* ]]; then COMPREPLY+=("$found"); fi
+    done < <(
+        printf '%s\n' "$@"
+        aatry check --json --language "$language" -b "$base" 2>/dev/null </dev/null |
+            sed -n 's/.*"kind":"taken","profiles":\["\(.*\)"\].*/\1/p' | sed 's/","/\n/g' | grep -v '\\'
+    )
+}
+
+# Offers what may stand at the next place of a question, of which these words stand there.
+_aatry_offer_asked() {
+    case $1:$# in
+    file:1 | exec:1 | cap:1 | net:1) _aatry_offer_names unconfined ;;
+    file:3 | exec:2) _aatry_offer 'owner other' ;;
+    file:4 | exec:3) mapfile -t COMPREPLY < <(compgen -f -- "$word") ;;
+    cap:2) _aatry_offer "$_aatry_capabilities" ;;
+    net:2) _aatry_offer "$_aatry_domains" ;;
+    net:3) _aatry_offer "$_aatry_types" ;;
+    esac
+}
+
+# The same behind `who`, where who asks is left out, and `file` may be.
+_aatry_offer_letting() {
+    case $1 in
+    file | exec | cap | net) _aatry_offer_asked "$1" unconfined "${@:2}" ;;
+    *) _aatry_offer_asked file unconfined "$@" ;;
+    esac
+}
+
+# Offers options of the command.
+_aatry_offer_options() {
+    case $1 in
+    check) _aatry_offer '-b --json --language --color -h --help --' ;;
+    why | who) _aatry_offer '-b --verbose --json --language --color -h --help --' ;;
+    log) _aatry_offer '-b --denied --profile --rules --since --strict --verbose --json --language --color -h --help --' ;;
+    diff) _aatry_offer '--log --questions --verbose --json --language --color -h --help --' ;;
+    session) _aatry_offer '-b --language --color -h --help --' ;;
+    test) _aatry_offer '-b --accept --language --color -h --help --' ;;
+    esac
+}
+
+# Offers the files at the top of the folder, without those that are passed over.
+_aatry_offer_files() {
+    local found
+    while IFS= read -r found; do
+        case ${found##*/} in
+        .* | README | *~ | *.dpkg-* | *.pacsave | *.pacnew | *.rpmnew | *.rpmsave | *.orig | *.rej) continue ;;
+        esac
+        if [ -f "$found" ]; then COMPREPLY+=("${found##*/}"); fi
+    done < <(compgen -f -- "$base/$word")
+}
+
 _aatry() {
-    local word=${COMP_WORDS[COMP_CWORD]} base=/etc/apparmor.d options=yes awaited='' at before found
+    local word=${COMP_WORDS[COMP_CWORD]} command=${COMP_WORDS[1]} base=/etc/apparmor.d language=4 options=yes awaited='' at before
+    local -a words=()
     COMPREPLY=()
     if [ "$word" = = ]; then word=; fi
     if [ "$COMP_CWORD" -eq 1 ]; then
-        mapfile -t COMPREPLY < <(compgen -W 'check why log who diff session test -h --help -V --version' -- "$word")
+        _aatry_offer 'check why log who diff session test -h --help -V --version'
         return
     fi
-    case ${COMP_WORDS[1]} in
-    check | why | log | who | session | test) ;;
-    diff)
-        # A folder, or the file of an option.
-        case ${COMP_WORDS[COMP_CWORD - 1]} in
-        --log | --questions) mapfile -t COMPREPLY < <(compgen -f -- "$word") ;;
-        --language) mapfile -t COMPREPLY < <(compgen -W '3 4' -- "$word") ;;
-        *)
-            if [[ $word == -* ]]; then
-                mapfile -t COMPREPLY < <(compgen -W '--log --questions --verbose --json --language -h --help --' -- "$word")
-            else
-                mapfile -t COMPREPLY < <(compgen -d -- "$word")
-            fi
-            ;;
-        esac
-        return
-        ;;
-    *) return ;;
-    esac
 
-    # The words before, from the left: behind `--` each one is a NAME or a FILE, the last -b counts, and its folder stands in its word or is the
-    # next one, as that of --language does. Bash takes a `=` for a word of its own.
+    # The words before, from the left: behind `--` none is an option, the last -b counts, and its folder stands in its word or is the next one, as
+    # what other options take does. Bash takes a `=` for a word of its own. The others are the command's own words.
     for ((at = 2; at < COMP_CWORD; at++)); do
         before=${COMP_WORDS[at]}
         if [ -n "$awaited" ]; then
-            if [ "$before" != = ]; then
-                if [ "$awaited" = yes ]; then base=$(_aatry_bare "$before"); fi
-                awaited=
-            fi
-        elif [ -n "$options" ]; then
+            if [ "$before" = = ]; then continue; fi
+            case $awaited in
+            folder) base=$(_aatry_bare "$before") ;;
+            language) language=$before ;;
+            esac
+            awaited=
+        elif [ -n "$options" ] && [[ $before == -?* ]]; then
             case $before in
             --) options= ;;
-            -b) awaited=yes ;;
-            --language) awaited=language ;;
+            -b) awaited=folder ;;
             -b=*) base=$(_aatry_bare "${before#*=}") ;;
             -b*) base=$(_aatry_bare "${before#-b}") ;;
+            --language) awaited=language ;;
+            --color) awaited=color ;;
+            --profile) awaited=profile ;;
+            --since) awaited=time ;;
+            --log | --questions) awaited=file ;;
             esac
+        else
+            words+=("$(_aatry_bare "$before")")
         fi
     done
 
-    if [ "$awaited" = language ]; then
-        mapfile -t COMPREPLY < <(compgen -W '3 4' -- "$word")
-    elif [ -n "$awaited" ]; then
-        # The folder of -b.
-        mapfile -t COMPREPLY < <(compgen -d -- "$word")
-    elif [ -n "$options" ] && [[ $word == -* ]]; then
-        case ${COMP_WORDS[1]} in
-        check) mapfile -t COMPREPLY < <(compgen -W '-b --json --language -h --help --' -- "$word") ;;
-        why | who) mapfile -t COMPREPLY < <(compgen -W '-b --verbose --json --language -h --help --' -- "$word") ;;
-        log) mapfile -t COMPREPLY < <(compgen -W '-b --denied --profile --rules --since --strict --verbose --json --language -h --help --' -- "$word") ;;
-        *) mapfile -t COMPREPLY < <(compgen -W '-b --language -h --help --' -- "$word") ;;
-        esac
-    elif [ "${COMP_WORDS[1]}" = who ] || [ "${COMP_WORDS[1]}" = why ]; then
-        # Words of a question: its first ones, and behind them paths.
-        if [ "${COMP_WORDS[1]}" = why ] && [ "$COMP_CWORD" -eq 2 ]; then
-            mapfile -t COMPREPLY < <(compgen -W 'file exec cap net -b' -- "$word")
-        elif [[ $word == /* ]]; then
-            mapfile -t COMPREPLY < <(compgen -f -- "$word")
-        else
-            mapfile -t COMPREPLY < <(compgen -W 'owner other' -- "$word")
+    case $awaited:$command in
+    language:*) _aatry_offer '3 4' ;;
+    color:*) _aatry_offer 'auto always never' ;;
+    folder:*) mapfile -t COMPREPLY < <(compgen -d -- "$word") ;;
+    file:*) mapfile -t COMPREPLY < <(compgen -f -- "$word") ;;
+    profile:*) _aatry_offer_names ;;
+    time:*) ;;
+    *)
+        if [ -n "$options" ] && [[ $word == -* ]]; then
+            _aatry_offer_options "$command"
+            return
         fi
-    elif [ "${COMP_WORDS[1]}" = session ]; then
-        # No word but options.
-        COMPREPLY=()
-    elif [ "${COMP_WORDS[1]}" = test ] || [ "${COMP_WORDS[1]}" = log ]; then
-        # A transcript or a log, by its own path.
-        mapfile -t COMPREPLY < <(compgen -f -- "$word")
-    elif [[ $word != */* ]]; then
-        # The files at the top of the folder, without those that are passed over.
-        while IFS= read -r found; do
-            case ${found##*/} in
-            .* | README | *~ | *.dpkg-* | *.pacsave | *.pacnew | *.rpmnew | *.rpmsave | *.orig | *.rej) continue ;;
-            esac
-            if [ -f "$found" ]; then COMPREPLY+=("${found##*/}"); fi
-        done < <(compgen -f -- "$base/$word")
-    fi
+        case $command:${#words[@]} in
+        why:0 | who:0) _aatry_offer 'file exec cap net -b' ;;
+        why:*) _aatry_offer_asked "${words[@]}" ;;
+        who:*) _aatry_offer_letting "${words[@]}" ;;
+        diff:*) mapfile -t COMPREPLY < <(compgen -d -- "$word") ;;
+        test:* | log:*) mapfile -t COMPREPLY < <(compgen -f -- "$word") ;;
+        check:*) if [[ $word != */* ]]; then _aatry_offer_files; fi ;;
+        esac
+        ;;
+    esac
 }
 
 complete -o filenames -F _aatry aatry

@@ -378,3 +378,44 @@ whole-lacks request whole rules within none some nothing = by (denied request ru
         let own = from-none (denied request rules) d in
         let few : missing whole rules ≡ 0 = sym (lacked-where whole rules none) ∙ nothing in
         some (lacked-where request rules own ∙ none-missing request whole rules within own none few)
+
+-- rules that allow a request by themselves, behind others that deny nothing of it
+module _ (request : Request) (rules further : List Rule) (none : denied request rules ≡ 0) where
+  denied-further : denied request further ≡ 0 → denied request (rules ++ further) ≡ 0
+  denied-further own =
+      fold-append (with_rule request denies) 0 rules further ∙ ap (λ set. with_covered request denies set further) none ∙ own
+
+  granted-further : (i : ℕ) → min (bit_at (needs request) i) (bit_at (granted request further) i) ≤ bit_at (granted request (rules ++ further)) i
+  granted-further i =
+      let more = with-within request request (within-itself request) allows further (granted request rules) 0 i (let zero_bit = bit_at-zero i in omega arith) in
+      let whole : bit_at (granted request (rules ++ further)) i ≡ bit_at (with_covered request allows (granted request rules) further) i =
+      ap (λ n. bit_at n i) (fold-append (with_rule request allows) 0 rules further) in
+      omega (arith, more, whole)
+
+  missing-further : denied request further ≡ 0 → missing request further ≡ 0 → missing request (rules ++ further) ≡ 0
+  missing-further own few =
+      missing-of request (rules ++ further) (denied-further own)
+      ∙ same_from_bits (lacking (needs request) (granted request (rules ++ further))) 0 bits
+    where
+      below : (i : ℕ) → i < 8 → bit_at (lacking (needs request) (granted request (rules ++ further))) i ≡ bit_at 0 i
+      below i low =
+          let here = lacking-low (needs request) (granted request (rules ++ further)) i low in
+          let there = lacking-low (needs request) (granted request further) i low in
+          let gone : bit_at (lacking (needs request) (granted request further)) i ≡ bit_at 0 i = ap (λ n. bit_at n i) (sym (missing-of request further own) ∙ few) in
+          let zero_bit = bit_at-zero i in
+          let more = granted-further i in
+          omega arith
+
+      bits : (i : ℕ) → bit_at (lacking (needs request) (granted request (rules ++ further))) i ≡ bit_at 0 i
+      bits i = elim (cases_lt i 8) [
+        | inl low ↦ below i low
+        | inr high ↦ lacking-high (needs request) (granted request (rules ++ further)) i high ∙ sym (bit_at-zero i)
+      ]
+
+pub allow-further : (mediation other : Mediation) (flag loud : Bool) (request : Request) (rules further : List Rule)
+    → denied request rules ≡ 0 → (verdict other loud further request).answer ≡ Allow
+    → (verdict mediation flag (rules ++ further) request).answer ≡ Allow
+allow-further mediation other flag loud request rules further none allowed =
+    let parts = allow-parts other loud further request allowed in
+    allow-from mediation flag (rules ++ further) request (denied-further request rules further none parts.0)
+    (missing-further request rules further none parts.0 parts.1)

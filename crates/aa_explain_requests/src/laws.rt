@@ -33,3 +33,10 @@ pub fn what_joined_requests_let()
 {
     what_a_missing_rule_lets();
 }
+
+/// Rules that allow a request by themselves let it behind others too, of which none denies something of it.
+pub fn what_further_rules_let()
+    ensures { (mediation other : Mediation) (flag loud : Bool) (request : Request) (rules further : List Rule)
+        → denied request rules ≡ 0 → (verdict other loud further request).answer ≡ Allow
+        → (verdict mediation flag (rules ++ further) request).answer ≡ Allow }
+{}

@@ -5,4 +5,4 @@ mod joining;
 mod laws;
 
 pub use joining::joined;
-pub use laws::what_joined_requests_let;
+pub use laws::{what_further_rules_let, what_joined_requests_let};

@@ -3,8 +3,13 @@
 
 use aa_set_lines::{FromRead, ToWrite};
 use aaset_start::RuntimeFiles;
+use aatry_colors::{ColorWish, Painted, WithWish, is_colored, wished};
 use aatry_folder::RuntimeFolders;
-use aatry_program::{Fault, Streams};
+use aatry_program::{Disk, Fault, Muted, Piped, Streams};
+use aatry_test::RuntimeStore;
+use std::alloc::Global;
+use std::cell::Cell;
+use std::env::VarError;
 use std::io::IsTerminal;
 use std::process::ExitCode;
 use std::rt::Env;
@@ -18,27 +23,61 @@ fn words_of_start<R: Env + AllocGlobal>(rt: &R) -> Result<Vec<String>, Fault> {
     }
 }
 
+// What words say of colours, and the words without that; or the fault that keeps them from being read.
+fn wished_words(
+    alloc: Global,
+    words: Result<Vec<String>, Fault>,
+) -> (ColorWish, Result<Vec<String>, Fault>) {
+    let words = match words {
+        Ok(words) => words,
+        Err(fault) => return (ColorWish::Never, Err(fault)),
+    };
+    match wished(alloc, &words) {
+        Ok(Some(WithWish { wish, words })) => (wish, Ok(words)),
+        Ok(None) => (ColorWish::Never, Err(Fault::BadArguments)),
+        Err(_) => (ColorWish::Never, Err(Fault::NoMemory)),
+    }
+}
+
+// Whether the environment says that a terminal takes colours: `NO_COLOR` isn't set, or is empty, and `TERM` isn't `dumb`.
+fn takes_colors<R: Env + AllocGlobal>(rt: &R) -> bool {
+    let forbids = match env::var(rt, "NO_COLOR") {
+        Ok(value) => !value.is_empty(),
+        Err(VarError::NotPresent) => false,
+        Err(_) => true,
+    };
+    let is_dumb = match env::var(rt, "TERM") {
+        Ok(value) => value.as_str() == "dumb",
+        Err(_) => false,
+    };
+    !forbids && !is_dumb
+}
+
 // What a session writes before it reads a line; nothing where no terminal is there to see it.
 fn prompt(is_terminal: bool) -> &'static [u8] {
     if is_terminal { b"aatry> " } else { b"" }
 }
 
 fn main(rt: HostRuntime) -> ExitCode {
-    let words = words_of_start(&rt);
+    let (wish, words) = wished_words(rt.alloc(), words_of_start(&rt));
+    let colors = is_colored(wish, rt.stdout().is_terminal() && takes_colors(&rt));
     let reader = rt.reader();
     let prompt = prompt(reader.is_terminal());
+    let is_closed = Cell::new(false);
     let mut streams = Streams {
         input: FromRead::new(reader),
-        output: ToWrite::new(io::writer(&rt)),
-        errors: ToWrite::new(rt.stderr()),
+        output: ToWrite::new(Painted::new(
+            Piped::new(io::writer(&rt), &is_closed),
+            rt.alloc(),
+            colors,
+        )),
+        errors: ToWrite::new(Muted::new(rt.stderr(), &is_closed)),
     };
-    let status = aatry_program::start(
-        rt.alloc(),
-        words,
-        &RuntimeFolders::new(&rt),
-        &RuntimeFiles::new(&rt),
-        prompt,
-        &mut streams,
-    );
+    let mut disk = Disk {
+        folders: RuntimeFolders::new(&rt),
+        files: RuntimeFiles::new(&rt),
+        store: RuntimeStore::new(&rt),
+    };
+    let status = aatry_program::start(rt.alloc(), words, &mut disk, prompt, &mut streams);
     ExitCode::from(status)
 }

@@ -2,7 +2,7 @@
 use Rattle.std.specs.Prelude.{ℕ, Bool, ◌||◌, if◌then◌else◌, List, [], ◌∷◌, codes}
 use Rattle.std.specs.Str.{bytes_eq}
 use Rattle.aa_options.specs.Options.{Asked, ForHelp, ForVersion, Nothing, asked_as}
-use Rattle.aatry_arguments.specs.AskingWords.{AskingAsked, asked_who, asked_why}
+use Rattle.aatry_arguments.specs.AskingWords.{AskingAsked, asked_words}
 use Rattle.aatry_arguments.specs.CheckWords.{CheckAsked, asked_check}
 use Rattle.aatry_arguments.specs.DiffWords.{ComparisonAsked, asked_diff}
 use Rattle.aatry_arguments.specs.LogWords.{LogsAsked, asked_logs}
@@ -32,8 +32,8 @@ abbrev pub asked_by_first : List ℕ → List (List ℕ) → Asked CommandAsked
 asked_by_first first words =
     if bytes_eq first (codes "check") then asked_as ForCheck (asked_check words)
     else if bytes_eq first (codes "test") then asked_as ForTest (asked_test words)
-    else if bytes_eq first (codes "who") then asked_as ForWho (asked_who words)
-    else if bytes_eq first (codes "why") then asked_as ForWhy (asked_why words)
+    else if bytes_eq first (codes "who") then asked_as ForWho (asked_words words)
+    else if bytes_eq first (codes "why") then asked_as ForWhy (asked_words words)
     else if bytes_eq first (codes "log") then asked_as ForLog (asked_logs words)
     else if bytes_eq first (codes "diff") then asked_as ForDiff (asked_diff words)
     else if bytes_eq first (codes "session") then asked_as ForSession (asked_session words)

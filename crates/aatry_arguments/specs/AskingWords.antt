@@ -1,5 +1,5 @@
 -- What the words behind `who` and `why` ask for.
-use Rattle.std.specs.Prelude.{ℕ, ◌==◌, if◌then◌else◌, List, length}
+use Rattle.std.specs.Prelude.{ℕ, if◌then◌else◌, List}
 use Rattle.aa_bytes.specs.Texts.{is_empty}
 use Rattle.aa_options.specs.Options.{Asked, ForThis, Nothing, asked_then}
 use Rattle.aatry_arguments.specs.CheckWords.{CheckAsked, asked_check}
@@ -13,18 +13,10 @@ pub record AskingAsked : Type 0 where
 abbrev pub asking_with : List ℕ → List (List ℕ) → AskingAsked
 asking_with base words = record { base = base; words = words }
 
--- what would be a check asks who would be let, where it has three names: they are the access, who owns the file, and its path
-abbrev pub who_of : CheckAsked → Asked AskingAsked
-who_of check = if length check.names == 3 then ForThis (asking_with check.base check.names) else Nothing
+-- what would be a check asks a question, where it has a name: they are the words of the question
+abbrev pub asking_of : CheckAsked → Asked AskingAsked
+asking_of check = if is_empty check.names then Nothing else ForThis (asking_with check.base check.names)
 
--- what would be a check asks why, where it has a name: they are the words of the question
-abbrev pub why_of : CheckAsked → Asked AskingAsked
-why_of check = if is_empty check.names then Nothing else ForThis (asking_with check.base check.names)
-
--- the words behind `who` are read as those behind `check`
-abbrev pub asked_who : List (List ℕ) → Asked AskingAsked
-asked_who words = asked_then who_of (asked_check words)
-
--- and so are those behind `why`
-abbrev pub asked_why : List (List ℕ) → Asked AskingAsked
-asked_why words = asked_then why_of (asked_check words)
+-- the words behind `who` and `why` are read as those behind `check`
+abbrev pub asked_words : List (List ℕ) → Asked AskingAsked
+asked_words words = asked_then asking_of (asked_check words)

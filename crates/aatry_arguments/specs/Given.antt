@@ -30,7 +30,7 @@ meant_check check = check_with (string_bytes check.base) (texts check.names)
 
 -- the test that is meant
 abbrev pub meant_test : Test → TestAsked
-meant_test test = test_with (string_bytes test.base) (texts test.paths)
+meant_test test = test_with (string_bytes test.base) (texts test.paths) test.accept
 
 -- the asking that is meant
 abbrev pub meant_asking : Asking → AskingAsked

@@ -23,7 +23,7 @@ pub enum Command {
     Check(Check),
     /// Transcripts are to be tested over a folder of policy.
     Test(Test),
-    /// Who would be let is asked of a folder of policy: the words are ACCESS, OWNED and PATH of a request for a file.
+    /// Who would be let is asked of a folder of policy: the words are those of a question from which who asks is left out.
     Who(Asking),
     /// Why a question is answered as it is, is asked of a folder of policy.
     Why(Asking),
@@ -51,6 +51,8 @@ pub struct Test {
     pub base: String,
     /// The paths of the transcripts, in this order: one at least.
     pub paths: Vec<String>,
+    /// Whether what is told is to be accepted: in the place of the wanted lines.
+    pub accept: bool,
 }
 
 /// What is asked of a folder of policy.
@@ -58,7 +60,7 @@ pub struct Test {
 pub struct Asking {
     /// The folder of policy.
     pub base: String,
-    /// The words of the question, in this order: three behind `who`, one at least behind `why`. They may make no question.
+    /// The words of the question, in this order: one at least. They may make no question.
     pub words: Vec<String>,
 }
 

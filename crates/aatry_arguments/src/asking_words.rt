@@ -1,6 +1,6 @@
 //! Reading of the words behind `who` and `why`: as those behind `check` are read.
 ghost use Rattle.std.specs.Prelude.{map, string_bytes};
-ghost use Rattle.aatry_arguments.specs.AskingWords.{asked_who, asked_why, who_of, why_of};
+ghost use Rattle.aatry_arguments.specs.AskingWords.{asked_words, asking_of};
 ghost use Rattle.aa_options.specs.Given.{IsGivenFor};
 ghost use Rattle.aatry_arguments.specs.Given.{meant_asking, meant_check};
 
@@ -12,14 +12,20 @@ use std::alloc::Global;
 
 // What help says of `who`.
 const WHO_HELP: &str = "\
-Tells which profiles, children and hats would let a request for a file through
+Tells which profiles, children and hats would let through what a question asks for
 
-Usage: aatry who [OPTIONS] ACCESS OWNED PATH
+Usage: aatry who [OPTIONS] [file] ACCESS OWNED PATH
+       aatry who [OPTIONS] exec OWNED PATH
+       aatry who [OPTIONS] cap NAME
+       aatry who [OPTIONS] net DOMAIN TYPE
 
 Arguments:
   ACCESS  One or more of the letters r w a l k m, none twice
   OWNED   owner where the task owns the file, other where it doesn't
-  PATH    The file, by its whole path
+  PATH    The file, or the program that is started, by its whole path
+  NAME    A capability, as net_admin or CAP_NET_ADMIN
+  DOMAIN  A domain of sockets, as inet
+  TYPE    A type of sockets, as stream
 
 Options:
   -b <DIR>    The folder of policy, /etc/apparmor.d unless it is given
@@ -29,12 +35,15 @@ Options:
 
 All files below DIR are read, as check reads them; those at its top that are refused are left out,
 and how many these are stands on standard error. Of each profile, child and
-hat that would let the request through a line is told:
-  NAME: allow     It lets it through. Below stand the rules that do, each with its place
-  NAME: complain  Its rules don't, and it is in complain mode
+hat that would let it through a line is told, with its full name:
+  WHO: allow           It lets it through. Below stand the rules that do, each with its place
+  WHO: allow to OTHER  It may start the program, which runs under OTHER; scrub stands behind
+                       where its environment is scrubbed. The rules stand below likewise
+  WHO: complain        Its rules don't, and it is in complain mode; of a start: complain null
+  WHO: unconfined      None of its rules is asked, since its mode is unconfined or it is disabled
 
 Exit status:
-  0  Some profile, child or hat would let the request through, or help was asked for
+  0  Some profile, child or hat would let it through, or help was asked for
   1  None would
   2  The arguments or the question are bad, or DIR, or a file or folder below it, can't be read
   3  Writing failed, or memory ran out
@@ -77,20 +86,9 @@ Exit status:
   3  Writing failed, or memory ran out
 ";
 
-// What would be a check, as the question who would be let.
-fn who_by(check: Check) -> Result<Asking, ArgumentFault>
-    ensures { IsGivenFor meant_asking (who_of (meant_check check)) result }
-{
-    let Check { base, names: words } = check;
-    if words.len() != 3 {
-        return Err(ArgumentFault::Bad);
-    }
-    Ok(Asking { base, words })
-}
-
-// What would be a check, as the question why.
-fn why_by(check: Check) -> Result<Asking, ArgumentFault>
-    ensures { IsGivenFor meant_asking (why_of (meant_check check)) result }
+// What would be a check, as a question.
+fn asking_of(check: Check) -> Result<Asking, ArgumentFault>
+    ensures { IsGivenFor meant_asking (asking_of (meant_check check)) result }
 {
     let Check { base, names: words } = check;
     if words.is_empty() {
@@ -99,18 +97,25 @@ fn why_by(check: Check) -> Result<Asking, ArgumentFault>
     Ok(Asking { base, words })
 }
 
+// What words ask that are read as those behind `check`, with what help says of their command.
+fn asked_words(alloc: Global, words: &[String], help: &str) -> Result<Asking, ArgumentFault>
+    ensures { IsGivenFor meant_asking (asked_words (map string_bytes words.now)) result }
+{
+    match check_of(alloc, words) {
+        Ok(check) => asking_of(check),
+        Err(fault) => Err(passed_on(alloc, fault, help)),
+    }
+}
+
 /// What words behind `who` ask.
 ///
 /// # Errors
 ///
-/// Those of `check_of`, and `Bad` where the words of the question aren't three.
+/// Those of `check_of`, and `Bad` where the question has no word.
 pub fn who_of(alloc: Global, words: &[String]) -> Result<Asking, ArgumentFault>
-    ensures { IsGivenFor meant_asking (asked_who (map string_bytes words.now)) result }
+    ensures { IsGivenFor meant_asking (asked_words (map string_bytes words.now)) result }
 {
-    match check_of(alloc, words) {
-        Ok(check) => who_by(check),
-        Err(fault) => Err(passed_on(alloc, fault, WHO_HELP)),
-    }
+    asked_words(alloc, words, WHO_HELP)
 }
 
 /// What words behind `why` ask.
@@ -119,10 +124,7 @@ pub fn who_of(alloc: Global, words: &[String]) -> Result<Asking, ArgumentFault>
 ///
 /// Those of `check_of`, and `Bad` where the question has no word.
 pub fn why_of(alloc: Global, words: &[String]) -> Result<Asking, ArgumentFault>
-    ensures { IsGivenFor meant_asking (asked_why (map string_bytes words.now)) result }
+    ensures { IsGivenFor meant_asking (asked_words (map string_bytes words.now)) result }
 {
-    match check_of(alloc, words) {
-        Ok(check) => why_by(check),
-        Err(fault) => Err(passed_on(alloc, fault, WHY_HELP)),
-    }
+    asked_words(alloc, words, WHY_HELP)
 }

@@ -1,6 +1,6 @@
 //! What holds of the words behind commands, as laws over the definitions that `command_of` is proved to follow.
 
-ghost use Rattle.std.specs.Prelude.{◌≡◌, ◌≢◌, ◌++◌, ℕ, None, Some, false, true, List, Option, [], ◌∷◌, length, codes};
+ghost use Rattle.std.specs.Prelude.{◌≡◌, ◌++◌, ℕ, None, Some, false, true, List, Option, [], ◌∷◌, codes};
 ghost use Rattle.std.specs.List.{list_all};
 ghost use Rattle.aa_options.specs.Options.{Open, is_name, is_option};
 ghost use Rattle.aatry_arguments.specs.Arguments.{ForCheck, ForDiff, ForLog, ForSession, ForTest, ForWho, ForWhy, asked, asked_by_first};
@@ -14,9 +14,9 @@ ghost use Rattle.aa_profile_parsing.specs.Languages.{language_named, word_of};
 ghost use Rattle.aa_profile_parsing.specs.declared.language.Language.{Language};
 ghost use Rattle.aatry_arguments.specs.Languages.{by_language};
 ghost use Rattle.aatry_arguments.specs.LogWords.{all_lines, denied_flag, lines_with, logs_with, profile_option, rules_flag, since_option, strict_flag};
-ghost use Rattle.aatry_arguments.specs.Flags.{is_given};
+ghost use Rattle.aatry_arguments.specs.Flags.{is_given, without_flag};
 ghost use Rattle.aatry_arguments.specs.SessionWords.{session_with};
-ghost use Rattle.aatry_arguments.specs.TestWords.{test_with};
+ghost use Rattle.aatry_arguments.specs.TestWords.{accept_flag, test_with};
 ghost use Rattle.aatry_arguments.specs.Values.{IsWithout, ValueOption, value_in};
 ghost use Rattle.aatry_times.specs.Named.{time_named};
 
@@ -42,29 +42,34 @@ pub fn what_checks_have()
 {}
 
 /// `test` alone asks for nothing that there is, and so does any `test` whose words would ask of `check` to check all files at the top of a folder.
-/// Words that would ask of `check` for some files ask of `test` for the transcripts of these paths, over the same folder.
+/// Words that would ask of `check` for some files ask of `test` for the transcripts of these paths, over the same folder. So it is of words without the
+/// flag `--accept`; words with it ask for the same as without it, and that what is told be accepted.
 pub fn what_tests_have()
     ensures alone { asked (codes "test" ∷ []) ≡ Nothing }
     ensures none { (words : List (List ℕ)) (base : List ℕ)
+        → is_given accept_flag words ≡ false
         → asked_by_first (codes "check") words ≡ ForThis (ForCheck (check_with base []))
         → asked_by_first (codes "test") words ≡ Nothing }
     ensures some { (words : List (List ℕ)) (base name : List ℕ) (names : List (List ℕ))
+        → is_given accept_flag words ≡ false
         → asked_by_first (codes "check") words ≡ ForThis (ForCheck (check_with base (name ∷ names)))
-        → asked_by_first (codes "test") words ≡ ForThis (ForTest (test_with base (name ∷ names))) }
+        → asked_by_first (codes "test") words ≡ ForThis (ForTest (test_with base (name ∷ names) false)) }
+    ensures accepted { (words : List (List ℕ)) (base name : List ℕ) (names : List (List ℕ))
+        → is_given accept_flag words ≡ true
+        → asked_by_first (codes "check") (without_flag accept_flag words) ≡ ForThis (ForCheck (check_with base (name ∷ names)))
+        → asked_by_first (codes "test") words ≡ ForThis (ForTest (test_with base (name ∷ names) true)) }
 {}
 
-/// `who` and `why` alone ask for nothing that there is. Words that would ask of `check` for three files ask of `who` about a request of these three
-/// words, over the same folder, and for any other number of files they ask for nothing. Words that would ask of `check` for some files ask of `why`
-/// the question of these words, and for all files at the top of a folder they ask for nothing.
+/// `who` and `why` alone ask for nothing that there is. Words that would ask of `check` for some files ask of them the question of these words, over the
+/// same folder, and for all files at the top of a folder they ask for nothing.
 pub fn what_askings_have()
     ensures who_alone { asked (codes "who" ∷ []) ≡ Nothing }
-    ensures who { (words : List (List ℕ)) (base access owned path : List ℕ)
-        → asked_by_first (codes "check") words ≡ ForThis (ForCheck (check_with base (access ∷ owned ∷ path ∷ [])))
-        → asked_by_first (codes "who") words ≡ ForThis (ForWho (asking_with base (access ∷ owned ∷ path ∷ []))) }
-    ensures who_other { (words : List (List ℕ)) (base : List ℕ) (names : List (List ℕ))
-        → asked_by_first (codes "check") words ≡ ForThis (ForCheck (check_with base names))
-        → length names ≢ 3
+    ensures who_none { (words : List (List ℕ)) (base : List ℕ)
+        → asked_by_first (codes "check") words ≡ ForThis (ForCheck (check_with base []))
         → asked_by_first (codes "who") words ≡ Nothing }
+    ensures who { (words : List (List ℕ)) (base word : List ℕ) (more : List (List ℕ))
+        → asked_by_first (codes "check") words ≡ ForThis (ForCheck (check_with base (word ∷ more)))
+        → asked_by_first (codes "who") words ≡ ForThis (ForWho (asking_with base (word ∷ more))) }
     ensures why_alone { asked (codes "why" ∷ []) ≡ Nothing }
     ensures why_none { (words : List (List ℕ)) (base : List ℕ)
         → asked_by_first (codes "check") words ≡ ForThis (ForCheck (check_with base []))

@@ -27,3 +27,4 @@ pub use laws::{
     how_languages_are_named, how_values_are_named, what_askings_have, what_checks_have,
     what_comparisons_have, what_logs_have, what_sessions_have, what_tests_have,
 };
+pub use values::{NamedOption, WithValue, value_of};

@@ -25,7 +25,7 @@ Commands:
   check    Tells of each file of a folder of policy whether it is taken, or what is wrong with it
   why      Tells the answer to a question, and the rules behind it
   log      Asks what the lines of a log asked, and tells what is answered now
-  who      Tells which profiles, children and hats would let a request for a file through
+  who      Tells which profiles, children and hats would let through what a question asks for
   diff     Tells which profiles of two folders of policy differ, and what they answer otherwise
   session  Takes commands over a folder of policy, as they come: changes, questions, undo
   test     Runs transcripts of commands over a folder of policy, and tells each reply that differs
@@ -34,6 +34,7 @@ Options:
   --json          Behind check, why, log, who and diff: tells in records of JSON, one a line
   --verbose       Behind why, log, who and diff: tells each file first that is left out, and why
   --language <N>  Reads policy by language N, 3 or 4; 4 if none is named
+  --color <WHEN>  Shows lines in colours: auto, always or never; auto if nothing is said
   -h, --help      Prints help, and behind a COMMAND help on it
   -V, --version   Prints the version
 ";

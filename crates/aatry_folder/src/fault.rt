@@ -20,6 +20,8 @@ pub enum Fault {
     Unreadable(String),
     /// More than 65,536 files and folders lie below the folder of policy.
     TooMany,
+    /// A log that gzip wrote, by its path, or `-` for standard input.
+    Compressed(String),
     /// Memory ran out.
     NoMemory,
     /// Standard input failed, or didn't end.

@@ -14,7 +14,7 @@ use Rattle.aatry_log.specs.Rules.{IsLogAnswered}
 use Rattle.aatry_log_lines.specs.Selections.{Selection}
 use Rattle.aatry_logs.specs.Gathered.{AreGathered, meant_paths}
 use Rattle.aatry_logs.specs.LogRequests.{LogRequests, nothing}
-use Rattle.aatry_policy.specs.Folders.{folder_at, left_out_note}
+use Rattle.aatry_policy.specs.Folders.{folder_at}
 use Rattle.aatry_report.specs.declared.form.Form.{Form}
 
 -- the selection of the lines that are asked for
@@ -22,7 +22,8 @@ abbrev pub selection_by : LogLinesAsked → Selection
 selection_by lines = record { denied = lines.denied; profile = lines.profile; since = lines.since }
 
 -- The requests of all logs that are named, of the lines that are asked for, were asked of the files at the top of the folder, with all that lies below
--- it, by a language: the text tells what they come to, or the rules with which they are allowed, and it is noted how many files are left out. One failed where the logs don't pass.
+-- it, by a language: the text tells what they come to, or the rules with which they are allowed, and it is noted what
+-- the answers don't cover. One failed where the logs don't pass.
 pub record IsLogToldBelow (form : Form) (verbose : Bool) (language : Language) (folders : ToldFolders) (known : Known) (left : Option (List ℕ)) (asked : LogsAsked)
     (report : Report) : Type 0 where
   pub files : List File
@@ -32,5 +33,4 @@ pub record IsLogToldBelow (form : Form) (verbose : Bool) (language : Language) (
   pub loaded : AreTop folders asked.base (tried_names (names_of files) unread) top
   pub logs : LogRequests
   pub read : AreGathered (selection_by asked.lines) known left (meant_paths asked.paths) nothing logs
-  pub told : IsLogAnswered asked.rules form verbose (folder_at language asked.base files unread top) asked.strict logs report.text report.failed
-  pub noted : report.notes ≡ left_out_note (folder_at language asked.base files unread top)
+  pub told : IsLogAnswered asked.rules form verbose (folder_at language asked.base files unread top) asked.strict logs report

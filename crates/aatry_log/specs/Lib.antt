@@ -1,6 +1,7 @@
 pub mod Below
 pub mod Ends
 pub mod Log
+pub mod Notes
 pub mod Prefixed
 pub mod Requests
 pub mod Rules

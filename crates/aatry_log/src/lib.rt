@@ -3,6 +3,7 @@
 
 mod below;
 mod heads;
+mod notes;
 mod prefixing;
 mod requests;
 mod rules;

@@ -1,12 +1,14 @@
 //! The rules with which the requests of logs are allowed, asked of a folder of policy.
 
 ghost use Rattle.std.specs.Prelude.{◌≡◌, ◌++◌, IfOk, OnOk};
+ghost use Rattle.aatry_folder.specs.Reports.{seen_report};
 ghost use Rattle.aatry_log.specs.Rules.{AreLogRulesTold, aside};
 ghost use Rattle.aatry_log.specs.Summary.{summary_line};
 ghost use Rattle.aatry_log.specs.Unreadable.{unreadable_text};
 ghost use Rattle.aatry_logs.specs.LogRequests.{seen_logs};
-ghost use Rattle.aatry_policy.specs.Folders.{left_out_note, seen_folder};
+ghost use Rattle.aatry_policy.specs.Folders.{seen_folder};
 
+use crate::notes::push_logs_note;
 use crate::prefixing::push_prefixed;
 use crate::summary::push_summary;
 use crate::telling::passes;
@@ -43,7 +45,8 @@ fn push_behind(
 
 /// The rules with which the requests of logs are allowed that lack something of a folder of policy that was read, told in a form
 /// (`aatry_log_rules::push_rules`). Before them stand the files that are left out, where they are told, and behind them the first lines that can't be read,
-/// and what sums up; on lines as comments, so that what isn't one is a rule. It is noted how many files are left out, and one failed, as `log` has it.
+/// and what sums up; on lines as comments, so that what isn't one is a rule. It notes what `log` notes, and
+/// one failed where `log` has it so.
 ///
 /// # Errors
 ///
@@ -54,8 +57,7 @@ pub fn log_rules(
     strict: bool,
     logs: &LogRequests<'_>,
 ) -> Result<Report, AllocError>
-    ensures told { IfOk result (λ report. AreLogRulesTold teller.form teller.verbose (seen_folder folder.now) strict (seen_logs logs.now) report.text.items report.failed) }
-    ensures noted { IfOk result (λ report. report.notes.items ≡ left_out_note (seen_folder folder.now)) }
+    ensures { IfOk result (λ report. AreLogRulesTold teller.form teller.verbose (seen_folder folder.now) strict (seen_logs logs.now) (seen_report report)) }
 {
     let mut report = Report::new(teller.alloc);
     let loaded = load_folder(teller, folder, &mut report)?;
@@ -64,6 +66,7 @@ pub fn log_rules(
     let nobody = push_rules(teller, &loaded, &logs.requests.tallies, &mut text)?;
     push_behind(teller, logs, nobody, &mut text)?;
     report.text = text;
+    push_logs_note(logs, nobody, &mut report.notes)?;
     report.failed = failed_by(passes(strict, logs, nobody));
     Ok(report)
 }

@@ -1,10 +1,12 @@
 //! Logs, asked of a folder of policy.
 
 ghost use Rattle.std.specs.Prelude.{◌≡◌, IfOk};
+ghost use Rattle.aatry_folder.specs.Reports.{seen_report};
 ghost use Rattle.aatry_log.specs.Log.{IsLogTold, passes};
 ghost use Rattle.aatry_logs.specs.LogRequests.{seen_logs};
-ghost use Rattle.aatry_policy.specs.Folders.{left_out_note, seen_folder};
+ghost use Rattle.aatry_policy.specs.Folders.{seen_folder};
 
+use crate::notes::push_logs_note;
 use crate::requests::push_requests;
 use crate::summary::push_summary;
 use crate::unreadable::push_unreadable;
@@ -24,8 +26,8 @@ pub fn passes(strict: bool, logs: &LogRequests<'_>, nobody: usize) -> bool
 /// What the requests of logs come to, asked of a folder of policy that was read, told in a form. First come the files that are left out, where they
 /// are told, and it is noted how many they are (`aatry_policy::load_folder`). Then comes each request once, those first that came most often: a line
 /// with how often it came, when and what it asks, and below it what the policy answers now, with the rules behind the answer and the one that is
-/// missing, as `why` tells them. Then come the first lines that can't be read, and at the end stands what sums up. Where the logs are taken strictly,
-/// one failed where a line can't be read or asks for somebody who isn't there.
+/// missing, as `why` tells them. Then come the first lines that can't be read, and at the end stands what sums up. It is noted how many lines can't be
+/// read, and how many questions are of nobody who is there. Where the logs are taken strictly, one failed where there is such a line or question.
 ///
 /// # Errors
 ///
@@ -36,8 +38,7 @@ pub fn log(
     strict: bool,
     logs: &LogRequests<'_>,
 ) -> Result<Report, AllocError>
-    ensures told { IfOk result (λ report. IsLogTold teller.form teller.verbose (seen_folder folder.now) strict (seen_logs logs.now) report.text.items report.failed) }
-    ensures noted { IfOk result (λ report. report.notes.items ≡ left_out_note (seen_folder folder.now)) }
+    ensures { IfOk result (λ report. IsLogTold teller.form teller.verbose (seen_folder folder.now) strict (seen_logs logs.now) (seen_report report)) }
 {
     let mut report = Report::new(teller.alloc);
     let mut loaded = load_folder(teller, folder, &mut report)?;
@@ -49,6 +50,7 @@ pub fn log(
     )?;
     push_unreadable(teller, &logs.unreadable, &mut report.text)?;
     push_summary(teller, logs, nobody, &mut report.text)?;
+    push_logs_note(logs, nobody, &mut report.notes)?;
     report.failed = failed_by(passes(strict, logs, nobody));
     Ok(report)
 }

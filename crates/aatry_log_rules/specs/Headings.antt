@@ -1,5 +1,5 @@
 -- Whose rules come next.
-use Rattle.std.specs.Prelude.{ℕ, Bool, false, if◌then◌else◌, List, [], ◌∷◌, ◌++◌, Option, None, Some, codes}
+use Rattle.std.specs.Prelude.{ℕ, Bool, false, List, [], ◌∷◌, ◌++◌, Option, None, Some, codes}
 use Rattle.std.specs.Str.{bytes_eq}
 use Rattle.aa_bytes.specs.Bytes.{line_feed}
 use Rattle.aa_bytes.specs.Quoting.{written_text}
@@ -24,7 +24,7 @@ abbrev pub is_of : Option (List ℕ) → List ℕ → Bool
 is_of None who = false
 is_of (Some name) who = bytes_eq name who
 
--- the same line, where what came last was of somebody else; records have none
-abbrev pub heading_behind : Form → Option (List ℕ) → List ℕ → List ℕ → List ℕ
-heading_behind Records last path who = []
-heading_behind Lines last path who = if is_of last who then [] else heading path who
+-- the same line; records have none
+abbrev pub heading_text : Form → List ℕ → List ℕ → List ℕ
+heading_text Records path who = []
+heading_text Lines path who = heading path who

@@ -1,11 +1,6 @@
-pub mod Findings
 pub mod Found
-pub mod Gathered
 pub mod Headings
-pub mod Laws
-pub mod Outcomes
-pub mod SeenWanted
+pub mod Offers
+pub mod SeenTelling
 pub mod Told
 pub mod Unlet
-pub mod Wanted
-pub mod code

@@ -1,15 +1,17 @@
 -- What is told of the rules with which the requests of logs are allowed (docs/aatry.md).
-use Rattle.std.specs.Prelude.{◌≡◌, ℕ, List, [], ◌∷◌, ◌++◌, Option, None, Some, flat_map}
+use Rattle.std.specs.Prelude.{◌≡◌, ℕ, List, [], ◌∷◌, ◌++◌, if◌then◌else◌, Option, None, Some, flat_map, map}
 use Rattle.aa_decide_slots.specs.Entries.{Loaded}
-use Rattle.aatry_log_rules.specs.Findings.{finding_of}
+use Rattle.aatry_abstractions.specs.Letting.{IsNarrowestFirst, Letting, lettings}
+use Rattle.aatry_log_wants.specs.Findings.{finding_of}
 use Rattle.aatry_log_rules.specs.Found.{rule_text}
-use Rattle.aatry_log_rules.specs.Gathered.{IsGathered, Wants}
-use Rattle.aatry_log_rules.specs.Headings.{file_for, heading_behind}
+use Rattle.aatry_log_wants.specs.Gathered.{IsGathered, Wants}
+use Rattle.aatry_log_rules.specs.Headings.{file_for, heading_text, is_of}
+use Rattle.aatry_log_rules.specs.Offers.{offers}
 use Rattle.aatry_log_rules.specs.Unlet.{question_of, unlet_text}
-use Rattle.aatry_log_rules.specs.Wanted.{IsByWho, Wanted}
-use Rattle.aatry_log_rules.specs.declared.finding.Finding.{Finding}
-use Rattle.aatry_log_rules.specs.declared.finding.Finding.TheVariants as finding
-use Rattle.aatry_log_rules.specs.declared.finding.NoRule.TheVariants.{Denied}
+use Rattle.aatry_log_wants.specs.Wanted.{IsByWho, Wanted}
+use Rattle.aatry_log_wants.specs.declared.finding.Finding.{Finding}
+use Rattle.aatry_log_wants.specs.declared.finding.Finding.TheVariants as finding
+use Rattle.aatry_log_wants.specs.declared.finding.NoRule.TheVariants.{Denied}
 use Rattle.aatry_policy.specs.Folders.{Folder, origins_in, policy_in}
 use Rattle.aatry_policy.specs.declared.origins.Origin.{Origin}
 use Rattle.aatry_report.specs.declared.form.Form.{Form}
@@ -20,17 +22,34 @@ abbrev pub finding_text : Form → List ℕ → Wanted → Finding → List ℕ
 finding_text form path wanted (finding.Missing rule) = rule_text form path wanted.who rule wanted.times
 finding_text form path wanted (finding.None reason) = unlet_text form reason (question_of wanted) wanted.times
 
+-- What the telling of rules goes by: its form, the folder's path, where its profiles were read, the policy set, all that is wanted, and the abstractions
+-- that let some of it.
+pub record Telling : Type 0 where
+  pub form : Form
+  pub base : List ℕ
+  pub origins : List Origin
+  pub entries : List Loaded
+  pub wanted : List Wanted
+  pub lettings : List Letting
+
+-- whose rules come next, and the abstractions that let some of what is wanted of them
+abbrev pub opening : Telling → List ℕ → List ℕ → List ℕ
+opening telling path who = heading_text telling.form path who ++ offers telling.form telling.wanted telling.lettings path who
+
+-- the same, where what came last was of somebody else
+abbrev pub opening_behind : Telling → Option (List ℕ) → List ℕ → List ℕ → List ℕ
+opening_behind telling last path who = if is_of last who then [] else opening telling path who
+
 -- what is wanted, below whose it is, where what came last was of somebody else
-abbrev pub wanted_text : Form → List ℕ → List Origin → List Loaded → Option (List ℕ) → Wanted → List ℕ
-wanted_text form base origins entries last wanted =
-    let path = file_for base origins wanted.who in
-    heading_behind form last path wanted.who ++ finding_text form path wanted (finding_of entries wanted)
+abbrev pub wanted_text : Telling → Option (List ℕ) → Wanted → List ℕ
+wanted_text telling last wanted =
+    let path = file_for telling.base telling.origins wanted.who in
+    opening_behind telling last path wanted.who ++ finding_text telling.form path wanted (finding_of telling.entries wanted)
 
 -- all of it, in this order
-abbrev pub wanted_texts : Form → List ℕ → List Origin → List Loaded → Option (List ℕ) → List Wanted → List ℕ
-wanted_texts form base origins entries last [] = []
-wanted_texts form base origins entries last (wanted ∷ more) =
-    wanted_text form base origins entries last wanted ++ wanted_texts form base origins entries (Some wanted.who) more
+abbrev pub wanted_texts : Telling → Option (List ℕ) → List Wanted → List ℕ
+wanted_texts telling last [] = []
+wanted_texts telling last (wanted ∷ more) = wanted_text telling last wanted ++ wanted_texts telling (Some wanted.who) more
 
 -- a request of which a rule denies something
 abbrev pub denied_one : Form → Tally → List ℕ
@@ -39,12 +58,29 @@ denied_one form tally = unlet_text form Denied tally.question tally.times
 abbrev pub denied_text : Form → List Tally → List ℕ
 denied_text form tallies = flat_map (denied_one form) tallies
 
--- Behind a text stand the rules with which some requests are allowed that lack something, by who asks, and those of which a rule denies something; so many
+-- the abstractions of a folder that let some of what is wanted, the narrowest first
+abbrev pub AreOffered : Folder → List Wanted → List Letting → Type 0
+AreOffered folder wanted found = IsNarrowestFirst (lettings folder.language folder.files (map (λ one. one.request) wanted)) found
+
+-- the telling of what is wanted in a folder, in this order, with these abstractions
+abbrev pub telling_of : Form → Folder → List Wanted → List Letting → Telling
+telling_of form folder wanted found = record {
+  form = form;
+  base = folder.base;
+  origins = origins_in folder;
+  entries = policy_in folder;
+  wanted = wanted;
+  lettings = found;
+}
+
+-- Behind a text stand the rules with which some requests are allowed that lack something, by who asks, with abstractions that let some, and those of which a rule denies something; so many
 -- nobody asks who is in the folder.
 pub record AreRulesTold (form : Form) (folder : Folder) (tallies : List Tally) (before text : List ℕ) (nobody : ℕ) : Type 0 where
   pub wants : Wants
   pub gathered : IsGathered (policy_in folder) tallies wants
   pub wanted : List Wanted
   pub order : IsByWho wants.wanted wanted
-  pub text_is : text ≡ before ++ wanted_texts form folder.base (origins_in folder) (policy_in folder) None wanted ++ denied_text form wants.denied
+  pub found : List Letting
+  pub offered : AreOffered folder wanted found
+  pub text_is : text ≡ before ++ wanted_texts (telling_of form folder wanted found) None wanted ++ denied_text form wants.denied
   pub counted : nobody ≡ wants.nobody

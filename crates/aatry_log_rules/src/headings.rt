@@ -2,7 +2,7 @@
 
 ghost use Rattle.std.specs.Prelude.{◌≡◌, ◌++◌, IfOk, OnOk};
 ghost use Rattle.std.specs.Option.{option_copied};
-ghost use Rattle.aatry_log_rules.specs.Headings.{file_for, heading, heading_behind, is_of};
+ghost use Rattle.aatry_log_rules.specs.Headings.{file_for, heading, heading_text, is_of};
 
 use aa_bytes::push_text;
 use aa_profile_access::cut_full_name;
@@ -39,8 +39,8 @@ fn push_line(path: &[u8], who: &[u8], out: &mut Vec<u8>) -> Result<(), AllocErro
     Ok(())
 }
 
-// Whether what came last is of who asks, too.
-fn is_of(last: Option<&[u8]>, who: &[u8]) -> bool
+/// Whether what came last is of who asks, too.
+pub fn is_of(last: Option<&[u8]>, who: &[u8]) -> bool
     ensures { result ≡ is_of (option_copied last.entry) who.now }
 {
     match last {
@@ -49,27 +49,21 @@ fn is_of(last: Option<&[u8]>, who: &[u8]) -> bool
     }
 }
 
-/// Appends the line to a text that tells whose rules come next, where what came last was of somebody else; in records nothing.
+/// Appends the line to a text that tells whose rules come next; in records nothing.
 ///
 /// # Errors
 ///
 /// Where memory runs out. A beginning may have been appended then.
-pub fn push_heading_behind(
+pub fn push_heading(
     form: Form,
-    last: Option<&[u8]>,
     path: &[u8],
     who: &[u8],
     out: &mut Vec<u8>,
 ) -> Result<(), AllocError>
-    ensures { OnOk result (out.new.items ≡ out.old.items ++ heading_behind form (option_copied last.entry) path.now who.now) }
+    ensures { OnOk result (out.new.items ≡ out.old.items ++ heading_text form path.now who.now) }
 {
     match form {
         Form::Records => Ok(()),
-        Form::Lines => {
-            if is_of(last, who) {
-                return Ok(());
-            }
-            push_line(path, who, out)
-        }
+        Form::Lines => push_line(path, who, out),
     }
 }

@@ -1,24 +1,29 @@
 //! The rules with which the requests of logs are allowed, as they are told.
 
-ghost use Rattle.std.specs.Prelude.{◌≡◌, ◌++◌, IfOk, None, OnOk, map};
+ghost use Rattle.std.specs.Prelude.{◌≡◌, ◌++◌, IfOk, List, None, OnOk, map};
 ghost use Rattle.std.specs.Option.{option_copied};
-ghost use Rattle.aa_decide_slots.specs.Slots.{filled};
-ghost use Rattle.aatry_log_rules.specs.SeenWanted.{seen_wanted};
-ghost use Rattle.aatry_log_rules.specs.Told.{AreRulesTold, denied_text, finding_text, wanted_text, wanted_texts};
+ghost use Rattle.aa_profile_access.specs.SeenRequests.{request_of};
+ghost use Rattle.aatry_abstractions.specs.Letting.{IsNarrowestFirst, Letting, lettings};
+ghost use Rattle.aatry_abstractions.specs.SeenLetting.{seen_letting};
+ghost use Rattle.aatry_log_rules.specs.SeenTelling.{seen_telling};
+ghost use Rattle.aatry_log_wants.specs.SeenWanted.{seen_wanted};
+ghost use Rattle.aatry_log_rules.specs.Told.{AreOffered, AreRulesTold, denied_text, finding_text, opening_behind, telling_of, wanted_text, wanted_texts};
 ghost use Rattle.aatry_policy.specs.Folders.{loaded_in, origins_in, seen_folder};
 ghost use Rattle.aatry_requests.specs.SeenTallies.{seen_all};
 
-use crate::finding::{Finding, NoRule, finding_of};
 use crate::found::push_rule;
-use crate::gathering::{RuleWants, gather_wants};
-use crate::headings::{file_for, push_heading_behind};
+use crate::headings::{file_for, is_of, push_heading};
+use crate::offers::push_offers;
+use crate::telling_by::RuleTelling;
 use crate::unlet::{push_unlet, question_of};
-use crate::wanted::Wanted;
-use aa_decide::IndexedSlots;
-use aatry_policy::{LoadedFolder, Origin};
+use aa_profile_access::Request;
+use aatry_abstractions::{LettingAbstraction, letting_abstractions};
+use aatry_folder::PolicyFolder;
+use aatry_log_wants::{Finding, NoRule, RuleWants, Wanted, finding_of, gather_wants};
+use aatry_policy::LoadedFolder;
 use aatry_report::Teller;
 use aatry_requests::{Tallies, Tally};
-use std::alloc::AllocError;
+use std::alloc::{AllocError, Global};
 
 // Appends what is found for what is wanted to a text, by the path of the file.
 fn push_finding(
@@ -42,43 +47,103 @@ fn push_finding(
     }
 }
 
+// Appends to a text whose rules come next, and the abstractions that let some of them, where what came last was of somebody else.
+fn push_opening_behind(
+    telling: &RuleTelling<'_, '_>,
+    last: Option<&[u8]>,
+    path: &[u8],
+    who: &[u8],
+    out: &mut Vec<u8>,
+) -> Result<(), AllocError>
+    ensures { OnOk result (out.new.items ≡ out.old.items ++ opening_behind (seen_telling telling.now) (option_copied last.entry) path.now who.now) }
+{
+    if is_of(last, who) {
+        return Ok(());
+    }
+    push_heading(telling.teller.form, path, who, out)?;
+    push_offers(telling, path, who, out)
+}
+
 // Appends what is wanted to a text, below whose it is, where what came last was of somebody else.
 fn push_wanted(
-    teller: Teller,
-    base: &[u8],
-    origins: &[Origin],
-    slots: &IndexedSlots<'_>,
+    telling: &RuleTelling<'_, '_>,
     last: Option<&[u8]>,
     wanted: &Wanted<'_>,
     out: &mut Vec<u8>,
 ) -> Result<(), AllocError>
-    ensures { OnOk result (out.new.items
-        ≡ out.old.items ++ wanted_text teller.form base.now origins.now (filled slots.now) (option_copied last.entry) (seen_wanted wanted.now)) }
+    ensures { OnOk result (out.new.items ≡ out.old.items ++ wanted_text (seen_telling telling.now) (option_copied last.entry) (seen_wanted wanted.now)) }
 {
-    let path = file_for(teller.alloc, base, origins, wanted.who)?;
-    push_heading_behind(teller.form, last, &path, wanted.who, out)?;
-    let finding = finding_of(teller.alloc, slots, wanted)?;
-    push_finding(teller, &path, wanted, &finding, out)
+    let alloc = telling.teller.alloc;
+    let path = file_for(alloc, telling.base, telling.origins, wanted.who)?;
+    push_opening_behind(telling, last, &path, wanted.who, out)?;
+    let finding = finding_of(alloc, telling.slots, wanted)?;
+    push_finding(telling.teller, &path, wanted, &finding, out)
 }
 
-// Appends all of what is wanted to a text, in this order.
-fn push_all_wanted(
-    teller: Teller,
-    base: &[u8],
-    origins: &[Origin],
-    slots: &IndexedSlots<'_>,
-    wanted: Vec<Wanted<'_>>,
-    out: &mut Vec<u8>,
-) -> Result<(), AllocError>
-    ensures { OnOk result (out.new.items
-        ≡ out.old.items ++ wanted_texts teller.form base.now origins.now (filled slots.now) None (map seen_wanted wanted.entry.items)) }
+// Appends all of what is wanted to a text, in its order.
+fn push_all_wanted(telling: &RuleTelling<'_, '_>, out: &mut Vec<u8>) -> Result<(), AllocError>
+    ensures { OnOk result (out.new.items ≡ out.old.items ++ wanted_texts (seen_telling telling.now) None (seen_telling telling.now).wanted) }
 {
     let mut last: Option<&[u8]> = None;
-    for one in wanted {
-        push_wanted(teller, base, origins, slots, last, &one, out)?;
+    let mut rest = telling.wanted;
+    while let [one, behind @ ..] = rest {
+        push_wanted(telling, last, one, out)?;
         last = Some(one.who);
+        rest = behind;
     }
     Ok(())
+}
+
+// The requests that are wanted.
+fn requests_of<'t>(alloc: Global, wanted: &[Wanted<'t>]) -> Result<Vec<Request<'t>>, AllocError>
+    ensures { IfOk result (λ requests. map request_of requests.items ≡ map (λ one. one.request) (map seen_wanted wanted.now)) }
+{
+    let mut requests = Vec::new(alloc);
+    let mut rest = wanted;
+    while let [one, behind @ ..] = rest {
+        requests.push(one.request)?;
+        rest = behind;
+    }
+    Ok(requests)
+}
+
+// The abstractions of a folder that let some of what is wanted.
+fn abstractions_for(
+    alloc: Global,
+    folder: &PolicyFolder<'_>,
+    wanted: &[Wanted<'_>],
+) -> Result<Vec<LettingAbstraction>, AllocError>
+    ensures { IfOk result (λ found. IsNarrowestFirst
+        (lettings folder.now.language folder.now.files (map (λ one. one.request) (map seen_wanted wanted.now))) (map seen_letting found.items)) }
+{
+    let requests = requests_of(alloc, wanted)?;
+    letting_abstractions(alloc, folder.language, &folder.files, &requests)
+}
+
+// Appends all of what is wanted of the profiles of a loaded folder to a text, in its order, with the abstractions that let some of it.
+fn push_told(
+    teller: Teller,
+    loaded: &LoadedFolder<'_>,
+    wanted: &[Wanted<'_>],
+    out: &mut Vec<u8>,
+) -> Result<(), AllocError>
+    requires set { loaded.now.policy.manager ≡ loaded_in (seen_folder loaded.now.folder.now) }
+    requires origins { loaded.now.policy.origins.items ≡ origins_in (seen_folder loaded.now.folder.now) }
+    ensures { OnOk result ((found : List Letting) × AreOffered (seen_folder loaded.now.folder.now) (map seen_wanted wanted.now) found
+        × (out.new.items ≡ out.old.items
+        ++ wanted_texts (telling_of teller.form (seen_folder loaded.now.folder.now) (map seen_wanted wanted.now) found) None (map seen_wanted wanted.now))) }
+{
+    let slots = loaded.policy.manager.policy_set().slots();
+    let abstractions = abstractions_for(teller.alloc, loaded.folder, wanted)?;
+    let telling = RuleTelling {
+        teller,
+        base: loaded.folder.base.as_bytes(),
+        origins: &loaded.policy.origins,
+        slots: &slots,
+        wanted,
+        abstractions: &abstractions,
+    };
+    push_all_wanted(&telling, out)
 }
 
 // Appends requests to a text of which a rule denies something.
@@ -103,9 +168,11 @@ fn push_denied(
 
 /// Appends the rules to a text with which the requests of logs are allowed by the policy of a loaded folder that lack something, and says how many of them
 /// nobody asks who is loaded. The rules come below the file and the full name of who asks, in the order of these names, of each those first that are
-/// wanted most often: one for each path, with the letters that are asked for of it, for its owner alone where all its requests are the owner's; and one for
-/// each capability, and for each type of sockets. In its place stands a comment, where a rule is in the way of it, or it can't be written. Behind all of
-/// them stands a comment for each request of which a rule denies something. As records these are of the kinds `missing` and `no_rule`.
+/// wanted most often: one for each path, with those of the letters asked for that no rule allows, for its owner alone where all its requests are the
+/// owner's; and one for each capability, and for each type of sockets. Ahead of them stand the abstractions of the folder that let some of what they are
+/// for (`aatry_abstractions::letting_abstractions`). In its place stands a comment, where a rule is in the way of it, or it can't be written. Behind all of
+/// them stands a comment for each request of which a rule denies something. As records these are of the kinds `abstraction`, `missing` and
+/// `no_rule`.
 ///
 /// # Errors
 ///
@@ -121,14 +188,13 @@ pub fn push_rules(
     ensures { IfOk result (λ nobody. AreRulesTold teller.form (seen_folder loaded.now.folder.now) tallies.now out.old.items out.new.items nobody) }
 {
     let slots = loaded.policy.manager.policy_set().slots();
-    let base = loaded.folder.base.as_bytes();
     let RuleWants {
         wanted,
         denied,
         nobody,
     } = gather_wants(teller.alloc, &slots, tallies)?;
     let wanted = wanted.by_who(teller.alloc)?;
-    push_all_wanted(teller, base, &loaded.policy.origins, &slots, wanted, out)?;
+    push_told(teller, loaded, &wanted, out)?;
     push_denied(teller, denied, out)?;
     Ok(nobody)
 }

@@ -22,4 +22,4 @@ left_then path was_read now_read left now_left is unread = by (is_input path) re
 
 -- nothing is left of what was read
 pub nothing_left : (selection : Selection) (file : Option (List ℕ)) (so_far : LogRequests) → IsGatheredFrom selection file (Some []) so_far (begun so_far)
-nothing_left selection file so_far = ([], refl, refl)
+nothing_left selection file so_far = ([], refl, refl, refl)

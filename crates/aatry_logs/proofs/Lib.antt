@@ -1,2 +1,3 @@
+mod CompressedLemmas
 mod GatheredLemmas
 mod InputLemmas

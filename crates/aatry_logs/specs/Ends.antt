@@ -1,13 +1,19 @@
 -- With which faults it may end to gather logs.
-use Rattle.std.specs.Prelude.{◌≡◌, ◌⊎◌, ℕ, List, ◌∷◌, ◌++◌}
+use Rattle.std.specs.Prelude.{◌≡◌, ◌⊎◌, ℕ, if◌then◌else◌, List, ◌∷◌, ◌++◌, None, Some}
 use Rattle.aaset_start.specs.Known.{Known}
 use Rattle.aatry_folder.specs.declared.fault.Fault.{Fault}
 use Rattle.aatry_folder.specs.declared.fault.Fault.TheVariants.{Read}
 use Rattle.aatry_input.specs.Opened.{IsUnopened}
+use Rattle.aatry_logs.specs.Compressed.{IsOfCompressed}
+use Rattle.aatry_logs.specs.Gathered.{is_input}
 
--- A fault keeps the log at a path from being read to its end: it can't be opened, or a read of it failed.
+-- A fault tells the path of a log that gzip wrote; nothing is said here of the bytes of standard input.
+abbrev pub IsCompressedAt : Known → List ℕ → Fault → Type 0
+IsCompressedAt known path fault = IsOfCompressed (Some path) (if is_input path then None else known.bytes_at path) fault
+
+-- A fault keeps the log at a path from being read to its end: it can't be opened, a read of it failed, or gzip wrote it.
 abbrev pub IsOfLog : Known → List ℕ → Fault → Type 0
-IsOfLog known path fault = IsUnopened known path fault ⊎ (fault ≡ Read)
+IsOfLog known path fault = IsUnopened known path fault ⊎ (fault ≡ Read) ⊎ IsCompressedAt known path fault
 
 -- the same of one of some paths
 abbrev pub IsOfOneLog : Known → List (List ℕ) → Fault → Type 0

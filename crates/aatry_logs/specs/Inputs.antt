@@ -1,7 +1,8 @@
 -- An input, gathered as a log, which comes line by line.
-use Rattle.std.specs.Prelude.{◌≡◌, ℕ, List, ◌++◌, Option, None, Some, ⊤}
+use Rattle.std.specs.Prelude.{◌≡◌, ℕ, false, List, ◌++◌, Option, None, Some, ⊤}
 use Rattle.aa_set_lines.specs.Lines.{lines}
 use Rattle.aatry_log_lines.specs.Selections.{Selection}
+use Rattle.aatry_logs.specs.Compressed.{begin_compressed}
 use Rattle.aatry_logs.specs.LogRequests.{LogRequests, begun, with_lines}
 
 -- These lines of an input were given, of which nothing had been read, and the others are those of what waits and of what is left, where that is known.
@@ -15,9 +16,10 @@ abbrev pub AreAllLines : (left : Option (List ℕ)) (given : List (List ℕ)) �
 AreAllLines None given = ⊤
 AreAllLines (Some bytes) given = given ≡ lines bytes
 
--- What was gathered so far of a log that has begun has become this by all lines of an input.
+-- What was gathered so far of a log that has begun has become this by all lines of an input, which gzip didn't write.
 abbrev pub IsAllTaken : Selection → (file left : Option (List ℕ)) → (before after : LogRequests) → Type 0
-IsAllTaken selection file left before after = (given : List (List ℕ)) × AreAllLines left given × (after ≡ with_lines selection file before given)
+IsAllTaken selection file left before after =
+    (given : List (List ℕ)) × AreAllLines left given × (begin_compressed given ≡ false) × (after ≡ with_lines selection file before given)
 
 -- The same of a log that begins: that at a path, or standard input.
 abbrev pub IsGatheredFrom : Selection → (file left : Option (List ℕ)) → (before after : LogRequests) → Type 0

@@ -1,3 +1,4 @@
+pub mod Compressed
 pub mod Ends
 pub mod Entries
 pub mod Gathered

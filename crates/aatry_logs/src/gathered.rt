@@ -3,6 +3,7 @@
 ghost use Rattle.std.specs.Prelude.{◌≡◌, ◌≤◌, ◌⊎◌, ◌^◌, None, Some, false, true, IfErr, IfOk, OnOk, map, string_bytes};
 ghost use Rattle.aatry_folder.specs.declared.fault.Fault.TheVariants as fault;
 ghost use Rattle.aatry_log_lines.specs.Selections.{seen_selection};
+ghost use Rattle.aatry_logs.specs.Compressed.{IsNamedCompressed};
 ghost use Rattle.aatry_logs.specs.Ends.{IsOfLog, IsOfOneLog};
 ghost use Rattle.aatry_logs.specs.Gathered.{AreGathered, is_input, left_at, log_file, meant_paths};
 ghost use Rattle.aatry_logs.specs.Inputs.{IsGatheredFrom};
@@ -53,7 +54,7 @@ fn take_standard<S: Source>(
     ensures taken { OnOk result (IsGatheredFrom (seen_selection selection.entry) None (left_by was_read.old (S.left input.old))
         (seen_logs logs.old) (seen_logs logs.new)) }
     ensures read { was_read.new ≡ true }
-    ensures fault { IfErr result (λ told. (told ≡ fault.Read) ⊎ (told ≡ fault.NoMemory)) }
+    ensures fault { IfErr result (λ told. (told ≡ fault.Read) ⊎ (told ≡ fault.NoMemory) ⊎ IsNamedCompressed None told) }
 {
     if *was_read {
         logs.begin();
@@ -93,6 +94,7 @@ fn take_log<D: FileSystem, S: Source>(
 ///
 /// - `Unreadable` with the first path where no file can be opened.
 /// - `Read` where a read failed, or a log didn't end (`LogRequests::take_input`).
+/// - `Compressed` with the first path of a log that gzip wrote.
 /// - `NoMemory` where memory ran out.
 pub fn gather_logs<'a, D: FileSystem, S: Source>(
     alloc: Global,

@@ -1,6 +1,7 @@
 //! Logs, gathered: the requests of their lines that are asked for, each with how often it came and when, and the lines that can't be read.
 #![tactic(auto)]
 
+mod compressed;
 mod entries;
 mod gathered;
 mod inputs;

@@ -1,5 +1,5 @@
 -- What is done is what the words ask for.
-use Rattle.std.proofs.Common.{◌≡◌, ◌⊎◌, ℕ, Bool, List, Result, Ok, Err, IfErr, IfOk, MatchResult, OnOk, inl, inr, refl, string_bytes, subst}
+use Rattle.std.proofs.Common.{◌≡◌, ◌⊎◌, ℕ, Bool, List, [], Result, Ok, Err, IfErr, IfOk, MatchResult, OnOk, inl, inr, refl, string_bytes, subst, sym}
 use Rattle.aa_profile_parsing.specs.declared.language.Language.{Language}
 use Rattle.aatry_arguments.specs.Arguments.{CommandAsked, ForCheck, ForDiff, ForLog, ForSession, ForTest, ForWho, ForWhy}
 use Rattle.aa_options.specs.Options.{Asked, ForHelp, ForThis, ForVersion, Nothing}
@@ -13,13 +13,15 @@ use Rattle.aatry_folder.specs.Reports.{Report, seen_report}
 use Rattle.aatry_folder.specs.declared.report.Report.{Report as CodeReport}
 use Rattle.aatry_folder.specs.declared.fault.Fault.{Fault}
 use Rattle.aatry_folder.specs.declared.fault.Fault.TheVariants as fault
-use Rattle.aatry_program.specs.Program.{Input, IsCommandDone, IsDone, IsDoneBy, IsFaultShown, IsOutcomeShown, IsReported, Output}
+use Rattle.aatry_program.specs.Program.{Input, IsCommandDone, IsDone, IsDoneBy, IsFaultShown, IsKept, IsOutcomeShown, IsReported, Output, Store}
 use Rattle.aatry_program.specs.Questions.{IsEndOf, IsToldBelow, words_asking}
 use Rattle.aatry_program.specs.Status.{status_of}
 use Rattle.aatry_program.specs.declared.questions.Inquiry.{Inquiry}
 use Rattle.aatry_program.specs.declared.questions.Inquiry.TheVariants.{Who, Why}
 use Rattle.aatry_report.specs.declared.form.Form.{Form}
 use Rattle.aatry_requests.specs.AskedWords.{AskNothing}
+use Rattle.aatry_test.proofs.StoreLemmas.{Replaces-none}
+use Rattle.aatry_test.specs.Stores.{Replaces}
 use Rattle.aatry_folder.specs.Told.{ToldFolders}
 use Rattle.aaset_start.specs.Known.{Known}
 
@@ -45,14 +47,14 @@ no_memory_told Why form verbose language folders known base words output status 
 no_memory_told Who form verbose language folders known base words output status same is = inr (fault.NoMemory, inl tt, (same, is))
 
 -- the call that is given is the one that is asked for
-pub done_by_command : (folders : ToldFolders) (known : Known) (input : Input) (asked : Asked CallAsked) (call : Call) (output : Output)
-    (status : ℕ) → IsGivenFor meant_call asked (Ok call) → IsDoneBy call.language call.form call.verbose folders known input (meant_command call.command) output status
-    → IsDone folders known input asked output status
-done_by_command folders known input (ForThis asked) call output status given done =
-    subst (λ a. IsDoneBy a.language a.form a.verbose folders known input a.command output status) given done
-done_by_command folders known input ForHelp call output status given done = absurd given
-done_by_command folders known input ForVersion call output status given done = absurd given
-done_by_command folders known input Nothing call output status given done = absurd given
+pub done_by_command : (folders : ToldFolders) (known : Known) (store : Store) (input : Input) (asked : Asked CallAsked) (call : Call) (output : Output)
+    (status : ℕ) → IsGivenFor meant_call asked (Ok call) → IsDoneBy call.language call.form call.verbose folders known store input (meant_command call.command) output status
+    → IsDone folders known store input asked output status
+done_by_command folders known store input (ForThis asked) call output status given done =
+    subst (λ a. IsDoneBy a.language a.form a.verbose folders known store input a.command output status) given done
+done_by_command folders known store input ForHelp call output status given done = absurd given
+done_by_command folders known store input ForVersion call output status given done = absurd given
+done_by_command folders known store input Nothing call output status given done = absurd given
 
 -- a session that was had to its end, or that a fault ended, is done
 pub session_done : (Had : Type 0) (Broken : Fault → Type 0) (status : ℕ) (outcome : Result (Unit {0}) Fault)
@@ -61,34 +63,38 @@ pub session_done : (Had : Type 0) (Broken : Fault → Type 0) (status : ℕ) (ou
 session_done Had Broken status (Ok done) had broken is = inl (had, is)
 session_done Had Broken status (Err fault) had broken is = inr (fault, broken, is)
 
+-- where no file was replaced, none was
+none_replaced : (store : Store) → IsKept store → Replaces store.before store.after []
+none_replaced store kept = subst (λ after. Replaces store.before after []) (sym kept) (Replaces-none store.before)
+
 -- want of memory may keep the program from any command
-no_memory_done : (language : Language) (form : Form) (verbose : Bool) (folders : ToldFolders) (known : Known) (input : Input) (command : CommandAsked) (output : Output)
-    (status : ℕ) → IsReported fault.NoMemory output status → IsDoneBy language form verbose folders known input command output status
-no_memory_done language form verbose folders known input (ForCheck check) output status is = inr (fault.NoMemory, tt, is)
-no_memory_done language form verbose folders known input (ForTest test) output status is = inr (fault.NoMemory, inl tt, is)
-no_memory_done language form verbose folders known input (ForWho asking) output status is = inr (fault.NoMemory, inl tt, is)
-no_memory_done language form verbose folders known input (ForWhy asking) output status is = inr (fault.NoMemory, inl tt, is)
-no_memory_done language form verbose folders known input (ForLog logs) output status is = inr (fault.NoMemory, inl tt, is)
-no_memory_done language form verbose folders known input (ForDiff comparison) output status is = inr (fault.NoMemory, inl tt, is)
-no_memory_done language form verbose folders known input (ForSession session) output status is = inr (fault.NoMemory, inl (tt, is.0), is.1)
+no_memory_done : (language : Language) (form : Form) (verbose : Bool) (folders : ToldFolders) (known : Known) (store : Store) (input : Input) (command : CommandAsked)
+    (output : Output) (status : ℕ) → IsKept store → IsReported fault.NoMemory output status → IsDoneBy language form verbose folders known store input command output status
+no_memory_done language form verbose folders known store input (ForCheck check) output status kept is = (inr (fault.NoMemory, tt, is), kept)
+no_memory_done language form verbose folders known store input (ForTest test) output status kept is = inr (fault.NoMemory, inl (inl tt, none_replaced store kept), is)
+no_memory_done language form verbose folders known store input (ForWho asking) output status kept is = (inr (fault.NoMemory, inl tt, is), kept)
+no_memory_done language form verbose folders known store input (ForWhy asking) output status kept is = (inr (fault.NoMemory, inl tt, is), kept)
+no_memory_done language form verbose folders known store input (ForLog logs) output status kept is = (inr (fault.NoMemory, inl tt, is), kept)
+no_memory_done language form verbose folders known store input (ForDiff comparison) output status kept is = (inr (fault.NoMemory, inl tt, is), kept)
+no_memory_done language form verbose folders known store input (ForSession session) output status kept is = (inr (fault.NoMemory, inl (tt, is.0), is.1), kept)
 
 -- where no command is given, a text is shown that was asked for, or the status tells why
-pub done_by_fault : (folders : ToldFolders) (known : Known) (input : Input) (asked : Asked CallAsked) (told : ArgumentFault) (output : Output)
-    (status : ℕ) → IsGivenFor meant_call asked (Err told) → IsFaultShown told output status → IsDone folders known input asked output status
-done_by_fault folders known input (ForThis command) (Help text) output status given shown = absurd given
-done_by_fault folders known input (ForThis command) (Version text) output status given shown = absurd given
-done_by_fault folders known input (ForThis command) Bad output status given shown = absurd given
-done_by_fault folders known input (ForThis call) Memory output status given shown =
-    no_memory_done call.language call.form call.verbose folders known input call.command output status shown
-done_by_fault folders known input ForHelp (Help text) output status given shown = inl (string_bytes text, shown)
-done_by_fault folders known input ForHelp (Version text) output status given shown = absurd given
-done_by_fault folders known input ForHelp Bad output status given shown = absurd given
-done_by_fault folders known input ForHelp Memory output status given shown = inr shown
-done_by_fault folders known input ForVersion (Help text) output status given shown = absurd given
-done_by_fault folders known input ForVersion (Version text) output status given shown = inl (string_bytes text, shown)
-done_by_fault folders known input ForVersion Bad output status given shown = absurd given
-done_by_fault folders known input ForVersion Memory output status given shown = inr shown
-done_by_fault folders known input Nothing (Help text) output status given shown = absurd given
-done_by_fault folders known input Nothing (Version text) output status given shown = absurd given
-done_by_fault folders known input Nothing Bad output status given shown = inl shown
-done_by_fault folders known input Nothing Memory output status given shown = inr shown
+pub done_by_fault : (folders : ToldFolders) (known : Known) (store : Store) (input : Input) (asked : Asked CallAsked) (told : ArgumentFault) (output : Output)
+    (status : ℕ) → IsKept store → IsGivenFor meant_call asked (Err told) → IsFaultShown told output status → IsDone folders known store input asked output status
+done_by_fault folders known store input (ForThis command) (Help text) output status kept given shown = absurd given
+done_by_fault folders known store input (ForThis command) (Version text) output status kept given shown = absurd given
+done_by_fault folders known store input (ForThis command) Bad output status kept given shown = absurd given
+done_by_fault folders known store input (ForThis call) Memory output status kept given shown =
+    no_memory_done call.language call.form call.verbose folders known store input call.command output status kept shown
+done_by_fault folders known store input ForHelp (Help text) output status kept given shown = (inl (string_bytes text, shown), kept)
+done_by_fault folders known store input ForHelp (Version text) output status kept given shown = absurd given
+done_by_fault folders known store input ForHelp Bad output status kept given shown = absurd given
+done_by_fault folders known store input ForHelp Memory output status kept given shown = (inr shown, kept)
+done_by_fault folders known store input ForVersion (Help text) output status kept given shown = absurd given
+done_by_fault folders known store input ForVersion (Version text) output status kept given shown = (inl (string_bytes text, shown), kept)
+done_by_fault folders known store input ForVersion Bad output status kept given shown = absurd given
+done_by_fault folders known store input ForVersion Memory output status kept given shown = (inr shown, kept)
+done_by_fault folders known store input Nothing (Help text) output status kept given shown = absurd given
+done_by_fault folders known store input Nothing (Version text) output status kept given shown = absurd given
+done_by_fault folders known store input Nothing Bad output status kept given shown = (inl shown, kept)
+done_by_fault folders known store input Nothing Memory output status kept given shown = (inr shown, kept)

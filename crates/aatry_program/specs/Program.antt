@@ -2,6 +2,7 @@
 use Rattle.std.specs.Prelude.{◌≡◌, ◌⊎◌, ℕ, Bool, true, List, Option, Result, Ok, Err, String, Vec, drop, map, string_bytes}
 use Rattle.std.specs.Io.KnownBytes.{Appends}
 use Rattle.aa_set_lines.specs.Streams.{AppendsFront}
+use Rattle.aa_text_files.specs.Files.{File}
 use Rattle.aa_profile_parsing.specs.declared.language.Language.{Language}
 use Rattle.aatry_arguments.specs.Arguments.{CommandAsked, ForCheck, ForDiff, ForLog, ForSession, ForTest, ForWho, ForWhy}
 use Rattle.aa_options.specs.Options.{Asked, ForHelp, ForThis, ForVersion, Nothing}
@@ -18,7 +19,7 @@ use Rattle.aatry_diff.specs.Below.{IsComparedBelow}
 use Rattle.aatry_diff.specs.Ends.{IsEndOfDiff}
 use Rattle.aatry_log.specs.Below.{IsLogToldBelow}
 use Rattle.aatry_log.specs.Ends.{IsEndOfLog}
-use Rattle.aatry_test.specs.Below.{IsTestedBelow}
+use Rattle.aatry_test.specs.Below.{IsTestedAndReplaced}
 use Rattle.aatry_test.specs.Ends.{IsEndOfTest}
 use Rattle.aatry_folder.specs.Reports.{Report, seen_report}
 use Rattle.aatry_folder.specs.declared.report.Report.{Report as CodeReport}
@@ -41,6 +42,15 @@ pub record Output : Type 0 where
 pub record Input : Type 0 where
   pub left : Option (List ℕ)
   pub prompt : List ℕ
+
+-- the files of the disk that were replaced, before and by now, each by its path with its bytes, where that is known
+pub record Store : Type 0 where
+  pub before : Option (List File)
+  pub after : Option (List File)
+
+-- none was
+abbrev pub IsKept : Store → Type 0
+IsKept store = store.after ≡ store.before
 
 -- A text stands on standard output, and the status is the one that goes with it; or standard output failed, a front of the text stands there, and the
 -- status tells that.
@@ -76,6 +86,10 @@ IsCommandDone Tells Ends output status =
     ((report : Report) × Tells report × IsReportShown report output status)
     ⊎ ((fault : Fault) × Ends fault × IsReported fault output status)
 
+-- the same, and no file was replaced
+abbrev pub IsReadingDone : (Report → Type 0) → (Fault → Type 0) → Store → Output → ℕ → Type 0
+IsReadingDone Tells Ends store output status = IsCommandDone Tells Ends output status × IsKept store
+
 -- A session over a folder was had by a language to its end, and the status is 0; or some fault ended it, a beginning of what a session writes stands
 -- on standard output, and the status is that of the fault.
 abbrev pub IsSessionDone : Language → ToldFolders → Known → List ℕ → Input → Output → ℕ → Type 0
@@ -83,27 +97,32 @@ IsSessionDone language folders known base input output status =
     (IsSession language folders known base input.prompt input.left output.before output.after × (status ≡ 0))
     ⊎ ((fault : Fault) × IsBrokenSession language folders known base input.prompt input.left output.before output.after fault × (status ≡ status_of fault))
 
--- A command is done by a language: what it comes to is shown in a form, at length or not, of a test in lines alone; and a session is had.
-abbrev pub IsDoneBy : Language → Form → Bool → ToldFolders → Known → Input → CommandAsked → Output → ℕ → Type 0
-IsDoneBy language form verbose folders known input (ForCheck check) output status = IsCommandDone (IsChecked form language folders known check.base check.names) (IsEndOfCheck folders check.base) output status
-IsDoneBy language form verbose folders known input (ForTest test) output status = IsCommandDone (IsTestedBelow language folders known test.base test.paths) (IsEndOfTest folders known test.base test.paths) output status
-IsDoneBy language form verbose folders known input (ForWho asking) output status = IsCommandDone (IsWhoToldBelow form verbose language folders known asking.base asking.words) (IsEndOfWho folders asking.base asking.words) output status
-IsDoneBy language form verbose folders known input (ForWhy asking) output status = IsCommandDone (IsWhyToldBelow form verbose language folders known asking.base asking.words) (IsEndOfWhy folders asking.base asking.words) output status
-IsDoneBy language form verbose folders known input (ForLog logs) output status = IsCommandDone (IsLogToldBelow form verbose language folders known input.left logs) (IsEndOfLog folders known logs) output status
-IsDoneBy language form verbose folders known input (ForDiff comparison) output status = IsCommandDone (IsComparedBelow form verbose language folders known comparison) (IsEndOfDiff folders known comparison) output status
-IsDoneBy language form verbose folders known input (ForSession session) output status = IsSessionDone language folders known session.base input output status
+-- A command is done by a language: what it comes to is shown in a form, at length or not, of a test in lines alone; and a session is had. A test alone may
+-- replace files.
+abbrev pub IsDoneBy : Language → Form → Bool → ToldFolders → Known → Store → Input → CommandAsked → Output → ℕ → Type 0
+IsDoneBy language form verbose folders known store input (ForCheck check) output status = IsReadingDone (IsChecked form language folders known check.base check.names) (IsEndOfCheck folders check.base) store output status
+IsDoneBy language form verbose folders known store input (ForTest test) output status = IsCommandDone (IsTestedAndReplaced language folders known test.base test.paths test.accept store.before store.after) (IsEndOfTest language folders known test.base test.paths test.accept store.before store.after) output status
+IsDoneBy language form verbose folders known store input (ForWho asking) output status = IsReadingDone (IsWhoToldBelow form verbose language folders known asking.base asking.words) (IsEndOfWho folders asking.base asking.words) store output status
+IsDoneBy language form verbose folders known store input (ForWhy asking) output status = IsReadingDone (IsWhyToldBelow form verbose language folders known asking.base asking.words) (IsEndOfWhy folders asking.base asking.words) store output status
+IsDoneBy language form verbose folders known store input (ForLog logs) output status = IsReadingDone (IsLogToldBelow form verbose language folders known input.left logs) (IsEndOfLog folders known logs) store output status
+IsDoneBy language form verbose folders known store input (ForDiff comparison) output status = IsReadingDone (IsComparedBelow form verbose language folders known comparison) (IsEndOfDiff folders known comparison) store output status
+IsDoneBy language form verbose folders known store input (ForSession session) output status = IsSessionDone language folders known session.base input output status × IsKept store
 
 -- What is asked for is done: a command, or help or the version is shown, if memory allows; all else is reported as bad arguments.
-abbrev pub IsDone : ToldFolders → Known → Input → Asked CallAsked → Output → ℕ → Type 0
-IsDone folders known input (ForThis call) output status = IsDoneBy call.language call.form call.verbose folders known input call.command output status
-IsDone folders known input ForHelp output status = ((text : List ℕ) × IsShown text 0 output status) ⊎ IsReported NoMemory output status
-IsDone folders known input ForVersion output status = ((text : List ℕ) × IsShown text 0 output status) ⊎ IsReported NoMemory output status
-IsDone folders known input Nothing output status = IsReported BadArguments output status ⊎ IsReported NoMemory output status
+abbrev pub IsDone : ToldFolders → Known → Store → Input → Asked CallAsked → Output → ℕ → Type 0
+IsDone folders known store input (ForThis call) output status = IsDoneBy call.language call.form call.verbose folders known store input call.command output status
+IsDone folders known store input ForHelp output status = (((text : List ℕ) × IsShown text 0 output status) ⊎ IsReported NoMemory output status) × IsKept store
+IsDone folders known store input ForVersion output status = (((text : List ℕ) × IsShown text 0 output status) ⊎ IsReported NoMemory output status) × IsKept store
+IsDone folders known store input Nothing output status = (IsReported BadArguments output status ⊎ IsReported NoMemory output status) × IsKept store
 
 -- The words of the start ask for it, all but the first, which is the program's own name. Where they can't be had, that fault is reported.
-abbrev pub IsStarted : {A B : Type 0} → ToldFolders → Known → Input → Result (Vec (String A) B) Fault → Output → ℕ → Type 0
-IsStarted folders known input (Ok words) output status = IsDone folders known input (asked_call (drop 1 (map string_bytes words.items))) output status
-IsStarted folders known input (Err fault) output status = IsReported fault output status
+abbrev pub IsStarted : {A B : Type 0} → ToldFolders → Known → Store → Input → Result (Vec (String A) B) Fault → Output → ℕ → Type 0
+IsStarted folders known store input (Ok words) output status = IsDone folders known store input (asked_call (drop 1 (map string_bytes words.items))) output status
+IsStarted folders known store input (Err fault) output status = IsReported fault output status × IsKept store
+
+-- the files that were replaced, by those before and by now
+abbrev pub store_of : Option (List File) → Option (List File) → Store
+store_of before after = record { before = before; after = after }
 
 -- the output of a stream, by what was written to it before and after, and whether it failed
 abbrev pub output_of : Option (List ℕ) → Option (List ℕ) → Bool → Output

@@ -3,7 +3,7 @@ use Rattle.std.specs.Prelude.{◌==◌, ℕ, if◌then◌else◌}
 use Rattle.std.specs.declared.io.ErrorKind.{ErrorKind}
 use Rattle.std.specs.declared.io.ErrorKind.TheVariants as kind
 use Rattle.aatry_folder.specs.declared.fault.Fault.{Fault}
-use Rattle.aatry_folder.specs.declared.fault.Fault.TheVariants.{BadArguments, BadQuestion, Unreadable, TooMany, NoMemory, Read, Write}
+use Rattle.aatry_folder.specs.declared.fault.Fault.TheVariants.{BadArguments, BadQuestion, Unreadable, TooMany, Compressed, NoMemory, Read, Write}
 
 -- the exit status of a command, by how much of it failed
 abbrev pub failure_status : ℕ → ℕ
@@ -15,6 +15,7 @@ status_of BadArguments = 2
 status_of BadQuestion = 2
 status_of (Unreadable _) = 2
 status_of TooMany = 2
+status_of (Compressed _) = 2
 status_of NoMemory = 3
 status_of Read = 3
 status_of Write = 3

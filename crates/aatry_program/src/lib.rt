@@ -1,6 +1,8 @@
-//! The whole of `aatry`, over the words of its start, a file system, and three streams.
+//! The whole of `aatry`, over the words of its start, a disk, and three streams.
 #![tactic(auto)]
 
+mod disk;
+mod pipes;
 mod program;
 mod questions;
 mod reporting;
@@ -8,6 +10,8 @@ mod status;
 mod streams;
 
 pub use aatry_folder::Fault;
+pub use disk::Disk;
+pub use pipes::{Muted, Piped};
 pub use program::start;
 pub use status::fault_of_words;
 pub use streams::Streams;

@@ -4,10 +4,12 @@ ghost use Rattle.std.specs.Prelude.{◌≡◌, ◌≤◌, ◌^◌, MatchResult, 
 ghost use Rattle.aatry_arguments.specs.Forms.{asked_call};
 ghost use Rattle.aatry_arguments.specs.Given.{meant_command};
 ghost use Rattle.aaset_start.specs.Gathering.{texts_of};
-ghost use Rattle.aatry_program.specs.Program.{IsCommandDone, IsDone, IsDoneBy, IsFaultShown, IsOutcomeShown, IsSessionDone, IsShown, IsStarted, input_of, output_of};
+ghost use Rattle.aatry_program.specs.Program.{IsCommandDone, IsDone, IsDoneBy, IsFaultShown, IsOutcomeShown, IsSessionDone, IsShown, IsStarted};
+ghost use Rattle.aatry_program.specs.Program.{input_of, output_of, store_of};
 ghost use Rattle.aatry_program.specs.Questions.{IsEndOf, IsToldBelow};
 ghost use Rattle.aatry_program.specs.Status.{status_of};
 
+use crate::disk::Disk;
 use crate::questions::{Inquiry, inquire, inquiry_fault};
 use crate::reporting::{report, report_line};
 use crate::status::failure_status;
@@ -22,7 +24,7 @@ use aatry_folder::{Fault, Folders, Report};
 use aatry_log::log_folder;
 use aatry_report::Teller;
 use aatry_session_run::session_folder;
-use aatry_test::test_folder;
+use aatry_test::{FileStore, test_folder};
 use std::alloc::Global;
 
 // Shows a text, and gives the exit status: the one that goes with the text, or that of the fault of standard output.
@@ -129,17 +131,16 @@ fn tell_question<F: Folders, D: FileSystem, S, W: Sink, E: Sink>(
 }
 
 // Does what a call asks for.
-fn perform<F: Folders, D: FileSystem, S: Source, W: Sink, E: Sink>(
+fn perform<F: Folders, D: FileSystem, T: FileStore, S: Source, W: Sink, E: Sink>(
     alloc: Global,
     call: Call,
-    folders: &F,
-    disk: &D,
+    disk: &mut Disk<F, D, T>,
     prompt: &[u8],
     streams: &mut Streams<S, W, E>,
 ) -> u8
     requires { S.reads streams.old.input ≤ 2 ^ 62 }
-    ensures { IsDoneBy call.language call.form call.verbose (F.told folders.now) (D.known disk.now) (input_of (S.left streams.old.input) prompt.now)
-        (meant_command call.command)
+    ensures { IsDoneBy call.language call.form call.verbose (F.told disk.old.folders) (D.known disk.old.files)
+        (store_of (T.replaced disk.old.store) (T.replaced disk.new.store)) (input_of (S.left streams.old.input) prompt.now) (meant_command call.command)
         (output_of (W.written streams.old.output) (W.written streams.new.output) (W.failed streams.new.output)) result }
 {
     let Call {
@@ -155,26 +156,27 @@ fn perform<F: Folders, D: FileSystem, S: Source, W: Sink, E: Sink>(
     };
     match command {
         Command::Check(asked) => {
-            show_outcome(
-                alloc,
-                check_folder(teller, language, folders, disk, asked),
-                streams,
-            )
+            let outcome = check_folder(teller, language, &disk.folders, &disk.files, asked);
+            show_outcome(alloc, outcome, streams)
         }
         Command::Test(asked) => {
-            show_outcome(
+            let outcome = test_folder(
                 alloc,
-                test_folder(alloc, language, folders, disk, asked),
-                streams,
-            )
+                language,
+                &disk.folders,
+                &disk.files,
+                &mut disk.store,
+                asked,
+            );
+            show_outcome(alloc, outcome, streams)
         }
         Command::Who(asked) => tell_question(
             teller,
             Inquiry::Who,
             language,
             asked,
-            folders,
-            disk,
+            &disk.folders,
+            &disk.files,
             streams,
         ),
         Command::Why(asked) => tell_question(
@@ -182,23 +184,33 @@ fn perform<F: Folders, D: FileSystem, S: Source, W: Sink, E: Sink>(
             Inquiry::Why,
             language,
             asked,
-            folders,
-            disk,
+            &disk.folders,
+            &disk.files,
             streams,
         ),
         Command::Log(asked) => {
-            let outcome = log_folder(teller, language, folders, disk, asked, &mut streams.input);
+            let outcome = log_folder(
+                teller,
+                language,
+                &disk.folders,
+                &disk.files,
+                asked,
+                &mut streams.input,
+            );
             show_outcome(alloc, outcome, streams)
         }
         Command::Diff(asked) => {
-            show_outcome(
-                alloc,
-                diff_folders(teller, language, folders, disk, asked),
-                streams,
-            )
+            let outcome = diff_folders(teller, language, &disk.folders, &disk.files, asked);
+            show_outcome(alloc, outcome, streams)
         }
         Command::Session(asked) => have_session(
-            alloc, language, asked, folders, disk, prompt, streams,
+            alloc,
+            language,
+            asked,
+            &disk.folders,
+            &disk.files,
+            prompt,
+            streams,
         ),
     }
 }
@@ -221,21 +233,20 @@ fn show_fault<S, W: Sink, E: Sink>(
 }
 
 // Does what words ask for, of which the first is the program's own name.
-fn do_asked<F: Folders, D: FileSystem, S: Source, W: Sink, E: Sink>(
+fn do_asked<F: Folders, D: FileSystem, T: FileStore, S: Source, W: Sink, E: Sink>(
     alloc: Global,
     words: &[String],
-    folders: &F,
-    disk: &D,
+    disk: &mut Disk<F, D, T>,
     prompt: &[u8],
     streams: &mut Streams<S, W, E>,
 ) -> u8
     requires { S.reads streams.old.input ≤ 2 ^ 62 }
-    ensures { IsDone (F.told folders.now) (D.known disk.now) (input_of (S.left streams.old.input) prompt.now)
-        (asked_call (drop 1 (map string_bytes words.now)))
+    ensures { IsDone (F.told disk.old.folders) (D.known disk.old.files) (store_of (T.replaced disk.old.store) (T.replaced disk.new.store))
+        (input_of (S.left streams.old.input) prompt.now) (asked_call (drop 1 (map string_bytes words.now)))
         (output_of (W.written streams.old.output) (W.written streams.new.output) (W.failed streams.new.output)) result }
 {
     match call_of(alloc, words) {
-        Ok(call) => perform(alloc, call, folders, disk, prompt, streams),
+        Ok(call) => perform(alloc, call, disk, prompt, streams),
         Err(fault) => show_fault(alloc, fault, streams),
     }
 }
@@ -243,24 +254,25 @@ fn do_asked<F: Folders, D: FileSystem, S: Source, W: Sink, E: Sink>(
 /// Does what the words of the program's start ask for, and gives the exit status. The first word is the program's own name; where the words
 /// can't be had, `words` is the fault to be reported. What is told stands on standard output; a fault is reported on standard error, on a line of
 /// its own, and so is what a command notes beside what it tells, once that was written. A session takes its lines from standard input, and writes
-/// `prompt` before it reads one; `log` reads it where it names no file. The status is 0 where each file that was checked was taken, each transcript
-/// that was tested passed, a question has an answer, somebody would be let through, nothing differs between two folders, logs were read, a session
-/// ended, or a text was asked for and shown; 1 where one of these isn't so; 2 where the arguments or a question are no good, or a folder of policy or
-/// another file can't be read; and 3 where a stream or memory failed.
-pub fn start<F: Folders, D: FileSystem, S: Source, W: Sink, E: Sink>(
+/// `prompt` before it reads one; `log` reads it where it names no file. No file is replaced but transcripts, where a test is to accept what is told. The
+/// status is 0 where each file that was checked was taken, each transcript that was tested passed or was accepted, a question has an answer,
+/// somebody would be let through, nothing differs between two folders, logs were read, a session ended, or a text was asked for and shown; 1 where one of
+/// these isn't so; 2 where the arguments or a question are no good, or a folder of policy or another file can't be read; and 3 where a stream or
+/// memory failed, or a transcript can't be replaced.
+pub fn start<F: Folders, D: FileSystem, T: FileStore, S: Source, W: Sink, E: Sink>(
     alloc: Global,
     words: Result<Vec<String>, Fault>,
-    folders: &F,
-    disk: &D,
+    disk: &mut Disk<F, D, T>,
     prompt: &[u8],
     streams: &mut Streams<S, W, E>,
 ) -> u8
     requires { S.reads streams.old.input ≤ 2 ^ 62 }
-    ensures { IsStarted (F.told folders.now) (D.known disk.now) (input_of (S.left streams.old.input) prompt.now) words
+    ensures { IsStarted (F.told disk.old.folders) (D.known disk.old.files) (store_of (T.replaced disk.old.store) (T.replaced disk.new.store))
+        (input_of (S.left streams.old.input) prompt.now) words
         (output_of (W.written streams.old.output) (W.written streams.new.output) (W.failed streams.new.output)) result }
 {
     match words {
-        Ok(words) => do_asked(alloc, &words, folders, disk, prompt, streams),
+        Ok(words) => do_asked(alloc, &words, disk, prompt, streams),
         Err(fault) => report(alloc, &mut streams.errors, &fault),
     }
 }

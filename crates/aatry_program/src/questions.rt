@@ -10,7 +10,7 @@ use aa_profile_parsing::Language;
 use aaset_start::FileSystem;
 use aatry_arguments::Asking;
 use aatry_folder::{Fault, Folders, Report};
-use aatry_questions::{QuestionFault, push_words_fault};
+use aatry_questions::{QuestionFault, push_letting_fault, push_words_fault};
 use aatry_report::Teller;
 use aatry_requests::{letting_fault, words_fault};
 use aatry_who::who_folder;
@@ -26,20 +26,40 @@ pub enum Inquiry {
     Who,
 }
 
-// The line that tells what is wrong with the words of a question.
-fn fault_line(alloc: Global, fault: &QuestionFault) -> Result<Vec<u8>, AllocError> {
+// Appends what is wrong with the words behind a command to a line.
+fn push_fault(
+    inquiry: Inquiry,
+    fault: &QuestionFault,
+    line: &mut Vec<u8>,
+) -> Result<(), AllocError> {
+    match inquiry {
+        Inquiry::Why => push_words_fault(fault, line),
+        Inquiry::Who => push_letting_fault(fault, line),
+    }
+}
+
+// The line that tells what is wrong with them.
+fn fault_line(
+    alloc: Global,
+    inquiry: Inquiry,
+    fault: &QuestionFault,
+) -> Result<Vec<u8>, AllocError> {
     let mut line = Vec::from_slice(alloc, b"aatry: ")?;
-    push_words_fault(fault, &mut line)?;
+    push_fault(inquiry, fault, &mut line)?;
     line.push(b'\n')?;
     Ok(line)
 }
 
 // The same of what may be wrong.
-fn line_of(alloc: Global, found: Option<QuestionFault>) -> Result<Option<Vec<u8>>, AllocError>
+fn line_of(
+    alloc: Global,
+    inquiry: Inquiry,
+    found: Option<QuestionFault>,
+) -> Result<Option<Vec<u8>>, AllocError>
     ensures { IfOk result (λ line. IsSome line → IsSome found) }
 {
     match found {
-        Some(fault) => Ok(Some(fault_line(alloc, &fault)?)),
+        Some(fault) => Ok(Some(fault_line(alloc, inquiry, &fault)?)),
         None => Ok(None),
     }
 }
@@ -49,7 +69,7 @@ fn why_fault(alloc: Global, words: &[String]) -> Result<Option<Vec<u8>>, AllocEr
     ensures { IfOk result (λ line. IsSome line → AskNothing (map string_bytes words.now)) }
 {
     let found = words_fault(alloc, words)?;
-    line_of(alloc, found)
+    line_of(alloc, Inquiry::Why, found)
 }
 
 // The same of the words behind `who`.
@@ -57,7 +77,7 @@ fn who_fault(alloc: Global, words: &[String]) -> Result<Option<Vec<u8>>, AllocEr
     ensures { IfOk result (λ line. IsSome line → AskNothing (letting_words (map string_bytes words.now))) }
 {
     let found = letting_fault(alloc, words)?;
-    line_of(alloc, found)
+    line_of(alloc, Inquiry::Who, found)
 }
 
 // The line that tells what is wrong with the words of either command.

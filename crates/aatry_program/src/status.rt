@@ -19,7 +19,11 @@ pub fn status_of(fault: &Fault) -> u8
     ensures { result ≡ status_of fault.now }
 {
     match fault {
-        Fault::BadArguments | Fault::BadQuestion | Fault::Unreadable(_) | Fault::TooMany => 2,
+        Fault::BadArguments
+        | Fault::BadQuestion
+        | Fault::Unreadable(_)
+        | Fault::TooMany
+        | Fault::Compressed(_) => 2,
         Fault::NoMemory | Fault::Read | Fault::Write => 3,
     }
 }

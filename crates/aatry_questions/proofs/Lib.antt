@@ -1,4 +1,5 @@
 pub mod FaultLemmas
 mod MeantLemmas
+pub mod NameLemmas
 pub mod TableLemmas
 mod WordLemmas

@@ -1,3 +1,4 @@
 pub mod Faults
 pub mod Meant
 pub mod Misspelled
+pub mod Names

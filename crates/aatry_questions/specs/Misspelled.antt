@@ -1,11 +1,12 @@
 -- Words that are wrong, with the known one that may have been meant.
-use Rattle.std.specs.Prelude.{◌≡◌, List, ℕ, [], ◌∷◌, codes, take, option_map}
+use Rattle.std.specs.Prelude.{◌≡◌, ◌&&◌, List, ℕ, [], ◌∷◌, Bool, codes, is_none, is_some, take, option_map}
 use Rattle.aa_profile_tables.specs.Capabilities.{names as capability_names}
 use Rattle.aa_profile_tables.specs.Domains.{names as domain_names}
 use Rattle.aa_profile_tables.specs.Kinds.{names as kind_names}
 use Rattle.aatry_kernel_words.specs.Capabilities.{likely_name}
-use Rattle.aatry_near.specs.Near.{IsNearest}
-use Rattle.aatry_questions.specs.Faults.{Found}
+use Rattle.aatry_near.specs.Near.{IsNearest, nearest}
+use Rattle.aatry_questions.specs.Faults.{Found, kind_of}
+use Rattle.aatry_questions.specs.Meant.{needs_fault}
 use Rattle.aatry_questions.specs.declared.faults.Wrong.{Wrong}
 use Rattle.aatry_questions.specs.declared.faults.Wrong.TheVariants.{Capability, Domain, Kind, Owned, SocketType}
 use Rattle.aatry_questions.specs.declared.misspelled.QuestionFault.{QuestionFault}
@@ -29,3 +30,11 @@ pub record Tells (fault : QuestionFault) (told : Found) : Type 0 where
   pub wrong : fault.wrong ≡ told.wrong
   pub word : fault.word ≡ told.word
   pub near : IsNearest (known_words told.wrong) (likely_word told.wrong told.word) (option_map (λ name. name.now) fault.near)
+
+-- a word is near a kind of questions
+abbrev pub is_near_kind : List ℕ → Bool
+is_near_kind word = is_some (nearest word (known_words Kind))
+
+-- a word may be meant for a kind of questions, where it is none: it is no access either, and near a kind
+abbrev pub misspells_kind : List ℕ → Bool
+misspells_kind word = is_none (kind_of word) && is_some (needs_fault word) && is_near_kind word

@@ -169,8 +169,8 @@ fn socket_fault<'a>(domain: &'a [u8], sort: &'a [u8]) -> Option<WordFault<'a>>
     )
 }
 
-// The kind of questions that begin with a word, if there is one.
-fn kind_of(word: &[u8]) -> Option<QuestionKind>
+/// The kind of questions that begin with a word, if there is one. It takes no memory.
+pub fn kind_of(word: &[u8]) -> Option<QuestionKind>
     ensures { result ≡ kind_of word.now }
 {
     if word == b"cap".as_slice() {

@@ -1,9 +1,12 @@
 //! What holds of the words of questions and of their faults, as laws over the definitions that the calls are proved to follow.
 
-ghost use Rattle.std.specs.Prelude.{◌≡◌, ℕ, List, Ok};
+ghost use Rattle.std.specs.Prelude.{◌≡◌, ◌++◌, ℕ, List, Ok, false};
+ghost use Rattle.std.specs.List.{list_any};
+ghost use Rattle.hex.specs.Hex.{IsBytes};
 ghost use Rattle.aa_set_commands.specs.Question.{Question, question_of};
 ghost use Rattle.aatry_questions.specs.Faults.{Agree, question_fault};
 ghost use Rattle.aatry_questions.specs.Meant.{meant_fault, question_meant};
+ghost use Rattle.aatry_questions.specs.Names.{escaped, is_backslash, unescaped};
 
 use aatry_kernel_words::{what_letters_mean, what_names_mean};
 
@@ -21,3 +24,9 @@ pub fn what_words_mean()
     what_letters_mean();
     what_names_mean();
 }
+
+/// The bytes of a name read back from the text in which they are told, whatever stands behind them there; and a word without a backslash writes itself.
+pub fn how_names_read_back()
+    ensures escaped { (name rest : List ℕ) → IsBytes name → unescaped (escaped name ++ rest) ≡ name ++ unescaped rest }
+    ensures plain { (word : List ℕ) → list_any is_backslash word ≡ false → unescaped word ≡ word }
+{}

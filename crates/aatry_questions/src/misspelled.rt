@@ -4,9 +4,10 @@ ghost use Rattle.std.specs.Prelude.{◌≡◌, ◌++◌, IfOk, OnOk, map, option
 ghost use Rattle.std.specs.Option.{option_to_list};
 ghost use Rattle.aa_profile_tables.specs.Domains.{names as domain_names};
 ghost use Rattle.aatry_questions.specs.Faults.{seen_fault};
-ghost use Rattle.aatry_questions.specs.Misspelled.{Tells, known_words, likely_word};
+ghost use Rattle.aatry_questions.specs.Misspelled.{Tells, known_words, likely_word, misspells_kind};
 
-use crate::faults::{WordFault, Wrong};
+use crate::faults::{WordFault, Wrong, kind_of};
+use crate::reading::needs_fault;
 use aa_bytes::Sequence;
 use aa_profile_tables::{CAPABILITIES, domain_name, which_names_tables_hold};
 use aatry_kernel_words::likely_name;
@@ -100,4 +101,22 @@ pub fn with_nearest(alloc: Global, fault: WordFault<'_>) -> Result<QuestionFault
         word: Sequence::from_slice(alloc, fault.word)?,
         near,
     })
+}
+
+/// Whether a word may be meant for a kind of questions, where it is none: it is near one (`aatry_near::nearest`), and no access that a question for a file
+/// may have (`meant_fault`).
+///
+/// # Errors
+///
+/// Where memory runs out.
+pub fn misspells_kind(alloc: Global, word: &[u8]) -> Result<bool, AllocError>
+    ensures { IfOk result (λ misspells. misspells ≡ misspells_kind word.now) }
+{
+    if kind_of(word).is_some() || needs_fault(word).is_none() {
+        return Ok(false);
+    }
+    match nearest_text(alloc, word, &KINDS)? {
+        Some(_) => Ok(true),
+        None => Ok(false),
+    }
 }

@@ -109,7 +109,7 @@ fn mask_fault(mask: &[u8]) -> Option<WordFault<'_>>
 }
 
 // What is wrong with an access that a mask may be.
-fn needs_fault(access: &[u8]) -> Option<WordFault<'_>>
+pub fn needs_fault(access: &[u8]) -> Option<WordFault<'_>>
     ensures { option_map seen_fault result ≡ needs_fault access.now }
 {
     if is_mask(access) {

@@ -59,3 +59,28 @@ fn push_near(near: &[u8], out: &mut Vec<u8>) -> Result<(), AllocError> {
     out.push(b'?')?;
     Ok(())
 }
+
+// How many words a question of a kind has from which who asks is left out, and which.
+fn letting_words_of(kind: QuestionKind) -> &'static str {
+    match kind {
+        QuestionKind::Cap => "behind who, a question for a capability has two words: cap NAME",
+        QuestionKind::Net => "behind who, a question for sockets has three words: net DOMAIN TYPE",
+        QuestionKind::Exec =>
+            "behind who, a question about a program's start has three words: exec OWNED PATH",
+        QuestionKind::File =>
+            "behind who, a question for a file has three words: ACCESS OWNED PATH, or file ahead of them",
+    }
+}
+
+/// Puts what is wrong with the words of a question from which who asks is left out behind a text, as `push_words_fault` does: where it is their number, with
+/// the words that such a question has.
+///
+/// # Errors
+///
+/// Where memory runs out. A beginning may have been put then.
+pub fn push_letting_fault(fault: &QuestionFault, out: &mut Vec<u8>) -> Result<(), AllocError> {
+    match fault.wrong {
+        Wrong::Count(kind) => out.extend_from_slice(letting_words_of(kind).as_bytes()),
+        _ => push_words_fault(fault, out),
+    }
+}

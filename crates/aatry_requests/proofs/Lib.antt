@@ -1,4 +1,6 @@
+mod LettingLemmas
 mod OrderLemmas
+mod SourceLemmas
 mod TallyLemmas
 mod TextLemmas
 mod WordLemmas

@@ -12,7 +12,7 @@ use Rattle.aatry_requests.specs.AskedWords.{AskNothing, asked_in}
 use Rattle.aatry_requests.specs.WrongWords.{TellsAny, line_fault, words_fault}
 
 -- what words mean
-question_asks_nothing : (fault : Option Found) (read : Result Question Refusal) (told : Option QuestionFault)
+pub question_asks_nothing : (fault : Option Found) (read : Result Question Refusal) (told : Option QuestionFault)
     → Agree fault read → TellsAny fault told → IsSome told → result_ok read ≡ None
 question_asks_nothing fault (Err refusal) told agree tells some = refl
 question_asks_nothing (Some fault) (Ok question) told agree tells some = absurd agree

@@ -1,9 +1,10 @@
 -- The questions that words ask.
-use Rattle.std.specs.Prelude.{◌≡◌, ℕ, List, [], ◌∷◌, Option, None, Some, Result, codes}
+use Rattle.std.specs.Prelude.{◌≡◌, ℕ, if◌then◌else◌, List, [], ◌∷◌, Option, None, Some, Result, codes, is_some}
 use Rattle.std.specs.Result.{result_ok}
 use Rattle.aa_set_commands.specs.Question.{Question}
 use Rattle.aa_set_commands.specs.declared.refusal.Refusal.{Refusal}
 use Rattle.aatry_log_lines.specs.Lines.{Asks, NoRequest, OtherRequest, Told, Unreadable, told_by}
+use Rattle.aatry_questions.specs.Faults.{kind_of}
 use Rattle.aatry_questions.specs.Meant.{question_meant}
 
 -- the question that a line of a log asks, if it asks one
@@ -22,9 +23,16 @@ asked_by words = result_ok (question_meant words)
 abbrev pub AskNothing : List (List ℕ) → Type 0
 AskNothing words = asked_by words ≡ None
 
--- the words of the question whether a file may be used, by its access, its owner's word and its path: who asks is nobody in particular
+-- The words of a question, by who asks and the words from which who asks is left out: behind a kind of questions, if one stands ahead of them, and else
+-- behind `file`, so that they are the access, the owner's word and the path of the question for a file. No word is both, since no letters of a kind make
+-- an access (`what_words_ask_without_who_asks`).
+abbrev pub asking_words : List ℕ → List (List ℕ) → List (List ℕ)
+asking_words who [] = codes "file" ∷ who ∷ []
+asking_words who (first ∷ words) = if is_some (kind_of first) then first ∷ who ∷ words else codes "file" ∷ who ∷ first ∷ words
+
+-- those of the same question of nobody in particular
 abbrev pub letting_words : List (List ℕ) → List (List ℕ)
-letting_words words = codes "file" ∷ codes "unconfined" ∷ words
+letting_words words = asking_words (codes "unconfined") words
 
 -- that question
 abbrev pub letting_question : List (List ℕ) → Result Question Refusal

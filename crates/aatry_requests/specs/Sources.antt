@@ -1,11 +1,12 @@
 -- The lines that requests are read from: those of a kernel's log, or those of a file of questions.
-use Rattle.std.specs.Prelude.{ℕ, nat_lt, if◌then◌else◌, List, [], ◌∷◌, Option, None, Some, Result, Ok, Err, length}
+use Rattle.std.specs.Prelude.{ℕ, nat_lt, if◌then◌else◌, List, [], ◌∷◌, Option, None, Some, Result, Ok, Err, length, map}
 use Rattle.aa_set_commands.specs.Question.{Question}
 use Rattle.aa_set_commands.specs.declared.refusal.Refusal.{Refusal}
 use Rattle.aa_set_lines.specs.Limits.{longest_line}
 use Rattle.aa_set_lines.specs.Words.{words_of}
 use Rattle.aatry_log_lines.specs.Lines.{Asks, NoRequest, Told, Unreadable, told_by}
 use Rattle.aatry_questions.specs.Meant.{question_meant}
+use Rattle.aatry_questions.specs.Names.{unescaped}
 use Rattle.aatry_requests.specs.declared.sources.Source.{Source}
 use Rattle.aatry_requests.specs.declared.sources.Source.TheVariants.{Log, Questions}
 
@@ -14,11 +15,15 @@ abbrev pub told_read : Result Question Refusal → Told
 told_read (Ok question) = Asks question
 told_read (Err refusal) = Unreadable
 
--- what the words of a line tell, as the question that they mean: a line of blanks alone tells of no request
+-- what words tell, as the question that they mean: none tell of no request
+abbrev pub told_meant : List (List ℕ) → Told
+told_meant [] = NoRequest
+told_meant (word ∷ words) = told_read (question_meant (word ∷ words))
+
+-- what the words of a line tell, by the bytes that they write: a line of blanks alone tells of no request
 abbrev pub told_by_words : Option (List (List ℕ)) → Told
 told_by_words None = Unreadable
-told_by_words (Some []) = NoRequest
-told_by_words (Some (word ∷ words)) = told_read (question_meant (word ∷ words))
+told_by_words (Some words) = told_meant (map unescaped words)
 
 -- what a line of a log tells of, which can't be read where it is longer than a line may be
 abbrev pub told_in_log : List ℕ → Told

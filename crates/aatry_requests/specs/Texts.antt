@@ -1,5 +1,5 @@
--- How questions are told: in `ask`'s words (docs/commands.md, "Questions"), with the names of who asks and of files as replies write them, between
--- quotes or in hexadecimal.
+-- How questions are told: in `ask`'s words (docs/commands.md, "Questions"), with the names of who asks and of files between quotes, and each of their
+-- bytes that isn't shown as it is as `\x` and its digits. So a file of questions may have them.
 use Rattle.std.specs.Prelude.{ℕ, Bool, if◌then◌else◌, List, ◌++◌, codes}
 use Rattle.std.specs.Str.{bytes_eq}
 use Rattle.aa_profile_access.specs.Access.{letters_of}
@@ -8,8 +8,8 @@ use Rattle.aa_profile_tables.specs.Capabilities.{capability_name}
 use Rattle.aa_profile_tables.specs.Domains.{domain_name}
 use Rattle.aa_profile_tables.specs.Kinds.{kind_name}
 use Rattle.aa_profile_tables.specs.Names.{name_or_none}
-use Rattle.aa_bytes.specs.Quoting.{written_text}
 use Rattle.aa_set_commands.specs.Question.{OfAccess, OfExec, Question}
+use Rattle.aatry_questions.specs.Names.{name_text}
 
 -- whether the file is owned
 abbrev pub owned_text : Bool → List ℕ
@@ -18,15 +18,15 @@ owned_text owned = if owned then codes " owner " else codes " other "
 -- the question whether who asks may do what is asked for
 abbrev pub access_text : List ℕ → Request → List ℕ
 access_text who (ForFile needs owned path) =
-    codes "file " ++ written_text who ++ codes " " ++ letters_of needs ++ owned_text owned ++ written_text path
-access_text who (ForCapability number) = codes "cap " ++ written_text who ++ codes " " ++ name_or_none (capability_name number)
+    codes "file " ++ name_text who ++ codes " " ++ letters_of needs ++ owned_text owned ++ name_text path
+access_text who (ForCapability number) = codes "cap " ++ name_text who ++ codes " " ++ name_or_none (capability_name number)
 access_text who (ForSockets domain kind) =
-    codes "net " ++ written_text who ++ codes " " ++ name_or_none (domain_name domain) ++ codes " " ++ name_or_none (kind_name kind)
+    codes "net " ++ name_text who ++ codes " " ++ name_or_none (domain_name domain) ++ codes " " ++ name_or_none (kind_name kind)
 
 -- a question as it is told
 abbrev pub question_text : Question → List ℕ
 question_text (OfAccess who request) = access_text who request
-question_text (OfExec who owned path) = codes "exec " ++ written_text who ++ owned_text owned ++ written_text path
+question_text (OfExec who owned path) = codes "exec " ++ name_text who ++ owned_text owned ++ name_text path
 
 -- two questions are the same: they are told the same
 abbrev pub is_same : Question → Question → Bool

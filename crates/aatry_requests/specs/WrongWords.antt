@@ -1,11 +1,12 @@
 -- What is wrong with words that ask no question.
-use Rattle.std.specs.Prelude.{ℕ, ⊤, List, [], ◌∷◌, Option, None, Some}
+use Rattle.std.specs.Prelude.{ℕ, ⊤, if◌then◌else◌, List, [], ◌∷◌, Option, None, Some}
 use Rattle.aatry_log_lines.specs.Lines.{Asks, NoRequest, OtherRequest, Told, Unreadable, told_by}
-use Rattle.aatry_questions.specs.Faults.{Found, found}
+use Rattle.aatry_questions.specs.Faults.{Found, first_fault, found}
 use Rattle.aatry_questions.specs.Meant.{meant_fault}
-use Rattle.aatry_questions.specs.Misspelled.{Tells}
-use Rattle.aatry_questions.specs.declared.faults.Wrong.TheVariants.{LineWithoutRequest, OtherLine, UnreadableLine}
+use Rattle.aatry_questions.specs.Misspelled.{Tells, misspells_kind}
+use Rattle.aatry_questions.specs.declared.faults.Wrong.TheVariants.{Kind, LineWithoutRequest, OtherLine, UnreadableLine}
 use Rattle.aatry_questions.specs.declared.misspelled.QuestionFault.{QuestionFault}
+use Rattle.aatry_requests.specs.AskedWords.{letting_words}
 
 -- what is wrong with a line of a log, if it asks no question: it is about no word of it
 abbrev pub line_fault : Told → Option Found
@@ -18,6 +19,20 @@ line_fault Unreadable = Some (found UnreadableLine [])
 abbrev pub words_fault : List (List ℕ) → Option Found
 words_fault (line ∷ []) = line_fault (told_by line)
 words_fault words = meant_fault words
+
+-- what is wrong with a word that may be meant for a kind of questions, where it is none
+abbrev pub spelling_fault : List ℕ → Option Found
+spelling_fault word = if misspells_kind word then Some (found Kind word) else None
+
+-- the same of the first of some words
+abbrev pub first_word_fault : List (List ℕ) → Option Found
+first_word_fault [] = None
+first_word_fault (first ∷ words) = spelling_fault first
+
+-- What is wrong with words from which who asks is left out, if they ask no question: that the first is no kind of questions, where one may be meant; and
+-- else what is wrong with the question's own words.
+abbrev pub letting_fault : List (List ℕ) → Option Found
+letting_fault words = first_fault (first_word_fault words) (meant_fault (letting_words words))
 
 -- what is found to be wrong is told, and nothing is where nothing is found
 abbrev pub TellsAny : Option Found → Option QuestionFault → Type 0

@@ -1,16 +1,16 @@
 //! The questions that words ask.
 
-ghost use Rattle.std.specs.Prelude.{◌≡◌, ◌++◌, None, Ok, IfOk, IfSome, IsNone, OnOk, map, option_map, string_bytes};
+ghost use Rattle.std.specs.Prelude.{◌≡◌, ◌∷◌, ◌++◌, ℕ, List, None, Ok, IfOk, IfSome, IsNone, OnOk, map, option_map, string_bytes};
 ghost use Rattle.std.specs.Result.{result_ok};
 ghost use Rattle.aa_set_commands.specs.Question.{IsWellFormed, seen_question};
 ghost use Rattle.aatry_log_lines.specs.LoggedQuestions.{seen_logged};
 ghost use Rattle.aatry_log_lines.specs.Lines.{told_by};
 ghost use Rattle.aatry_questions.specs.Meant.{question_meant};
-ghost use Rattle.aatry_requests.specs.AskedWords.{asked_by, asked_in};
+ghost use Rattle.aatry_requests.specs.AskedWords.{AskNothing, asked_by, asked_in, asking_words, letting_question, letting_words};
 
 use aa_set_commands::Question;
 use aatry_log_lines::{LogLine, LoggedQuestion, told_by};
-use aatry_questions::question_meant;
+use aatry_questions::{kind_of, question_meant};
 use std::alloc::{AllocError, Global};
 
 /// Appends the bytes of words to others, none of them copied.
@@ -23,12 +23,8 @@ pub fn push_words<'a>(words: &'a [String], out: &mut Vec<&'a [u8]>) -> Result<()
     Ok(())
 }
 
-/// The question that some words mean, behind some that stand before them (`aatry_questions::question_meant`); none where they mean none.
-///
-/// # Errors
-///
-/// Where memory runs out.
-pub fn question_by<'a>(
+// The question that some words mean, behind some that stand before them; none where they mean none.
+fn question_by<'a>(
     alloc: Global,
     before: &[&'a [u8]],
     words: &'a [String],
@@ -87,4 +83,41 @@ pub fn asked_by<'a>(
         return asked_in_line(alloc, words[0].as_bytes());
     }
     asked_in_words(alloc, words)
+}
+
+// The kind of the question that words ask from which who asks is left out, and those of its words that stand behind who asks.
+pub fn cut_kind<'a>(words: &'a [String]) -> (&'a [u8], &'a [String])
+    ensures { (who : List ℕ) → asking_words who (map string_bytes words.now) ≡ result.0.now ∷ who ∷ map string_bytes result.1.now }
+{
+    match words {
+        [first, behind @ ..] => {
+            let word = first.as_bytes();
+            if kind_of(word).is_some() {
+                return (word, behind);
+            }
+            (b"file".as_slice(), words)
+        }
+        [] => (b"file".as_slice(), words),
+    }
+}
+
+/// The question that words mean from which who asks is left out, asked by nobody in particular, which is the word `unconfined`: behind a kind of questions
+/// those that stand behind who asks, and without one the access, the owner's word and the path of a question for a file
+/// (`aatry_questions::question_meant`). None where they mean none.
+///
+/// # Errors
+///
+/// Where memory runs out.
+pub fn letting_question<'a>(
+    alloc: Global,
+    words: &'a [String],
+) -> Result<Option<Question<'a>>, AllocError>
+    ensures some { IfOk result (λ found. IfSome found (λ question.
+        letting_question (map string_bytes words.now) ≡ Ok (seen_question question))) }
+    ensures known { IfOk result (λ found. IfSome found IsWellFormed) }
+    ensures none { IfOk result (λ found. IsNone found → AskNothing (letting_words (map string_bytes words.now))) }
+{
+    let (kind, behind) = cut_kind(words);
+    let before = [kind, b"unconfined".as_slice()];
+    question_by(alloc, &before, behind)
 }

@@ -1,15 +1,33 @@
-//! What holds of the texts of questions, as a law over the definitions that the calls are proved to follow.
+//! What holds of questions, of their words and of the texts that they are told by, as laws over the definitions that the calls are proved to follow.
 
-ghost use Rattle.std.specs.Prelude.{◌≡◌, true};
+ghost use Rattle.std.specs.Prelude.{◌≡◌, ◌∷◌, [], ℕ, IsSome, List, Ok, Some, codes, true};
 ghost use Rattle.aa_set_commands.specs.Question.{Question};
+ghost use Rattle.aatry_kernel_words.specs.Masks.{needs_meant};
+ghost use Rattle.aatry_questions.specs.Faults.{kind_of};
+ghost use Rattle.aatry_questions.specs.Meant.{question_meant};
+ghost use Rattle.aatry_requests.specs.AskedWords.{asking_words, letting_question};
 ghost use Rattle.aatry_requests.specs.Laws.{CanBeAsked};
+ghost use Rattle.aatry_requests.specs.Questions.{asked_as};
 ghost use Rattle.aatry_requests.specs.Texts.{is_same};
 
-use aatry_log_lines::what_is_written_reads_back;
+use aatry_questions::how_names_read_back;
 
 /// Questions that are told by the same text are one question. So what is tallied as one came as one, and nothing that differs is counted together.
 pub fn what_texts_tell()
     ensures { (question other : Question) → CanBeAsked question → CanBeAsked other → is_same question other ≡ true → question ≡ other }
 {
-    what_is_written_reads_back();
+    how_names_read_back();
 }
+
+/// Words from which who asks is left out, put together with a name, ask the question of that name which they ask of nobody in particular. Behind a kind of
+/// questions they are those of its words that stand behind who asks. An access is no kind, so the access, the owner's word and the path of a question for a
+/// file ask that question with and without `file` ahead of them.
+pub fn what_words_ask_without_who_asks()
+    ensures any_name { (who : List ℕ) (words : List (List ℕ)) (question : Question)
+        → letting_question words ≡ Ok question
+        → question_meant (asking_words who words) ≡ Ok (asked_as who question) }
+    ensures kinds { (who kind : List ℕ) (words : List (List ℕ)) → IsSome (kind_of kind) → asking_words who (kind ∷ words) ≡ kind ∷ who ∷ words }
+    ensures files { (who access : List ℕ) (words : List (List ℕ)) (needs : ℕ)
+        → needs_meant access ≡ Some needs
+        → asking_words who (access ∷ words) ≡ asking_words who (codes "file" ∷ access ∷ words) }
+{}

@@ -3,31 +3,31 @@
 ghost use Rattle.std.specs.Prelude.{◌≡◌, ◌++◌, OnOk, codes, option_map};
 ghost use Rattle.aa_profile_access.specs.Access.{letters_of};
 ghost use Rattle.aa_profile_tables.specs.Names.{name_or_none};
-ghost use Rattle.aa_bytes.specs.Quoting.{written_text};
 ghost use Rattle.aa_set_commands.specs.Question.{seen_question};
+ghost use Rattle.aatry_questions.specs.Names.{name_text};
 ghost use Rattle.aatry_requests.specs.Texts.{owned_text, question_text};
 
-use aa_bytes::push_text;
 use aa_profile_access::Perms;
 use aa_profile_tables::{capability_name, domain_name, kind_name};
 use aa_set_commands::Question;
+use aatry_questions::push_name as push_quoted_name;
 use std::alloc::AllocError;
 
 // Puts a word and the name of who asks behind a text.
 fn push_asker(out: &mut Vec<u8>, word: &[u8], who: &[u8]) -> Result<(), AllocError>
-    ensures { OnOk result (out.new.items ≡ out.old.items ++ word.now ++ written_text who.now) }
+    ensures { OnOk result (out.new.items ≡ out.old.items ++ word.now ++ name_text who.now) }
 {
     out.extend_from_slice(word)?;
-    push_text(out, who)
+    push_quoted_name(out, who)
 }
 
 // Puts whether a file is owned, and its path, behind a text.
 fn push_file(out: &mut Vec<u8>, owned: bool, path: &[u8]) -> Result<(), AllocError>
-    ensures { OnOk result (out.new.items ≡ out.old.items ++ owned_text owned ++ written_text path.now) }
+    ensures { OnOk result (out.new.items ≡ out.old.items ++ owned_text owned ++ name_text path.now) }
 {
     let word = if owned { b" owner " } else { b" other " };
     out.extend_from_slice(word)?;
-    push_text(out, path)
+    push_quoted_name(out, path)
 }
 
 // Puts the letters that a file is asked for behind a text.
@@ -49,7 +49,7 @@ fn push_name(out: &mut Vec<u8>, name: Option<&str>) -> Result<(), AllocError>
     Ok(())
 }
 
-/// Puts a question behind a text, in `ask`'s words, with names between quotes or in hexadecimal.
+/// Puts a question behind a text, in `ask`'s words, with names as `aatry_questions::push_name` writes them.
 ///
 /// # Errors
 ///

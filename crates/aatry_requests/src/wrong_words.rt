@@ -5,12 +5,13 @@ ghost use Rattle.aatry_log_lines.specs.Lines.{told_by};
 ghost use Rattle.aatry_questions.specs.Faults.{seen_fault};
 ghost use Rattle.aatry_questions.specs.Meant.{meant_fault};
 ghost use Rattle.aatry_requests.specs.AskedWords.{AskNothing, letting_words};
-ghost use Rattle.aatry_requests.specs.WrongWords.{TellsAny, line_fault, words_fault};
+ghost use Rattle.aatry_requests.specs.WrongWords.{TellsAny, first_word_fault, letting_fault, line_fault, spelling_fault, words_fault};
 
-use crate::asked_words::push_words;
+use crate::asked_words::{cut_kind, push_words};
 use aatry_log_lines::{LogLine, told_by};
 use aatry_questions::{
-    QuestionFault, WordFault, Wrong, how_wrong_words_are_refused, meant_fault, with_nearest,
+    QuestionFault, WordFault, Wrong, how_wrong_words_are_refused, meant_fault, misspells_kind,
+    with_nearest,
 };
 use std::alloc::{AllocError, Global};
 
@@ -79,16 +80,61 @@ pub fn words_fault(alloc: Global, words: &[String]) -> Result<Option<QuestionFau
     fault_behind(alloc, &[], words)
 }
 
-/// The same of ACCESS, OWNED and PATH, as the words of the question whether a file may be used that ask for nobody in particular.
+// What is wrong with a word that may be meant for a kind of questions, where it is none.
+fn spelling_fault(alloc: Global, word: &[u8]) -> Result<Option<WordFault<'_>>, AllocError>
+    ensures { IfOk result (λ found. option_map seen_fault found ≡ spelling_fault word.now) }
+{
+    if misspells_kind(alloc, word)? {
+        return Ok(Some(WordFault {
+            wrong: Wrong::Kind,
+            word,
+        }));
+    }
+    Ok(None)
+}
+
+// The same of the first of some words.
+fn first_word_fault(alloc: Global, words: &[String]) -> Result<Option<WordFault<'_>>, AllocError>
+    ensures { IfOk result (λ found. option_map seen_fault found ≡ first_word_fault (map string_bytes words.now)) }
+{
+    match words {
+        [first, ..] => spelling_fault(alloc, first.as_bytes()),
+        [] => Ok(None),
+    }
+}
+
+// What is wrong with the question's own words, from which who asks is left out.
+fn asking_fault(alloc: Global, words: &[String]) -> Result<Option<QuestionFault>, AllocError>
+    ensures { IfOk result (TellsAny (meant_fault (letting_words (map string_bytes words.now)))) }
+{
+    let (kind, behind) = cut_kind(words);
+    let before = [kind, b"unconfined".as_slice()];
+    fault_behind(alloc, &before, behind)
+}
+
+// What is wrong with the first word, where it may be meant for a kind of questions, and else with the question's own words.
+fn spelling_or_asking_fault(
+    alloc: Global,
+    words: &[String],
+) -> Result<Option<QuestionFault>, AllocError>
+    ensures { IfOk result (TellsAny (letting_fault (map string_bytes words.now))) }
+{
+    match first_word_fault(alloc, words)? {
+        Some(fault) => Ok(Some(with_nearest(alloc, fault)?)),
+        None => asking_fault(alloc, words),
+    }
+}
+
+/// The same of words from which who asks is left out (`letting_question`): where the first is no kind of questions, and may be meant for one
+/// (`aatry_questions::misspells_kind`), that is what is wrong.
 ///
 /// # Errors
 ///
 /// Where memory runs out.
 pub fn letting_fault(alloc: Global, words: &[String]) -> Result<Option<QuestionFault>, AllocError>
-    ensures told { IfOk result (TellsAny (words_fault (letting_words (map string_bytes words.now)))) }
+    ensures told { IfOk result (TellsAny (letting_fault (map string_bytes words.now))) }
     ensures nothing { IfOk result (λ found. IsSome found → AskNothing (letting_words (map string_bytes words.now))) }
 {
     how_wrong_words_are_refused();
-    let before = [b"file".as_slice(), b"unconfined".as_slice()];
-    fault_behind(alloc, &before, words)
+    spelling_or_asking_fault(alloc, words)
 }

@@ -39,12 +39,12 @@ use Rattle.aatry_policy.specs.Origins.{origin_in}
 use Rattle.aatry_folder.specs.declared.loading.Loading.TheVariants as loading
 use Rattle.aatry_policy.specs.PlaceLaws.{AreReadAt, IsFoundAt, IsReadAt}
 use Rattle.aatry_policy.specs.declared.origins.Origin.{Origin}
-use Rattle.aatry_session.specs.History.{change_in}
+use Rattle.aatry_session_told.specs.Commands.{change_in, undoes_more}
 use Rattle.aatry_session.specs.Laws.{IsInStep}
 use Rattle.aatry_session.specs.Origins.{change_origins, last_origin, newer_origin, origin_among, origins_at, unplaced_origin}
 use Rattle.aatry_session.specs.PlaceLaws.{AddLeavesKnowing, AddsKnowing, BeginsKnowing, ForgetsForAnyFiles, IsKnown, KnowsEach, KnowsTheLoaded, LeavesKnowing, StaysKnowing, SwitchesKnowing}
-use Rattle.aatry_session.specs.Sayings.{Command, Help, History, NoQuestion, Quit, Reload, Saying, Why, saying_in}
-use Rattle.aatry_session.specs.Turns.{Kept, depth, origins_behind, said_outcome}
+use Rattle.aatry_session_told.specs.Sayings.{Command, Help, History, NoQuestion, Quit, Reload, Saying, Status, Widen, Why, saying_in}
+use Rattle.aatry_session.specs.Turns.{Kept, depth, line_obeyed, origins_behind, said_outcome, undoable}
 use Rattle.aatry_session.proofs.NamedLemmas.{Before, Came, Own, came-put, has-named, named-is, named-kept, named-put, none-named, none-there}
 
 -- what is known of files and of machines
@@ -357,12 +357,19 @@ command_keeps laws files kept flag (Ok (Some Listed)) step h =
 command_keeps laws files kept flag (Ok (Some (Show name))) step h =
     flag_keeps files kept flag (Show name) None h (answered_keeps files kept (shown kept.managed.machine.now name) h)
 
-line_keeps : Laws → (files : List File) (kept : Kept) (line : List ℕ) (flag : Bool) → IsInStep kept → IsKept files kept
+machine_keeps : Laws → (files : List File) (kept : Kept) (line : List ℕ) (flag : Bool) → IsInStep kept → IsKept files kept
     → Keeps files kept (change_in (command_in line)) (line_outcome files kept.managed line flag)
-line_keeps laws files kept line flag step h =
+machine_keeps laws files kept line flag step h =
     either_keeps (leb (length line) longest_line) files kept (change_in (command_in line)) (command_outcome files kept.managed flag (command_in line))
     (refused kept.managed (plain LineTooLong)) (command_keeps laws files kept flag (command_in line) step h)
     (refusal_keeps files kept (change_in (command_in line)) (plain LineTooLong) h)
+
+line_keeps : Laws → (files : List File) (kept : Kept) (line : List ℕ) (flag : Bool) → IsInStep kept → IsKept files kept
+    → Keeps files kept (change_in (command_in line)) (line_obeyed files kept.loaded kept.managed line flag)
+line_keeps laws files kept line flag step h =
+    either_keeps (undoes_more (undoable kept.loaded kept.managed) line) files kept (change_in (command_in line)) (refused kept.managed (plain NothingToUndo))
+    (line_outcome files kept.managed line flag) (refusal_keeps files kept (change_in (command_in line)) (plain NothingToUndo) h)
+    (machine_keeps laws files kept line flag step h)
 
 pub begins : BeginsKnowing
 begins files language force_complain zero set name entry at named = let same : [] ≡ set = cc in by (subst (λ l. entry_named name l ≡ Some entry) (sym same) named)
@@ -378,8 +385,10 @@ stays laws files base words kept line flag step h = by (saying_in line)
     by Command = line_keeps laws files kept line flag step h
     by Help = h
     by History = h
+    by Widen = h
     by Quit = h
     by Reload = h
+    by Status = h
     by (Why question) = h
     by (NoQuestion fault) = h
 

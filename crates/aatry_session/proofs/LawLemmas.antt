@@ -1,5 +1,5 @@
 -- The laws of a session.
-use Rattle.std.proofs.Common.{◌≡◌, ◌∙◌, ℕ, Bool, true, false, List, [], Option, None, Some, Result, Ok, inl, inr, refl, subst, sym, ap, cond, length, map}
+use Rattle.std.proofs.Common.{◌≡◌, ◌∙◌, ℕ, Bool, true, false, ◌&&◌, List, [], Option, None, Some, Result, Ok, inl, inr, refl, subst, sym, ap, cond, length, map}
 use Rattle.std.specs.Prelude.{nat_le}
 use Rattle.std.proofs.lemmas.Bool.{true≢false}
 use Rattle.std.proofs.lemmas.List.{length-map}
@@ -14,17 +14,17 @@ use Rattle.aa_set_manager.specs.declared.reply.Reply.TheVariants.{Answered, Done
 use Rattle.aa_set_commands.specs.Command.{Add, Command as Order, Complain, Disable as DisableChange, Make, PolicyChange}
 use Rattle.aa_set_commands.specs.Refusal.{plain}
 use Rattle.aa_set_commands.specs.declared.refusal.Refusal.{Refusal}
-use Rattle.aa_set_commands.specs.declared.refusal.RefusalKind.TheVariants.{LineTooLong}
+use Rattle.aa_set_commands.specs.declared.refusal.RefusalKind.TheVariants.{LineTooLong, NothingToUndo}
 use Rattle.aa_set_lines.specs.Limits.{longest_line}
 use Rattle.aa_text_files.specs.Files.{File}
 use Rattle.aatry_policy.specs.declared.origins.Origin.{Origin}
-use Rattle.aatry_session.specs.History.{change_in}
+use Rattle.aatry_session_told.specs.Commands.{change_in, is_above, undo_count, undoes_more}
 use Rattle.aatry_session.specs.Laws.{AddLeavesInStep, AddsAsLinesDo, AddsInStep, BeginsInStep, ForgetsInStep, IsInStep, LeavesInStep, RefusedTurnLeavesAll, StaysInStep, SwitchesInStep}
 use Rattle.aatry_session.specs.Origins.{unplaced_origin}
-use Rattle.aatry_session.specs.Sayings.{Command, Help, History, NoQuestion, Quit, Reload, Saying, Why, saying_in}
+use Rattle.aatry_session_told.specs.Sayings.{Command, Help, History, NoQuestion, Quit, Reload, Saying, Status, Widen, Why, saying_in}
 use Rattle.aatry_folder.specs.declared.loading.Loading.TheVariants.{ByFlags, Disable, ForceComplain}
 use Rattle.aatry_session.specs.Switching.{kept_by}
-use Rattle.aatry_session.specs.Turns.{Kept, command_outcome, depth, file_added, kept_after, origins_behind, said_outcome, texts_behind}
+use Rattle.aatry_session.specs.Turns.{Kept, command_outcome, depth, file_added, kept_after, line_obeyed, origins_behind, said_outcome, texts_behind, undoable}
 use Rattle.aatry_session.proofs.StepLemmas.{Keeps, Known, command_keeps, known_keeps, line_keeps}
 
 pub begins : StartedMarksItsSets (List Loaded) → BeginsInStep
@@ -44,11 +44,14 @@ stays known files base words kept line flag h = by (saying_in line)
   where
     by : (saying : Saying) → IsInStep (said_outcome files base words kept line flag saying).kept
     by Command =
-        in_step files kept (change_in (command_in line)) (line_outcome files kept.managed line flag) h (line_keeps known files kept line flag (h.counted, h.marked))
+        in_step files kept (change_in (command_in line)) (line_obeyed files kept.loaded kept.managed line flag) h
+        (line_keeps known files kept line flag (h.counted, h.marked))
     by Help = h
     by History = h
+    by Widen = h
     by Quit = h
     by Reload = h
+    by Status = h
     by (Why question) = h
     by (NoQuestion fault) = h
 
@@ -86,7 +89,8 @@ forgets kept h = record { counted = h.counted; known = length-map kept.origins (
 pub as_lines : AddsAsLinesDo
 as_lines files base words kept name line flag said short is =
     let obeyed : Bool → Result (Option Order) Refusal → Obeyed =
-    λ fits command. cond fits (machine_outcome files kept.managed flag command) (left_as kept.managed (plain LineTooLong)) in
+    λ fits command. cond (fits && is_above (undoable kept.loaded kept.managed) (undo_count command)) (left_as kept.managed (plain NothingToUndo))
+    (cond fits (machine_outcome files kept.managed flag command) (left_as kept.managed (plain LineTooLong))) in
     ap (said_outcome files base words kept line flag) said
     ∙ ap (λ command. command_outcome files base words kept (change_in command) (obeyed (nat_le (length line) longest_line) command)) is
     ∙ ap (λ fits. command_outcome files base words kept (Some (Add name)) (obeyed fits (Ok (Some (Make (Add name)))))) short
@@ -107,22 +111,35 @@ origins_stay language files done (Some change) Done origins h = absurd (true≢f
 origins_stay language files done (Some change) (Refused refusal) origins h = refl
 origins_stay language files done (Some change) (Answered lines) origins h = refl
 
+-- so does whatever the machine made of it that is a refusal
+refusal_stays : (files : List File) (kept : Kept) (change : Option PolicyChange) (obeyed : Obeyed) → obeyed.managed ≡ kept.managed → is_refusal obeyed.reply ≡ true
+    → kept_after files kept change obeyed ≡ kept
+refusal_stays files kept change obeyed same h =
+    let after = kept_after files kept change obeyed in
+    ap (λ managed. record { managed = managed; texts = after.texts; origins = after.origins; loaded = kept.loaded }) same
+    ∙ ap (λ texts. record { managed = kept.managed; texts = texts; origins = after.origins; loaded = kept.loaded })
+    (texts_stay (depth kept.managed) change obeyed.reply kept.texts h)
+    ∙ ap (λ origins. record { managed = kept.managed; texts = kept.texts; origins = origins; loaded = kept.loaded })
+    (origins_stay kept.managed.settings.language files (depth kept.managed) change obeyed.reply kept.origins h)
+
 pub refused : RefusedLineLeavesAll → RefusedTurnLeavesAll
 refused leaves files base words kept line flag h = by (saying_in line)
   where
+    change : Option PolicyChange
+    change = change_in (command_in line)
+
+    either : (more : Bool)
+        → kept_after files kept change (cond more (left_as kept.managed (plain NothingToUndo)) (line_outcome files kept.managed line flag)) ≡ kept
+    either true = refusal_stays files kept change (left_as kept.managed (plain NothingToUndo)) refl refl
+    either false = refusal_stays files kept change (line_outcome files kept.managed line flag) (leaves files kept.managed line flag h) h
+
     by : (saying : Saying) → (said_outcome files base words kept line flag saying).kept ≡ kept
-    by Command =
-        let change = change_in (command_in line) in
-        let obeyed = line_outcome files kept.managed line flag in
-        ap (λ managed. record { managed = managed; texts = (kept_after files kept change obeyed).texts; origins = (kept_after files kept change obeyed).origins })
-        (leaves files kept.managed line flag h)
-        ∙ ap (λ texts. record { managed = kept.managed; texts = texts; origins = (kept_after files kept change obeyed).origins })
-        (texts_stay (depth kept.managed) change obeyed.reply kept.texts h)
-        ∙ ap (λ origins. record { managed = kept.managed; texts = kept.texts; origins = origins })
-        (origins_stay kept.managed.settings.language files (depth kept.managed) change obeyed.reply kept.origins h)
+    by Command = either (undoes_more (undoable kept.loaded kept.managed) line)
     by Help = refl
     by History = refl
+    by Widen = refl
     by Quit = refl
     by Reload = refl
+    by Status = refl
     by (Why question) = refl
     by (NoQuestion fault) = refl

@@ -1,3 +1,4 @@
+pub mod BehindLemmas
 pub mod KnownLemmas
 pub mod LawLemmas
 pub mod MakeLemmas
@@ -5,4 +6,4 @@ pub mod NamedLemmas
 pub mod ObeyLemmas
 pub mod OriginLemmas
 pub mod StepLemmas
-pub mod TurnLemmas
+pub mod UnmarkedLemmas

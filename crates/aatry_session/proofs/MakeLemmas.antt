@@ -24,7 +24,7 @@ use Rattle.aa_text_files.specs.Files.{File}
 use Rattle.aa_text_files.specs.declared.text_error.Place.{Place}
 use Rattle.aatry_policy.specs.Origins.{file_origins, origins_of}
 use Rattle.aatry_policy.specs.Profiles.{file_at}
-use Rattle.aatry_session.specs.History.{change_in}
+use Rattle.aatry_session_told.specs.Commands.{change_in}
 use Rattle.aatry_session.specs.Origins.{origins_at}
 
 -- the profiles of a file are added as they are made a change of, and put in their places

@@ -1,26 +1,41 @@
 -- What obeying a command comes to, from what the machine says of it.
-use Rattle.std.proofs.Common.{◌≡◌, ◌∙◌, ◌++◌, ℕ, Bool, List, None, OnErr, OnOk, Option, Result, Ok, Err, Some, ap, inr, refl, subst}
+use Rattle.std.proofs.Common.{◌≡◌, ◌∙◌, ◌++◌, ℕ, Bool, true, false, cond, ◌&&◌, List, None, OnErr, OnOk, Option, Result, Ok, Err, Some, ap, inr, length, refl, subst, sym}
+use Rattle.std.specs.Prelude.{nat_le}
 use Rattle.aa_profile_parsing.specs.declared.language.Language.{Language}
-use Rattle.aa_set_manager.specs.Outcomes.{Outcome as Obeyed}
+use Rattle.aa_set_manager.specs.Manager.{Managed}
+use Rattle.aa_set_manager.specs.Outcomes.{Outcome as Obeyed, command_in, line_outcome, refused}
 use Rattle.aa_set_manager.specs.declared.reply.Reply.{Reply}
 use Rattle.aa_set_manager.specs.declared.reply.Reply.TheVariants.{Answered, Done, Refused, Silent}
-use Rattle.aa_set_commands.specs.Command.{PolicyChange}
+use Rattle.aa_set_commands.specs.Command.{Ask, Back, Command, Listed, Make, Mark, PolicyChange, Redo, Show, Undo}
+use Rattle.aa_set_commands.specs.Refusal.{plain}
+use Rattle.aa_set_commands.specs.declared.refusal.Refusal.{Refusal}
+use Rattle.aa_set_commands.specs.declared.refusal.RefusalKind.TheVariants.{NothingToUndo}
+use Rattle.aa_set_lines.specs.Limits.{longest_line}
 use Rattle.aa_text_files.specs.Files.{File}
 use Rattle.aatry_policy.specs.declared.origins.Origin.{Origin}
-use Rattle.aatry_session.specs.History.{change_text, kept_with}
+use Rattle.aatry_session.specs.Changes.{kept_with}
+use Rattle.aatry_session_told.specs.Commands.{change_in, is_above, undo_count, undoes_more}
+use Rattle.aatry_session_told.specs.History.{change_text}
 use Rattle.aatry_session.specs.Origins.{change_origins}
-use Rattle.aatry_session.specs.Turns.{Kept, LeavesAs, ObeysAs, depth, done_behind, kept_after, origins_behind, reply_told, texts_behind}
+use Rattle.aatry_session.specs.Turns.{Kept, LeavesAs, ObeysAs, depth, done_behind, kept_after, line_obeyed, origins_behind, reply_told, texts_behind, undoable}
 
--- the session after a command whose reply, manager, texts and origins are those that its outcome gives
+-- the session after a command whose reply, manager, texts and origins are those that its outcome gives, and whose history leaves out as much as before
 kept_by : (files : List File) (before after : Kept) (change : Option PolicyChange) (obeyed : Obeyed) (reply : Reply)
     → ◌≡◌ {A = Obeyed} (record { reply = reply; managed = after.managed }) obeyed
     → after.texts ≡ texts_behind (depth before.managed) change reply before.texts
     → after.origins ≡ origins_behind before.managed.settings.language files (depth before.managed) change reply before.origins
+    → after.loaded ≡ before.loaded
     → after ≡ kept_after files before change obeyed
-kept_by files before after change obeyed reply is texts origins =
+kept_by files before after change obeyed reply is texts origins loaded =
     subst (λ o. after ≡ kept_after files before change o) is
-    (ap (λ t. record { managed = after.managed; texts = t; origins = after.origins }) texts
-    ∙ ap (λ o. record { managed = after.managed; texts = texts_behind (depth before.managed) change reply before.texts; origins = o }) origins)
+    (ap (λ t. record { managed = after.managed; texts = t; origins = after.origins; loaded = after.loaded }) texts
+    ∙ ap (λ o. record { managed = after.managed; texts = texts_behind (depth before.managed) change reply before.texts; origins = o; loaded = after.loaded }) origins
+    ∙ ap (λ l. record {
+      managed = after.managed;
+      texts = texts_behind (depth before.managed) change reply before.texts;
+      origins = origins_behind before.managed.settings.language files (depth before.managed) change reply before.origins;
+      loaded = l;
+    }) loaded)
 
 -- what is told of its reply is what is told of it
 told_by : (files : List File) (base words : List ℕ) (before after : Kept) (change : Option PolicyChange) (obeyed : Obeyed) (reply : Reply) (old new : List ℕ)
@@ -49,16 +64,17 @@ pub obeyed-other : {A E : Type 0} (r : Result A E) (files : List File) (base : L
     → ◌≡◌ {A = Obeyed} (record { reply = reply; managed = after.managed }) (obeyed flag)
     → after.texts ≡ before.texts
     → after.origins ≡ before.origins
+    → after.loaded ≡ before.loaded
     → from ≡ depth before.managed
     → to ≡ depth after.managed
     → OnOk r ((words : List ℕ) × (new ≡ old ++ reply_told files base words after.texts from to reply))
     → OnOk r (ObeysAs files base before after None obeyed old new)
-obeyed-other r files base before after obeyed old new flag reply from to is texts origins first last told =
+obeyed-other r files base before after obeyed old new flag reply from to is texts origins loaded first last told =
     on-ok r ((words : List ℕ) × (new ≡ old ++ reply_told files base words after.texts from to reply)) (ObeysAs files base before after None obeyed old new)
     (λ pair. (
       flag,
       pair.0,
-      kept_by files before after None (obeyed flag) reply is texts origins,
+      kept_by files before after None (obeyed flag) reply is texts origins loaded,
       told_by files base pair.0 before after None (obeyed flag) reply old new is texts
           (subst (λ n. new ≡ old ++ reply_told files base pair.0 after.texts (depth before.managed) n reply) last
           (subst (λ n. new ≡ old ++ reply_told files base pair.0 after.texts n to reply) first pair.1)),
@@ -69,9 +85,10 @@ pub left-other : {A E : Type 0} (r : Result A E) (files : List File) (before aft
     → ◌≡◌ {A = Obeyed} (record { reply = reply; managed = after.managed }) (obeyed flag)
     → after.texts ≡ before.texts
     → after.origins ≡ before.origins
+    → after.loaded ≡ before.loaded
     → OnErr r (LeavesAs files before after None obeyed)
-left-other r files before after obeyed flag reply is texts origins =
-    at-err r (LeavesAs files before after None obeyed) (inr (flag, kept_by files before after None (obeyed flag) reply is texts origins))
+left-other r files before after obeyed flag reply is texts origins loaded =
+    at-err r (LeavesAs files before after None obeyed) (inr (flag, kept_by files before after None (obeyed flag) reply is texts origins loaded))
 
 -- where an accepted change was kept so, it was kept with its own
 own_by : (language : Language) (files : List File) (done : ℕ) (change : PolicyChange) (reply : Reply) (own : List Origin) (origins : List (List Origin))
@@ -96,6 +113,7 @@ pub record IsMade (files : List File) (before after : Kept) (change : PolicyChan
   pub named : text ≡ change_text change
   pub texts : after.texts ≡ kept_with done text reply before.texts
   pub origins : after.origins ≡ kept_with done own reply before.origins
+  pub left_out : after.loaded ≡ before.loaded
 
 texts_made : (files : List File) (before after : Kept) (change : PolicyChange) (obeyed : Bool → Obeyed) → (made : IsMade files before after change obeyed)
     → after.texts ≡ texts_behind (depth before.managed) (Some change) made.reply before.texts
@@ -108,7 +126,7 @@ kept_made : (files : List File) (before after : Kept) (change : PolicyChange) (o
 kept_made files before after change obeyed made =
     kept_by files before after (Some change) (obeyed made.flag) made.reply made.is (texts_made files before after change obeyed made)
     (subst (λ n. after.origins ≡ kept_with n (change_origins before.managed.settings.language files change) made.reply before.origins) made.first
-    (made.origins ∙ own_by before.managed.settings.language files made.done change made.reply made.own before.origins made.loaded))
+    (made.origins ∙ own_by before.managed.settings.language files made.done change made.reply made.own before.origins made.loaded)) made.left_out
 
 -- a command that makes a change was obeyed
 pub obeyed-change : {A E : Type 0} (r : Result A E) (files : List File) (base : List ℕ) (before after : Kept) (change : PolicyChange) (obeyed : Bool → Obeyed)
@@ -132,3 +150,29 @@ pub left-change : {A E : Type 0} (r : Result A E) (files : List File) (before af
     → OnErr r (LeavesAs files before after (Some change) obeyed)
 left-change r files before after change obeyed made =
     at-err r (LeavesAs files before after (Some change) obeyed) (inr (made.flag, kept_made files before after change obeyed made))
+
+-- a command that makes a change is none that undoes some
+no-undo : (command : Result (Option Command) Refusal) (change : PolicyChange) → change_in command ≡ Some change → undo_count command ≡ None
+no-undo (Err refusal) change is = refl
+no-undo (Ok None) change is = refl
+no-undo (Ok (Some (Make own))) change is = refl
+no-undo (Ok (Some (Undo count))) change is = absurd (cc)
+no-undo (Ok (Some (Redo count))) change is = refl
+no-undo (Ok (Some (Mark name))) change is = refl
+no-undo (Ok (Some (Back name))) change is = refl
+no-undo (Ok (Some (Ask question))) change is = refl
+no-undo (Ok (Some Listed)) change is = refl
+no-undo (Ok (Some (Show name))) change is = refl
+
+none_above : (fits : Bool) → (fits && false) ≡ false
+none_above true = refl
+none_above false = refl
+
+-- so its line is obeyed as the machine obeys it
+pub change-obeyed : (files : List File) (loaded : ℕ) (managed : Managed) (line : List ℕ) (change : PolicyChange) (flag : Bool)
+    → change_in (command_in line) ≡ Some change → line_outcome files managed line flag ≡ line_obeyed files loaded managed line flag
+change-obeyed files loaded managed line change flag is =
+    let none : undoes_more (undoable loaded managed) line ≡ false =
+    ap (λ count. nat_le (length line) longest_line && is_above (undoable loaded managed) count) (no-undo (command_in line) change is)
+    ∙ none_above (nat_le (length line) longest_line) in
+    sym (ap (λ more. cond more (refused managed (plain NothingToUndo)) (line_outcome files managed line flag)) none)

@@ -20,9 +20,11 @@ use Rattle.aa_text_files.specs.Files.{File}
 use Rattle.aa_set_manager.specs.declared.reply.Reply.{Reply}
 use Rattle.aa_set_manager.specs.declared.reply.Reply.TheVariants.{Answered, Done, Refused, Silent}
 use Rattle.aatry_policy.specs.declared.origins.Origin.{Origin}
-use Rattle.aatry_session.specs.History.{change_in, change_text, kept_with}
+use Rattle.aatry_session.specs.Changes.{kept_with}
+use Rattle.aatry_session_told.specs.Commands.{change_in, undoes_more}
+use Rattle.aatry_session_told.specs.History.{change_text}
 use Rattle.aatry_session.specs.Origins.{change_origins}
-use Rattle.aatry_session.specs.Turns.{Kept, depth, origins_behind, texts_behind}
+use Rattle.aatry_session.specs.Turns.{Kept, depth, line_obeyed, origins_behind, texts_behind, undoable}
 
 -- as many texts as changes, and marks of the machine's own sets
 abbrev InStep : List (List ℕ) → Machine (List Loaded) → Type 0
@@ -134,11 +136,19 @@ command_keeps known files kept flag (Ok (Some (Show name))) h =
     flag_keeps files kept flag (Show name) None h (answered_keeps kept (shown kept.managed.machine.now name) h)
 
 -- a line for the machine leaves a session in step
-pub line_keeps : Known → (files : List File) (kept : Kept) (line : List ℕ) (flag : Bool) → InStep kept.texts kept.managed.machine
+machine_keeps : Known → (files : List File) (kept : Kept) (line : List ℕ) (flag : Bool) → InStep kept.texts kept.managed.machine
     → Keeps kept (change_in (command_in line)) (line_outcome files kept.managed line flag)
-line_keeps known files kept line flag h =
+machine_keeps known files kept line flag h =
     either_keeps (leb (length line) longest_line) kept (change_in (command_in line)) (command_outcome files kept.managed flag (command_in line))
     (refused kept.managed (plain LineTooLong)) (command_keeps known files kept flag (command_in line) h) (refusal_keeps kept (change_in (command_in line)) (plain LineTooLong) h)
+
+-- also where the session refuses what it undoes
+pub line_keeps : Known → (files : List File) (kept : Kept) (line : List ℕ) (flag : Bool) → InStep kept.texts kept.managed.machine
+    → Keeps kept (change_in (command_in line)) (line_obeyed files kept.loaded kept.managed line flag)
+line_keeps known files kept line flag h =
+    either_keeps (undoes_more (undoable kept.loaded kept.managed) line) kept (change_in (command_in line)) (refused kept.managed (plain NothingToUndo))
+    (line_outcome files kept.managed line flag) (refusal_keeps kept (change_in (command_in line)) (plain NothingToUndo) h)
+    (machine_keeps known files kept line flag h)
 
 -- the first so many of two lists of one length have one length
 take_alike : {A B : Type 0} (n : ℕ) (xs : List A) (ys : List B) → length xs ≡ length ys → length (take n xs) ≡ length (take n ys)

@@ -7,7 +7,7 @@ use Rattle.aa_set.specs.Reply.{is_refusal}
 use Rattle.aa_set_commands.specs.Command.{Add, Make}
 use Rattle.aa_set_lines.specs.Limits.{longest_line}
 use Rattle.aa_text_files.specs.Files.{File}
-use Rattle.aatry_session.specs.Sayings.{Command, saying_in}
+use Rattle.aatry_session_told.specs.Sayings.{Command, saying_in}
 use Rattle.aatry_folder.specs.declared.loading.Loading.{Loading}
 use Rattle.aatry_session.specs.Switching.{kept_switched}
 use Rattle.aatry_session.specs.Turns.{IsLeft, IsLeftAdding, Kept, add_outcome, begun, turn_outcome, unplaced}

@@ -1,10 +1,8 @@
-pub mod Help
-pub mod History
+pub mod Changes
 pub mod Laws
+pub mod LoadingLaws
 pub mod Origins
 pub mod PlaceLaws
-pub mod Refusals
-pub mod Sayings
 pub mod SeenSessions
 pub mod SeenTurns
 pub mod Switching

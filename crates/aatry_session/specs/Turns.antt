@@ -1,35 +1,62 @@
 -- The turns of a session: what a line is answered, and the session after it.
-use Rattle.std.specs.Prelude.{◌≡◌, ◌⊎◌, ℕ, Bool, List, [], ◌++◌, length, map, Option, None, Some}
+use Rattle.std.specs.Prelude.{◌≡◌, ◌⊎◌, ℕ, ◌-◌, Bool, if◌then◌else◌, List, [], ◌++◌, length, map, Option, None, Some}
 use Rattle.aa_profile_parsing.specs.declared.language.Language.{Language}
-use Rattle.aa_set_manager.specs.Outcomes.{Outcome as Obeyed, command_in, line_outcome, obeyed_flagged}
+use Rattle.aa_set_manager.specs.Outcomes.{Outcome as Obeyed, command_in, line_outcome, obeyed_flagged, refused}
 use Rattle.aa_set_manager.specs.Manager.{Managed, new_manager_in}
 use Rattle.aa_set_manager.specs.declared.reply.Reply.{Reply}
 use Rattle.aa_set_manager.specs.declared.reply.Reply.TheVariants.{Silent, Done, Refused, Answered}
 use Rattle.aa_set_commands.specs.Command.{Add, Make, PolicyChange}
 use Rattle.aa_set_commands.specs.Question.{Question}
+use Rattle.aa_set_commands.specs.Refusal.{plain}
+use Rattle.aa_set_commands.specs.declared.refusal.RefusalKind.TheVariants.{NothingToUndo}
 use Rattle.aa_text_files.specs.Files.{File}
 use Rattle.aatry_policy.specs.declared.origins.Origin.{Origin}
 use Rattle.aatry_report.specs.Shown.{shown_lines}
-use Rattle.aatry_session.specs.Help.{help_text}
-use Rattle.aatry_session.specs.History.{change_in, change_text, history_lines, kept_with, moves_text}
+use Rattle.aatry_session_told.specs.Help.{help_text}
+use Rattle.aatry_session_told.specs.History.{change_text, history_text, moves_text}
+use Rattle.aatry_session_told.specs.Refusals.{no_question_told, refusal_told}
+use Rattle.aatry_session_told.specs.Sayings.{Saying, Command, Help, History, NoQuestion, Quit, Reload, Status, Widen, Why, saying_in}
+use Rattle.aatry_session.specs.Changes.{kept_with}
+use Rattle.aatry_session_told.specs.Commands.{change_in, undoes_more}
 use Rattle.aatry_session.specs.Origins.{change_origins, origin_among, unplaced_origin}
-use Rattle.aatry_session.specs.Refusals.{no_question_told, refusal_told}
-use Rattle.aatry_session.specs.Sayings.{Saying, Command, Help, History, Quit, Reload, Why, NoQuestion, saying_in}
 
 -- A session, as contracts see it: the manager, and the texts of its changes, those that are done, oldest first, and then those that are undone, the next
--- to redo first; and in the same order where the profiles were read that each change loaded.
+-- to redo first; in the same order where the profiles were read that each change loaded; and how many changes, the first ones, its history leaves out.
 pub record Kept : Type 0 where
   pub managed : Managed
   pub texts : List (List ℕ)
   pub origins : List (List Origin)
+  pub loaded : ℕ
 
 -- a session that has made no change yet, of files that are read by a language
 abbrev pub begun : Language → Bool → Kept
-begun language force_complain = record { managed = new_manager_in language force_complain; texts = []; origins = [] }
+begun language force_complain = record { managed = new_manager_in language force_complain; texts = []; origins = []; loaded = 0 }
 
 -- how many changes of a manager are done
 abbrev pub depth : Managed → ℕ
 depth managed = length managed.machine.earlier
+
+-- a session whose history begins here: it leaves out the changes that are done
+abbrev pub history_begun : Kept → Kept
+history_begun kept = record kept { loaded = depth kept.managed }
+
+-- a session whose history leaves out none any more
+abbrev pub history_widened : Kept → Kept
+history_widened kept = record kept { loaded = 0 }
+
+-- the history, told
+abbrev pub history_told : Kept → List ℕ
+history_told kept = history_text kept.loaded (depth kept.managed) kept.managed.machine.marks kept.texts
+
+-- how many changes can be undone, where the history leaves out so many: those that are done behind these
+abbrev pub undoable : ℕ → Managed → ℕ
+undoable loaded managed = depth managed - loaded
+
+-- What a line is answered where the history leaves out so many changes, and the manager after it: what the machine makes of it; but a line that undoes
+-- more than can be undone is refused, as the machine refuses one that undoes more than all.
+abbrev pub line_obeyed : List File → ℕ → Managed → List ℕ → Bool → Obeyed
+line_obeyed files loaded managed line flag =
+    if undoes_more (undoable loaded managed) line then refused managed (plain NothingToUndo) else line_outcome files managed line flag
 
 -- where the loaded profile of a name was read, as far as the session knows: by the last change that is done and loaded one of the name
 abbrev pub origin_of : Kept → List ℕ → Option Origin
@@ -67,6 +94,7 @@ kept_after files kept change obeyed = record {
   managed = obeyed.managed;
   texts = texts_behind (depth kept.managed) change obeyed.reply kept.texts;
   origins = origins_behind kept.managed.settings.language files (depth kept.managed) change obeyed.reply kept.origins;
+  loaded = kept.loaded;
 }
 
 -- what is told of it
@@ -90,11 +118,11 @@ LeavesAs files before after change obeyed = (after ≡ before) ⊎ ((flag : Bool
 -- A line was obeyed, and what is told of it was appended to a text.
 abbrev pub Obeys : List File → List ℕ → (before after : Kept) → List ℕ → (old new : List ℕ) → Type 0
 Obeys files base before after line old new =
-    ObeysAs files base before after (change_in (command_in line)) (line_outcome files before.managed line) old new
+    ObeysAs files base before after (change_in (command_in line)) (line_obeyed files before.loaded before.managed line) old new
 
 -- A line was obeyed, or all is as it was.
 abbrev pub Leaves : List File → (before after : Kept) → List ℕ → Type 0
-Leaves files before after line = LeavesAs files before after (change_in (command_in line)) (line_outcome files before.managed line)
+Leaves files before after line = LeavesAs files before after (change_in (command_in line)) (line_obeyed files before.loaded before.managed line)
 
 -- what the machine makes of the change that adds the profiles of a file, with the flag that it found no memory
 abbrev pub file_added : List File → Managed → List ℕ → Bool → Obeyed
@@ -113,6 +141,8 @@ pub data Answer : Type 0 where
   Told : (text : List ℕ) → Answer
   Ended : Answer
   Anew : Answer
+  Compared : Answer
+  Widened : Answer
   Asked : (question : Question) → Answer
 
 -- the answer to a line, and the session after it
@@ -130,11 +160,13 @@ command_outcome files base words kept change obeyed = record {
 -- what a line is answered by what it says, with the flag that it found no memory; that a file, or words that are no question, are refused in these words
 abbrev pub said_outcome : List File → List ℕ → List ℕ → Kept → List ℕ → Bool → Saying → Outcome
 said_outcome files base words kept line flag Command =
-    command_outcome files base words kept (change_in (command_in line)) (line_outcome files kept.managed line flag)
+    command_outcome files base words kept (change_in (command_in line)) (line_obeyed files kept.loaded kept.managed line flag)
 said_outcome files base words kept line flag Help = record { answer = Told help_text; kept = kept }
-said_outcome files base words kept line flag History = record { answer = Told (history_lines 0 (depth kept.managed) kept.managed.machine.marks kept.texts); kept = kept }
+said_outcome files base words kept line flag History = record { answer = Told (history_told kept); kept = kept }
+said_outcome files base words kept line flag Widen = record { answer = Widened; kept = kept }
 said_outcome files base words kept line flag Quit = record { answer = Ended; kept = kept }
 said_outcome files base words kept line flag Reload = record { answer = Anew; kept = kept }
+said_outcome files base words kept line flag Status = record { answer = Compared; kept = kept }
 said_outcome files base words kept line flag (Why question) = record { answer = Asked question; kept = kept }
 said_outcome files base words kept line flag (NoQuestion fault) = record { answer = Told (no_question_told files base words fault); kept = kept }
 

@@ -1,7 +1,7 @@
 //! What a session keeps of its changes.
 
 ghost use Rattle.std.specs.Prelude.{◌≡◌, ◌<◌, ◌++◌, ◌∷◌, [], OnOk, length, take, vec_capacity};
-ghost use Rattle.aatry_session.specs.History.{kept_with};
+ghost use Rattle.aatry_session.specs.Changes.{kept_with};
 
 use crate::origins::Origins;
 use aa_bytes::Sequence;
@@ -15,16 +15,20 @@ pub struct Changes {
     pub texts: Vec<Sequence<u8>>,
     /// Where the profiles were read that each loaded.
     pub origins: Vec<Origins>,
+    /// How many of them, the first ones, the history leaves out, and can't be undone: those that loaded the files at the session's beginning.
+    pub loaded: usize,
 }
 
 /// What is kept of no changes. It takes no memory.
 pub fn no_changes(alloc: Global) -> Changes
     ensures texts { result.texts.items ≡ [] }
     ensures origins { result.origins.items ≡ [] }
+    ensures loaded { result.loaded ≡ 0 }
 {
     Changes {
         texts: Vec::new(alloc),
         origins: Vec::new(alloc),
+        loaded: 0,
     }
 }
 
@@ -36,6 +40,7 @@ pub fn no_changes(alloc: Global) -> Changes
 pub fn make_room(changes: &mut Changes) -> Result<(), AllocError>
     ensures texts { changes.new.texts.items ≡ changes.old.texts.items }
     ensures origins { changes.new.origins.items ≡ changes.old.origins.items }
+    ensures loaded { changes.new.loaded ≡ changes.old.loaded }
     ensures text_room { OnOk result (length changes.new.texts.items < vec_capacity changes.new.texts) }
     ensures origin_room { OnOk result (length changes.new.origins.items < vec_capacity changes.new.origins) }
 {
@@ -50,6 +55,7 @@ pub fn keep(changes: &mut Changes, done: usize, text: Sequence<u8>, origins: Ori
     requires origin_room { length changes.old.origins.items < vec_capacity changes.old.origins }
     ensures texts { changes.new.texts.items ≡ kept_with done text reply.now changes.old.texts.items }
     ensures origins { changes.new.origins.items ≡ kept_with done origins reply.now changes.old.origins.items }
+    ensures loaded { changes.new.loaded ≡ changes.old.loaded }
 {
     if matches!(reply, Reply::Done) {
         put(&mut changes.texts, done, text);

@@ -2,6 +2,8 @@
 
 ghost use Rattle.aatry_session.specs.Laws.{AddLeavesInStep, AddsAsLinesDo, AddsInStep, BeginsInStep, ForgetsInStep};
 ghost use Rattle.aatry_session.specs.Laws.{LeavesInStep, RefusedTurnLeavesAll, StaysInStep, SwitchesInStep};
+ghost use Rattle.aatry_session.specs.LoadingLaws.{AddLeavesBehind, AddsBehind, AddsUnmarked, BeginsBehind, BeginsUnmarked, ForgetsBehind};
+ghost use Rattle.aatry_session.specs.LoadingLaws.{LeavesBehind, RefusesToUndoMore, StaysBehind, SwitchesBehind, SwitchesUnmarked, UndoesToTheLoaded};
 ghost use Rattle.aatry_session.specs.PlaceLaws.{AddLeavesKnowing, AddsKnowing, BeginsKnowing, ForgetsForAnyFiles};
 ghost use Rattle.aatry_session.specs.PlaceLaws.{KnowsTheLoaded, LeavesKnowing, StaysKnowing, SwitchesKnowing};
 
@@ -53,4 +55,28 @@ pub fn where_profiles_of_a_session_are_read()
     what_going_to_marks_keeps::<Sequence<Entry>>();
     how_profiles_are_named();
     where_loaded_profiles_are_read();
+}
+
+/// A session goes back at most to the policy set as it was loaded. It begins without marks, and adding files leaves it so, however their profiles are to be
+/// loaded; and where its history begins then, it stays behind what was loaded whatever it is told, whichever file is added, and where places are
+/// forgotten, also where memory runs out for the answer: its first policy sets are those that loading made, it stands at none before the last of these,
+/// and no mark leads to one. So as many changes back as can be undone lead to the very policy set that was loaded: its profiles, their order, states,
+/// modes and rules. A line that undoes more is refused, and leaves all as it was.
+pub fn how_far_sessions_go_back()
+    ensures unmarked { BeginsUnmarked }
+    ensures adds_unmarked { AddsUnmarked }
+    ensures switches_unmarked { SwitchesUnmarked }
+    ensures begins { BeginsBehind }
+    ensures stays { StaysBehind }
+    ensures left { LeavesBehind }
+    ensures adds { AddsBehind }
+    ensures left_adding { AddLeavesBehind }
+    ensures switches { SwitchesBehind }
+    ensures forgets { ForgetsBehind }
+    ensures undoes { UndoesToTheLoaded }
+    ensures refuses { RefusesToUndoMore }
+{
+    what_machines_keep::<Sequence<Entry>>();
+    where_machines_go_back_to::<Sequence<Entry>>();
+    what_going_to_marks_keeps::<Sequence<Entry>>();
 }

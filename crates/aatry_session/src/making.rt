@@ -9,7 +9,7 @@ ghost use Rattle.aa_set_manager.specs.Manager.{made};
 ghost use Rattle.aa_set_manager.specs.declared.reply.Reply.TheVariants.{Done, Refused};
 ghost use Rattle.aa_set_commands.specs.Command.{Add, Make, Replace, seen_change};
 ghost use Rattle.aa_set_commands.specs.Refusal.{IsRefusalOf};
-ghost use Rattle.aatry_session.specs.History.{change_in};
+ghost use Rattle.aatry_session_told.specs.Commands.{change_in};
 ghost use Rattle.aatry_session.specs.Origins.{change_origins, origins_at};
 ghost use Rattle.aatry_session.specs.Turns.{file_added};
 

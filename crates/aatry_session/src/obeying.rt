@@ -1,22 +1,21 @@
 //! A line for the machine over commands, obeyed, and what is told of it.
 
-ghost use Rattle.std.specs.Prelude.{◌≡◌, ◌<◌, ◌++◌, ℕ, List, OnErr, OnOk, None, Some, length, vec_capacity};
-ghost use Rattle.aa_set_manager.specs.Outcomes.{command_in, line_outcome};
+ghost use Rattle.std.specs.Prelude.{◌≡◌, ◌<◌, ◌++◌, ℕ, Bool, List, OnErr, OnOk, None, Some, length, vec_capacity};
+ghost use Rattle.aa_set_manager.specs.Outcomes.{command_in};
 ghost use Rattle.aa_set_commands.specs.Command.{seen_change};
-ghost use Rattle.aatry_session.specs.History.{change_in, kept_with};
+ghost use Rattle.aatry_session.specs.Changes.{kept_with};
+ghost use Rattle.aatry_session_told.specs.Commands.{change_in};
 ghost use Rattle.aatry_session.specs.SeenSessions.{seen_session};
-ghost use Rattle.aatry_session.specs.Turns.{Adds, AddsOrLeaves, Leaves, LeavesAs, Obeys, ObeysAs, reply_told};
+ghost use Rattle.aatry_session.specs.Turns.{Adds, AddsOrLeaves, Leaves, LeavesAs, Obeys, ObeysAs, line_obeyed, reply_told, undoable};
 
 use crate::changes::{Changes, keep, make_room};
-use crate::history::{change_in, text_of};
 use crate::making::{Made, add, make};
-use crate::moves::push_moves;
-use crate::refusals::push_refusal;
 use aa_bytes::Sequence;
-use aa_set_commands::PolicyChange;
+use aa_set_commands::{PolicyChange, RefusalKind, plain};
 use aa_set_manager::{Manager, Reply, reply_to};
 use aa_text_files::Files;
 use aatry_report::push_shown_lines;
+use aatry_session_told::{change_in, push_moves, push_refusal, text_of, undoes_more};
 use std::alloc::{AllocError, Global};
 
 // Puts what is told of a reply behind a text. `from` is how many changes were done before it, `to` how many are done now.
@@ -55,6 +54,7 @@ fn keep_and_tell(
     requires origin_room { length changes.old.origins.items < vec_capacity changes.old.origins }
     ensures texts { changes.new.texts.items ≡ kept_with done text made.reply changes.old.texts.items }
     ensures origins { changes.new.origins.items ≡ kept_with done made.origins made.reply changes.old.origins.items }
+    ensures loaded { changes.new.loaded ≡ changes.old.loaded }
     ensures told { OnOk result ((words : List ℕ)
         × (out.new.items ≡ out.old.items ++ reply_told files.now base.now words changes.new.texts.items done done made.reply)) }
 {
@@ -76,9 +76,9 @@ fn obey_change(
 ) -> Result<(), AllocError>
     requires { change_in (command_in line.now) ≡ Some (seen_change change) }
     ensures told { OnOk result (ObeysAs files.now base.now (seen_session manager.old changes.old) (seen_session manager.new changes.new)
-        (Some (seen_change change.entry)) (line_outcome files.now manager.old line.now) out.old.items out.new.items) }
+        (Some (seen_change change.entry)) (line_obeyed files.now changes.old.loaded manager.old line.now) out.old.items out.new.items) }
     ensures left { OnErr result (LeavesAs files.now (seen_session manager.old changes.old) (seen_session manager.new changes.new)
-        (Some (seen_change change.entry)) (line_outcome files.now manager.old line.now)) }
+        (Some (seen_change change.entry)) (line_obeyed files.now changes.old.loaded manager.old line.now)) }
 {
     let text = text_of(alloc, change)?;
     make_room(changes)?;
@@ -113,6 +113,24 @@ pub fn obey_add(
     keep_and_tell(alloc, files, base, changes, done, text, made, out)
 }
 
+// How many changes can be undone, where the history leaves out so many.
+fn undoable(manager: &Manager, loaded: usize) -> usize
+    ensures { result ≡ undoable loaded manager.now }
+{
+    manager.depth().saturating_sub(loaded)
+}
+
+// The reply to a line, which can undo no change of those that the history leaves out, as many as `loaded`.
+fn reply_behind(files: &Files, manager: &mut Manager, loaded: usize, line: &[u8]) -> Reply
+    ensures { (flag : Bool)
+        × (record { reply = result; managed = manager.new } ≡ line_obeyed files.now loaded manager.old line.now flag) }
+{
+    if undoes_more(undoable(manager, loaded), line) {
+        return Reply::Refused(plain(RefusalKind::NothingToUndo));
+    }
+    reply_to(files, manager, line)
+}
+
 // Obeys another line.
 fn obey_other(
     alloc: Global,
@@ -124,12 +142,12 @@ fn obey_other(
     out: &mut Vec<u8>,
 ) -> Result<(), AllocError>
     ensures told { OnOk result (ObeysAs files.now base.now (seen_session manager.old changes.now) (seen_session manager.new changes.now) None
-        (line_outcome files.now manager.old line.now) out.old.items out.new.items) }
+        (line_obeyed files.now changes.now.loaded manager.old line.now) out.old.items out.new.items) }
     ensures left { OnErr result (LeavesAs files.now (seen_session manager.old changes.now) (seen_session manager.new changes.now) None
-        (line_outcome files.now manager.old line.now)) }
+        (line_obeyed files.now changes.now.loaded manager.old line.now)) }
 {
     let from = manager.depth();
-    let reply = reply_to(files, manager, line);
+    let reply = reply_behind(files, manager, changes.loaded, line);
     let to = manager.depth();
     push_reply(alloc, files, base, &changes.texts, from, to, &reply, out)
 }

@@ -1,19 +1,15 @@
 //! A session: a manager, and what is kept of its changes.
 
 ghost use Rattle.std.specs.Prelude.{◌≡◌, Bool, ℕ, List, IfOk, OnErr, OnOk, option_map};
-ghost use Rattle.aatry_session.specs.Help.{help_text};
-ghost use Rattle.aatry_session.specs.History.{history_lines};
+ghost use Rattle.aatry_session_told.specs.Help.{help_text};
 ghost use Rattle.aatry_session.specs.Switching.{kept_switched};
-ghost use Rattle.aatry_session.specs.Turns.{IsLeft, IsLeftAdding, Told, add_outcome, begun, depth, origin_of, turn_outcome, unplaced};
+ghost use Rattle.aatry_session.specs.Turns.{IsLeft, IsLeftAdding, Told, add_outcome, begun, history_begun, history_told, history_widened, origin_of};
+ghost use Rattle.aatry_session.specs.Turns.{turn_outcome, unplaced};
 ghost use Rattle.aatry_session.specs.SeenTurns.{IsAskable, seen_turn};
 
 use crate::changes::{Changes, no_changes};
-use crate::help::push_help;
-use crate::history::push_history;
 use crate::obeying::{obey, obey_add};
 use crate::origins::{forget_all, origin_among};
-use crate::refusals::push_no_question;
-use crate::sayings::{Saying, saying_in};
 use crate::switching::switch;
 use aa_bytes::Sequence;
 use aa_profile_parsing::Language;
@@ -22,6 +18,7 @@ use aa_set_manager::Manager;
 use aa_text_files::Files;
 use aatry_folder::Loading;
 use aatry_policy::Origin;
+use aatry_session_told::{Saying, push_help, push_history, push_no_question, saying_in};
 use std::alloc::{AllocError, Global};
 use std::marker::Model;
 
@@ -34,14 +31,19 @@ pub enum Turn<'a> {
     Quit,
     /// The files are to be read anew. The policy set and its history stay, until a change loads a file.
     Reload,
+    /// What is loaded is to be told, and how the files differ from those on disk.
+    Status,
+    /// The history is to leave out nothing any more.
+    Widen,
     /// The rules behind the answer to this question are to be told.
     Why(Question<'a>),
 }
 
-/// A policy set with its history, and of each change that made it the text, and where the profiles were read that it loaded.
+/// A policy set with its history, and of each change that made it the text, and where the profiles were read that it loaded. The history begins behind the
+/// changes that loaded the files, from `begin_history` on: it tells nothing of them, and `undo` goes back over none of them.
 ///
 /// Contracts see the manager, these texts and these origins: those of the changes that are done, oldest first, and then those of the changes that are
-/// undone, the next to redo first.
+/// undone, the next to redo first; and how many changes the history leaves out.
 #[derive(Drop)]
 pub struct Session {
     manager: Manager,
@@ -67,6 +69,20 @@ impl Session {
             manager: Manager::new_in(alloc, language, force_complain),
             changes: no_changes(alloc),
         }
+    }
+
+    /// Lets the history begin here: from now on it leaves out the changes that are done so far. It takes no memory.
+    pub fn begin_history(&mut self)
+        ensures { self.new ≡ history_begun self.old }
+    {
+        self.changes.loaded = self.manager.depth();
+    }
+
+    /// Lets the history leave out nothing any more: `undo` may go back over all changes. It takes no memory.
+    pub fn widen_history(&mut self)
+        ensures { self.new ≡ history_widened self.old }
+    {
+        self.changes.loaded = 0;
     }
 
     /// The manager of the policy set.
@@ -145,8 +161,9 @@ impl Session {
     }
 
     /// Answers a line, which has no line feed at its end: a command of the machine (`docs/commands.md`) is obeyed as the machine obeys it, and told
-    /// in words; the session's own commands are `help`, `history`, `quit`, `reload` and `why`. `files` are those that changes load, taken from the
-    /// folder `base`, which has no `/` at its end.
+    /// in words; but `undo` goes back over no change that the history leaves out, and is refused where it would have to. The session's own commands are
+    /// `help`, `history`, `loading`, `quit`, `reload`, `status` and `why`. `files` are those that changes load, taken from the folder `base`, which has no
+    /// `/` at its end.
     ///
     /// # Errors
     ///
@@ -182,6 +199,8 @@ impl Session {
             Saying::History => self.history(alloc),
             Saying::Quit => Ok(Turn::Quit),
             Saying::Reload => Ok(Turn::Reload),
+            Saying::Status => Ok(Turn::Status),
+            Saying::Widen => Ok(Turn::Widen),
             Saying::Why(question) => Ok(Turn::Why(question)),
             Saying::NoQuestion(fault) => {
                 let mut out = Vec::new(alloc);
@@ -193,12 +212,13 @@ impl Session {
 
     // The history, told.
     fn history<'a>(&self, alloc: Global) -> Result<Turn<'a>, AllocError>
-        ensures told { IfOk result (λ turn. seen_turn turn ≡ Told (history_lines 0 (depth self.now.managed) self.now.managed.machine.marks self.now.texts)) }
+        ensures told { IfOk result (λ turn. seen_turn turn ≡ Told (history_told self.now)) }
         ensures askable { IfOk result IsAskable }
     {
         let mut out = Vec::new(alloc);
         push_history(
             &mut out,
+            self.changes.loaded,
             self.manager.depth(),
             self.manager.marks(),
             &self.changes.texts,

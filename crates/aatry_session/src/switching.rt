@@ -6,11 +6,11 @@ ghost use Rattle.aatry_session.specs.SeenSessions.{seen_session};
 ghost use Rattle.aatry_session.specs.Switching.{change_of, kept_switched, switch_obeyed};
 
 use crate::changes::{Changes, keep, make_room};
-use crate::history::text_of;
 use crate::origins::Origins;
 use aa_set_commands::{PolicyChange, RefusalKind};
 use aa_set_manager::{Manager, Reply};
 use aatry_folder::Loading;
+use aatry_session_told::text_of;
 use std::alloc::{AllocError, Global};
 
 // Puts the profile of a name into complain mode or disables it, and says what the machine replies.

@@ -1,1 +1,2 @@
 mod SessionLemmas
+mod UndoingLemmas

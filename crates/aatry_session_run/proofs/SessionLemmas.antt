@@ -57,6 +57,7 @@ run_ends folders known base prompt first after told (lines, before, answered, in
     step_ends fault.BadQuestion broken = absurd broken
     step_ends (fault.Unreadable name) broken = absurd broken
     step_ends fault.TooMany broken = absurd broken
+    step_ends (fault.Compressed name) broken = absurd broken
 run_ends folders known base prompt first after told (lines, before, answered, inr (many, written, is)) = inr (inl is)
 
 -- where a file is loaded by the flags of its profiles none is changed

@@ -2,7 +2,7 @@
 use Rattle.std.specs.Prelude.{ℕ, List, [], ◌∷◌, ◌++◌, codes, string_bytes}
 use Rattle.aa_bytes.specs.Bytes.{line_feed}
 use Rattle.aatry_folder.specs.declared.fault.Fault.{Fault}
-use Rattle.aatry_folder.specs.declared.fault.Fault.TheVariants.{BadArguments, BadQuestion, Unreadable, TooMany, NoMemory, Read, Write}
+use Rattle.aatry_folder.specs.declared.fault.Fault.TheVariants.{BadArguments, BadQuestion, Unreadable, TooMany, Compressed, NoMemory, Read, Write}
 use Rattle.aatry_report.specs.Shown.{shown}
 
 -- the words that tell a fault
@@ -11,6 +11,7 @@ words_of BadArguments = codes "aatry: bad arguments: see aatry --help"
 words_of BadQuestion = codes "aatry: bad question: see aatry why --help, aatry who --help"
 words_of (Unreadable _) = codes "aatry: cannot read "
 words_of TooMany = codes "aatry: more than 65,536 files and folders"
+words_of (Compressed _) = codes "aatry: compressed, to be read by zcat FILE | aatry log: "
 words_of NoMemory = codes "aatry: no memory"
 words_of Read = codes "aatry: read fault"
 words_of Write = codes "aatry: write fault"
@@ -18,6 +19,7 @@ words_of Write = codes "aatry: write fault"
 -- the name that stands behind them
 abbrev pub name_of : Fault → List ℕ
 name_of (Unreadable name) = string_bytes name
+name_of (Compressed name) = string_bytes name
 name_of _ = []
 
 -- the line that tells a fault

@@ -17,14 +17,18 @@ use Rattle.aatry_folder.specs.Loadings.{AreTop, TopFile}
 use Rattle.aatry_folder.specs.PolicyFolders.{AreBelow, tried_names}
 use Rattle.aatry_folder.specs.Unread.{IsOfFolder}
 use Rattle.aatry_session_run.specs.Faults.{told_line}
+use Rattle.aatry_session_run.specs.Notes.{IsNoted}
+use Rattle.aatry_session_run.specs.Status.{IsStatus}
 use Rattle.aatry_folder.specs.declared.fault.Fault.{Fault}
 use Rattle.aatry_input.specs.Inputs.{GivesLine}
 use Rattle.aatry_report.specs.Shown.{shown}
 use Rattle.aatry_report.specs.declared.form.Form.TheVariants.{Lines}
-use Rattle.aatry_session.specs.History.{ok_line}
+use Rattle.aatry_session_told.specs.History.{ok_line}
 use Rattle.aatry_policy.specs.Policies.{profile_names}
 use Rattle.aatry_session.specs.Switching.{all_switched}
-use Rattle.aatry_session.specs.Turns.{Answer, Kept, Told, Ended, Anew, Asked, add_outcome, begun, origin_of, turn_outcome, unplaced}
+use Rattle.aatry_session.specs.Turns.{Answer, Kept, Told, Ended, Anew, Compared, Widened, Asked}
+use Rattle.aatry_session.specs.Turns.{add_outcome, begun, history_begun, history_widened, origin_of, turn_outcome, unplaced}
+use Rattle.aatry_session_told.specs.Commands.{loaded_file}
 use Rattle.aatry_folder.specs.Told.{ToldFolders}
 use Rattle.aaset_start.specs.Known.{Known}
 
@@ -87,6 +91,9 @@ abbrev pub IsTold : ToldFolders → Known → List ℕ → State → Answer → 
 IsTold folders known base state (Told told) after text = (after ≡ state) × (text ≡ told)
 IsTold folders known base state Ended after text = (after ≡ state) × (text ≡ [])
 IsTold folders known base state Anew after text = IsReadAnew folders known base state after text
+IsTold folders known base state Compared after text =
+    (after ≡ state) × IsStatus folders known base state.files state.kept text
+IsTold folders known base state Widened after text = (after ≡ record state { kept = history_widened state.kept }) × (text ≡ ok_line)
 IsTold folders known base state (Asked question) after text =
     (after ≡ state) × (text ≡ answered_text Lines (sources_of base state question) state.kept.managed.machine.now question)
 
@@ -95,13 +102,16 @@ abbrev pub goes_on : Answer → Bool
 goes_on Ended = false
 goes_on answer = true
 
--- A line was answered by the session's own definition: the text is what is told of it, and the session goes on or not.
+-- A line was answered by the session's own definition: the text is what is told of it, with what is told of the disk's file where it loads one, and the
+-- session goes on or not.
 abbrev pub IsTurn : ToldFolders → Known → List ℕ → State → List ℕ → State → List ℕ → Bool → Type 0
 IsTurn folders known base before line after text goes =
-    (answer : Answer) × (kept : Kept) × (flag : Bool) × (words : List ℕ)
+    (answer : Answer) × (kept : Kept) × (flag : Bool) × (words told note : List ℕ)
     × (record { answer = answer; kept = kept } ≡ turn_outcome before.files base words before.kept line flag)
     × (goes ≡ goes_on answer)
-    × IsTold folders known base (record { files = before.files; kept = kept }) answer after text
+    × IsTold folders known base (record { files = before.files; kept = kept }) answer after told
+    × IsNoted known base after.files (loaded_file line) note
+    × (text ≡ told ++ note)
 
 -- Where a session stands: the input that is left, the bytes of it that were read and wait, what is written so far, and its state.
 pub record Standing : Type 0 where
@@ -138,13 +148,15 @@ IsRun folders known base prompt first last =
     × Answers folders known base prompt first lines before × IsLastStep folders known base prompt before last
 
 -- All that lies below a folder was read, the profiles of the files at its top were added, as each file is to be loaded, by a language, and the text
--- tells of that.
+-- tells of that. The session's history begins behind that.
 pub record IsLoaded (language : Language) (folders : ToldFolders) (known : Known) (base : List ℕ) (state : State) (text : List ℕ) : Type 0 where
   pub unread : List (Option UnreadFault)
   pub below : AreBelow folders known base state.files unread
   pub top : List TopFile
   pub asked : AreTop folders base (tried_names (names_of state.files) unread) top
-  pub each : LoadsEach language state.files base (begun language false) top state.kept text
+  pub loaded : Kept
+  pub each : LoadsEach language state.files base (begun language false) top loaded text
+  pub begins : state.kept ≡ history_begun loaded
 
 -- where a session stands that has read no line
 abbrev pub at_first_line : Option (List ℕ) → Option (List ℕ) → State → Standing

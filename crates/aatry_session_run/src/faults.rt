@@ -16,6 +16,7 @@ pub fn words_of(fault: &Fault) -> &'static str
         Fault::BadQuestion => "aatry: bad question: see aatry why --help, aatry who --help",
         Fault::Unreadable(_) => "aatry: cannot read ",
         Fault::TooMany => "aatry: more than 65,536 files and folders",
+        Fault::Compressed(_) => "aatry: compressed, to be read by zcat FILE | aatry log: ",
         Fault::NoMemory => "aatry: no memory",
         Fault::Read => "aatry: read fault",
         Fault::Write => "aatry: write fault",
@@ -27,7 +28,7 @@ pub fn name_of(fault: &Fault) -> &str
     ensures { result.now ≡ name_of fault.now }
 {
     match fault {
-        Fault::Unreadable(name) => name.as_str(),
+        Fault::Unreadable(name) | Fault::Compressed(name) => name.as_str(),
         _ => "",
     }
 }

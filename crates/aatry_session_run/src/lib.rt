@@ -2,7 +2,12 @@
 #![tactic(auto)]
 
 mod faults;
+mod laws;
+mod note;
 mod session;
+mod state;
+mod status;
 
 pub use faults::{name_of, words_of};
+pub use laws::what_undoing_leads_to;
 pub use session::session_folder;

@@ -23,6 +23,9 @@ ghost use Rattle.aatry_session.specs.SeenTurns.{IsAskable, seen_turn};
 ghost use Rattle.aatry_session.specs.Turns.{Told};
 
 use crate::faults::push_told;
+use crate::note::push_note;
+use crate::state::{Setting, Table};
+use crate::status::push_status;
 use aa_profile::{Profile, ProfileRefusal, read_file_in};
 use aa_profile_access::cut_full_name;
 use aa_profile_parsing::Language;
@@ -40,24 +43,6 @@ use std::alloc::{AllocError, Global};
 
 // What is told of a file that is taken, as it is loaded.
 const TAKEN: &[u8] = b"ok\n";
-
-// What stays the same through a session: the language by which it reads policy, its folder of policy on disk, and what is written before a line is
-// read.
-#[derive(Drop)]
-struct Setting<'a, F, D> {
-    language: Language,
-    folders: &'a F,
-    disk: &'a D,
-    base: &'a str,
-    prompt: &'a [u8],
-}
-
-// A session over a folder, and all that lies below that, as it was read last.
-#[derive(Drop)]
-struct Table {
-    files: Files,
-    session: Session,
-}
 
 // Appends the line of a file that is left out to a text.
 fn push_left_out(name: &str, out: &mut Vec<u8>) -> Result<(), AllocError>
@@ -255,7 +240,8 @@ fn answer_question(
     Ok(())
 }
 
-// Appends what is told of an answer, and says whether the session goes on. What is to be read again is read.
+// Appends what is told of an answer, and says whether the session goes on. What is to be read again is read, and the history leaves out nothing any more
+// where it is to.
 fn tell<F: Folders, D: FileSystem>(
     alloc: Global,
     setting: &Setting<'_, F, D>,
@@ -277,6 +263,15 @@ fn tell<F: Folders, D: FileSystem>(
         Turn::Quit => Ok(false),
         Turn::Reload => {
             reload(alloc, setting, table, out)?;
+            Ok(true)
+        }
+        Turn::Status => {
+            push_status(alloc, setting, table, out)?;
+            Ok(true)
+        }
+        Turn::Widen => {
+            table.session.widen_history();
+            out.extend_from_slice(TAKEN)?;
             Ok(true)
         }
         Turn::Why(question) => {
@@ -302,7 +297,9 @@ fn answer_line<F: Folders, D: FileSystem>(
     let turn = table
         .session
         .answer(alloc, &table.files, setting.base, line)?;
-    tell(alloc, setting, table, turn, out)
+    let goes = tell(alloc, setting, table, turn, out)?;
+    push_note(alloc, setting, &table.files, line, out)?;
+    Ok(goes)
 }
 
 // Writes a text.
@@ -378,7 +375,7 @@ fn run<F: Folders, D: FileSystem, S: Source, W: Sink>(
 }
 
 // Begins a session over a folder: the files at its top are added, each in its turn and as it is loaded, and what is told of those that are refused is
-// appended to a text.
+// appended to a text. Its history begins behind that.
 fn begin<F: Folders, D: FileSystem>(
     alloc: Global,
     setting: &Setting<'_, F, D>,
@@ -406,6 +403,7 @@ fn begin<F: Folders, D: FileSystem>(
         &top,
         out,
     )?;
+    session.begin_history();
     Ok(Table { files, session })
 }
 
@@ -435,7 +433,10 @@ fn have_session<F: Folders, D: FileSystem, S: Source, W: Sink>(
 /// at its top, each file in its turn and as it is to be loaded, and tells those that are refused. Then each line of the input is answered as
 /// `aatry_session::Session::answer` answers it, until a line ends the session, or the input does. `prompt` is written before each line is read.
 /// `reload` reads all below the folder again: the policy set and its history stay, and where in the files the loaded profiles have their rules isn't
-/// known any more. `why` is answered with the rules of the loaded profile, each with the place where it was read, while that is known.
+/// known any more. `why` is answered with the rules of the loaded profile, each with the place where it was read, while that is known. The history begins
+/// behind the changes that loaded the files, which `undo` leaves alone, until `loading` takes them in. `status` tells what is loaded, and reads all below
+/// the folder again to tell how it differs from what was read last, which stays. Behind the reply to `add` or `replace` stands where the disk has another
+/// file than the one that was loaded, which is read for that alone.
 ///
 /// # Errors
 ///

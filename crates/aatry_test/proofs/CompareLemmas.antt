@@ -1,12 +1,12 @@
 -- What is told of one line more.
-use Rattle.std.proofs.Common.{◌≡◌, ◌∙◌, ◌≤◌, ◌<◌, ◌+◌, ℕ, true, List, [], ◌∷◌, ◌++◌, add-one, ap, append_assoc, arith, count_by, drop, drop-cons, get_or, length, map, refl, sym, take}
+use Rattle.std.proofs.Common.{◌≡◌, ◌∙◌, ◌≤◌, ◌<◌, ◌+◌, ℕ, Bool, true, List, [], ◌∷◌, ◌++◌, add-one, ap, append_assoc, arith, count_by, drop, drop-cons, get_or, length, map, refl, sym, take}
 use Rattle.std.specs.Prelude.{flat_map}
 use Rattle.std.proofs.lemmas.Grind.{flat_map-append}
 use Rattle.std.proofs.lemmas.List.{length-take-le}
 use Rattle.std.proofs.lemmas.List.Sums.{sum_by-append}
-use Rattle.aatry_test.specs.Differences.{differs, failed_line, failure, front_text, part_of, part_text, parts, seen_part}
-use Rattle.aatry_test.specs.Replies.{told_next}
-use Rattle.aatry_test.specs.Transcripts.{before_command, is_command, wanted_in}
+use Rattle.aatry_test.specs.Differences.{differs, failure, front_text, last_line, part_of, part_text, parts, seen_part}
+use Rattle.aatry_transcripts.specs.Replies.{told_next}
+use Rattle.aatry_transcripts.specs.Transcripts.{before_command, is_command, wanted_in}
 
 -- the part of a line that holds a command
 pub part_is : (number : ℕ) (line : List ℕ) (behind told wanted : List (List ℕ)) → is_command line ≡ true → wanted ≡ wanted_in (before_command behind)
@@ -48,14 +48,14 @@ counted-step number line behind told size before count whole within is counted a
     omega (arith, counted, all, both)
 
 -- what is told ahead of the commands, of each of them, and at the end, one behind the other
-pub failure-is : (path : List ℕ) (lines told wanted : List (List ℕ)) (commands differing : ℕ) (before first second after : List ℕ)
+pub failure-is : (accepted : Bool) (path : List ℕ) (lines told wanted : List (List ℕ)) (commands differing : ℕ) (before first second after : List ℕ)
     → wanted ≡ wanted_in (before_command lines) → commands ≡ count_by is_command lines → differing ≡ count_by differs (parts 1 lines told)
     → first ≡ before ++ front_text path wanted → second ≡ first ++ flat_map (part_text path) (parts 1 lines told)
-    → after ≡ second ++ failed_line path commands differing → after ≡ before ++ failure path lines told
-failure-is path lines told wanted commands differing before first second after is counted found front each end =
+    → after ≡ second ++ last_line accepted path commands differing → after ≡ before ++ failure accepted path lines told
+failure-is accepted path lines told wanted commands differing before first second after is counted found front each end =
     let text = flat_map (part_text path) (parts 1 lines told) in
-    let last = failed_line path commands differing in
-    let all : front_text path wanted ++ text ++ last ≡ failure path lines told = rw (is, counted, found) refl in
+    let last = last_line accepted path commands differing in
+    let all : front_text path wanted ++ text ++ last ≡ failure accepted path lines told = rw (is, counted, found) refl in
     end ∙ ap (λ t. t ++ last) (each ∙ ap (λ t. t ++ text) front ∙ append_assoc before (front_text path wanted) text)
     ∙ append_assoc before (front_text path wanted ++ text) last
     ∙ ap (λ t. before ++ t) all

@@ -1,4 +1,5 @@
 mod BelowLemmas
 mod CompareLemmas
-mod LineLemmas
+mod LawLemmas
 mod PartLemmas
+pub mod StoreLemmas

@@ -1,13 +1,14 @@
 -- The parts of a transcript: nothing is left out, and each command has its reply.
-use Rattle.std.proofs.Common.{◌≡◌, ◌∙◌, ℕ, zero, suc, ◌+◌, Bool, true, false, not, ◌||◌, List, [], ◌∷◌, ◌++◌, ap, append-nil, arith, drop, inl, inr, length, refl, sym, take, true≢false}
+use Rattle.std.proofs.Common.{◌≡◌, ◌∙◌, ℕ, suc, ◌+◌, Bool, true, false, not, ◌||◌, List, [], ◌∷◌, ◌++◌, ap, append-nil, arith, drop, inl, inr, length, refl, sym, take, true≢false}
 use Rattle.std.specs.Prelude.{flat_map}
 use Rattle.std.specs.List.{list_any, prefix_len}
 use Rattle.std.proofs.Math.Seq.{drop-append_seam, take-append_seam}
 use Rattle.std.proofs.lemmas.Bool.{cases_Bool, or_parts}
+use Rattle.aatry_transcripts.proofs.ReplyLemmas.{before_on, reply_taken}
 use Rattle.aatry_test.specs.Differences.{Part, part_of, parts}
 use Rattle.aatry_test.specs.Laws.{AllIsTold, AllIsWanted, AreReplies, EachHasItsReply, IsReplyTo, parts_by, told_by}
-use Rattle.aatry_test.specs.Replies.{begins_reply, reply_size, reply_to, told_next}
-use Rattle.aatry_test.specs.Transcripts.{before_command, command_in, is_blank, is_command, is_note, wanted_in}
+use Rattle.aatry_transcripts.specs.Replies.{begins_reply, reply_to, told_next}
+use Rattle.aatry_transcripts.specs.Transcripts.{before_command, is_command, is_note, wanted_in}
 
 abbrev told_of : List Part → List (List ℕ)
 told_of ps = flat_map (λ part. part.told) ps
@@ -20,19 +21,6 @@ no_parts : (number : ℕ) (lines told : List (List ℕ)) → list_any is_command
 no_parts number [] told none = refl
 no_parts number (line ∷ behind) told none =
     let both = or_parts (is_command line) (list_any is_command behind) none in rw both.0 (no_parts (number + 1) behind told both.1)
-
--- some first lines, and those behind them
-taken : (k : ℕ) (xs : List (List ℕ)) → take k xs ++ drop (length (take k xs)) xs ≡ xs
-taken zero xs = refl
-taken (suc k) [] = refl
-taken (suc k) (x ∷ xs) = ap (λ l. x ∷ l) (taken k xs)
-
--- a reply, and what is told behind it
-reply_taken : (line : List ℕ) (told : List (List ℕ)) → reply_to line told ++ drop (length (reply_to line told)) told ≡ told
-reply_taken line told = elim (cases_Bool (is_blank (command_in line))) [
-  | inl blank ↦ rw blank refl
-  | inr other ↦ rw other (taken (reply_size told) told)
-]
 
 all_told : (number : ℕ) (lines told : List (List ℕ)) → list_any is_command lines ≡ true → told_of (parts number lines told) ≡ told
 all_told number [] told some = absurd (true≢false (sym some))
@@ -53,13 +41,6 @@ all_told number (line ∷ behind) told some = elim (cases_Bool (is_command line)
 pub all_is_told : AllIsTold
 all_is_told lines told some = all_told 1 lines told some
 
-one_more : (n : ℕ) → 1 + n ≡ suc n
-one_more n = omega arith
-
--- a line without a command stands before the next command
-before_on : (line : List ℕ) (behind : List (List ℕ)) → is_command line ≡ false → before_command (line ∷ behind) ≡ line ∷ before_command behind
-before_on line behind other = rw other (ap (λ n. take n (line ∷ behind)) (one_more (prefix_len (λ line. not (is_command line)) behind)))
-
 all_wanted : (number : ℕ) (lines told : List (List ℕ)) → wanted_in (before_command lines) ++ wanted_of (parts number lines told) ≡ wanted_in lines
 all_wanted number [] told = refl
 all_wanted number (line ∷ behind) told = elim (cases_Bool (is_command line)) [
@@ -79,6 +60,9 @@ all_is_wanted lines told = all_wanted 1 lines told
 abbrev Begins : List (List ℕ) → Type 0
 Begins [] = Unit {0}
 Begins (line ∷ lines) = begins_reply line ≡ true
+
+one_more : (n : ℕ) → 1 + n ≡ suc n
+one_more n = omega arith
 
 -- the lines of a reply behind its first reach to the next reply
 size_is : (more rest : List (List ℕ)) → list_any begins_reply more ≡ false → Begins rest → prefix_len (λ line. not (begins_reply line)) (more ++ rest) ≡ length more

@@ -1,19 +1,13 @@
 -- How the lines that a run tells differ from those that a transcript wants.
-use Rattle.std.specs.Prelude.{ℕ, ◌+◌, Bool, true, false, ◌&&◌, ◌||◌, not, if◌then◌else◌, List, [], ◌∷◌, ◌++◌, codes, count_by, drop, flat_map, length}
+use Rattle.std.specs.Prelude.{ℕ, ◌+◌, Bool, ◌&&◌, ◌||◌, not, if◌then◌else◌, List, [], ◌∷◌, ◌++◌, codes, count_by, drop, flat_map, length}
 use Rattle.std.specs.Fmt.{decimal}
 use Rattle.std.specs.List.{filter, list_all, list_any}
 use Rattle.std.specs.Str.{bytes_eq}
 use Rattle.aa_bytes.specs.Bytes.{line_feed}
 use Rattle.aatry_report.specs.Shown.{shown}
-use Rattle.aatry_test.specs.Replies.{told_next}
-use Rattle.aatry_test.specs.Transcripts.{before_command, is_command, wanted_in}
-
--- lines are the same as others, in the same order
-abbrev pub are_same : List (List ℕ) → List (List ℕ) → Bool
-are_same [] [] = true
-are_same [] (other ∷ others) = false
-are_same (line ∷ lines) [] = false
-are_same (line ∷ lines) (other ∷ others) = bytes_eq line other && are_same lines others
+use Rattle.aatry_transcripts.specs.Meeting.{are_met}
+use Rattle.aatry_transcripts.specs.Replies.{told_next}
+use Rattle.aatry_transcripts.specs.Transcripts.{before_command, is_command, wanted_in}
 
 -- a line is one of these
 abbrev pub is_among : List (List ℕ) → List ℕ → Bool
@@ -52,8 +46,9 @@ parts number [] told = []
 parts number (line ∷ behind) told =
     part_of number line behind (told_next line behind told) ++ parts (number + 1) behind (drop (length (told_next line behind told)) told)
 
+-- what is told isn't what the wanted lines ask for
 abbrev pub differs : Part → Bool
-differs part = not (are_same part.told part.wanted)
+differs part = not (are_met part.wanted part.told)
 
 -- the lines of a part that differ: those that are wanted and not told behind `- `, those that are told and not wanted behind `+ `
 abbrev pub differing_lines : List (List ℕ) → List (List ℕ) → List ℕ
@@ -79,18 +74,22 @@ front_text path wanted = flat_map (ahead_line path) wanted
 abbrev pub passed_line : List ℕ → ℕ → List ℕ
 passed_line path commands = shown path ++ codes ": passed: commands " ++ decimal commands ++ line_feed ∷ []
 
--- and of one that isn't
-abbrev pub failed_line : List ℕ → ℕ → ℕ → List ℕ
-failed_line path commands differing =
-    shown path ++ codes ": failed: commands " ++ decimal commands ++ codes ", differing " ++ decimal differing ++ line_feed ∷ []
+-- the words between the path of one that isn't and its numbers, where it is accepted as it is told or not
+abbrev pub outcome_words : Bool → List ℕ
+outcome_words accepted = if accepted then codes ": accepted: commands " else codes ": failed: commands "
 
--- what is told of a transcript that isn't as it is wanted
-abbrev pub failure : List ℕ → List (List ℕ) → List (List ℕ) → List ℕ
-failure path lines told =
+-- and the line that tells how it came out
+abbrev pub last_line : Bool → List ℕ → ℕ → ℕ → List ℕ
+last_line accepted path commands differing =
+    shown path ++ outcome_words accepted ++ decimal commands ++ codes ", differing " ++ decimal differing ++ line_feed ∷ []
+
+-- what is told of a transcript that isn't as it is wanted, where it is accepted or not
+abbrev pub failure : Bool → List ℕ → List (List ℕ) → List (List ℕ) → List ℕ
+failure accepted path lines told =
     front_text path (wanted_in (before_command lines)) ++ flat_map (part_text path) (parts 1 lines told)
-    ++ failed_line path (count_by is_command lines) (count_by differs (parts 1 lines told))
+    ++ last_line accepted path (count_by is_command lines) (count_by differs (parts 1 lines told))
 
--- what is told of a transcript, by its lines and those that the run tells
-abbrev pub comparison : List ℕ → List (List ℕ) → List (List ℕ) → List ℕ
-comparison path lines told =
-    if are_same told (wanted_in lines) then passed_line path (count_by is_command lines) else failure path lines told
+-- what is told of a transcript, by its lines and those that the run tells, where it is accepted as they are or not
+abbrev pub comparison : Bool → List ℕ → List (List ℕ) → List (List ℕ) → List ℕ
+comparison accepted path lines told =
+    if are_met (wanted_in lines) told then passed_line path (count_by is_command lines) else failure accepted path lines told

@@ -1,9 +1,14 @@
--- What holds of the parts of a transcript, by which what differs is told.
-use Rattle.std.specs.Prelude.{◌≡◌, ℕ, ◌+◌, true, false, if◌then◌else◌, List, [], ◌∷◌, ◌++◌, flat_map}
+-- What holds of tests, and of the parts of a transcript, by which what differs is told.
+use Rattle.std.specs.Prelude.{◌≡◌, ℕ, ◌+◌, Bool, true, false, if◌then◌else◌, List, [], ◌∷◌, ◌++◌, flat_map}
 use Rattle.std.specs.List.{list_any}
+use Rattle.aa_profile_parsing.specs.declared.language.Language.{Language}
+use Rattle.aa_text_files.specs.Files.{File}
+use Rattle.aaset_start.specs.Known.{Known}
+use Rattle.aatry_test.specs.Below.{Came, TestsEach}
 use Rattle.aatry_test.specs.Differences.{Part, part_of, parts}
-use Rattle.aatry_test.specs.Replies.{begins_reply}
-use Rattle.aatry_test.specs.Transcripts.{before_command, command_in, is_blank, is_command, wanted_in}
+use Rattle.aatry_test.specs.Tests.{Accepted, IsTested, Passed}
+use Rattle.aatry_transcripts.specs.Replies.{begins_reply}
+use Rattle.aatry_transcripts.specs.Transcripts.{before_command, command_in, is_blank, is_command, wanted_in}
 
 -- The lines are a reply to the command of a line, of the form that replies have: the first begins a reply, and no other one does. A command of blanks has
 -- none.
@@ -38,3 +43,15 @@ AllIsTold = (lines told : List (List ℕ)) → list_any is_command lines ≡ tru
 abbrev pub AllIsWanted : Type 0
 AllIsWanted =
     (lines told : List (List ℕ)) → wanted_in (before_command lines) ++ flat_map (λ part. part.wanted) (parts 1 lines told) ≡ wanted_in lines
+
+-- A transcript that was accepted passes, whether what is told is to be accepted again or not.
+abbrev pub AcceptedPass : Type 0
+AcceptedPass =
+    (language : Language) (files : List File) (accept again : Bool) (path transcript text shown : List ℕ)
+    → IsTested language files accept path transcript (Accepted text) shown
+    → (next : List ℕ) × IsTested language files again path text Passed next
+
+-- where what is told isn't to be accepted, no file is to be replaced
+abbrev pub NothingIsReplaced : Known → Type 0
+NothingIsReplaced known =
+    (language : Language) (files : List File) (paths : List (List ℕ)) (came : Came) → TestsEach language known files false paths came → came.replaced ≡ []

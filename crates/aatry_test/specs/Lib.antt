@@ -2,6 +2,7 @@ pub mod Below
 pub mod Differences
 pub mod Ends
 pub mod Laws
-pub mod Replies
+pub mod SeenOutcomes
+pub mod SeenTests
+pub mod Stores
 pub mod Tests
-pub mod Transcripts

@@ -1,5 +1,5 @@
 -- What a test of a transcript comes to.
-use Rattle.std.specs.Prelude.{◌≡◌, ℕ, Bool, false, List, codes}
+use Rattle.std.specs.Prelude.{◌≡◌, ◌&&◌, ℕ, Bool, false, if◌then◌else◌, List, [], ◌∷◌, codes}
 use Rattle.std.specs.List.{list_any}
 use Rattle.aa_bytes.specs.Texts.{begins_with}
 use Rattle.aa_profile_parsing.specs.declared.language.Language.{Language}
@@ -7,8 +7,10 @@ use Rattle.aa_set.specs.Run.{output}
 use Rattle.aa_set_lines.specs.Lines.{lines}
 use Rattle.aa_set_manager.specs.Manager.{new_manager_in}
 use Rattle.aa_text_files.specs.Files.{File}
-use Rattle.aatry_test.specs.Differences.{are_same, comparison}
-use Rattle.aatry_test.specs.Transcripts.{input_of, transcript_lines, wanted_in}
+use Rattle.aatry_transcripts.specs.Accepting.{accepted_text, can_be_accepted}
+use Rattle.aatry_transcripts.specs.Meeting.{are_met}
+use Rattle.aatry_transcripts.specs.Transcripts.{input_of, transcript_lines, wanted_in}
+use Rattle.aatry_test.specs.Differences.{comparison}
 
 -- the lines that a run over these files, read by a language, writes for the commands of a transcript, from the empty policy set on, for these flags
 -- on commands that found no memory
@@ -19,10 +21,41 @@ told_for language files transcript flags = lines (output files (new_manager_in l
 abbrev pub says_memory : List ℕ → Bool
 says_memory line = begins_with (codes "refused 99 ") line
 
--- A transcript was compared with what a run of its commands tells, in which each found memory: it passed where it wants just these lines, and the text
--- tells how it differs.
-pub record IsTested (language : Language) (files : List File) (path transcript : List ℕ) (passed : Bool) (text : List ℕ) : Type 0 where
+-- how a transcript came out: as it is wanted; otherwise; or otherwise and accepted so, with its text from now on
+pub data Outcome : Type 0 where
+  Passed : Outcome
+  Failed : Outcome
+  Accepted : List ℕ → Outcome
+
+-- what is told of a transcript is accepted: that is asked for, and can be done
+abbrev pub is_accepted : Bool → List ℕ → List (List ℕ) → Bool
+is_accepted accept transcript told = accept && can_be_accepted (transcript_lines transcript) told
+
+-- how a transcript came out, by what is told: it passed where that is what its wanted lines ask for
+abbrev pub outcome_of : Bool → List ℕ → List (List ℕ) → Outcome
+outcome_of accept transcript told =
+    if are_met (wanted_in (transcript_lines transcript)) told then Passed
+    else if is_accepted accept transcript told then Accepted (accepted_text transcript told)
+    else Failed
+
+-- how many transcripts failed, of one
+abbrev pub failed_of : Outcome → ℕ
+failed_of Passed = 0
+failed_of Failed = 1
+failed_of (Accepted text) = 0
+
+-- which files are to be replaced, of one: that of an accepted transcript, by its text
+abbrev pub replaced_of : List ℕ → Outcome → List File
+replaced_of path Passed = []
+replaced_of path Failed = []
+replaced_of path (Accepted text) = (path, text) ∷ []
+
+-- A transcript was compared with what a run of its commands tells, in which each found memory: how it came out goes by that, and where what is told is to
+-- be accepted; and the text tells how it differs.
+pub record IsTested (language : Language) (files : List File) (accept : Bool) (path transcript : List ℕ) (outcome : Outcome) (text : List ℕ) : Type 0 where
   pub flags : List Bool
   pub answered : list_any says_memory (told_for language files transcript flags) ≡ false
-  pub decided : passed ≡ are_same (told_for language files transcript flags) (wanted_in (transcript_lines transcript))
-  pub told : text ≡ comparison path (transcript_lines transcript) (told_for language files transcript flags)
+  pub decided : outcome ≡ outcome_of accept transcript (told_for language files transcript flags)
+  pub told : text
+      ≡ comparison (is_accepted accept transcript (told_for language files transcript flags)) path (transcript_lines transcript)
+      (told_for language files transcript flags)

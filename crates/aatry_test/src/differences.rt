@@ -2,31 +2,12 @@
 
 ghost use Rattle.std.specs.Prelude.{◌≡◌, ◌++◌, OnOk};
 ghost use Rattle.std.specs.List.{list_all};
-ghost use Rattle.aatry_test.specs.Differences.{ahead_line, are_reordered, are_same, differing_lines, front_text};
+ghost use Rattle.aatry_test.specs.Differences.{ahead_line, are_reordered, differing_lines, front_text};
 ghost use Rattle.aatry_test.specs.Differences.{heading, is_among, marked_line, marked_lines};
-ghost use Rattle.aatry_test.specs.Transcripts.{texts};
+ghost use Rattle.aatry_transcripts.specs.Transcripts.{texts};
 
 use aatry_report::{push_number, push_shown};
 use std::alloc::AllocError;
-
-/// Whether lines are the same as others, in the same order.
-pub fn are_same(lines: &[&[u8]], others: &[&[u8]]) -> bool
-    ensures { result ≡ are_same (texts lines.now) (texts others.now) }
-{
-    let mut rest = others;
-    for line in lines {
-        match rest {
-            [other, more @ ..] => {
-                if *line != *other {
-                    return false;
-                }
-                rest = more;
-            }
-            [] => return false,
-        }
-    }
-    rest.is_empty()
-}
 
 // Whether a line is one of these.
 fn is_among(lines: &[&[u8]], line: &[u8]) -> bool

@@ -1,14 +1,8 @@
-//! What holds of comparisons, as laws over the definitions that `compare` is proved to follow.
+//! What holds of tests, as laws over the definitions that `test` and `test_folder` are proved to follow.
 
-ghost use Rattle.std.specs.Prelude.{◌≡◌, ℕ, List, true};
-ghost use Rattle.aatry_test.specs.Differences.{are_same};
-ghost use Rattle.aatry_test.specs.Laws.{AllIsTold, AllIsWanted, EachHasItsReply};
+ghost use Rattle.aatry_test.specs.Laws.{AcceptedPass, AllIsTold, AllIsWanted, EachHasItsReply, NothingIsReplaced};
 
-/// A transcript is as it is wanted exactly where the lines that are told are those that it wants, each byte of them, in their order.
-pub fn what_a_comparison_says()
-    ensures passed { (told wanted : List (List ℕ)) → are_same told wanted ≡ true → told ≡ wanted }
-    ensures same { (lines : List (List ℕ)) → are_same lines lines ≡ true }
-{}
+use aaset_start::FileSystem;
 
 /// What differs is told below the command that it answers: where each command is answered by a reply of the form that replies have, whose first line alone
 /// begins one, its part has that reply. Whatever is told, no line of it is left out where there is a command; and no line that is wanted is left out.
@@ -17,3 +11,15 @@ pub fn what_parts_are()
     ensures told { AllIsTold }
     ensures wanted { AllIsWanted }
 {}
+
+/// Where a transcript is accepted, its text from then on passes, tested over the same files by the same language: by the very run that was accepted.
+pub fn what_is_accepted_passes()
+    ensures { AcceptedPass }
+{}
+
+/// Where what is told isn't to be accepted, no file is to be replaced.
+pub fn what_tests_replace<D: FileSystem>(disk: &D)
+    ensures { NothingIsReplaced (D.known disk.now) }
+{
+    let _disk = disk;
+}

@@ -1,21 +1,42 @@
 //! The test of a transcript.
 
-ghost use Rattle.std.specs.Prelude.{◌≡◌, ◌++◌, ℕ, Bool, List, IfOk, false};
+ghost use Rattle.std.specs.Prelude.{◌≡◌, ◌++◌, ℕ, Bool, List, IfOk, false, if◌then◌else◌};
 ghost use Rattle.std.specs.List.{list_any};
 ghost use Rattle.aa_set.specs.Run.{output};
-ghost use Rattle.aa_set_lines.specs.Lines.{lines};
+ghost use Rattle.aa_set_lines.specs.Lines.{lines as lines_in};
 ghost use Rattle.aa_set_manager.specs.Manager.{new_manager_in};
-ghost use Rattle.aatry_test.specs.Tests.{IsTested, says_memory};
-ghost use Rattle.aatry_test.specs.Differences.{are_same, comparison};
-ghost use Rattle.aatry_test.specs.Transcripts.{input_of, texts, wanted_in};
+ghost use Rattle.aatry_test.specs.Differences.{comparison};
+ghost use Rattle.aatry_test.specs.SeenOutcomes.{seen_outcome};
+ghost use Rattle.aatry_test.specs.Tests.{Accepted, Failed, IsTested, is_accepted, outcome_of, says_memory};
+ghost use Rattle.aatry_transcripts.specs.Accepting.{accepted_text};
+ghost use Rattle.aatry_transcripts.specs.Transcripts.{input_of, texts, transcript_lines};
 
 use crate::comparing::compare;
-use crate::lines::{lines_of, transcript_lines};
-use crate::transcripts::input_of;
 use aa_bytes::begins_with;
 use aa_set::{FromRead, Language, ToWrite, run_in};
 use aa_text_files::Files;
+use aatry_transcripts::{accepted_text, can_be_accepted, input_of, lines_of, transcript_lines};
 use std::alloc::{AllocError, Global};
+
+/// A transcript: the path that it is told by, and its text.
+#[derive(Clone, Copy)]
+pub struct Transcript<'a> {
+    /// The path.
+    pub path: &'a [u8],
+    /// The text.
+    pub text: &'a [u8],
+}
+
+/// How a transcript came out.
+#[derive(Drop)]
+pub enum Outcome {
+    /// What it wants is told.
+    Passed,
+    /// Something else is told.
+    Failed,
+    /// Something else is told, and accepted: its text from now on.
+    Accepted(Vec<u8>),
+}
 
 // What a run over these files, read by a language, writes for an input. Where none can be had memory ran out, as neither the input nor the output can
 // fail otherwise.
@@ -67,29 +88,56 @@ fn lacked_memory(lines: &[&[u8]]) -> bool
     false
 }
 
-// Compares a transcript, by its lines, with what a run writes, and puts what is found behind a text. Where a command found no memory, there is none.
+// How a transcript came out whose replies aren't the wanted ones.
+fn outcome_of_differing(
+    alloc: Global,
+    accepted: bool,
+    transcript: &[u8],
+    told: &[&[u8]],
+) -> Result<Outcome, AllocError>
+    ensures { IfOk result (λ outcome. seen_outcome outcome
+        ≡ (if accepted then Accepted (accepted_text transcript.now (texts told.now)) else Failed)) }
+{
+    if accepted {
+        Ok(Outcome::Accepted(accepted_text(alloc, transcript, told)?))
+    } else {
+        Ok(Outcome::Failed)
+    }
+}
+
+// Compares a transcript, whose lines are given, with what a run writes, puts what is found behind a text, and says how it came out. Where a command found
+// no memory, that is unknown.
 fn compare_with(
     alloc: Global,
-    path: &[u8],
-    wanted: &[&[u8]],
+    accept: bool,
+    transcript: &Transcript,
+    lines: &[&[u8]],
     told: &[u8],
     out: &mut Vec<u8>,
-) -> Result<bool, AllocError>
-    ensures { IfOk result (λ passed. (list_any says_memory (lines told.now) ≡ false)
-        × (passed ≡ are_same (lines told.now) (wanted_in (texts wanted.now)))
-        × (out.new.items ≡ out.old.items ++ comparison path.now (texts wanted.now) (lines told.now))) }
+) -> Result<Outcome, AllocError>
+    requires { texts lines.now ≡ transcript_lines transcript.now.text.now }
+    ensures { IfOk result (λ outcome. (list_any says_memory (lines_in told.now) ≡ false)
+        × (seen_outcome outcome ≡ outcome_of accept transcript.now.text.now (lines_in told.now))
+        × (out.new.items ≡ out.old.items ++ comparison (is_accepted accept transcript.now.text.now (lines_in told.now)) transcript.now.path.now
+        (transcript_lines transcript.now.text.now) (lines_in told.now))) }
 {
     let told = lines_of(alloc, told)?;
     if lacked_memory(&told) {
         return Err(AllocError);
     }
-    compare(alloc, path, wanted, &told, out)
+    let accepted = accept && can_be_accepted(lines, &told);
+    if compare(alloc, accepted, transcript.path, lines, &told, out)? {
+        return Ok(Outcome::Passed);
+    }
+    outcome_of_differing(alloc, accepted, transcript.text, &told)
 }
 
 /// Runs the commands of a transcript over these files, read by a language, from the empty policy set on, compares what is told with what the
-/// transcript wants, puts what is found behind a text, and says whether the transcript passed: whether all that is told is what it wants. It is told
-/// by `path`. In a transcript a line that begins with `> ` holds a command, a line that begins with `#` and one of blanks are left out, and each
-/// other line is wanted. A carriage return at a line's end is left out.
+/// transcript wants, puts what is found behind a text, and says how the transcript came out. In a transcript a line that begins with `> ` holds a command,
+/// a line that begins with `#` and one of blanks are left out, and each other line is wanted. A carriage return at a line's end is left out.
+///
+/// It passed where all that is told is what its wanted lines ask for. Otherwise it failed; or where `accept`, and what is told can be accepted
+/// (`aatry_transcripts::can_be_accepted`), it is accepted, and its text from now on is given (`aatry_transcripts::accepted_text`).
 ///
 /// # Errors
 ///
@@ -98,14 +146,14 @@ pub fn test(
     alloc: Global,
     language: Language,
     files: &Files,
-    path: &[u8],
-    transcript: &[u8],
+    accept: bool,
+    transcript: &Transcript,
     out: &mut Vec<u8>,
-) -> Result<bool, AllocError>
-    ensures { IfOk result (λ passed. (text : List ℕ) × (out.new.items ≡ out.old.items ++ text)
-        × IsTested language files.now path.now transcript.now passed text) }
+) -> Result<Outcome, AllocError>
+    ensures { IfOk result (λ outcome. (text : List ℕ) × (out.new.items ≡ out.old.items ++ text)
+        × IsTested language files.now accept transcript.now.path.now transcript.now.text.now (seen_outcome outcome) text) }
 {
-    let wanted = transcript_lines(alloc, transcript)?;
-    let told = output_for_lines(alloc, language, files, &wanted)?;
-    compare_with(alloc, path, &wanted, &told, out)
+    let lines = transcript_lines(alloc, transcript.text)?;
+    let told = output_for_lines(alloc, language, files, &lines)?;
+    compare_with(alloc, accept, transcript, &lines, &told, out)
 }

@@ -5,6 +5,6 @@ use Rattle.aatry_folder.specs.declared.fault.Fault.{Fault}
 use Rattle.aatry_requests.specs.AskedWords.{letting_words}
 use Rattle.aatry_requests.specs.Ends.{IsEndOfAsking}
 
--- `who` may end with this fault: its folder can't be read, or its words don't ask for a file.
+-- `who` may end with this fault: its folder can't be read, or its words ask no question.
 abbrev pub IsEndOfWho : ToldFolders → List ℕ → List (List ℕ) → Fault → Type 0
 IsEndOfWho folders base words fault = IsEndOfAsking folders base (letting_words words) fault

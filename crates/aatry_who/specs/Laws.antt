@@ -1,19 +1,23 @@
 -- What the law on whom `who` tells speaks of.
-use Rattle.std.specs.Prelude.{◌≡◌, Ok}
+use Rattle.std.specs.Prelude.{◌≡◌, Ok, not}
+use Rattle.aa_bytes.specs.Texts.{is_empty}
 use Rattle.aa_decide.specs.Exec.{Asker}
-use Rattle.aa_profile_access.specs.Request.{Request}
 use Rattle.aa_set_answers.specs.Answers.{answered}
 use Rattle.aa_set_answers.specs.ProfileNames.{full_name_at}
 use Rattle.aa_set_answers.specs.declared.answers.Answered.{Answered}
-use Rattle.aa_set_commands.specs.Question.{OfAccess}
-use Rattle.aatry_policy.specs.FolderParts.{by_parts}
+use Rattle.aa_set_commands.specs.Question.{Question}
 use Rattle.aatry_policy.specs.Folders.{Folder, policy_in}
 use Rattle.aatry_report.specs.declared.form.Form.{Form}
-use Rattle.aatry_who.specs.Letting.{lines_by, lines_of}
+use Rattle.aatry_requests.specs.Questions.{asked_as}
+use Rattle.aatry_who.specs.Letting.{lets_through, lines_of, told_lines}
+use Rattle.aatry_who.specs.Sought.{sought_in}
 
--- What is told of who is loaded, as one that lets a request through or none, goes by the answer that a question of its full name is given.
-abbrev pub IsToldByAnswer : Form → Folder → Request → Asker → Type 0
-IsToldByAnswer form folder request who =
+-- The same question has an answer that is asked by the full name of who is loaded; something is told of it exactly where that lets it through, and what
+-- is told goes by that answer.
+abbrev pub IsToldByAnswer : Form → Folder → Question → Asker → Type 0
+IsToldByAnswer form folder question who =
     let name = full_name_at who.entry.profile who.child in
-    (told : Answered) × (answered (policy_in folder) (OfAccess name request) ≡ Ok told)
-    × (lines_of form (by_parts folder) request who.entry who.child ≡ lines_by form (by_parts folder) request name told.answer)
+    let told_of = lines_of form (sought_in folder question) who.entry who.child in
+    (told : Answered) × (answered (policy_in folder) (asked_as name question) ≡ Ok told)
+    × (told_of ≡ told_lines form (sought_in folder question) name told)
+    × (is_empty told_of ≡ not (lets_through told.answer))

@@ -1,43 +1,47 @@
--- Which profiles, children and hats would let a request through (docs/aatry.md).
-use Rattle.std.specs.Prelude.{ℕ, Bool, true, false, if◌then◌else◌, List, [], ◌∷◌, ◌++◌, Option, None, Some, codes, flat_map}
-use Rattle.std.specs.Option.{option_map}
+-- Which profiles, children and hats would let through what is asked for (docs/aatry.md).
+use Rattle.std.specs.Prelude.{ℕ, Bool, true, false, if◌then◌else◌, List, [], ◌∷◌, ◌++◌, Option, None, Some, Result, Ok, Err, codes, flat_map}
 use Rattle.serde_json.specs.Data.{Members}
 use Rattle.aa_bytes.specs.Bytes.{line_feed}
-use Rattle.aa_decide_audit.specs.Answer.{answer_word}
+use Rattle.aa_decide.specs.Exec.{Started}
 use Rattle.aa_decide_audit.specs.declared.verdict.Answer.{Answer}
 use Rattle.aa_decide_audit.specs.declared.verdict.Answer.TheVariants.{Allow, Complain, Deny, Refuse}
-use Rattle.aa_decide_audit.specs.declared.verdict.Verdict.{Verdict}
-use Rattle.aa_decide_slots.specs.Confinement.{in_state}
 use Rattle.aa_decide_slots.specs.Entries.{Loaded}
 use Rattle.aa_profile_access.specs.Request.{Request}
 use Rattle.aa_profile_data.specs.declared.profile.Child.{Child}
-use Rattle.aa_set_answers.specs.Answers.{confined_answer}
+use Rattle.aa_profile_data.specs.declared.profile.Mode.{Mode}
+use Rattle.aa_profile_data.specs.declared.profile.Mode.TheVariants as mode
 use Rattle.aa_set_answers.specs.Children.{lines_of_children}
 use Rattle.aa_set_answers.specs.ProfileNames.{full_name_at}
+use Rattle.aa_set_answers.specs.declared.answers.Answered.{Answered}
+use Rattle.aa_set_commands.specs.declared.refusal.Refusal.{Refusal}
 use Rattle.aatry_policy.specs.FolderParts.{FolderParts}
 use Rattle.aatry_policy.specs.Parts.{Part, part_of}
 use Rattle.aatry_report.specs.Records.{record_line, record_of, with_text}
 use Rattle.aatry_report.specs.Shown.{shown}
 use Rattle.aatry_report.specs.declared.form.Form.{Form}
 use Rattle.aatry_report.specs.declared.form.Form.TheVariants.{Lines, Records}
+use Rattle.aatry_requests.specs.Questions.{rule_request}
+use Rattle.aatry_why.specs.Transitions.{with_started}
 use Rattle.aatry_why_lines.specs.Why.{allowing_lines}
 use Rattle.aatry_why_lines.specs.Written.{Written}
+use Rattle.aatry_who.specs.Sought.{Sought, answer_to, led}
 
--- a request that is answered so is let through
-abbrev pub lets_through : Answer → Bool
-lets_through Allow = true
-lets_through Complain = true
-lets_through Deny = false
-lets_through Refuse = false
+-- what is answered so is let through; where there is no answer, no rule is asked, and all is
+abbrev pub lets_through : Option Answer → Bool
+lets_through None = true
+lets_through (Some Allow) = true
+lets_through (Some Complain) = true
+lets_through (Some Deny) = false
+lets_through (Some Refuse) = false
 
--- a record of who lets a request through: its full name and the word of its answer
-abbrev pub let_record : List ℕ → List ℕ → Members
-let_record name word = with_text (codes "answer") word (with_text (codes "name") name (record_of (codes "let")))
+-- a record of who is let through: its full name, what it is answered, and under what a program runs that it starts
+abbrev pub let_record : List ℕ → List ℕ → Option Started → Members
+let_record name text to = with_started to (with_text (codes "answer") text (with_text (codes "name") name (record_of (codes "let"))))
 
--- what is told of it: a line of both, or the record
-abbrev pub let_line : Form → List ℕ → List ℕ → List ℕ
-let_line Lines name word = shown name ++ codes ": " ++ word ++ line_feed ∷ []
-let_line Records name word = record_line (let_record name word)
+-- what is told of it: a line of its name and its answer, or the record
+abbrev pub let_line : Form → List ℕ → List ℕ → Option Started → List ℕ
+let_line Lines name text to = shown name ++ codes ": " ++ text ++ line_feed ∷ []
+let_line Records name text to = record_line (let_record name text to)
 
 -- the rules of a part of a folder, with where they are written
 abbrev pub written_of : FolderParts → Part → Written
@@ -49,44 +53,49 @@ written_of folder part = record {
   places = part.places;
 }
 
--- the lines of the rules of a part that allow something of a request, if there is one
+-- the rules of who is in a mode are asked; they aren't where it is disabled, which is no mode
+abbrev pub asks_rules : Option Mode → Bool
+asks_rules (Some mode.Enforce) = true
+asks_rules (Some mode.Complain) = true
+asks_rules (Some mode.Unconfined) = false
+asks_rules None = false
+
+-- the lines of the rules of a part that allow something of a request, where they are asked, if there is a part
 abbrev pub rule_lines : Form → FolderParts → Option Part → Request → List ℕ
 rule_lines form folder None request = []
-rule_lines form folder (Some part) request = allowing_lines form (written_of folder part) request
+rule_lines form folder (Some part) request = if asks_rules part.section.mode then allowing_lines form (written_of folder part) request else []
 
--- by which rules who has a name lets a request through: where the mode does it, by none
-abbrev pub by_rules : Form → FolderParts → Request → List ℕ → Answer → List ℕ
-by_rules form folder request name Allow = rule_lines form folder (part_of folder.parts name) request
-by_rules form folder request name _ = []
+-- by which rules who has a name is let through: where its mode does it, by none
+abbrev pub by_rules : Form → Sought → List ℕ → Option Answer → List ℕ
+by_rules form sought name (Some Allow) = rule_lines form sought.folder (part_of sought.folder.parts name) (rule_request sought.question)
+by_rules form sought name _ = []
 
--- what is told of who gives an answer, and by which rules. Nothing is told where the answer doesn't let the request through.
-abbrev pub answer_lines : Form → FolderParts → Request → List ℕ → Answer → List ℕ
-answer_lines form folder request name answer =
-    if lets_through answer then let_line form name (answer_word answer) ++ by_rules form folder request name answer else []
+-- what is told of who has a name and is answered so, and by which rules. Nothing is told where that isn't let through.
+abbrev pub told_lines : Form → Sought → List ℕ → Answered → List ℕ
+told_lines form sought name told =
+    if lets_through told.answer then let_line form name told.text (led sought name told.answer) ++ by_rules form sought name told.answer else []
 
--- the answer of a verdict, if there is one
-abbrev pub answer_of : Option Verdict → Option Answer
-answer_of verdict = option_map (λ v. v.answer) verdict
+-- the same of any answer: of a name that isn't loaded nothing is told
+abbrev pub answer_lines : Form → Sought → List ℕ → Result Answered Refusal → List ℕ
+answer_lines form sought name (Ok told) = told_lines form sought name told
+answer_lines form sought name (Err refusal) = []
 
--- the lines of who has a name, by its answer; where there is none, no rule is asked, and all is let through
-abbrev pub lines_by : Form → FolderParts → Request → List ℕ → Option Answer → List ℕ
-lines_by form folder request name None = let_line form name (codes "unconfined")
-lines_by form folder request name (Some answer) = answer_lines form folder request name answer
+-- the lines of who has a name, by what it is answered
+abbrev pub named_lines : Form → Sought → List ℕ → List ℕ
+named_lines form sought name = answer_lines form sought name (answer_to sought name)
 
 -- the lines of a profile, or of its child or hat at a place
-abbrev pub lines_of : Form → FolderParts → Request → Loaded → Option ℕ → List ℕ
-lines_of form folder request entry child =
-    lines_by form folder request (full_name_at entry.profile child) (answer_of (confined_answer (in_state entry.profile entry.state child) request))
+abbrev pub lines_of : Form → Sought → Loaded → Option ℕ → List ℕ
+lines_of form sought entry child = named_lines form sought (full_name_at entry.profile child)
 
 -- the lines of a child or a hat by its place
-abbrev pub child_lines : Form → FolderParts → Request → Loaded → ℕ → Child → List ℕ
-child_lines form folder request entry place child = lines_of form folder request entry (Some place)
+abbrev pub child_lines : Form → Sought → Loaded → ℕ → Child → List ℕ
+child_lines form sought entry place child = lines_of form sought entry (Some place)
 
 -- the lines of a profile, and those of its children and hats in the order of the file
-abbrev pub entry_lines : Form → FolderParts → Request → Loaded → List ℕ
-entry_lines form folder request entry =
-    lines_of form folder request entry None ++ lines_of_children (child_lines form folder request entry) entry.profile.children
+abbrev pub entry_lines : Form → Sought → Loaded → List ℕ
+entry_lines form sought entry = lines_of form sought entry None ++ lines_of_children (child_lines form sought entry) entry.profile.children
 
--- the lines of all profiles of a policy set, with their rules as a folder has them
-abbrev pub who_lines : Form → FolderParts → Request → List Loaded → List ℕ
-who_lines form folder request entries = flat_map (entry_lines form folder request) entries
+-- the lines of profiles, each with its children and hats
+abbrev pub who_lines : Form → Sought → List Loaded → List ℕ
+who_lines form sought entries = flat_map (entry_lines form sought) entries

@@ -1,4 +1,5 @@
 pub mod Ends
 pub mod Laws
 pub mod Letting
+pub mod Sought
 pub mod Who

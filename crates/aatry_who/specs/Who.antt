@@ -11,22 +11,21 @@ use Rattle.aatry_folder.specs.Loadings.{AreTop, TopFile}
 use Rattle.aatry_folder.specs.PolicyFolders.{AreBelow, tried_names}
 use Rattle.aatry_folder.specs.Reports.{Report, failed_by}
 use Rattle.aatry_folder.specs.Told.{ToldFolders}
-use Rattle.aatry_policy.specs.FolderParts.{by_parts}
 use Rattle.aatry_policy.specs.Folders.{Folder, folder_at, left_out_in, left_out_note, policy_in}
 use Rattle.aatry_report.specs.declared.form.Form.{Form}
 use Rattle.aatry_requests.specs.AskedWords.{letting_question}
-use Rattle.aatry_requests.specs.Questions.{rule_request}
 use Rattle.aatry_who.specs.Letting.{who_lines}
+use Rattle.aatry_who.specs.Sought.{sought_in}
 
 -- who lets through what a question asks for, and by which rules
 abbrev pub let_by : Form → Folder → Question → List ℕ
-let_by form folder question = who_lines form (by_parts folder) (rule_request question) (policy_in folder)
+let_by form folder question = who_lines form (sought_in folder question) (policy_in folder)
 
 -- somebody is told
 abbrev pub is_let : List ℕ → Bool
 is_let text = not (is_empty text)
 
--- The words ask for a file, and a text tells the files that are left out, at length or not, and who would be let through.
+-- The words ask a question of nobody in particular, and a text tells the files that are left out, at length or not, and who would be let through.
 abbrev pub IsWhoTold : Form → Bool → Folder → List (List ℕ) → List ℕ → Bool → Type 0
 IsWhoTold form verbose folder words text found =
     (question : Question) × (letting_question words ≡ Ok question)

@@ -1,67 +1,86 @@
-//! Which profiles, children and hats would let a request through.
+//! Which profiles, children and hats would let through what is asked for.
 
-ghost use Rattle.std.specs.Prelude.{◌≡◌, ◌∷◌, [], ◌++◌, IfOk, OnOk, option_map};
-ghost use Rattle.aa_decide_slots.specs.Confinement.{found};
-ghost use Rattle.aa_profile_access.specs.SeenRequests.{request_of};
+ghost use Rattle.std.specs.Prelude.{◌≡◌, ◌∷◌, [], ◌++◌, IfOk, None, OnOk, option_map};
 ghost use Rattle.aa_decide_slots.specs.Slots.{filled};
-ghost use Rattle.aa_set_answers.specs.Answers.{confined_answer};
+ghost use Rattle.aa_profile_access.specs.SeenRequests.{request_of};
 ghost use Rattle.aa_set_answers.specs.Children.{lines_of_children};
+ghost use Rattle.aa_set_commands.specs.Question.{seen_question};
 ghost use Rattle.aatry_policy.specs.FolderParts.{seen_folder};
 ghost use Rattle.aatry_policy.specs.SeenProfiles.{seen_part};
-ghost use Rattle.aatry_who.specs.Letting.{answer_lines, answer_of, by_rules, child_lines, entry_lines, let_line, let_record, lets_through};
-ghost use Rattle.aatry_who.specs.Letting.{lines_of, rule_lines, who_lines, written_of};
 ghost use Rattle.aatry_report.specs.SeenRecord.{seen_record};
 ghost use Rattle.aatry_report.specs.declared.form.Form.TheVariants as form;
+ghost use Rattle.aatry_who.specs.Letting.{asks_rules, by_rules, child_lines, entry_lines, let_line, let_record, lets_through};
+ghost use Rattle.aatry_who.specs.Letting.{lines_of, named_lines, rule_lines, told_lines, who_lines, written_of};
+ghost use Rattle.aatry_who.specs.Sought.{led, seen_sought};
 ghost use Rattle.aatry_why_lines.specs.Written.{seen_rules};
 
-use aa_decide::{Answer, Confinement, Entry, Request, Steps};
+use crate::sought::{Sought, answer_to, led};
+use aa_decide::{Answer, Entry, Request};
 use aa_explain_rules::AskedRules;
-use aa_profile_data::Child;
-use aa_set_answers::full_name;
+use aa_profile_data::{Child, Mode};
+use aa_set_answers::{Answered, full_name};
 use aa_set_changes::PolicySet;
+use aa_set_commands::{Question, RefusalKind};
 use aatry_policy::{FolderParts, Part, part_of};
 use aatry_report::{Form, Record, Teller, push_shown};
+use aatry_requests::rule_request;
+use aatry_why::put_started;
 use aatry_why_lines::{WrittenRules, push_allowing};
 use std::alloc::{AllocError, Global};
 
-// Whether an answer lets the request through.
-fn lets_through(answer: Answer) -> bool
+// Whether what is answered so is let through; where there is no answer, no rule is asked, and all is.
+fn lets_through(answer: Option<Answer>) -> bool
     ensures { result ≡ lets_through answer }
 {
     match answer {
-        Answer::Allow | Answer::Complain => true,
-        Answer::Deny | Answer::Refuse => false,
+        None | Some(Answer::Allow | Answer::Complain) => true,
+        Some(Answer::Deny | Answer::Refuse) => false,
     }
 }
 
-// Appends the line of who lets a request through to a text, with the word of its answer.
-fn push_let_line(text: &mut Vec<u8>, name: &[u8], word: &[u8]) -> Result<(), AllocError>
-    ensures { OnOk result (text.new.items ≡ text.old.items ++ let_line form.Lines name.now word.now) }
+// Appends the line of who is let through to a text, with what it is answered.
+fn push_let_line(text: &mut Vec<u8>, name: &[u8], answer: &[u8]) -> Result<(), AllocError>
+    ensures { OnOk result (text.new.items ≡ text.old.items ++ let_line form.Lines name.now answer.now None) }
 {
     push_shown(text, name)?;
     text.extend_from_slice(b": ")?;
-    text.extend_from_slice(word)?;
+    text.extend_from_slice(answer)?;
     text.push(b'\n')?;
     Ok(())
 }
 
-// The record of who lets a request through.
-fn let_record(alloc: Global, name: &[u8], word: &[u8]) -> Result<Record, AllocError>
-    ensures { IfOk result (λ made. seen_record made ≡ let_record name.now word.now) }
+// The record of who is let through.
+fn let_record(
+    alloc: Global,
+    sought: &Sought<'_>,
+    name: &[u8],
+    told: &Answered,
+) -> Result<Record, AllocError>
+    ensures { IfOk result (λ made.
+        seen_record made ≡ let_record name.now told.now.text (led (seen_sought sought.now) name.now told.now.answer)) }
 {
+    let to = led(alloc, sought, name, told.answer)?;
     let mut made = Record::new(alloc, "let")?;
     made.put_text(alloc, "name", name)?;
-    made.put_text(alloc, "answer", word)?;
+    made.put_text(alloc, "answer", told.text.as_slice())?;
+    put_started(alloc, &sought.slots, to, &mut made)?;
     Ok(made)
 }
 
-// Appends what is told of who lets a request through to a text.
-fn push_let(text: &mut Vec<u8>, teller: Teller, name: &[u8], word: &[u8]) -> Result<(), AllocError>
-    ensures { OnOk result (text.new.items ≡ text.old.items ++ let_line teller.form name.now word.now) }
+// Appends what is told of who is let through to a text.
+fn push_let(
+    text: &mut Vec<u8>,
+    teller: Teller,
+    sought: &Sought<'_>,
+    name: &[u8],
+    told: &Answered,
+) -> Result<(), AllocError>
+    ensures { OnOk result (text.new.items ≡ text.old.items
+        ++ let_line teller.form name.now told.now.text (led (seen_sought sought.now) name.now told.now.answer)) }
 {
     match teller.form {
-        Form::Lines => push_let_line(text, name, word),
-        Form::Records => let_record(teller.alloc, name, word)?.push(teller.alloc, text),
+        Form::Lines => push_let_line(text, name, told.text.as_slice()),
+        Form::Records => let_record(teller.alloc, sought, name, told)?.push(teller.alloc, text),
     }
 }
 
@@ -80,7 +99,17 @@ fn written_of<'a>(folder: &FolderParts<'a>, part: &Part<'a>) -> WrittenRules<'a>
     }
 }
 
-// Appends the lines of the rules of a part to a text that allow something of a request, if there is one.
+// Whether the rules of who is in a mode are asked.
+fn asks_rules(mode: Option<Mode>) -> bool
+    ensures { result ≡ asks_rules mode }
+{
+    match mode {
+        Some(Mode::Enforce | Mode::Complain) => true,
+        Some(Mode::Unconfined) | None => false,
+    }
+}
+
+// Appends the lines of the rules of a part to a text that allow something of a request, where they are asked, if there is a part.
 fn push_rules(
     text: &mut Vec<u8>,
     teller: Teller,
@@ -91,101 +120,104 @@ fn push_rules(
     ensures { OnOk result (text.new.items ≡ text.old.items
         ++ rule_lines teller.form (seen_folder folder.now) (option_map (λ part. seen_part part.now) part.entry) (request_of request.entry.now)) }
 {
-    match part {
-        None => Ok(()),
-        Some(part) => push_allowing(teller, &written_of(folder, part), request, text),
+    let Some(part) = part else {
+        return Ok(());
+    };
+    if !asks_rules(part.section.mode) {
+        return Ok(());
     }
+    push_allowing(teller, &written_of(folder, part), request, text)
 }
 
-// Puts behind a text by which rules who has a name lets a request through: where the mode does it, by none.
+// Appends by which rules who has a name is let through to a text: where its mode does it, by none.
 fn push_by_rules(
     text: &mut Vec<u8>,
     teller: Teller,
-    folder: &FolderParts<'_>,
-    request: &Request<'_>,
+    sought: &Sought<'_>,
     name: &[u8],
-    answer: Answer,
+    answer: Option<Answer>,
 ) -> Result<(), AllocError>
-    ensures { OnOk result (text.new.items ≡ text.old.items
-        ++ by_rules teller.form (seen_folder folder.now) (request_of request.entry.now) name.now answer) }
+    ensures { OnOk result (text.new.items ≡ text.old.items ++ by_rules teller.form (seen_sought sought.now) name.now answer) }
 {
     match answer {
-        Answer::Allow => {
-            let part = part_of(folder.parts, name);
-            push_rules(text, teller, folder, part, request)
+        Some(Answer::Allow) => {
+            let part = part_of(sought.folder.parts, name);
+            push_rules(
+                text,
+                teller,
+                sought.folder,
+                part,
+                &rule_request(sought.question),
+            )
         }
-        Answer::Complain | Answer::Deny | Answer::Refuse => Ok(()),
+        Some(Answer::Complain | Answer::Deny | Answer::Refuse) | None => Ok(()),
     }
 }
 
-// Appends what is told of who gives an answer to a text, and by which rules, if the answer lets the request through.
-fn push_answer(
+// Appends what is told of who has a name and is answered so to a text, and by which rules, if it is let through.
+fn push_told(
     text: &mut Vec<u8>,
     teller: Teller,
-    folder: &FolderParts<'_>,
-    request: &Request<'_>,
+    sought: &Sought<'_>,
     name: &[u8],
-    answer: Answer,
+    told: &Answered,
 ) -> Result<(), AllocError>
-    ensures { OnOk result (text.new.items ≡ text.old.items
-        ++ answer_lines teller.form (seen_folder folder.now) (request_of request.entry.now) name.now answer) }
+    ensures { OnOk result (text.new.items ≡ text.old.items ++ told_lines teller.form (seen_sought sought.now) name.now told.now) }
 {
-    if !lets_through(answer) {
+    if !lets_through(told.answer) {
         return Ok(());
     }
-    push_let(text, teller, name, answer.word().as_bytes())?;
-    push_by_rules(text, teller, folder, request, name, answer)
+    push_let(text, teller, sought, name, told)?;
+    push_by_rules(text, teller, sought, name, told.answer)
 }
 
-// The answer of what confines a task; none where no rule is asked.
-fn answer_by(
-    alloc: Global,
-    request: &Request<'_>,
-    confinement: Confinement<'_>,
-) -> Result<Option<Answer>, AllocError>
-    ensures { IfOk result (λ answer. answer ≡ answer_of (confined_answer (found confinement.entry) (request_of request.entry.now))) }
+// Appends the lines of who has a name to a text, by what it is answered.
+fn push_named(
+    text: &mut Vec<u8>,
+    teller: Teller,
+    sought: &Sought<'_>,
+    name: &[u8],
+) -> Result<(), AllocError>
+    ensures { OnOk result (text.new.items ≡ text.old.items ++ named_lines teller.form (seen_sought sought.now) name.now) }
 {
-    match confinement {
-        Confinement::Unconfined | Confinement::ByName => Ok(None),
-        Confinement::By { section, mediation } => {
-            let verdict = section.decide(alloc, mediation, request, &mut Steps::new())?;
-            Ok(Some(verdict.answer))
+    match answer_to(teller.alloc, sought, name) {
+        Ok(told) => push_told(text, teller, sought, name, &told),
+        Err(refusal) => {
+            if refusal.refusal == RefusalKind::Memory {
+                return Err(AllocError);
+            }
+            Ok(())
         }
     }
 }
 
-// Appends the lines of a profile, or of its child or hat at a place, to a text, if it would let a request through.
+// Appends the lines of a profile, or of its child or hat at a place, to a text.
 fn push_lines(
     text: &mut Vec<u8>,
     teller: Teller,
-    folder: &FolderParts<'_>,
-    request: &Request<'_>,
+    sought: &Sought<'_>,
     entry: &Entry,
     child: Option<usize>,
 ) -> Result<(), AllocError>
-    ensures { OnOk result (text.new.items ≡ text.old.items ++ lines_of teller.form (seen_folder folder.now) (request_of request.entry.now) entry.now child) }
+    ensures { OnOk result (text.new.items ≡ text.old.items ++ lines_of teller.form (seen_sought sought.now) entry.now child) }
 {
     let name = full_name(teller.alloc, entry.profile(), child)?;
-    match answer_by(teller.alloc, request, entry.confinement(child))? {
-        None => push_let(text, teller, &name, b"unconfined"),
-        Some(answer) => push_answer(text, teller, folder, request, &name, answer),
-    }
+    push_named(text, teller, sought, &name)
 }
 
 // Appends the lines of these children and hats of a profile to a text.
 fn push_children(
     text: &mut Vec<u8>,
     teller: Teller,
-    folder: &FolderParts<'_>,
-    request: &Request<'_>,
+    sought: &Sought<'_>,
     entry: &Entry,
     children: &[Child],
 ) -> Result<(), AllocError>
     ensures { OnOk result (text.new.items ≡ text.old.items
-        ++ lines_of_children (child_lines teller.form (seen_folder folder.now) (request_of request.entry.now) entry.now) children.now) }
+        ++ lines_of_children (child_lines teller.form (seen_sought sought.now) entry.now) children.now) }
 {
     for (place, _) in children.iter().enumerate() {
-        push_lines(text, teller, folder, request, entry, Some(place))?;
+        push_lines(text, teller, sought, entry, Some(place))?;
     }
     Ok(())
 }
@@ -194,18 +226,16 @@ fn push_children(
 fn push_entry(
     text: &mut Vec<u8>,
     teller: Teller,
-    folder: &FolderParts<'_>,
-    request: &Request<'_>,
+    sought: &Sought<'_>,
     entry: &Entry,
 ) -> Result<(), AllocError>
-    ensures { OnOk result (text.new.items ≡ text.old.items ++ entry_lines teller.form (seen_folder folder.now) (request_of request.entry.now) entry.now) }
+    ensures { OnOk result (text.new.items ≡ text.old.items ++ entry_lines teller.form (seen_sought sought.now) entry.now) }
 {
-    push_lines(text, teller, folder, request, entry, None)?;
+    push_lines(text, teller, sought, entry, None)?;
     push_children(
         text,
         teller,
-        folder,
-        request,
+        sought,
         entry,
         entry.profile().children.as_slice(),
     )
@@ -215,15 +245,14 @@ fn push_entry(
 fn push_slot(
     text: &mut Vec<u8>,
     teller: Teller,
-    folder: &FolderParts<'_>,
-    request: &Request<'_>,
+    sought: &Sought<'_>,
     slot: &Option<Entry>,
 ) -> Result<(), AllocError>
-    ensures { OnOk result (text.new.items ≡ text.old.items ++ who_lines teller.form (seen_folder folder.now) (request_of request.entry.now) (filled (slot.now ∷ []))) }
+    ensures { OnOk result (text.new.items ≡ text.old.items ++ who_lines teller.form (seen_sought sought.now) (filled (slot.now ∷ []))) }
 {
     match slot {
         None => Ok(()),
-        Some(entry) => push_entry(text, teller, folder, request, entry),
+        Some(entry) => push_entry(text, teller, sought, entry),
     }
 }
 
@@ -231,26 +260,25 @@ fn push_slot(
 fn push_slots(
     text: &mut Vec<u8>,
     teller: Teller,
-    folder: &FolderParts<'_>,
-    request: &Request<'_>,
+    sought: &Sought<'_>,
     slots: &[Option<Entry>],
 ) -> Result<(), AllocError>
-    ensures { OnOk result (text.new.items ≡ text.old.items ++ who_lines teller.form (seen_folder folder.now) (request_of request.entry.now) (filled slots.now)) }
+    ensures { OnOk result (text.new.items ≡ text.old.items ++ who_lines teller.form (seen_sought sought.now) (filled slots.now)) }
 {
     let mut rest = slots;
     while let [slot, behind @ ..] = rest {
-        push_slot(text, teller, folder, request, slot)?;
+        push_slot(text, teller, sought, slot)?;
         rest = behind;
     }
     Ok(())
 }
 
-/// The lines of the profiles, children and hats of a policy set that would let a request through: a line for each, with
-/// its full name and the word of its answer, `allow` or, in complain mode, `complain`; and below one that allows it the
-/// rules that allow something of it, as a folder has them of that name (`aatry_why_lines::push_allowing`). One in mode
-/// unconfined or disabled is told with `unconfined`: no rule is asked, and all is let through. They stand in the order
-/// of the set, children and hats behind their profile. As records the lines are of the kind `let`, with the members
-/// `name` and `answer`, and of the kind `rule`.
+/// The lines of the profiles, children and hats of a policy set that would let through what a question asks for, which is asked of nobody in particular: a
+/// line for each, with its full name and what it is answered where it asks, as `ask` tells that; and below one that allows it the rules that allow
+/// something of it, as a folder has them of that name (`aatry_why_lines::push_allowing`). One in mode unconfined or disabled is told with `unconfined`,
+/// or with under what the program runs that it starts: no rule is asked, and all is let through. They stand in the order of the set, children and hats
+/// behind their profile. As records the lines are of the kind `let`, with the members `name` and `answer`, and of a program that is started
+/// `leads_to` and `on` (`aatry_why::put_started`); and of the kind `rule`.
 ///
 /// # Errors
 ///
@@ -259,11 +287,17 @@ pub fn who_lines(
     teller: Teller,
     folder: &FolderParts<'_>,
     set: &PolicySet<'_>,
-    request: &Request<'_>,
+    question: &Question<'_>,
 ) -> Result<Vec<u8>, AllocError>
-    ensures { IfOk result (λ lines. lines.items ≡ who_lines teller.form (seen_folder folder.now) (request_of request.entry.now) set.now) }
+    ensures { IfOk result (λ lines. lines.items ≡ who_lines teller.form
+        (record { folder = seen_folder folder.now; entries = set.now; question = seen_question question.entry.now }) set.now) }
 {
+    let sought = Sought {
+        folder,
+        slots: set.slots(),
+        question,
+    };
     let mut text = Vec::new(teller.alloc);
-    push_slots(&mut text, teller, folder, request, set.slots().as_slice())?;
+    push_slots(&mut text, teller, &sought, sought.slots.as_slice())?;
     Ok(text)
 }

@@ -1,8 +1,9 @@
-//! The command `who`: which profiles, children and hats of a folder would let a request for a file through, and by which rules.
+//! The command `who`: which profiles, children and hats of a folder would let through what a question asks for, and by which rules.
 #![tactic(auto)]
 
 mod laws;
 mod letting;
+mod sought;
 mod who;
 
 pub use laws::whom_who_tells;

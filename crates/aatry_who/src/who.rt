@@ -1,12 +1,12 @@
 //! Who would be let through by the policy of a folder.
 
-ghost use Rattle.std.specs.Prelude.{◌≡◌, ◌⊎◌, Bool, Ok, IfErr, IfOk, IfSome, IsNone, map, string_bytes};
+ghost use Rattle.std.specs.Prelude.{◌≡◌, ◌⊎◌, Bool, IfErr, IfOk, map, string_bytes};
 ghost use Rattle.aa_set_commands.specs.Question.{seen_question};
 ghost use Rattle.aaset_start.specs.Gathering.{texts_of};
 ghost use Rattle.aatry_folder.specs.Reports.{failed_by, seen_report};
 ghost use Rattle.aatry_folder.specs.declared.fault.Fault.TheVariants as fault;
 ghost use Rattle.aatry_policy.specs.Folders.{left_out_note, loaded_in, origins_in, seen_folder};
-ghost use Rattle.aatry_requests.specs.AskedWords.{AskNothing, letting_question, letting_words};
+ghost use Rattle.aatry_requests.specs.AskedWords.{AskNothing, letting_words};
 ghost use Rattle.aatry_who.specs.Ends.{IsEndOfWho};
 ghost use Rattle.aatry_who.specs.Who.{IsWhoTold, IsWhoToldBelow, is_let, let_by};
 
@@ -18,27 +18,14 @@ use aatry_arguments::Asking;
 use aatry_folder::{Fault, Folders, PolicyFolder, Report, failed_by, policy_below};
 use aatry_policy::{LoadedFolder, by_parts, load_folder, parts_of};
 use aatry_report::Teller;
-use aatry_requests::{question_by, rule_request};
-use std::alloc::{AllocError, Global};
+use aatry_requests::letting_question;
+use std::alloc::AllocError;
 
 // Whether a text tells somebody.
 fn is_let(text: &[u8]) -> bool
     ensures { result ≡ is_let text.now }
 {
     !text.is_empty()
-}
-
-// The question whether a file may be used, by its access, its owner's word and its path, if words ask one: who asks is nobody in particular.
-fn letting_question<'a>(
-    alloc: Global,
-    words: &'a [String],
-) -> Result<Option<Question<'a>>, AllocError>
-    ensures some { IfOk result (λ found. IfSome found (λ question.
-        letting_question (map string_bytes words.now) ≡ Ok (seen_question question))) }
-    ensures none { IfOk result (λ found. IsNone found → AskNothing (letting_words (map string_bytes words.now))) }
-{
-    let before = [b"file".as_slice(), b"unconfined".as_slice()];
-    question_by(alloc, &before, words)
 }
 
 // Who lets through what a question asks for, and by which rules, told by the policy of a folder that is loaded.
@@ -53,12 +40,7 @@ fn let_by(
 {
     let set = loaded.policy.manager.policy_set();
     let parts = parts_of(teller.alloc, &set, &loaded.policy.origins)?;
-    who_lines(
-        teller,
-        &by_parts(loaded.folder, &parts),
-        &set,
-        &rule_request(question),
-    )
+    who_lines(teller, &by_parts(loaded.folder, &parts), &set, question)
 }
 
 // The same of a folder that was read, by words, with what is told of the files that are left out before it, and what is noted of them.
@@ -80,14 +62,16 @@ fn told_of(teller: Teller, folder: &PolicyFolder<'_>, words: &[String]) -> Resul
     Ok(report)
 }
 
-/// Which profiles, children and hats of a folder, read by a language, would let a request for a file through, by its
-/// access, its owner's word and its path, told in a form: reads the folder as `aatry_folder::policy_below` does. First
+/// Which profiles, children and hats of a folder, read by a language, would let through what a question asks for, told in a form. The words are those of
+/// the question from which who asks is left out (`aatry_requests::letting_question`). Reads the folder as `aatry_folder::policy_below` does. First
 /// come the files that are left out, where they are told, and it is noted how many they are (`aatry_policy::load_folder`). Then comes a line for
-/// each, with its full name and the word of its answer, `allow` or, in complain mode, `complain`; and below one that allows it the rules that allow
-/// something of it (`aatry_why_lines::push_allowing`). One in mode unconfined is told with `unconfined`: none of its rules is asked, and all is let
-/// through. They stand in the order of the set, children and hats behind their profile. One failed where nobody is told.
+/// each, with its full name and what it is answered where it asks: `allow` or, in complain mode, `complain`, and of the start of a program under what
+/// that runs, or `complain null`; and below one that allows it the rules that allow something of it (`aatry_why_lines::push_allowing`). Where one is in
+/// mode unconfined, none of its rules is asked, and all is let through: it is told with `unconfined`, or likewise under what the program runs. They stand
+/// in the order of the set, children and hats behind their profile. One failed where nobody is told.
 ///
-/// As records the lines are of the kind `let`, with the members `name` and `answer`, and of the kind `rule`.
+/// As records the lines are of the kind `let`, with the members `name` and `answer`, and `leads_to` and `on` of a program that is started
+/// (`aatry_why::put_started`); and of the kind `rule`.
 ///
 /// # Errors
 ///

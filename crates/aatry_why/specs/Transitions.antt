@@ -105,9 +105,22 @@ abbrev pub with_base : Option (List ℕ) → Members → Members
 with_base None members = members
 with_base (Some base) members = with_text (codes "on") base members
 
+-- a record with the name of what something leads to, and what the stack is on that this is, if it is on something
+abbrev pub with_place : List ℕ → Option (List ℕ) → Members → Members
+with_place to base members = with_base base (with_text (codes "leads_to") to members)
+
+-- the same, if it leads somewhere
+abbrev pub with_led : Option (List ℕ) → Option (List ℕ) → Members → Members
+with_led None base members = members
+with_led (Some to) base members = with_place to base members
+
+-- a record with under what a program runs that is started, if it is
+abbrev pub with_started : Option Started → Members → Members
+with_started to members = with_led (destination_text Records to) (destination_base to) members
+
 -- a record with where a word leads, and what the stack is on that it leads to; or else with what isn't there, and where its fallback leads
 abbrev pub with_lead : List ℕ → Option (List ℕ) → Option (List ℕ) → Option (List ℕ) → Members → Members
-with_lead lack (Some to) base fallback members = with_base base (with_text (codes "leads_to") to members)
+with_lead lack (Some to) base fallback members = with_place to base members
 with_lead lack None base fallback members = with_fallback fallback (with_text (codes "lacks") lack members)
 
 -- the record of a transition, by where its word leads, what that is on, and where its fallback leads

@@ -15,5 +15,6 @@ mod unasked;
 mod why;
 
 pub use laws::which_rules_why_tells;
+pub use records::put_started;
 pub use sources::Sources;
 pub use why::{push_answer, push_asked, why_folder};

@@ -1,16 +1,19 @@
-//! The records of transitions.
+//! The records of transitions, and what other records tell of where programs are started.
 
 ghost use Rattle.std.specs.Prelude.{◌≡◌, IfOk, OnOk, Some, codes};
 ghost use Rattle.std.specs.Option.{option_copied};
+ghost use Rattle.aa_explain.specs.Leads.{seen_destination};
 ghost use Rattle.aa_set_answers.specs.RuleLines.{exec_text};
 ghost use Rattle.aatry_report.specs.Records.{with_text};
 ghost use Rattle.aatry_report.specs.SeenRecord.{seen_record};
-ghost use Rattle.aatry_why.specs.Transitions.{lack_of, transition_record, with_base, with_fallback, with_lead};
+ghost use Rattle.aatry_why.specs.Transitions.{lack_of, transition_record, with_base, with_fallback, with_lead, with_led, with_place, with_started};
 
+use crate::destinations::{destination_base, destination_text};
 use crate::transition::push_lack;
+use aa_decide::{ExecTo, IndexedSlots};
 use aa_profile_data::Transition;
 use aa_set_answers::push_exec_transition;
-use aatry_report::Record;
+use aatry_report::{Form, Record, Teller};
 use std::alloc::{AllocError, Global};
 
 // Adds to a record where a fallback leads, if it leads somewhere.
@@ -31,6 +34,58 @@ fn put_base(alloc: Global, base: Option<&[u8]>, into: &mut Record) -> Result<(),
         None => Ok(()),
         Some(base) => into.put_text(alloc, "on", base),
     }
+}
+
+// Adds to a record the name of what something leads to, and what the stack is on that this is, if it is on something.
+fn put_place(
+    alloc: Global,
+    to: &[u8],
+    base: Option<&[u8]>,
+    into: &mut Record,
+) -> Result<(), AllocError>
+    ensures { OnOk result (seen_record into.new ≡ with_place to.now (option_copied base.entry) (seen_record into.old)) }
+{
+    into.put_text(alloc, "leads_to", to)?;
+    put_base(alloc, base, into)
+}
+
+// The same, if it leads somewhere.
+fn put_led(
+    alloc: Global,
+    to: Option<&[u8]>,
+    base: Option<&[u8]>,
+    into: &mut Record,
+) -> Result<(), AllocError>
+    ensures { OnOk result (seen_record into.new ≡ with_led (option_copied to.entry) (option_copied base.entry) (seen_record into.old)) }
+{
+    match to {
+        None => Ok(()),
+        Some(to) => put_place(alloc, to, base, into),
+    }
+}
+
+/// Adds to a record under what a program runs that is started, if it is: the full name, as `leads_to`, and what the stack is on that this is, as `on`, if
+/// it is on something; `unconfined` is the name of no profile.
+///
+/// # Errors
+///
+/// Where memory runs out. The first member may have been added then.
+pub fn put_started(
+    alloc: Global,
+    slots: &IndexedSlots<'_>,
+    to: Option<ExecTo<'_>>,
+    into: &mut Record,
+) -> Result<(), AllocError>
+    ensures { OnOk result (seen_record into.new ≡ with_started (seen_destination slots.now to.entry) (seen_record into.old)) }
+{
+    let teller = Teller {
+        alloc,
+        form: Form::Records,
+        verbose: false,
+    };
+    let name = destination_text(teller, slots, to)?;
+    let base = destination_base(alloc, slots, to)?;
+    put_led(alloc, name.as_deref(), base.as_deref(), into)
 }
 
 // Adds to a record what isn't there that a transition's word leads to.
@@ -59,10 +114,7 @@ fn put_lead(
             put_lack(alloc, transition, into)?;
             put_fallback(alloc, fallback, into)
         }
-        Some(to) => {
-            into.put_text(alloc, "leads_to", to)?;
-            put_base(alloc, base, into)
-        }
+        Some(to) => put_place(alloc, to, base, into),
     }
 }
 

@@ -1,5 +1,5 @@
 -- How far the reading of an option's value has come.
-use Rattle.std.specs.Prelude.{◌≡◌, ℕ, List, ◌++◌, Option, option_map, map, string_bytes}
+use Rattle.std.specs.Prelude.{ℕ, List, ◌++◌, Option, option_map, map, string_bytes}
 use Rattle.aatry_arguments.specs.Values.{ValueOption, WithValue, value_in}
 use Rattle.aatry_arguments.specs.declared.values.NamedOption.{NamedOption}
 use Rattle.aatry_arguments.specs.declared.values.WithValue.{WithValue as CodeValue}

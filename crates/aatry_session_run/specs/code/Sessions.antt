@@ -1,7 +1,7 @@
 -- Sessions of the code, as the definitions see them.
 use Rattle.std.specs.Prelude.{ℕ, List, Option}
 use Rattle.aatry_session_run.specs.Session.{Standing, State}
-use Rattle.aatry_session_run.specs.declared.session.Table.{Table}
+use Rattle.aatry_session_run.specs.declared.state.Table.{Table}
 
 abbrev pub seen_table : Table → State
 seen_table table = record { files = table.files; kept = table.session }

@@ -1,6 +1,6 @@
 use Rattle.std.proofs.Common.{◌∙◌, ap}
 use Rattle.aa_set_commands.specs.Command.{Add}
-use Rattle.aatry_session.specs.History.{kept_with}
+use Rattle.aatry_session.specs.Changes.{kept_with}
 use Rattle.aatry_session.specs.SeenSessions.{seen_session}
 use Rattle.aatry_session.specs.Turns.{file_added}
 use Rattle.aatry_session.proofs.ObeyLemmas.{obeyed-change}
@@ -24,4 +24,5 @@ returns-clause-told c =
       named = c.in_ok-text.ensures;
       texts = c.keep_and_tell.ensures.texts ∙ ap (kept_with c.depth-done.result c.in_ok-text.text reply) c.make_room.ensures.texts;
       origins = c.keep_and_tell.ensures.origins ∙ ap (kept_with c.depth-done.result c.add-made.result.origins reply) c.make_room.ensures.origins;
+      left_out = c.keep_and_tell.ensures.loaded ∙ c.make_room.ensures.loaded;
     }) c.keep_and_tell.ensures.told

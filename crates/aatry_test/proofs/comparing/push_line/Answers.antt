@@ -1,7 +1,7 @@
 use Rattle.std.proofs.Common.{rules, ◌≡◌, ◌++◌, ◌∙◌, List, ap, count_by, subst}
 use Rattle.std.specs.Prelude.{IfOk, OnOk, flat_map}
 use Rattle.aatry_test.specs.Differences.{Part, differs, part_text}
-use Rattle.aatry_test.specs.Transcripts.{texts}
+use Rattle.aatry_transcripts.specs.Transcripts.{texts}
 use Rattle.aatry_test.proofs.CompareLemmas.{part_is}
 use Rattle.aatry_test.proofs.comparing.push_line.Goals as goal
 

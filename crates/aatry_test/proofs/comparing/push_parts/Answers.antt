@@ -3,8 +3,8 @@ use Rattle.std.specs.Prelude.{flat_map}
 use Rattle.std.proofs.lemmas.List.{length-map, take-map}
 use Rattle.std.specs.List.{drop-map}
 use Rattle.aatry_test.specs.Differences.{differs, part_of, part_text, parts}
-use Rattle.aatry_test.specs.Replies.{told_next}
-use Rattle.aatry_test.specs.Transcripts.{texts}
+use Rattle.aatry_transcripts.specs.Replies.{told_next}
+use Rattle.aatry_transcripts.specs.Transcripts.{texts}
 use Rattle.aatry_test.proofs.CompareLemmas.{counted-step, told-step}
 use Rattle.aatry_test.proofs.comparing.push_parts.Goals as goal
 

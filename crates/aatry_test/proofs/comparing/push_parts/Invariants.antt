@@ -1,7 +1,7 @@
 use Rattle.std.proofs.Common.{◌≡◌, ◌++◌, ◌+◌, ◌≤◌, count_by, drop}
 use Rattle.std.specs.Prelude.{flat_map}
 use Rattle.aatry_test.specs.Differences.{differs, part_text, parts}
-use Rattle.aatry_test.specs.Transcripts.{texts}
+use Rattle.aatry_transcripts.specs.Transcripts.{texts}
 use Rattle.aatry_test.proofs.comparing.push_parts.Given as goal
 
 -- what is told so far, with what is told of the lines that are left, is all, and so is the count

@@ -1,7 +1,7 @@
 use Rattle.std.proofs.Common.{◌≡◌, drop}
 use Rattle.std.specs.List.{list_all}
 use Rattle.aatry_test.specs.Differences.{is_among}
-use Rattle.aatry_test.specs.Transcripts.{texts}
+use Rattle.aatry_transcripts.specs.Transcripts.{texts}
 use Rattle.aatry_test.proofs.differences.are_among.Given as goal
 
 -- the lines so far are among the others

@@ -1,6 +1,6 @@
 use Rattle.std.proofs.Common.{◌≡◌, drop}
 use Rattle.aatry_test.specs.Differences.{is_among}
-use Rattle.aatry_test.specs.Transcripts.{texts}
+use Rattle.aatry_transcripts.specs.Transcripts.{texts}
 use Rattle.aatry_test.proofs.differences.is_among.Given as goal
 
 -- the lines so far are others

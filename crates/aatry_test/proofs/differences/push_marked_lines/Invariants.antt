@@ -1,6 +1,6 @@
 use Rattle.std.proofs.Common.{◌≡◌, ◌++◌, drop}
 use Rattle.aatry_test.specs.Differences.{marked_lines}
-use Rattle.aatry_test.specs.Transcripts.{texts}
+use Rattle.aatry_transcripts.specs.Transcripts.{texts}
 use Rattle.aatry_test.proofs.differences.push_marked_lines.Given as goal
 
 -- the text so far, with the lines that are left, is all

@@ -1,0 +1,3 @@
+pub mod Letting
+pub mod Probes
+pub mod SeenLetting

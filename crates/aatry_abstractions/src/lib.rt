@@ -1,0 +1,7 @@
+//! The abstractions of a folder of policy, and which requests each of them lets by its own rules.
+#![tactic(auto)]
+
+mod letting;
+mod probes;
+
+pub use letting::{LettingAbstraction, letting_abstractions};

@@ -1,0 +1,78 @@
+//! What is noted of logs beside what is told of them.
+
+ghost use Rattle.std.specs.Prelude.{◌≡◌, ◌++◌, OnOk};
+ghost use Rattle.aatry_log.specs.Notes.{logs_note, nobody_note, note_line, number_words, unreadable_note};
+ghost use Rattle.aatry_logs.specs.LogRequests.{seen_logs};
+
+use aatry_logs::LogRequests;
+use aatry_requests::push_number;
+use std::alloc::AllocError;
+
+// Appends the words that go with a number to a text: those of one, or the number and those of several.
+fn push_words(number: u64, one: &[u8], several: &[u8], out: &mut Vec<u8>) -> Result<(), AllocError>
+    ensures { OnOk result (out.new.items ≡ out.old.items ++ number_words number one.now several.now) }
+{
+    if number == 1 {
+        return out.extend_from_slice(one);
+    }
+    push_number(out, number, several)
+}
+
+// Appends a line of such words to a text, where there is something to note.
+fn push_note_line(
+    number: u64,
+    one: &[u8],
+    several: &[u8],
+    out: &mut Vec<u8>,
+) -> Result<(), AllocError>
+    ensures { OnOk result (out.new.items ≡ out.old.items ++ note_line number one.now several.now) }
+{
+    if number == 0 {
+        return Ok(());
+    }
+    out.extend_from_slice(b"aatry: ")?;
+    push_words(number, one, several, out)?;
+    out.push(b'\n')?;
+    Ok(())
+}
+
+// Appends how many lines can't be read to a text.
+fn push_unreadable_note(number: u64, out: &mut Vec<u8>) -> Result<(), AllocError>
+    ensures { OnOk result (out.new.items ≡ out.old.items ++ unreadable_note number) }
+{
+    push_note_line(
+        number,
+        b"1 line can't be read",
+        b" lines can't be read",
+        out,
+    )
+}
+
+// Appends how many questions are asked by nobody who is loaded to a text.
+fn push_nobody_note(number: u64, out: &mut Vec<u8>) -> Result<(), AllocError>
+    ensures { OnOk result (out.new.items ≡ out.old.items ++ nobody_note number) }
+{
+    push_note_line(
+        number,
+        b"1 question is of nobody here",
+        b" questions are of nobody here",
+        out,
+    )
+}
+
+/// Appends what is noted of logs to a text: a line with how many of their lines can't be read, and one with how many questions are asked by nobody who is
+/// loaded, each where there is one.
+///
+/// # Errors
+///
+/// Where memory runs out. A beginning may have been appended then.
+pub fn push_logs_note(
+    logs: &LogRequests<'_>,
+    nobody: usize,
+    out: &mut Vec<u8>,
+) -> Result<(), AllocError>
+    ensures { OnOk result (out.new.items ≡ out.old.items ++ logs_note (seen_logs logs.now) nobody) }
+{
+    push_unreadable_note(logs.requests.unreadable, out)?;
+    push_nobody_note(nobody as u64, out)
+}

@@ -1,7 +1,0 @@
-use Rattle.std.proofs.lemmas.Result.{on_ok_weaker}
-use Rattle.aatry_session.proofs.refusals.push_no_question.Goals as goal
-
-pub returns : goal.returns
-returns c =
-    let told = rw c.refusal_of-refusal.ensures at c.push_in_words.ensures in
-    on_ok_weaker c.push_in_words.result (λ h. (c.match-from_utf8.text.now, h)) told

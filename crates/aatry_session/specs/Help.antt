@@ -1,5 +1,0 @@
--- The commands of a session, told.
-use Rattle.std.specs.Prelude.{ℕ, List, codes}
-
-abbrev pub help_text : List ℕ
-help_text = codes "add FILE, replace FILE, remove FILE: load the profiles of a file, or take them out\nenforce NAME, complain NAME, disable NAME: set the mode of a profile\nundo [N], redo [N]: go changes back or forward\nmark NAME, back NAME: mark the policy set, and go to it\nask, why: file NAME ACCESS OWNED PATH, exec NAME OWNED PATH, cap NAME CAPABILITY, or net NAME DOMAIN TYPE\nlist, show NAME: tell what is loaded\nhistory: tell the changes, and the marks\nreload: read the files anew\nhelp, quit\n"

@@ -1,0 +1,2 @@
+mod DifferingLemmas
+mod SameLemmas

@@ -1,0 +1,12 @@
+-- What the law on files that differ speaks of.
+use Rattle.std.specs.Prelude.{◌≡◌, ℕ, false, List, []}
+use Rattle.aa_text_files.specs.Files.{File, file_named, is_folder_name}
+use Rattle.aatry_session_told.specs.Differing.{differences}
+
+-- Where no file differs, the disk has what was read under each name of a file: the same bytes, or none.
+abbrev pub WhatDoesNotDifferIsTheSame : Type 0
+WhatDoesNotDifferIsTheSame =
+    (read disk : List File) (name : List ℕ)
+    → differences read disk ≡ []
+    → is_folder_name name ≡ false
+    → file_named disk name ≡ file_named read name

@@ -1,0 +1,252 @@
+//! How the files that a session read differ from those that lie on disk now, as it is told.
+
+ghost use Rattle.std.specs.Prelude.{◌≡◌, ◌≤◌, ◌++◌, IfOk, OnOk, flat_map, option_map};
+ghost use Rattle.aa_text_files.specs.Files.{name_at};
+ghost use Rattle.aatry_session_told.specs.Differing.{at_place, count_line, counted, difference_if, difference_line, difference_of, differences};
+ghost use Rattle.aatry_session_told.specs.Differing.{differing_lines, disk_differs, file_count, gone_or_newer, read_differs, side_differs, words_of};
+ghost use Rattle.aatry_session_told.specs.SeenDifferences.{seen_difference, seen_differences};
+
+use aa_text_files::Files;
+use aatry_report::{path_below, push_number, push_shown};
+use std::alloc::{AllocError, Global};
+
+// How a file differs.
+#[derive(Clone, Copy)]
+enum Differs {
+    // The disk has other bytes of its name now.
+    Newer,
+    // The disk has no file of its name any more.
+    Gone,
+    // No file of its name was read.
+    New,
+}
+
+// Whose files are compared with those of the other side.
+#[derive(Clone, Copy)]
+enum Side {
+    // Those that were read, with those of the disk.
+    Read,
+    // Those of the disk, with those that were read.
+    Disk,
+}
+
+// A file that differs.
+#[derive(Clone, Copy)]
+struct Difference<'a> {
+    // Its name.
+    name: &'a [u8],
+    // How it differs.
+    how: Differs,
+}
+
+// How a file of these bytes differs from what the disk has of its name now, if it does.
+fn gone_or_newer(bytes: &[u8], later: Option<&[u8]>) -> Option<Differs>
+    ensures { result ≡ gone_or_newer bytes.now (option_map (λ bytes. bytes.now) later.entry) }
+{
+    match later {
+        None => Some(Differs::Gone),
+        Some(later) => {
+            if later == bytes {
+                None
+            } else {
+                Some(Differs::Newer)
+            }
+        }
+    }
+}
+
+// How a file that was read differs from those of the disk, if it does.
+fn read_differs(disk: &Files, name: &[u8], bytes: &[u8]) -> Option<Differs>
+    ensures { result ≡ read_differs disk.now (name.now, bytes.now) }
+{
+    if Files::is_folder(name) {
+        return None;
+    }
+    gone_or_newer(bytes, disk.bytes(name))
+}
+
+// How a file of the disk differs from those that were read, if it does.
+fn disk_differs(read: &Files, name: &[u8]) -> Option<Differs>
+    ensures { result ≡ disk_differs read.now name.now }
+{
+    if Files::is_folder(name) || read.has(name) {
+        None
+    } else {
+        Some(Differs::New)
+    }
+}
+
+// How a file of one side differs from those of the other, if it does.
+fn side_differs(side: Side, others: &Files, name: &[u8], bytes: &[u8]) -> Option<Differs>
+    ensures { result ≡ side_differs side others.now (name.now, bytes.now) }
+{
+    match side {
+        Side::Read => read_differs(others, name, bytes),
+        Side::Disk => disk_differs(others, name),
+    }
+}
+
+// Appends a file to others, if it differs.
+fn push_if<'a>(
+    name: &'a [u8],
+    how: Option<Differs>,
+    found: &mut Vec<Difference<'a>>,
+) -> Result<(), AllocError>
+    ensures { OnOk result (seen_differences found.new.items ≡ seen_differences found.old.items ++ difference_if name.now how) }
+{
+    match how {
+        None => Ok(()),
+        Some(how) => {
+            found.push(Difference { name, how })?;
+            Ok(())
+        }
+    }
+}
+
+// Appends the file at a place of one side, if it differs from those of the other.
+fn push_at<'a>(
+    side: Side,
+    files: &'a Files,
+    others: &Files,
+    place: usize,
+    found: &mut Vec<Difference<'a>>,
+) -> Result<(), AllocError>
+    ensures { OnOk result (seen_differences found.new.items
+        ≡ seen_differences found.old.items ++ difference_of side others.now (at_place files.now place)) }
+{
+    let name = files.name_at(place);
+    push_if(
+        name,
+        side_differs(side, others, name, files.bytes_at(place)),
+        found,
+    )
+}
+
+// Appends those files of one side that differ from those of the other.
+fn push_each<'a>(
+    side: Side,
+    files: &'a Files,
+    others: &Files,
+    found: &mut Vec<Difference<'a>>,
+) -> Result<(), AllocError>
+    ensures { OnOk result (seen_differences found.new.items
+        ≡ seen_differences found.old.items ++ flat_map (difference_of side others.now) files.now) }
+{
+    for place in 0..files.len() {
+        push_at(side, files, others, place, found)?;
+    }
+    Ok(())
+}
+
+// All files that differ.
+fn differences<'a>(
+    alloc: Global,
+    read: &'a Files,
+    disk: &'a Files,
+) -> Result<Vec<Difference<'a>>, AllocError>
+    ensures { IfOk result (λ found. seen_differences found.items ≡ differences read.now disk.now) }
+{
+    let mut found = Vec::new(alloc);
+    push_each(Side::Read, read, disk, &mut found)?;
+    push_each(Side::Disk, disk, read, &mut found)?;
+    Ok(found)
+}
+
+// How a file differs, in words.
+fn words_of(how: Differs) -> &'static str
+    ensures { result.now ≡ words_of how }
+{
+    match how {
+        Differs::Newer => "newer on disk: ",
+        Differs::Gone => "gone from disk: ",
+        Differs::New => "new on disk: ",
+    }
+}
+
+// Puts the line of a file that differs behind a text.
+fn push_line(
+    alloc: Global,
+    base: &[u8],
+    difference: Difference<'_>,
+    out: &mut Vec<u8>,
+) -> Result<(), AllocError>
+    ensures { OnOk result (out.new.items ≡ out.old.items ++ difference_line base.now (seen_difference difference.entry)) }
+{
+    let path = path_below(alloc, base, difference.name)?;
+    out.extend_from_slice(words_of(difference.how).as_bytes())?;
+    push_shown(out, &path)?;
+    out.push(b'\n')?;
+    Ok(())
+}
+
+// Puts a line for each file that differs behind a text.
+fn push_lines(
+    alloc: Global,
+    base: &[u8],
+    found: &[Difference<'_>],
+    out: &mut Vec<u8>,
+) -> Result<(), AllocError>
+    ensures { OnOk result (out.new.items ≡ out.old.items ++ flat_map (difference_line base.now) (seen_differences found.now)) }
+{
+    let mut rest = found;
+    while let [difference, behind @ ..] = rest {
+        push_line(alloc, base, *difference, out)?;
+        rest = behind;
+    }
+    Ok(())
+}
+
+// Counts the file at a place as one, and a folder as none.
+fn counted_at(files: &Files, place: usize) -> usize
+    ensures counted { result ≡ counted (name_at files.now place) }
+    ensures few { result ≤ 1 }
+{
+    if Files::is_folder(files.name_at(place)) {
+        0
+    } else {
+        1
+    }
+}
+
+// How many of these are files.
+fn file_count(files: &Files) -> usize
+    ensures { result ≡ file_count files.now }
+{
+    let mut count = 0;
+    for place in 0..files.len() {
+        count += counted_at(files, place);
+    }
+    count
+}
+
+// Puts the line of how many files were read, and how many differ, behind a text.
+fn push_count(out: &mut Vec<u8>, files: usize, differing: usize) -> Result<(), AllocError>
+    ensures { OnOk result (out.new.items ≡ out.old.items ++ count_line files differing) }
+{
+    push_number(out, "files ", files)?;
+    push_number(out, ", differing ", differing)?;
+    out.push(b'\n')?;
+    Ok(())
+}
+
+/// Puts behind a text how the files that were read from a folder, whose path is `base`, differ from those that lie there now, `disk`: a line for each that
+/// has other bytes now or isn't there any more, in the order in which they were read; behind these one for each of whose name none was read; and how many
+/// files were read, and how many lines these are. Of a file that couldn't be read, then or now, what stands in its place counts as its bytes
+/// (`aaset_start::gather_readable`). Folders are none of these.
+///
+/// # Errors
+///
+/// Where memory runs out. A beginning may have been put then.
+pub fn push_differing(
+    alloc: Global,
+    base: &[u8],
+    read: &Files,
+    disk: &Files,
+    out: &mut Vec<u8>,
+) -> Result<(), AllocError>
+    ensures { OnOk result (out.new.items ≡ out.old.items ++ differing_lines base.now read.now disk.now) }
+{
+    let found = differences(alloc, read, disk)?;
+    push_lines(alloc, base, &found, out)?;
+    push_count(out, file_count(read), found.len())
+}

@@ -1,0 +1,8 @@
+//! What holds of files that differ, as a law over the definitions that telling them is proved to follow.
+
+ghost use Rattle.aatry_session_told.specs.DifferingLaws.{WhatDoesNotDifferIsTheSame};
+
+/// Where no file is told to differ, the disk has what was read under each name of a file: one of the same bytes, or none.
+pub fn what_does_not_differ()
+    ensures { WhatDoesNotDifferIsTheSame }
+{}

@@ -1,0 +1,158 @@
+//! What is told of a line that is refused.
+
+ghost use Rattle.std.specs.Prelude.{◌≡◌, ◌++◌, ℕ, List, [], None, OnOk, codes};
+ghost use Rattle.aa_set_commands.specs.Refusal.{number_of};
+ghost use Rattle.aa_text_files.specs.Files.{name_at};
+ghost use Rattle.aatry_report.specs.Faults.{fault_lines};
+ghost use Rattle.aatry_report.specs.FilePlaces.{path_below};
+ghost use Rattle.aatry_report.specs.Refusals.{placed_refusal};
+ghost use Rattle.aatry_questions.specs.Faults.{seen_fault};
+ghost use Rattle.aatry_session_told.specs.Refusals.{no_question_told, refusal_told, told_by, unread_at, words_for};
+
+use aa_set_commands::{Refusal, RefusalKind};
+use aa_text_files::{Files, Place};
+use aaset_start::is_stand_in;
+use aatry_questions::{WordFault, push_words_fault, refusal_of, with_nearest};
+use aatry_report::{path_below, push_fault, push_placed_refusal, words_of};
+use std::alloc::{AllocError, Global};
+use std::str::from_utf8;
+
+// What is wrong, in words; none where it is a file, which has words of its own.
+fn own_words(kind: RefusalKind) -> &'static str
+    ensures { result.now ≡ words_for kind [] }
+{
+    match kind {
+        RefusalKind::File(_) => "",
+        RefusalKind::Exists => "a profile of one of the file's names is there",
+        RefusalKind::Absent => "no profile, child or hat of this name is there",
+        RefusalKind::Disabled => "the profile is disabled",
+        RefusalKind::NothingToUndo =>
+            "fewer changes can be undone; say `loading` to undo those of the loading, too",
+        RefusalKind::NothingToRedo => "fewer changes can be redone",
+        RefusalKind::BadCommand => "this is no command: `help` tells which there are",
+        RefusalKind::LineTooLong => "the line has more than 65,536 bytes",
+        RefusalKind::BadRequest => "no question can have these words, or no mark this name",
+        RefusalKind::NoMark => "no mark has this name",
+        RefusalKind::Memory => "memory ran out",
+    }
+}
+
+// What is wrong with the words of a question, in words.
+fn question_words(alloc: Global, fault: WordFault<'_>) -> Result<Vec<u8>, AllocError> {
+    let fault = with_nearest(alloc, fault)?;
+    let mut words = Vec::new(alloc);
+    push_words_fault(&fault, &mut words)?;
+    Ok(words)
+}
+
+/// Puts what is told of words behind a text that are no question: what is wrong with them, and the number of the refusal that goes with it.
+///
+/// # Errors
+///
+/// Where memory runs out. A beginning may have been put then.
+pub fn push_no_question(
+    alloc: Global,
+    files: &Files,
+    base: &[u8],
+    fault: WordFault<'_>,
+    out: &mut Vec<u8>,
+) -> Result<(), AllocError>
+    ensures { OnOk result ((words : List ℕ)
+        × (out.new.items ≡ out.old.items ++ no_question_told files.now base.now words (seen_fault fault.entry))) }
+{
+    let refusal = refusal_of(fault.wrong);
+    let words = question_words(alloc, fault)?;
+    let text = match from_utf8(&words) {
+        Ok(text) => text,
+        Err(_) => own_words(refusal.refusal),
+    };
+    push_in_words(alloc, files, base, text, refusal, out)
+}
+
+// Puts what is told of a refusal behind a text, in these words.
+fn push_in_words(
+    alloc: Global,
+    files: &Files,
+    base: &[u8],
+    words: &str,
+    refusal: Refusal,
+    out: &mut Vec<u8>,
+) -> Result<(), AllocError>
+    ensures { OnOk result (out.new.items
+        ≡ out.old.items ++ placed_refusal words.now files.now base.now (codes "refused") (number_of refusal.refusal) refusal.place) }
+{
+    push_placed_refusal(
+        alloc,
+        files,
+        base,
+        b"refused",
+        words,
+        refusal.number(),
+        refusal.place,
+        out,
+    )
+}
+
+// The file that a place stands in, by how many of the files came before it, where that wasn't read.
+fn unread_at(files: &Files, place: Option<Place>) -> Option<usize>
+    ensures { result ≡ unread_at files.now place }
+{
+    match place {
+        Some(place) if is_stand_in(files.bytes_at(place.file)) => Some(place.file),
+        _ => None,
+    }
+}
+
+// Puts behind a text that a file wasn't read, by how many of the files came before it.
+fn push_unread(
+    alloc: Global,
+    files: &Files,
+    base: &[u8],
+    file: usize,
+    number: u8,
+    out: &mut Vec<u8>,
+) -> Result<(), AllocError>
+    ensures { OnOk result (out.new.items
+        ≡ out.old.items ++ fault_lines (codes "the file wasn't read") (path_below base.now (name_at files.now file)) number None []) }
+{
+    let path = path_below(alloc, base, files.name_at(file))?;
+    push_fault(out, &path, "the file wasn't read", number)
+}
+
+// Puts what is told of a refusal that stands in no file that wasn't read.
+fn push_plain(
+    alloc: Global,
+    files: &Files,
+    base: &[u8],
+    refusal: Refusal,
+    out: &mut Vec<u8>,
+) -> Result<(), AllocError>
+    ensures { OnOk result ((words : List ℕ) × (out.new.items ≡ out.old.items ++ told_by None files.now base.now words refusal)) }
+{
+    let RefusalKind::File(fault) = refusal.refusal else {
+        return push_in_words(alloc, files, base, own_words(refusal.refusal), refusal, out);
+    };
+    let words = words_of(alloc, fault)?;
+    push_in_words(alloc, files, base, words.as_str(), refusal, out)
+}
+
+/// Puts what is told of a refusal behind a text: where it has a place in a file, as a check of that file tells it; but where that file wasn't read,
+/// that it wasn't, without why.
+///
+/// # Errors
+///
+/// Where memory runs out. A beginning may have been put then.
+pub fn push_refusal(
+    alloc: Global,
+    files: &Files,
+    base: &[u8],
+    refusal: Refusal,
+    out: &mut Vec<u8>,
+) -> Result<(), AllocError>
+    ensures { OnOk result ((words : List ℕ) × (out.new.items ≡ out.old.items ++ refusal_told files.now base.now words refusal)) }
+{
+    match unread_at(files, refusal.place) {
+        None => push_plain(alloc, files, base, refusal, out),
+        Some(file) => push_unread(alloc, files, base, file, refusal.number(), out),
+    }
+}

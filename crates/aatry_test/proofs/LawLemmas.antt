@@ -1,0 +1,68 @@
+-- What holds of transcripts that are accepted, and of those that aren't to be.
+use Rattle.std.proofs.Common.{◌≡◌, ◌∙◌, ℕ, Bool, true, false, List, [], ◌∷◌, ◌++◌, ap, ap₂, refl, sym}
+use Rattle.std.specs.List.{list_any}
+use Rattle.std.specs.Prelude.{if◌then◌else◌}
+use Rattle.std.proofs.lemmas.Bool.{and_parts}
+use Rattle.aa_set.specs.Run.{output}
+use Rattle.aa_set_lines.specs.Lines.{lines}
+use Rattle.aa_set_manager.specs.Manager.{new_manager_in}
+use Rattle.aatry_transcripts.proofs.PassLemmas.{asks_the_same, passes_then}
+use Rattle.aatry_transcripts.specs.Accepting.{accepted_text, can_be_accepted}
+use Rattle.aatry_transcripts.specs.Meeting.{are_met}
+use Rattle.aatry_transcripts.specs.Transcripts.{input_of, transcript_lines, wanted_in}
+use Rattle.aaset_start.specs.Known.{Known}
+use Rattle.aatry_test.specs.Differences.{comparison}
+use Rattle.aatry_test.specs.Laws.{AcceptedPass, NothingIsReplaced}
+use Rattle.aatry_test.specs.Tests.{Accepted, Failed, Passed, is_accepted, outcome_of, replaced_of, says_memory, told_for}
+
+-- a transcript that was accepted could be, and its text is the one that it becomes
+accepted_so : (accept : Bool) (transcript text : List ℕ) (told : List (List ℕ)) → Accepted text ≡ outcome_of accept transcript told
+    → (can_be_accepted (transcript_lines transcript) told ≡ true) × (text ≡ accepted_text transcript told)
+accepted_so accept transcript text told is =
+    by (are_met (wanted_in (transcript_lines transcript)) told) (is_accepted accept transcript told) refl is
+  where
+    by : (met accepted : Bool) → is_accepted accept transcript told ≡ accepted
+        → Accepted text ≡ (if met then Passed else if accepted then Accepted (accepted_text transcript told) else Failed)
+        → (can_be_accepted (transcript_lines transcript) told ≡ true) × (text ≡ accepted_text transcript told)
+    by true accepted so is = absurd (cc)
+    by false true so is = ((and_parts accept (can_be_accepted (transcript_lines transcript) told) so).1, cc)
+    by false false so is = absurd (cc)
+
+pub accepted_pass : AcceptedPass
+accepted_pass language files accept again path transcript text shown tested =
+    let manager = new_manager_in language false in
+    let written = output files manager (input_of (transcript_lines transcript)) tested.flags in
+    let told = lines written in
+    let so = accepted_so accept transcript text told tested.decided in
+    let asked : input_of (transcript_lines text) ≡ input_of (transcript_lines transcript) =
+    ap (λ t. input_of (transcript_lines t)) so.1 ∙ asks_the_same transcript written so.0 in
+    let same : told_for language files text tested.flags ≡ told = ap (λ input. lines (output files manager input tested.flags)) asked in
+    let met : are_met (wanted_in (transcript_lines text)) (told_for language files text tested.flags) ≡ true =
+    ap (are_met (wanted_in (transcript_lines text))) same ∙ ap (λ t. are_met (wanted_in (transcript_lines t)) told) so.1 ∙ passes_then transcript written so.0 in (
+      comparison (is_accepted again text (told_for language files text tested.flags)) path (transcript_lines text) (told_for language files text tested.flags),
+      record {
+        flags = tested.flags;
+        answered = ap (list_any says_memory) same ∙ tested.answered;
+        decided = sym (passed (is_accepted again text (told_for language files text tested.flags)) (accepted_text text (told_for language files text tested.flags)) met);
+        told = refl;
+      },
+    )
+  where
+    passed : {met : Bool} (accepted : Bool) (other : List ℕ) → met ≡ true → (if met then Passed else if accepted then Accepted other else Failed) ≡ Passed
+    passed accepted other is = rw is refl
+
+-- nothing is replaced by a transcript that isn't to be accepted
+unaccepted : (path transcript : List ℕ) (told : List (List ℕ)) → replaced_of path (outcome_of false transcript told) ≡ []
+unaccepted path transcript told = by (are_met (wanted_in (transcript_lines transcript)) told)
+  where
+    by : (met : Bool) → replaced_of path (if met then Passed else Failed) ≡ []
+    by true = refl
+    by false = refl
+
+pub nothing_is_replaced : (known : Known) → NothingIsReplaced known
+nothing_is_replaced known language files [] came tests = ap (λ c. c.replaced) tests
+nothing_is_replaced known language files (path ∷ paths) came tests =
+    let first = tests.0 in
+    let tested = tests.3 in
+    let none : first.replaced ≡ [] = tested.5 ∙ ap (replaced_of path) tested.3.decided ∙ unaccepted path tested.0 (told_for language files tested.0 tested.3.flags) in
+    ap (λ c. c.replaced) tests.2 ∙ ap₂ (λ a b. a ++ b) none (nothing_is_replaced known language files paths tests.1 tests.4)

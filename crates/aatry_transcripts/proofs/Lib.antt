@@ -1,0 +1,6 @@
+mod AcceptLemmas
+mod LineLemmas
+mod MeetLemmas
+pub mod PassLemmas
+mod ReadBackLemmas
+pub mod ReplyLemmas

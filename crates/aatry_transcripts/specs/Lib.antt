@@ -1,0 +1,5 @@
+pub mod Accepting
+pub mod Laws
+pub mod Meeting
+pub mod Replies
+pub mod Transcripts
