@@ -1,7 +1,7 @@
 -- What a comparison of two folders of policy on a disk comes to.
-use Rattle.std.specs.Prelude.{◌≡◌, ℕ, Bool, List, [], ◌∷◌, Option, None, Some}
+use Rattle.std.specs.Prelude.{◌≡◌, ℕ, Bool, false, List, [], ◌∷◌, Option, None, Some}
 use Rattle.aa_profile_parsing.specs.declared.language.Language.{Language}
-use Rattle.aa_text_files.specs.Files.{File}
+use Rattle.aa_text_files.specs.Files.{File, bytes_at}
 use Rattle.aaset_start.specs.Gathering.{names_of}
 use Rattle.aaset_start.specs.Known.{Known}
 use Rattle.aaset_start.specs.declared.readable.UnreadFault.{UnreadFault}
@@ -12,6 +12,7 @@ use Rattle.aatry_folder.specs.OneFile.{IsFileAt}
 use Rattle.aatry_folder.specs.PolicyFolders.{AreBelow, tried_names}
 use Rattle.aatry_folder.specs.Reports.{Report, failed_by}
 use Rattle.aatry_folder.specs.Told.{ToldFolders}
+use Rattle.aatry_logs.specs.Compressed.{is_compressed}
 use Rattle.aatry_policy.specs.Folders.{folder_at}
 use Rattle.aatry_report.specs.declared.form.Form.{Form}
 use Rattle.aatry_requests.specs.Gathering.{Gathered, gathered}
@@ -28,11 +29,15 @@ abbrev pub path_of : SourceAsked → List ℕ
 path_of (LogAt path) = path
 path_of (QuestionsAt path) = path
 
--- What a source of requests tells of is gathered from the file at its path; where there is no source, nothing is.
+-- The one of these files is that of this path, and gzip didn't write it.
+abbrev pub IsPlainAt : Known → List ℕ → List File → Type 0
+IsPlainAt known path files = IsFileAt known path files × (is_compressed (bytes_at files 0) ≡ false)
+
+-- What a source of requests tells of is gathered from the file at its path, which gzip didn't write; where there is no source, nothing is.
 abbrev pub IsGathered : Known → Option SourceAsked → Option Gathered → Type 0
 IsGathered known None requests = requests ≡ None
 IsGathered known (Some source) requests =
-    (bytes : List ℕ) × IsFileAt known (path_of source) ((path_of source, bytes) ∷ []) × (requests ≡ Some (gathered (form_of source) bytes))
+    (bytes : List ℕ) × IsPlainAt known (path_of source) ((path_of source, bytes) ∷ []) × (requests ≡ Some (gathered (form_of source) bytes))
 
 -- The two folders, each with all that lies below it and both by one language, were compared, by what the file of requests tells of too, if there is
 -- one: the text tells how they differ, and it is noted how many files of each are left out. One failed where something differs, or a file is newly

@@ -2,8 +2,8 @@
 
 ghost use Rattle.std.specs.Prelude.{◌≡◌, IfErr, IfOk, option_map, string_bytes};
 ghost use Rattle.aatry_arguments.specs.Given.{meant_comparison, meant_source};
-ghost use Rattle.aatry_diff.specs.Below.{IsComparedBelow, IsGathered, form_of, path_of};
-ghost use Rattle.aatry_diff.specs.Ends.{IsEndOfDiff, IsOfSource};
+ghost use Rattle.aatry_diff.specs.Below.{IsComparedBelow, IsGathered, IsPlainAt, form_of, path_of};
+ghost use Rattle.aatry_diff.specs.Ends.{IsEndOfDiff, IsOfPlain, IsOfSource};
 ghost use Rattle.aatry_diff.specs.Sources.{seen_source};
 ghost use Rattle.aatry_diff.specs.code.Requests.{gathered_of};
 ghost use Rattle.aatry_folder.specs.Reports.{seen_report};
@@ -14,6 +14,7 @@ use aa_text_files::Files;
 use aaset_start::FileSystem;
 use aatry_arguments::{Comparison, RequestSource};
 use aatry_folder::{Fault, Folders, Report, file_at, policy_below};
+use aatry_logs::is_compressed;
 use aatry_report::Teller;
 use aatry_requests::Source;
 use std::alloc::Global;
@@ -38,6 +39,18 @@ fn path_of(source: RequestSource) -> String
     }
 }
 
+// The file of this path, unless gzip wrote it, whose bytes are no lines.
+fn plain_at<D: FileSystem>(alloc: Global, disk: &D, path: String) -> Result<Files, Fault>
+    ensures found { IfOk result (IsPlainAt (D.known disk.now) (string_bytes path)) }
+    ensures fault { IfErr result (IsOfPlain (D.known disk.now) (string_bytes path)) }
+{
+    let file = file_at(alloc, disk, String::from_str(alloc, path.as_str())?)?;
+    if is_compressed(file.bytes_at(0)) {
+        return Err(Fault::Compressed(path));
+    }
+    Ok(file)
+}
+
 // The file at the path of a source of requests, with the form of the source; nothing where there is none.
 fn requests_at<D: FileSystem>(
     alloc: Global,
@@ -51,7 +64,7 @@ fn requests_at<D: FileSystem>(
         None => Ok(None),
         Some(source) => {
             let form = form_of(&source);
-            let file = file_at(alloc, disk, path_of(source))?;
+            let file = plain_at(alloc, disk, path_of(source))?;
             Ok(Some((form, file)))
         }
     }
@@ -76,6 +89,7 @@ fn source_of(found: &Option<(Source, Files)>) -> Option<(Source, &[u8])>
 /// # Errors
 ///
 /// - `Unreadable` with the first folder or file below the old folder that can't be read, or else below the new one, or else the log or the file of questions.
+/// - `Compressed` with the path of the log or the file of questions, where gzip wrote it.
 /// - `TooMany` where there are more than 65,536 files and folders below one of them.
 /// - `NoMemory` where memory ran out.
 pub fn diff_folders<F: Folders, D: FileSystem>(

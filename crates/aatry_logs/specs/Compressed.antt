@@ -9,9 +9,9 @@ use Rattle.aatry_folder.specs.declared.fault.Fault.TheVariants.{Compressed}
 abbrev pub gzip_mark : List ℕ
 gzip_mark = 31 ∷ 139 ∷ []
 
--- a line begins so
+-- the bytes of a file, or of its first line, begin so
 abbrev pub is_compressed : List ℕ → Bool
-is_compressed line = begins_with gzip_mark line
+is_compressed bytes = begins_with gzip_mark bytes
 
 -- the first of lines does
 abbrev pub begin_compressed : List (List ℕ) → Bool

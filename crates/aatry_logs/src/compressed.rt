@@ -10,11 +10,11 @@ use std::alloc::{AllocError, Global};
 // The bytes with which a file of gzip's begins.
 const GZIP_MARK: &[u8] = b"\x1f\x8b";
 
-/// Whether a line begins as a file of gzip's does. It takes no memory.
-pub fn is_compressed(line: &[u8]) -> bool
-    ensures { result ≡ is_compressed line.now }
+/// Whether some bytes, those of a file or of its first line, begin as a file of gzip's does (RFC 1952, section 2.3.1). It takes no memory.
+pub fn is_compressed(bytes: &[u8]) -> bool
+    ensures { result ≡ is_compressed bytes.now }
 {
-    begins_with(GZIP_MARK, line)
+    begins_with(GZIP_MARK, bytes)
 }
 
 // The name by which a log is told: its path, or that of standard input.

@@ -8,6 +8,7 @@ mod inputs;
 mod log_requests;
 mod unreadable;
 
+pub use compressed::is_compressed;
 pub use gathered::{gather_logs, meant_paths};
 pub use log_requests::LogRequests;
 pub use unreadable::UnreadableLine;

@@ -16,7 +16,7 @@ pub fn words_of(fault: &Fault) -> &'static str
         Fault::BadQuestion => "aatry: bad question: see aatry why --help, aatry who --help",
         Fault::Unreadable(_) => "aatry: cannot read ",
         Fault::TooMany => "aatry: more than 65,536 files and folders",
-        Fault::Compressed(_) => "aatry: compressed, to be read by zcat FILE | aatry log: ",
+        Fault::Compressed(_) => "aatry: compressed by gzip, to be unpacked by zcat first: ",
         Fault::NoMemory => "aatry: no memory",
         Fault::Read => "aatry: read fault",
         Fault::Write => "aatry: write fault",
