@@ -169,9 +169,10 @@ fn call_behind(alloc: Global, words: &[String]) -> Result<Call, ArgumentFault>
 ///   with or without other letters behind `-h`.
 /// - `Version` where the second word is `--version` or `-V`.
 /// - `Bad` where the second word is any other. Behind a command, where the first option that takes no path is any other, or where one that takes a
-///   path comes before it without one. Behind `test`, where there is no FILE. Behind `who` and `why`, where the question has no word. Behind `diff`, where the folders aren't two, or both `--log` and `--questions` are given. Behind `session`, where
-///   there is a word that is no option. Where records are asked for of `test` or `session`, or lines that tell at length of `check`, `test` or `session`, or
-///   a word that has to name a language names none.
+///   path comes before it without one. Behind `test`, where there is no FILE. Behind `who` and `why`, where the question has no word. Behind `diff`,
+///   where the folders aren't two, or both `--log` and `--questions` are given. Behind `session`, where there is a word that is no option. Where
+///   records are asked for of `test` or `session`, or lines that tell at length of `check`, `test` or `session`, or a word that has to name a language
+///   names none.
 /// - `Memory` where memory ran out.
 pub fn call_of(alloc: Global, words: &[String]) -> Result<Call, ArgumentFault>
     ensures { IsGivenFor meant_call (asked_call (drop 1 (map string_bytes words.now))) result }

@@ -60,7 +60,8 @@ requests and questions, those who ask and aren't there, requests that no questio
 can't be read, and lines that are passed over.
 
 With --rules it tells below each profile the rules with which its requests are allowed that lack
-something now, one a path; then, as comments, each request that a rule denies, and each path whose
+something now, one a path. Ahead of them stand, as comments, up to five abstractions of DIR with
+which some would be allowed, and behind them each request that a rule denies, and each path whose
 rule can't be added or written. Look at what is told before it is pasted.
 
 Exit status:

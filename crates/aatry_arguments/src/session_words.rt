@@ -24,8 +24,10 @@ All files below DIR are read, as check reads them, and those at its top are adde
 turn; those that are refused are told, and left out. Then each line of standard input is a command,
 as aaset takes it, or one of these:
   help       Tells the commands
-  history    Tells the changes that can be undone and redone
+  history    Tells the changes since the loading that can be undone and redone
+  loading    Has the changes of the loading in the history, too
   why WORD.. Tells the answer to a question, and the rules behind it
+  status     Tells what is loaded, and which files differ from those on disk
   reload     Reads the files below DIR again; what is loaded stays
   quit       Ends the session, as the end of the input does
 No file is written, and no kernel is asked: what is changed ends with the session.
