@@ -67,8 +67,8 @@ _aatry_offer_options() {
     case $1 in
     check) _aatry_offer '-b --json --language --color -h --help --' ;;
     why | who) _aatry_offer '-b --verbose --json --language --color -h --help --' ;;
-    log) _aatry_offer '-b --denied --profile --rules --since --strict --verbose --json --language --color -h --help --' ;;
-    diff) _aatry_offer '--log --questions --verbose --json --language --color -h --help --' ;;
+    log) _aatry_offer '-b --denied --globs --profile --rules --since --strict --verbose --json --language --color -h --help --' ;;
+    diff) _aatry_offer '--log --questions --stat --verbose --json --language --color -h --help --' ;;
     session) _aatry_offer '-b --language --color -h --help --' ;;
     test) _aatry_offer '-b --accept --language --color -h --help --' ;;
     esac

@@ -81,8 +81,9 @@ _aatry() {
     why | who) _arguments -S $base $language $records $verbose $help "*::word: _aatry_question $command" ;;
     log) _arguments -S $base $language $records $verbose $help '--denied[Passes over requests that were not denied]' \
         '--profile=[Passes over requests of others]:NAME: _aatry_names' '--since=[Passes over what came before]:WHEN' \
-        '--rules[Tells rules to add]' '--strict[Ends with 1 where a line was not answered]' '*:FILE:_files' ;;
-    diff) _arguments -S $language $records $verbose $help '--log=[Asks both what a log asked]:FILE:_files' \
+        '--rules[Tells rules to add]' '--globs[Offers wider rules beside these]' \
+        '--strict[Ends with 1 where a line was not answered]' '*:FILE:_files' ;;
+    diff) _arguments -S $language $records $verbose $help '--stat[Tells how much differs]' '--log=[Asks both what a log asked]:FILE:_files' \
         '--questions=[Asks both the questions of a file]:FILE:_files' ':OLD:_files -/' ':NEW:_files -/' ;;
     session) _arguments -S $base $language $help ;;
     test) _arguments -S $base $language $help '--accept[Writes what is told in place of what is wanted]' '*:FILE:_files' ;;

@@ -2,6 +2,7 @@
 
 ghost use Rattle.std.specs.Prelude.{◌≡◌, ◌≤◌, ℕ, List, IfOk, None, OnOk, Some};
 ghost use Rattle.std.specs.List.Sorted.{IsStrictlyIncreasing};
+ghost use Rattle.std.specs.Option.{option_copied};
 ghost use Rattle.aa_glob_automaton.specs.Automata.{AreClassesOf, IsAutomatonOf};
 ghost use Rattle.aa_glob_automaton.specs.Visits.{IsReadOf};
 ghost use Rattle.aa_glob_pairs.specs.Clashes.{IsLeast};
@@ -64,6 +65,16 @@ impl Automaton {
             builder = builder.add(alloc, pattern)?;
         }
         Ok(builder.finish())
+    }
+
+    /// What is run, lent, or nothing where there are no patterns. It takes no memory.
+    pub fn nfa(&self) -> Option<&Nfa>
+        ensures { option_copied result ≡ self.now }
+    {
+        match &self.nfa {
+            None => None,
+            Some(nfa) => Some(nfa),
+        }
     }
 
     /// How many states there are: one for each different beginning of the patterns, and so at most two for each byte of their texts and two for each

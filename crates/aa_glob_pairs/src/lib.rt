@@ -11,4 +11,6 @@ mod moves;
 mod nodes;
 mod visit;
 
+pub use below::Below;
+pub use belows::{Belows, belows_of};
 pub use clash::first_clash;

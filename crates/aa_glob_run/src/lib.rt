@@ -10,3 +10,4 @@ mod recall;
 
 pub use drawing::Drawing;
 pub use nfa::Nfa;
+pub use patterns::patterns_of;

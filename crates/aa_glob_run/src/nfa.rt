@@ -5,7 +5,7 @@ ghost use Rattle.std.specs.List.Sorted.{IsStrictlyIncreasing};
 ghost use Rattle.aa_glob_front.specs.Steps.{IsCounted, most_visits};
 ghost use Rattle.aa_glob_front.specs.Visits.{CountsAllVisits, CountsFirstVisits};
 ghost use Rattle.aa_glob_nfa.specs.Graphs.{EndsAt, IsFound, Reaches, SameGraph};
-ghost use Rattle.aa_glob_nfa.specs.OfTables.{AreSound, graph_of};
+ghost use Rattle.aa_glob_nfa.specs.OfTables.{AreSorted, AreSound, graph_of};
 ghost use Rattle.aa_glob_pairs.specs.Clashes.{IsLeast};
 ghost use Rattle.aa_glob_pairs.specs.Graphs.{ClashesAt, IsLaid};
 
@@ -61,6 +61,15 @@ impl Nfa {
         ensures { result ≡ length self.now.entries }
     {
         self.tables.states.len()
+    }
+
+    /// The tables of its graph, which are sound and in order, lent. It takes no memory.
+    pub fn tables(&self) -> &Tables
+        ensures graph { graph_of result.now ≡ self.now }
+        ensures sound { AreSound result.now }
+        ensures sorted { AreSorted result.now }
+    {
+        &self.tables
     }
 
     /// The least pattern that clashes with one of a smaller number: some text leads to ends of both, and their classes differ. `classes` has the

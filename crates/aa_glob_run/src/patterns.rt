@@ -9,7 +9,11 @@ ghost use Rattle.aa_glob_nfa.specs.OfTables.{AreSound, AreSorted, graph_of};
 use aa_glob_nfa::Tables;
 use std::alloc::{AllocError, Global};
 
-// The patterns of which states are ends, each once, in rising order.
+/// The patterns of which states are ends, each once, in rising order.
+///
+/// # Errors
+///
+/// Where memory runs out.
 pub fn patterns_of(alloc: Global, tables: &Tables, live: &[u32]) -> Result<Vec<usize>, AllocError>
     requires sound { AreSound tables.now }
     requires sorted { AreSorted tables.now }

@@ -1,23 +1,30 @@
 -- What the words behind `diff` ask for.
-use Rattle.std.specs.Prelude.{ℕ, ◌==◌, if◌then◌else◌, List, [], ◌∷◌, ◌++◌, Option, Some, None, codes}
+use Rattle.std.specs.Prelude.{ℕ, Bool, ◌==◌, if◌then◌else◌, List, [], ◌∷◌, ◌++◌, Option, Some, None, codes}
 use Rattle.std.specs.Option.{option_map_or}
 use Rattle.std.specs.Str.{bytes_eq}
 use Rattle.aa_options.specs.Options.{Asked, Effect, ForThis, Help, Nothing, Open, Options, SoFar, Unknown, Value, asked_behind, asked_then, help_letter}
+use Rattle.aatry_arguments.specs.Flags.{is_given, without_flag}
 
 -- where requests are told of: a log, or a file of questions, by its path
 pub data SourceAsked : Type 0 where
   LogAt : List ℕ → SourceAsked
   QuestionsAt : List ℕ → SourceAsked
 
--- a comparison that is asked for: the old and the new folder of policy, and where the requests are told of, if these are compared by any
+-- a comparison that is asked for: the old and the new folder of policy, where the requests are told of, if these are compared by any, and whether it is
+-- to be told how much differs, and not what
 pub record ComparisonAsked : Type 0 where
   pub old : List ℕ
   pub new : List ℕ
   pub source : Option SourceAsked
+  pub stat : Bool
 
--- a comparison, by its three parts
-abbrev pub comparison_with : List ℕ → List ℕ → Option SourceAsked → ComparisonAsked
-comparison_with old new source = record { old = old; new = new; source = source }
+-- a comparison, by its four parts
+abbrev pub comparison_with : List ℕ → List ℕ → Option SourceAsked → Bool → ComparisonAsked
+comparison_with old new source stat = record { old = old; new = new; source = source; stat = stat }
+
+-- the flag that asks for how much differs
+abbrev pub stat_flag : List ℕ
+stat_flag = codes "--stat"
 
 -- what words give: the path of the last `--log` and of the last `--questions`, where there is one, and the folders
 pub record DiffGiven : Type 0 where
@@ -75,18 +82,22 @@ source_of None (Some questions) = Some (Some (QuestionsAt questions))
 source_of (Some log) (Some questions) = None
 
 -- two folders are compared, and by what a source tells of, if there is one
-abbrev pub compared : List (List ℕ) → Option (Option SourceAsked) → Option ComparisonAsked
-compared (old ∷ new ∷ []) (Some source) = Some (comparison_with old new source)
-compared folders source = None
+abbrev pub compared : Bool → List (List ℕ) → Option (Option SourceAsked) → Option ComparisonAsked
+compared stat (old ∷ new ∷ []) (Some source) = Some (comparison_with old new source stat)
+compared stat folders source = None
 
 -- the comparison of what words give
-abbrev pub comparison_of : DiffGiven → Option ComparisonAsked
-comparison_of given = compared given.folders (source_of given.log given.questions)
+abbrev pub comparison_of : Bool → DiffGiven → Option ComparisonAsked
+comparison_of stat given = compared stat given.folders (source_of given.log given.questions)
 
 -- and where they give none, nothing is asked for
-abbrev pub asked_of : DiffGiven → Asked ComparisonAsked
-asked_of given = option_map_or (λ comparison. ForThis comparison) (comparison_of given) Nothing
+abbrev pub asked_of : Bool → DiffGiven → Asked ComparisonAsked
+asked_of stat given = option_map_or (λ comparison. ForThis comparison) (comparison_of stat given) Nothing
+
+-- what words behind `diff` without the flag ask for
+abbrev pub asked_by : Bool → List (List ℕ) → Asked ComparisonAsked
+asked_by stat words = asked_then (asked_of stat) (given_behind (Open bare_given) words)
 
 -- what all words behind `diff` ask for
 abbrev pub asked_diff : List (List ℕ) → Asked ComparisonAsked
-asked_diff words = asked_then asked_of (given_behind (Open bare_given) words)
+asked_diff words = asked_by (is_given stat_flag words) (without_flag stat_flag words)

@@ -6,7 +6,7 @@ use Rattle.aatry_arguments.specs.CheckWords.{CheckAsked, check_with}
 use Rattle.aatry_arguments.specs.Arguments.{CommandAsked, ForCheck, ForDiff, ForLog, ForSession, ForTest, ForWho, ForWhy}
 use Rattle.aatry_arguments.specs.DiffWords.{ComparisonAsked, LogAt, QuestionsAt, SourceAsked, comparison_with}
 use Rattle.aatry_arguments.specs.Forms.{CallAsked}
-use Rattle.aatry_arguments.specs.LogWords.{LogLinesAsked, LogsAsked, lines_with, logs_with}
+use Rattle.aatry_arguments.specs.LogWords.{LogLinesAsked, LogTellingAsked, LogsAsked, lines_with, logs_with, telling_with}
 use Rattle.aatry_arguments.specs.SessionWords.{SessionAsked, session_with}
 use Rattle.aatry_arguments.specs.TestWords.{TestAsked, test_with}
 use Rattle.aatry_arguments.specs.declared.arguments.Asking.{Asking}
@@ -14,6 +14,7 @@ use Rattle.aatry_arguments.specs.declared.arguments.Call.{Call}
 use Rattle.aatry_arguments.specs.declared.arguments.Check.{Check}
 use Rattle.aatry_arguments.specs.declared.arguments.Comparison.{Comparison}
 use Rattle.aatry_arguments.specs.declared.arguments.LogLines.{LogLines}
+use Rattle.aatry_arguments.specs.declared.arguments.LogTelling.{LogTelling}
 use Rattle.aatry_arguments.specs.declared.arguments.Logs.{Logs}
 use Rattle.aatry_arguments.specs.declared.arguments.RequestSource.{RequestSource}
 use Rattle.aatry_arguments.specs.declared.arguments.RequestSource.TheVariants.{Log, Questions}
@@ -40,9 +41,13 @@ meant_asking asking = asking_with (string_bytes asking.base) (texts asking.words
 abbrev pub meant_lines : LogLines → LogLinesAsked
 meant_lines lines = lines_with lines.denied (option_map (λ name. name.items) lines.profile) lines.since
 
+-- how what logs ask is meant to be told
+abbrev pub meant_telling : LogTelling → LogTellingAsked
+meant_telling telling = telling_with telling.strict telling.rules telling.globs
+
 -- what logs ask that are meant
 abbrev pub meant_logs : Logs → LogsAsked
-meant_logs logs = logs_with (string_bytes logs.base) (texts logs.paths) logs.strict logs.rules (meant_lines logs.lines)
+meant_logs logs = logs_with (string_bytes logs.base) (texts logs.paths) (meant_telling logs.telling) (meant_lines logs.lines)
 
 -- the source of requests that is meant
 abbrev pub meant_source : RequestSource → SourceAsked
@@ -51,7 +56,9 @@ meant_source (Questions path) = QuestionsAt (string_bytes path)
 
 -- the comparison that is meant
 abbrev pub meant_comparison : Comparison → ComparisonAsked
-meant_comparison comparison = comparison_with (string_bytes comparison.old) (string_bytes comparison.new) (option_map meant_source comparison.source)
+meant_comparison comparison =
+    comparison_with (string_bytes comparison.old) (string_bytes comparison.new) (option_map meant_source comparison.source)
+    comparison.stat
 
 -- the session that is meant
 abbrev pub meant_session : Session → SessionAsked

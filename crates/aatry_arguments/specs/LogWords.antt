@@ -20,25 +20,41 @@ lines_with denied profile since = record { denied = denied; profile = profile; s
 abbrev pub all_lines : LogLinesAsked
 all_lines = lines_with false None None
 
--- what logs ask of a folder of policy: the folder, the paths of the logs, or none for standard input, whether the status is to tell of lines that ask
--- nothing that is answered, whether rules are to be told that can be pasted, and which lines are asked for
+-- how what logs ask is to be told: whether the status tells of lines that ask nothing that is answered, whether rules are told that can be pasted, in
+-- place of the answers, and whether wider ones are offered beside these
+pub record LogTellingAsked : Type 0 where
+  pub strict : Bool
+  pub rules : Bool
+  pub globs : Bool
+
+-- how it is told, by the three parts of that, and where no word says how
+abbrev pub telling_with : Bool → Bool → Bool → LogTellingAsked
+telling_with strict rules globs = record { strict = strict; rules = rules; globs = globs }
+
+abbrev pub plain_telling : LogTellingAsked
+plain_telling = telling_with false false false
+
+-- what logs ask of a folder of policy: the folder, the paths of the logs, or none for standard input, how it is to be told, and which lines are
+-- asked for
 pub record LogsAsked : Type 0 where
   pub base : List ℕ
   pub paths : List (List ℕ)
-  pub strict : Bool
-  pub rules : Bool
+  pub telling : LogTellingAsked
   pub lines : LogLinesAsked
 
--- what logs ask, by its five parts
-abbrev pub logs_with : List ℕ → List (List ℕ) → Bool → Bool → LogLinesAsked → LogsAsked
-logs_with base paths strict rules lines = record { base = base; paths = paths; strict = strict; rules = rules; lines = lines }
+-- what logs ask, by its four parts
+abbrev pub logs_with : List ℕ → List (List ℕ) → LogTellingAsked → LogLinesAsked → LogsAsked
+logs_with base paths telling lines = record { base = base; paths = paths; telling = telling; lines = lines }
 
--- the flags that ask for the status, for rules that can be pasted, and for requests that were denied
+-- the flags that ask for the status, for rules that can be pasted, for wider ones beside these, and for requests that were denied
 abbrev pub strict_flag : List ℕ
 strict_flag = codes "--strict"
 
 abbrev pub rules_flag : List ℕ
 rules_flag = codes "--rules"
+
+abbrev pub globs_flag : List ℕ
+globs_flag = codes "--globs"
 
 abbrev pub denied_flag : List ℕ
 denied_flag = codes "--denied"
@@ -51,8 +67,8 @@ abbrev pub since_option : ValueOption
 since_option = record { word = codes "--since"; opening = codes "--since=" }
 
 -- what would be a check asks by logs: its names are their paths
-abbrev pub logs_of : Bool → Bool → LogLinesAsked → CheckAsked → Asked LogsAsked
-logs_of strict rules lines check = ForThis (logs_with check.base check.names strict rules lines)
+abbrev pub logs_of : LogTellingAsked → LogLinesAsked → CheckAsked → Asked LogsAsked
+logs_of telling lines check = ForThis (logs_with check.base check.names telling lines)
 
 -- the profile and the time that words name, if they name some, and the other words
 pub record LogNamed : Type 0 where
@@ -78,15 +94,19 @@ named_then (Some read) = named_with read.value (value_of since_option read.words
 abbrev pub named_in : List (List ℕ) → Option LogNamed
 named_in words = named_then (value_of profile_option words)
 
+-- how words ask for it to be told
+abbrev pub telling_in : List (List ℕ) → LogTellingAsked
+telling_in words = telling_with (is_given strict_flag words) (is_given rules_flag words) (is_given globs_flag words)
+
 -- the words without the flags
 abbrev pub without_flags : List (List ℕ) → List (List ℕ)
-without_flags words = without_flag denied_flag (without_flag rules_flag (without_flag strict_flag words))
+without_flags words = without_flag denied_flag (without_flag globs_flag (without_flag rules_flag (without_flag strict_flag words)))
 
 -- what words ask, of which these name the profile and the time: without the flags, the others are read as those behind `check`
 abbrev pub asked_named : LogNamed → Asked LogsAsked
 asked_named named =
     asked_then
-    (logs_of (is_given strict_flag named.words) (is_given rules_flag named.words) (lines_with (is_given denied_flag named.words) named.profile named.since))
+    (logs_of (telling_in named.words) (lines_with (is_given denied_flag named.words) named.profile named.since))
     (asked_check (without_flags named.words))
 
 -- the same where they name these well, and else nothing

@@ -71,12 +71,21 @@ pub struct Logs {
     pub base: String,
     /// The paths of the logs, in this order, where `-` is standard input. Where there is none, standard input is meant.
     pub paths: Vec<String>,
+    /// How what they ask is to be told.
+    pub telling: LogTelling,
+    /// Which lines are asked for.
+    pub lines: LogLines,
+}
+
+/// How what logs ask is to be told.
+#[derive(Clone, Copy, Drop)]
+pub struct LogTelling {
     /// Whether the exit status is to tell of a line that can't be read, or that asks for somebody who isn't there.
     pub strict: bool,
     /// Whether rules are to be told that can be pasted into profiles, in place of the answers.
     pub rules: bool,
-    /// Which lines are asked for.
-    pub lines: LogLines,
+    /// Whether wider rules are to be offered beside these.
+    pub globs: bool,
 }
 
 /// Which lines of logs are asked for.
@@ -99,6 +108,8 @@ pub struct Comparison {
     pub new: String,
     /// Where the requests are told of, if they are to be compared by any.
     pub source: Option<RequestSource>,
+    /// Whether it is to be told how much of each profile, child and hat differs, and not what does.
+    pub stat: bool,
 }
 
 /// Where requests are told of.

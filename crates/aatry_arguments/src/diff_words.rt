@@ -2,14 +2,18 @@
 ghost use Rattle.std.specs.Prelude.{◌≡◌, IfOk, map, option_map, string_bytes};
 ghost use Rattle.aa_options.specs.Given.{IsGivenFor};
 ghost use Rattle.aa_options.specs.Texts.{words_of};
-ghost use Rattle.aatry_arguments.specs.DiffWords.{asked_diff, asked_of, comparison_of, comparison_with, given_with, source_of};
+ghost use Rattle.aatry_arguments.specs.DiffWords.{asked_by, asked_diff, asked_of, comparison_of, comparison_with, given_with, source_of};
 ghost use Rattle.aatry_arguments.specs.Given.{meant_comparison, meant_source};
 
 use crate::arguments::{Comparison, RequestSource};
 use crate::diff_line::diff_command;
 use crate::faults::passed_on;
+use crate::flags::{is_given, without_flag};
 use aa_options::{ArgumentFault, parse};
 use std::alloc::{AllocError, Global};
+
+// The flag that asks for how much differs.
+const STAT: &str = "--stat";
 
 // What help says of `diff`.
 const HELP: &str = "\
@@ -26,6 +30,7 @@ Arguments:
 Options:
   --log <FILE>        A log that tells of requests, as audit.log or syslog
   --questions <FILE>  A file of questions, each a line of the words behind ask of aaset
+  --stat              Tells how many lines of each profile differ, and not which
   --verbose           Tells each file first that is left out, and why
   --json              Tells in records of JSON, one a line
   -h, --help          Prints help
@@ -78,13 +83,15 @@ fn compared(
     old: &str,
     new: &str,
     source: Option<RequestSource>,
+    stat: bool,
 ) -> Result<Comparison, AllocError>
-    ensures { IfOk result (λ comparison. meant_comparison comparison ≡ comparison_with old.now new.now (option_map meant_source source)) }
+    ensures { IfOk result (λ comparison. meant_comparison comparison ≡ comparison_with old.now new.now (option_map meant_source source) stat) }
 {
     Ok(Comparison {
         old: String::from_str(alloc, old)?,
         new: String::from_str(alloc, new)?,
         source,
+        stat,
     })
 }
 
@@ -94,13 +101,14 @@ fn comparison_by(
     log: Option<&str>,
     questions: Option<&str>,
     folders: &[&str],
+    stat: bool,
 ) -> Result<Option<Comparison>, AllocError>
-    ensures { IfOk result (λ comparison. option_map meant_comparison comparison ≡ comparison_of (given_with
+    ensures { IfOk result (λ comparison. option_map meant_comparison comparison ≡ comparison_of stat (given_with
         (option_map (λ path. path.now) log.entry) (option_map (λ path. path.now) questions.entry) (words_of folders.now))) }
 {
     match folders {
         [old, new] => match source_by(alloc, log, questions)? {
-            Some(source) => Ok(Some(compared(alloc, old, new, source)?)),
+            Some(source) => Ok(Some(compared(alloc, old, new, source, stat)?)),
             None => Ok(None),
         },
         _ => Ok(None),
@@ -113,27 +121,21 @@ fn comparison_or_fault(
     log: Option<&str>,
     questions: Option<&str>,
     folders: &[&str],
+    stat: bool,
 ) -> Result<Comparison, ArgumentFault>
-    ensures { IsGivenFor meant_comparison (asked_of (given_with
+    ensures { IsGivenFor meant_comparison (asked_of stat (given_with
         (option_map (λ path. path.now) log.entry) (option_map (λ path. path.now) questions.entry) (words_of folders.now))) result }
 {
-    match comparison_by(alloc, log, questions, folders) {
+    match comparison_by(alloc, log, questions, folders, stat) {
         Ok(Some(comparison)) => Ok(comparison),
         Ok(None) => Err(ArgumentFault::Bad),
         Err(_) => Err(ArgumentFault::Memory),
     }
 }
 
-/// The comparison that words behind `diff` ask for.
-///
-/// # Errors
-///
-/// - `Help` where the first option that is no `--log` and no `--questions` is `--help` or `-h`, with or without other letters behind `-h`.
-/// - `Bad` where it is any other, or where one of those ahead of it has no path. Where there is none, and one of those has no path, the folders
-///   aren't two, or both a log and a file of questions are given.
-/// - `Memory` where memory ran out.
-pub fn diff_of(alloc: Global, words: &[String]) -> Result<Comparison, ArgumentFault>
-    ensures { IsGivenFor meant_comparison (asked_diff (map string_bytes words.now)) result }
+// The comparison that words without the flag ask for.
+fn diff_by(alloc: Global, words: &[String], stat: bool) -> Result<Comparison, ArgumentFault>
+    ensures { IsGivenFor meant_comparison (asked_by stat (map string_bytes words.now)) result }
 {
     let command = match diff_command(alloc) {
         Ok(command) => command,
@@ -146,5 +148,24 @@ pub fn diff_of(alloc: Global, words: &[String]) -> Result<Comparison, ArgumentFa
     let log = matches.get_str("LOG");
     let questions = matches.get_str("QUESTIONS");
     let folders = matches.get_strs("FOLDER").unwrap_or(&[]);
-    comparison_or_fault(alloc, log, questions, folders)
+    comparison_or_fault(alloc, log, questions, folders, stat)
+}
+
+/// The comparison that words behind `diff` ask for.
+///
+/// # Errors
+///
+/// Of the words without the flag `--stat`:
+/// - `Help` where the first option that is no `--log` and no `--questions` is `--help` or `-h`, with or without other letters behind `-h`.
+/// - `Bad` where it is any other, or where one of those ahead of it has no path. Where there is none, and one of those has no path, the folders
+///   aren't two, or both a log and a file of questions are given.
+/// - `Memory` where memory ran out.
+pub fn diff_of(alloc: Global, words: &[String]) -> Result<Comparison, ArgumentFault>
+    ensures { IsGivenFor meant_comparison (asked_diff (map string_bytes words.now)) result }
+{
+    let stat = is_given(STAT, words);
+    match without_flag(alloc, STAT, words) {
+        Ok(others) => diff_by(alloc, &others, stat),
+        Err(_) => Err(ArgumentFault::Memory),
+    }
 }

@@ -4,16 +4,16 @@ ghost use Rattle.std.specs.Prelude.{◌≡◌, ◌++◌, ℕ, None, Some, false,
 ghost use Rattle.std.specs.List.{list_all};
 ghost use Rattle.aa_options.specs.Options.{Open, is_name, is_option};
 ghost use Rattle.aatry_arguments.specs.Arguments.{ForCheck, ForDiff, ForLog, ForSession, ForTest, ForWho, ForWhy, asked, asked_by_first};
-ghost use Rattle.aa_options.specs.Options.{ForThis, Nothing};
+ghost use Rattle.aa_options.specs.Options.{ForThis, Nothing, asked_as};
 ghost use Rattle.aatry_arguments.specs.AskingWords.{asking_with};
 ghost use Rattle.aatry_arguments.specs.CheckWords.{CheckAsked, asked_behind, below, check_with, with_names};
 ghost use Rattle.aa_options.specs.Options as diff;
 ghost use Rattle.aatry_arguments.specs.DiffWords.{DiffGiven, LogAt, OfLog, OfQuestions, QuestionsAt};
-ghost use Rattle.aatry_arguments.specs.DiffWords.{comparison_with, given_behind, with_folders, with_path};
+ghost use Rattle.aatry_arguments.specs.DiffWords.{asked_by, comparison_with, given_behind, stat_flag, with_folders, with_path};
 ghost use Rattle.aa_profile_parsing.specs.Languages.{language_named, word_of};
 ghost use Rattle.aa_profile_parsing.specs.declared.language.Language.{Language};
 ghost use Rattle.aatry_arguments.specs.Languages.{by_language};
-ghost use Rattle.aatry_arguments.specs.LogWords.{all_lines, denied_flag, lines_with, logs_with, profile_option, rules_flag, since_option, strict_flag};
+ghost use Rattle.aatry_arguments.specs.LogWords.{all_lines, denied_flag, globs_flag, lines_with, logs_with, plain_telling, profile_option, rules_flag, since_option, strict_flag, telling_with};
 ghost use Rattle.aatry_arguments.specs.Flags.{is_given, without_flag};
 ghost use Rattle.aatry_arguments.specs.SessionWords.{session_with};
 ghost use Rattle.aatry_arguments.specs.TestWords.{accept_flag, test_with};
@@ -79,22 +79,24 @@ pub fn what_askings_have()
         → asked_by_first (codes "why") words ≡ ForThis (ForWhy (asking_with base (word ∷ more))) }
 {}
 
-/// `log` alone asks by all lines of standard input, of /etc/apparmor.d; `log --strict` for the status too, `log --rules` for rules; and with `--denied`, `--profile` and a name, or
-/// `--since` and a time, by those lines. Words without these that would ask of `check` for some files ask of `log` by all lines of the logs at these paths,
+/// `log` alone asks by all lines of standard input, of /etc/apparmor.d; `log --strict` for the status too, `log --rules` for rules, and with `--globs` for
+/// wider ones beside these; and with `--denied`, `--profile` and a name, or `--since` and a time, by those lines. Words without these that would ask of `check` for some files ask of `log` by all lines of the logs at these paths,
 /// over the same folder. Where a word behind `--since` names no time, the words ask for nothing that there is.
 pub fn what_logs_have()
-    ensures alone { asked (codes "log" ∷ []) ≡ ForThis (ForLog (logs_with (codes "/etc/apparmor.d") [] false false all_lines)) }
-    ensures strict { asked (codes "log" ∷ codes "--strict" ∷ []) ≡ ForThis (ForLog (logs_with (codes "/etc/apparmor.d") [] true false all_lines)) }
-    ensures rules { asked (codes "log" ∷ codes "--rules" ∷ []) ≡ ForThis (ForLog (logs_with (codes "/etc/apparmor.d") [] false true all_lines)) }
+    ensures alone { asked (codes "log" ∷ []) ≡ ForThis (ForLog (logs_with (codes "/etc/apparmor.d") [] plain_telling all_lines)) }
+    ensures strict { asked (codes "log" ∷ codes "--strict" ∷ []) ≡ ForThis (ForLog (logs_with (codes "/etc/apparmor.d") [] (telling_with true false false) all_lines)) }
+    ensures rules { asked (codes "log" ∷ codes "--rules" ∷ []) ≡ ForThis (ForLog (logs_with (codes "/etc/apparmor.d") [] (telling_with false true false) all_lines)) }
+    ensures globs { asked (codes "log" ∷ codes "--rules" ∷ codes "--globs" ∷ [])
+        ≡ ForThis (ForLog (logs_with (codes "/etc/apparmor.d") [] (telling_with false true true) all_lines)) }
     ensures denied { asked (codes "log" ∷ codes "--denied" ∷ [])
-        ≡ ForThis (ForLog (logs_with (codes "/etc/apparmor.d") [] false false (lines_with true None None))) }
+        ≡ ForThis (ForLog (logs_with (codes "/etc/apparmor.d") [] plain_telling (lines_with true None None))) }
     ensures profile { (name : List ℕ) → asked (codes "log" ∷ codes "--profile" ∷ name ∷ [])
-        ≡ ForThis (ForLog (logs_with (codes "/etc/apparmor.d") [] false false (lines_with false (Some name) None))) }
+        ≡ ForThis (ForLog (logs_with (codes "/etc/apparmor.d") [] plain_telling (lines_with false (Some name) None))) }
     ensures since { (word : List ℕ) (time : ℕ)
         → IsWithout profile_option (codes "--since" ∷ word ∷ [])
         → time_named word ≡ Some time
         → asked (codes "log" ∷ codes "--since" ∷ word ∷ [])
-        ≡ ForThis (ForLog (logs_with (codes "/etc/apparmor.d") [] false false (lines_with false None (Some time)))) }
+        ≡ ForThis (ForLog (logs_with (codes "/etc/apparmor.d") [] plain_telling (lines_with false None (Some time)))) }
     ensures no_time { (word : List ℕ)
         → IsWithout profile_option (codes "--since" ∷ word ∷ [])
         → time_named word ≡ None
@@ -104,9 +106,10 @@ pub fn what_logs_have()
         → IsWithout since_option words
         → is_given strict_flag words ≡ false
         → is_given rules_flag words ≡ false
+        → is_given globs_flag words ≡ false
         → is_given denied_flag words ≡ false
         → asked_by_first (codes "check") words ≡ ForThis (ForCheck (check_with base names))
-        → asked_by_first (codes "log") words ≡ ForThis (ForLog (logs_with base names false false all_lines)) }
+        → asked_by_first (codes "log") words ≡ ForThis (ForLog (logs_with base names plain_telling all_lines)) }
 {}
 
 /// `--profile` and `--since` have their value in the next word, or behind a `=` in their own, and of two the last counts. Behind `--` they have none. Where no
@@ -140,23 +143,26 @@ pub fn what_sessions_have()
 /// `diff` alone asks for nothing that there is. Two words that are no options ask for the comparison of these folders, with a path behind `--log` or
 /// behind `--questions` by that log or file of questions too, and paths behind both ask for nothing. Such an option gives its path wherever it stands,
 /// also behind a `=` in its word, and of two paths the last counts. Words that are no options are folders, all of them and in their order, and so are
-/// all words behind `--`.
+/// all words behind `--`. Words with the flag `--stat` ask for the same as without it, and that how much differs be told.
 pub fn what_comparisons_have()
     ensures alone { asked (codes "diff" ∷ []) ≡ Nothing }
     ensures by_none { (old new : List ℕ)
         → is_option old ≡ false
         → is_option new ≡ false
-        → asked (codes "diff" ∷ old ∷ new ∷ []) ≡ ForThis (ForDiff (comparison_with old new None)) }
+        → asked (codes "diff" ∷ old ∷ new ∷ []) ≡ ForThis (ForDiff (comparison_with old new None false)) }
+    ensures by_stat { (words : List (List ℕ))
+        → is_given stat_flag words ≡ true
+        → asked (codes "diff" ∷ words) ≡ asked_as ForDiff (asked_by true (without_flag stat_flag words)) }
     ensures by_log { (old new path : List ℕ)
         → is_option old ≡ false
         → is_option new ≡ false
         → is_option path ≡ false
-        → asked (codes "diff" ∷ old ∷ new ∷ codes "--log" ∷ path ∷ []) ≡ ForThis (ForDiff (comparison_with old new (Some (LogAt path)))) }
+        → asked (codes "diff" ∷ old ∷ new ∷ codes "--log" ∷ path ∷ []) ≡ ForThis (ForDiff (comparison_with old new (Some (LogAt path)) false)) }
     ensures by_questions { (old new path : List ℕ)
         → is_option old ≡ false
         → is_option new ≡ false
         → is_option path ≡ false
-        → asked (codes "diff" ∷ old ∷ new ∷ codes "--questions" ∷ path ∷ []) ≡ ForThis (ForDiff (comparison_with old new (Some (QuestionsAt path)))) }
+        → asked (codes "diff" ∷ old ∷ new ∷ codes "--questions" ∷ path ∷ []) ≡ ForThis (ForDiff (comparison_with old new (Some (QuestionsAt path)) false)) }
     ensures by_both { (old new log questions : List ℕ)
         → is_option old ≡ false
         → is_option new ≡ false

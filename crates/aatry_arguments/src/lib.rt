@@ -20,7 +20,8 @@ mod values;
 
 pub use aa_options::ArgumentFault;
 pub use arguments::{
-    Asking, Call, Check, Command, Comparison, LogLines, Logs, RequestSource, Session, Test,
+    Asking, Call, Check, Command, Comparison, LogLines, LogTelling, Logs, RequestSource, Session,
+    Test,
 };
 pub use forms::call_of;
 pub use laws::{

@@ -3,12 +3,12 @@ ghost use Rattle.std.specs.Prelude.{◌≡◌, IfOk, map, option_map, string_byt
 ghost use Rattle.aa_options.specs.Given.{IsGivenFor};
 ghost use Rattle.aa_options.specs.Options.{ForThis, asked_then};
 ghost use Rattle.aatry_arguments.specs.CheckWords.{asked_check};
-ghost use Rattle.aatry_arguments.specs.Given.{meant_check, meant_lines, meant_logs};
-ghost use Rattle.aatry_arguments.specs.LogWords.{asked_logs, asked_named, logs_of, named_in, named_with, since_of, without_flags};
-ghost use Rattle.aatry_arguments.specs.code.ValueSoFar.{seen_value};
+ghost use Rattle.aatry_arguments.specs.Given.{meant_check, meant_lines, meant_logs, meant_telling};
+ghost use Rattle.aatry_arguments.specs.LogWords.{asked_logs, asked_named, logs_of, named_in, named_with, since_of, telling_in, without_flags};
+ghost use Rattle.aatry_arguments.specs.SeenValues.{seen_value};
 ghost use Rattle.aatry_arguments.specs.code.LogNamed.{seen_named};
 
-use crate::arguments::{Check, LogLines, Logs};
+use crate::arguments::{Check, LogLines, LogTelling, Logs};
 use crate::check_words::check_of;
 use crate::faults::passed_on;
 use crate::flags::{is_given, without_flag};
@@ -22,6 +22,9 @@ const STRICT: &str = "--strict";
 
 // The flag that asks for rules that can be pasted.
 const RULES: &str = "--rules";
+
+// The flag that asks for wider rules beside these.
+const GLOBS: &str = "--globs";
 
 // The flag that asks for requests that were denied.
 const DENIED: &str = "--denied";
@@ -44,6 +47,8 @@ Options:
   --since <WHEN>    Passes over lines that are stamped before WHEN: @SECONDS since 1970, or in
                     UTC \"YYYY-MM-DD\", \"YYYY-MM-DD HH:MM\" or \"YYYY-MM-DD HH:MM:SS\"
   --rules           Tells what to add, as rules that can be pasted, in place of the answers
+  --globs           With --rules: offers a wider rule beside one, as a comment, where its path
+                    has a home folder, the number of a process, another number, or a hash
   --strict          Ends with 1 where a line can't be read, or asks for somebody who isn't there
   --verbose         Tells each file first that is left out, and why
   --json            Tells in records of JSON, one a line
@@ -124,15 +129,14 @@ fn named_in(alloc: Global, words: &[String]) -> Result<Option<LogNamed>, AllocEr
 }
 
 // What logs ask by what would be a check.
-fn logs_with(check: Check, strict: bool, rules: bool, lines: LogLines) -> Logs
-    ensures { ForThis (meant_logs result) ≡ logs_of strict rules (meant_lines lines) (meant_check check) }
+fn logs_with(check: Check, telling: LogTelling, lines: LogLines) -> Logs
+    ensures { ForThis (meant_logs result) ≡ logs_of (meant_telling telling) (meant_lines lines) (meant_check check) }
 {
     let Check { base, names: paths } = check;
     Logs {
         base,
         paths,
-        strict,
-        rules,
+        telling,
         lines,
     }
 }
@@ -141,15 +145,25 @@ fn logs_with(check: Check, strict: bool, rules: bool, lines: LogLines) -> Logs
 fn logs_by(
     alloc: Global,
     words: &[String],
-    strict: bool,
-    rules: bool,
+    telling: LogTelling,
     lines: LogLines,
 ) -> Result<Logs, ArgumentFault>
-    ensures { IsGivenFor meant_logs (asked_then (logs_of strict rules (meant_lines lines)) (asked_check (map string_bytes words.now))) result }
+    ensures { IsGivenFor meant_logs (asked_then (logs_of (meant_telling telling) (meant_lines lines)) (asked_check (map string_bytes words.now))) result }
 {
     match check_of(alloc, words) {
-        Ok(check) => Ok(logs_with(check, strict, rules, lines)),
+        Ok(check) => Ok(logs_with(check, telling, lines)),
         Err(fault) => Err(passed_on(alloc, fault, HELP)),
+    }
+}
+
+// How words ask for it to be told.
+fn telling_in(words: &[String]) -> LogTelling
+    ensures { meant_telling result ≡ telling_in (map string_bytes words.now) }
+{
+    LogTelling {
+        strict: is_given(STRICT, words),
+        rules: is_given(RULES, words),
+        globs: is_given(GLOBS, words),
     }
 }
 
@@ -159,6 +173,7 @@ fn without_flags(alloc: Global, words: &[String]) -> Result<Vec<String>, AllocEr
 {
     let others = without_flag(alloc, STRICT, words)?;
     let others = without_flag(alloc, RULES, &others)?;
+    let others = without_flag(alloc, GLOBS, &others)?;
     without_flag(alloc, DENIED, &others)
 }
 
@@ -171,15 +186,14 @@ fn logs_named(alloc: Global, named: LogNamed) -> Result<Logs, ArgumentFault>
         since,
         words,
     } = named;
-    let strict = is_given(STRICT, &words);
-    let rules = is_given(RULES, &words);
+    let telling = telling_in(&words);
     let lines = LogLines {
         denied: is_given(DENIED, &words),
         profile,
         since,
     };
     match without_flags(alloc, &words) {
-        Ok(others) => logs_by(alloc, &others, strict, rules, lines),
+        Ok(others) => logs_by(alloc, &others, telling, lines),
         Err(_) => Err(ArgumentFault::Memory),
     }
 }

@@ -3,7 +3,8 @@
 ghost use Rattle.std.specs.Prelude.{◌≡◌, ◌∷◌, ◌⊎◌, ℕ, List, None, false, IfOk, map, option_map, string_bytes};
 ghost use Rattle.aatry_arguments.specs.Languages.{ends_options};
 ghost use Rattle.aatry_arguments.specs.Values.{value_of, value_within};
-ghost use Rattle.aatry_arguments.specs.code.ValueSoFar.{read_behind, seen_option, seen_value, value_with};
+ghost use Rattle.aatry_arguments.specs.SeenValues.{seen_option, seen_value};
+ghost use Rattle.aatry_arguments.specs.code.ValueSoFar.{read_behind, value_with};
 
 use crate::languages::{ends_options, push_words};
 use aa_bytes::{begins_with, behind};

@@ -1,15 +1,21 @@
 -- What changes is counted.
-use Rattle.std.proofs.Common.{◌≡◌, ℕ, ◌+◌, ◌==◌, Bool, true, false, not, cond, List, [], ◌∷◌, ◌++◌, filter, flat_map, length, length-append, Option, None, Some, is_none, refl, sym, ap, ◌∙◌, arith}
+use Rattle.std.proofs.Common.{◌≡◌, ℕ, ◌+◌, ◌==◌, Bool, true, false, not, cond, List, [], ◌∷◌, ◌++◌, codes, filter, flat_map, length, length-append, Option, None, Some, is_none, refl, sym, ap, ◌∙◌, arith}
 use Rattle.std.proofs.Math.Dec.{eqb-suc-zero}
+use Rattle.serde_json.specs.Data.{object}
+use Rattle.serde_json.specs.Written.{compact_text}
+use Rattle.aa_bytes.specs.Bytes.{line_feed}
 use Rattle.aa_bytes.specs.Texts.{is_empty}
 use Rattle.aa_explain_diff.specs.Features.{Feature}
-use Rattle.aatry_changes.proofs.ToldLemmas.{AreReal, folded-told}
-use Rattle.aatry_changes.specs.Changes.{change_lines}
-use Rattle.aatry_changes.specs.PartChanges.{OfChanged, PartChange, alone, changed_by, changed_count, differ, is_gone_or_changed}
+use Rattle.aatry_changes.proofs.ToldLemmas.{AreReal, begun, filled, folded-told, headed-told}
+use Rattle.aatry_changes.specs.Changes.{change_lines, gone_word}
+use Rattle.aatry_changes.specs.PartChanges.{OfChanged, OfGone, OfNew, PartChange, alone, changed_by, changed_count, differ, is_gone_or_changed}
 use Rattle.aatry_changes.specs.PartChanges.{is_gone_or_changed_by, is_new, new_change, new_change_by, old_change, old_change_by, part_changes}
+use Rattle.aatry_changes.specs.Stat.{stat_change, stat_lines, stat_record}
 use Rattle.aatry_policy.specs.FolderParts.{FolderParts}
 use Rattle.aatry_policy.specs.Parts.{Part, part_of}
 use Rattle.aatry_report.specs.declared.form.Form.{Form}
+use Rattle.aatry_report.specs.declared.form.Form.TheVariants.{Lines, Records}
+use Rattle.aatry_uncertain.specs.LeftOutHeads.{LeftOutHead}
 
 -- one, or none
 abbrev one-if : Bool → ℕ
@@ -107,14 +113,31 @@ are-real old new =
     (all-real (old_change new) (old-real new) old.parts) (all-real (new_change old) (new-real old) new.parts)
 
 -- what is told of two folders is nothing where nothing changes
-pub changes-told : (form : Form) (old new : FolderParts) → is_empty (change_lines form old new) ≡ is_empty (part_changes old new)
-changes-told form old new = folded-told form old new (part_changes old new) (are-real old new)
+pub changes-told : (form : Form) (heads : List LeftOutHead) (old new : FolderParts) → is_empty (change_lines form heads old new) ≡ is_empty (part_changes old new)
+changes-told form heads old new = folded-told form heads old new (part_changes old new) (are-real old new)
 
 none-long : (changes : List PartChange) → is_empty changes ≡ (length changes == 0)
 none-long [] = refl
 none-long (change ∷ changes) = sym (eqb-suc-zero (length changes))
 
 -- something is told of two folders where some part is counted
-pub some-told : (form : Form) (old new : FolderParts) → is_empty (change_lines form old new) ≡ (changed_count old new == 0)
-some-told form old new =
-    changes-told form old new ∙ none-long (part_changes old new) ∙ ap (λ n. n == 0) (changes-counted old new)
+pub some-told : (form : Form) (heads : List LeftOutHead) (old new : FolderParts) → is_empty (change_lines form heads old new) ≡ (changed_count old new == 0)
+some-told form heads old new =
+    changes-told form heads old new ∙ none-long (part_changes old new) ∙ ap (λ n. n == 0) (changes-counted old new)
+
+-- how much changes of a part is told
+stat-told : (form : Form) (heads : List LeftOutHead) (change : PartChange) → is_empty (stat_change form heads change) ≡ false
+stat-told form heads (OfGone part) = headed-told form (gone_word heads part.name) part.name
+stat-told form heads (OfNew part) = headed-told form (codes "new") part.name
+stat-told Lines heads (OfChanged part other less more) = refl
+stat-told Records heads (OfChanged part other less more) =
+    filled (compact_text (object (stat_record part.name (length less) (length more)))) (line_feed ∷ []) refl
+
+stats-told : (form : Form) (heads : List LeftOutHead) (changes : List PartChange) → is_empty (flat_map (stat_change form heads) changes) ≡ is_empty changes
+stats-told form heads [] = refl
+stats-told form heads (change ∷ changes) = begun (stat_change form heads change) (flat_map (stat_change form heads) changes) (stat-told form heads change)
+
+-- how much differs of two folders is told where some part is counted
+pub some-stat : (form : Form) (heads : List LeftOutHead) (old new : FolderParts) → is_empty (stat_lines form heads old new) ≡ (changed_count old new == 0)
+some-stat form heads old new =
+    stats-told form heads (part_changes old new) ∙ none-long (part_changes old new) ∙ ap (λ n. n == 0) (changes-counted old new)

@@ -10,6 +10,7 @@ use Rattle.aatry_changes.specs.PartChanges.{OfChanged, PartChange, alone, change
 use Rattle.aatry_policy.specs.FolderParts.{FolderParts}
 use Rattle.aatry_policy.specs.Parts.{Part, part_of}
 use Rattle.aatry_report.specs.declared.form.Form.{Form}
+use Rattle.aatry_uncertain.specs.LeftOutHeads.{LeftOutHead}
 
 -- a part that is like the other isn't changed
 unchanged : (part other : Part) → are_alike part.section other.section ≡ true → changed part other ≡ []
@@ -29,11 +30,12 @@ new-none old (part ∷ parts) alike =
     ap (λ found. found ++ flat_map (new_change old) parts) none ∙ new-none old parts alike.1
 
 -- where each part of either folder has its counterpart in the other, nothing is told
-pub nothing-told : (form : Form) (old new : FolderParts) → HaveAlike old.parts new.parts → HaveAlike new.parts old.parts → change_lines form old new ≡ []
-nothing-told form old new back there =
+pub nothing-told : (form : Form) (heads : List LeftOutHead) (old new : FolderParts) → HaveAlike old.parts new.parts → HaveAlike new.parts old.parts
+    → change_lines form heads old new ≡ []
+nothing-told form heads old new back there =
     let none : part_changes old new ≡ [] =
     ap (λ found. found ++ flat_map (new_change old) new.parts) (old-none new old.parts there) ∙ new-none old new.parts back in
-    ap (folded_lines form old new) none
+    ap (folded_lines form heads old new) none
 
 -- a part of which nothing changes has its counterpart
 pub untold-alike : (new : FolderParts) (part : Part) → old_change new part ≡ [] → HasAlike new.parts part
@@ -68,8 +70,9 @@ each-none changes (first ∷ parts) none part (suc k, within, is) =
     each-none changes parts (second-none (changes first) (flat_map changes parts) none) part (k, omega (arith, within), is)
 
 -- so is what changes of each part of the old folder where nothing is told of both
-pub old-untold : (form : Form) (old new : FolderParts) → change_lines form old new ≡ [] → (part : Part) → Contains old.parts part → old_change new part ≡ []
-old-untold form old new none part c =
-    let changes = empty-none (part_changes old new) (sym (changes-told form old new) ∙ ap is_empty none) in
+pub old-untold : (form : Form) (heads : List LeftOutHead) (old new : FolderParts) → change_lines form heads old new ≡ [] → (part : Part) → Contains old.parts part
+    → old_change new part ≡ []
+old-untold form heads old new none part c =
+    let changes = empty-none (part_changes old new) (sym (changes-told form heads old new) ∙ ap is_empty none) in
     each-none (old_change new) old.parts
     (first-none (flat_map (old_change new) old.parts) (flat_map (new_change old) new.parts) changes) part c

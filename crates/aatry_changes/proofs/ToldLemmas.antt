@@ -7,7 +7,7 @@ use Rattle.serde_json.specs.Written.{compact_text}
 use Rattle.aa_bytes.specs.Bytes.{line_feed}
 use Rattle.aa_bytes.specs.Texts.{is_empty}
 use Rattle.aa_explain_diff.specs.Features.{Feature}
-use Rattle.aatry_changes.specs.Changes.{below_text, changed_heading, folded_lines, headed, headed_record, told_change}
+use Rattle.aatry_changes.specs.Changes.{below_text, changed_heading, folded_lines, gone_word, headed, headed_record, told_change}
 use Rattle.aatry_changes.specs.Folded.{groups_of, is_own_change, own_features}
 use Rattle.aatry_changes.specs.PartChanges.{OfChanged, OfGone, OfNew, PartChange, differ}
 use Rattle.aatry_folder.specs.PolicyFiles.{PolicyFiles}
@@ -20,6 +20,7 @@ use Rattle.aatry_shared.specs.Sharing.{Change, Group, are_several, change_at, is
 use Rattle.aatry_shared.specs.SharedLines.{change_line, files_of, group_text, names_text, shared_lines, shared_record, shared_text, sharers_line}
 use Rattle.aatry_shared.specs.declared.side.Side.{Side}
 use Rattle.aatry_shared.specs.declared.side.Side.TheVariants.{New, Old}
+use Rattle.aatry_uncertain.specs.LeftOutHeads.{LeftOutHead}
 
 -- a text with another behind it is empty where both are
 pub empty-both : (text more : List ℕ) → is_empty (text ++ more) ≡ (is_empty text && is_empty more)
@@ -27,12 +28,12 @@ empty-both [] more = refl
 empty-both (b ∷ text) more = refl
 
 -- one that ends in something isn't
-filled : (front behind : List ℕ) → is_empty behind ≡ false → is_empty (front ++ behind) ≡ false
+pub filled : (front behind : List ℕ) → is_empty behind ≡ false → is_empty (front ++ behind) ≡ false
 filled [] behind h = h
 filled (b ∷ front) behind h = refl
 
 -- nor is one that begins with something
-begun : (front behind : List ℕ) → is_empty front ≡ false → is_empty (front ++ behind) ≡ false
+pub begun : (front behind : List ℕ) → is_empty front ≡ false → is_empty (front ++ behind) ≡ false
 begun front behind h = empty-both front behind ∙ ap (λ b. b && is_empty behind) h
 
 and-none : (a b : Bool) → b ≡ false → (a && b) ≡ false
@@ -40,7 +41,7 @@ and-none true b h = h
 and-none false b h = refl
 
 -- something stands before the lines of a part
-headed-told : (form : Form) (word name : List ℕ) → is_empty (headed form word name) ≡ false
+pub headed-told : (form : Form) (word name : List ℕ) → is_empty (headed form word name) ≡ false
 headed-told Lines word name = filled (word ++ codes ": " ++ shown name) (line_feed ∷ []) refl
 headed-told Records word name = filled (compact_text (object (headed_record word name))) (line_feed ∷ []) refl
 
@@ -94,13 +95,13 @@ IsReal (OfGone part) = Unit
 IsReal (OfNew part) = Unit
 IsReal (OfChanged part other less more) = differ less more ≡ true
 
-module _ (old new : FolderParts) (groups : List Group) where
+module _ (heads : List LeftOutHead) (old new : FolderParts) (groups : List Group) where
   -- what is told of all that is shared, and of one part
   abbrev both-empty : Form → PartChange → Bool
-  both-empty form change = is_empty (shared_lines form old.below new.below groups) && is_empty (told_change form old new groups change)
+  both-empty form change = is_empty (shared_lines form old.below new.below groups) && is_empty (told_change form heads old new groups change)
 
-  told-below : (form : Form) (change : PartChange) → is_empty (told_change form old new groups change) ≡ false → both-empty form change ≡ false
-  told-below form change told = and-none (is_empty (shared_lines form old.below new.below groups)) (is_empty (told_change form old new groups change)) told
+  told-below : (form : Form) (change : PartChange) → is_empty (told_change form heads old new groups change) ≡ false → both-empty form change ≡ false
+  told-below form change told = and-none (is_empty (shared_lines form old.below new.below groups)) (is_empty (told_change form heads old new groups change)) told
 
   changed-told : (part other : Part) (less more : List Feature) → differ less more ≡ true → both-empty Lines (OfChanged part other less more) ≡ false
   changed-told part other less more real =
@@ -116,7 +117,7 @@ module _ (old new : FolderParts) (groups : List Group) where
       headed-so false e h = absurd (cc)
 
       shared-so : is_empty (shared_lines Lines old.below new.below groups) ≡ false → both-empty Lines (OfChanged part other less more) ≡ false
-      shared-so told = ap (λ b. b && is_empty (told_change Lines old new groups (OfChanged part other less more))) told
+      shared-so told = ap (λ b. b && is_empty (told_change Lines heads old new groups (OfChanged part other less more))) told
 
       by : (a : Bool) → is_empty (own_features groups part Old less) ≡ a → (b : Bool) → is_empty (own_features groups other New more) ≡ b
           → (c : Bool) → is_empty less ≡ c → (d : Bool) → is_empty more ≡ d → not (c && d) ≡ true
@@ -129,7 +130,7 @@ module _ (old new : FolderParts) (groups : List Group) where
 
   -- something is told of what changes of a part: of the part, or of what is shared
   real-told : (form : Form) (change : PartChange) → IsReal change → both-empty form change ≡ false
-  real-told form (OfGone part) real = told-below form (OfGone part) (headed-told form (codes "gone") part.name)
+  real-told form (OfGone part) real = told-below form (OfGone part) (headed-told form (gone_word heads part.name) part.name)
   real-told form (OfNew part) real = told-below form (OfNew part) (headed-told form (codes "new") part.name)
   real-told Records (OfChanged part other less more) real =
       told-below Records (OfChanged part other less more)
@@ -143,16 +144,16 @@ AreReal [] = Unit
 AreReal (change ∷ changes) = IsReal change × AreReal changes
 
 -- nothing is told of two folders where nothing changes, and else something is
-pub folded-told : (form : Form) (old new : FolderParts) (changes : List PartChange) → AreReal changes
-    → is_empty (folded_lines form old new changes) ≡ is_empty changes
-folded-told form old new [] real = refl
-folded-told form old new (change ∷ changes) real =
+pub folded-told : (form : Form) (heads : List LeftOutHead) (old new : FolderParts) (changes : List PartChange) → AreReal changes
+    → is_empty (folded_lines form heads old new changes) ≡ is_empty changes
+folded-told form heads old new [] real = refl
+folded-told form heads old new (change ∷ changes) real =
     let groups = groups_of (change ∷ changes) in
     let shared = shared_lines form old.below new.below groups in
-    let told = told_change form old new groups change in
-    let rest = flat_map (told_change form old new groups) changes in
+    let told = told_change form heads old new groups change in
+    let rest = flat_map (told_change form heads old new groups) changes in
     empty-both shared (told ++ rest) ∙ ap (λ b. is_empty shared && b) (empty-both told rest)
-    ∙ three (is_empty shared) (is_empty told) (is_empty rest) (real-told old new groups form change real.0)
+    ∙ three (is_empty shared) (is_empty told) (is_empty rest) (real-told heads old new groups form change real.0)
   where
     three : (a b c : Bool) → (a && b) ≡ false → (a && (b && c)) ≡ false
     three true b c h = ap (λ x. x && c) h

@@ -15,6 +15,7 @@ use Rattle.aatry_shared.specs.Differing.{told_lines}
 use Rattle.aatry_shared.specs.SharedLines.{shared_lines}
 use Rattle.aatry_shared.specs.Sharing.{Group}
 use Rattle.aatry_shared.specs.declared.side.Side.TheVariants.{New, Old}
+use Rattle.aatry_uncertain.specs.LeftOutHeads.{LeftOutHead, has_name}
 
 -- the line of a part: a word, and its full name
 abbrev pub headed_line : List ℕ → List ℕ → List ℕ
@@ -43,21 +44,29 @@ below_text form old new part other less more = told_lines form old part [] Old l
 abbrev pub own_text : Form → FolderParts → FolderParts → Part → Part → List Feature → List Feature → List ℕ
 own_text form old new part other less more = changed_heading form part.name less more ++ below_text form old new part other less more
 
--- what is told of what changes of a part: that it is gone or new, or what isn't shared of it
-abbrev pub told_change : Form → FolderParts → FolderParts → List Group → PartChange → List ℕ
-told_change form old new groups (OfGone part) = headed form (codes "gone") part.name
-told_change form old new groups (OfNew part) = headed form (codes "new") part.name
-told_change form old new groups (OfChanged part other less more) =
+-- the word for a part that the new folder hasn't: it is unread where one of its files that are left out has the name of its profile, and else gone
+abbrev pub gone_word : List LeftOutHead → List ℕ → List ℕ
+gone_word heads name = if has_name heads name then codes "unread" else codes "gone"
+
+-- what is told of such a part
+abbrev pub gone_text : Form → List LeftOutHead → Part → List ℕ
+gone_text form heads part = headed form (gone_word heads part.name) part.name
+
+-- what is told of what changes of a part: that it is gone, unread or new, or what isn't shared of it
+abbrev pub told_change : Form → List LeftOutHead → FolderParts → FolderParts → List Group → PartChange → List ℕ
+told_change form heads old new groups (OfGone part) = gone_text form heads part
+told_change form heads old new groups (OfNew part) = headed form (codes "new") part.name
+told_change form heads old new groups (OfChanged part other less more) =
     own_text form old new part other (own_features groups part Old less) (own_features groups other New more)
 
 -- what is told of what changes: what is shared first, and then what each part has by itself
-abbrev pub told_changes : Form → FolderParts → FolderParts → List Group → List PartChange → List ℕ
-told_changes form old new groups changes =
-    shared_lines form old.below new.below groups ++ flat_map (told_change form old new groups) changes
+abbrev pub told_changes : Form → List LeftOutHead → FolderParts → FolderParts → List Group → List PartChange → List ℕ
+told_changes form heads old new groups changes =
+    shared_lines form old.below new.below groups ++ flat_map (told_change form heads old new groups) changes
 
-abbrev pub folded_lines : Form → FolderParts → FolderParts → List PartChange → List ℕ
-folded_lines form old new changes = told_changes form old new (groups_of changes) changes
+abbrev pub folded_lines : Form → List LeftOutHead → FolderParts → FolderParts → List PartChange → List ℕ
+folded_lines form heads old new changes = told_changes form heads old new (groups_of changes) changes
 
--- what is told of two folders
-abbrev pub change_lines : Form → FolderParts → FolderParts → List ℕ
-change_lines form old new = folded_lines form old new (part_changes old new)
+-- what is told of two folders, of the new one of which files with these heads are left out
+abbrev pub change_lines : Form → List LeftOutHead → FolderParts → FolderParts → List ℕ
+change_lines form heads old new = folded_lines form heads old new (part_changes old new)

@@ -2,55 +2,25 @@
 
 ghost use Rattle.std.specs.Prelude.{◌≡◌, ◌++◌, IfOk, OnOk, flat_map, map};
 ghost use Rattle.aa_explain_diff.specs.Features.{seen_feature};
-ghost use Rattle.aatry_changes.specs.Changes.{below_text, change_lines, changed_heading, headed, headed_line, headed_record, own_text};
-ghost use Rattle.aatry_changes.specs.Changes.{told_change, told_changes};
+ghost use Rattle.aatry_changes.specs.Changes.{below_text, change_lines, changed_heading, own_text, told_change, told_changes};
 ghost use Rattle.aatry_changes.specs.Folded.{own_features};
 ghost use Rattle.aatry_changes.specs.PartChanges.{changed_count, seen_change, seen_changes};
 ghost use Rattle.aatry_policy.specs.FolderParts.{seen_folder};
 ghost use Rattle.aatry_policy.specs.SeenProfiles.{seen_part};
-ghost use Rattle.aatry_report.specs.SeenRecord.{seen_record};
 ghost use Rattle.aatry_shared.specs.Sides.{FindIn};
 ghost use Rattle.aatry_shared.specs.declared.side.Side.TheVariants.{New, Old};
+ghost use Rattle.aatry_uncertain.specs.SeenHeads.{all_left_out};
 
+use crate::compared::Compared;
 use crate::folded::{own_features, sharing_of};
+use crate::headed::{push_gone, push_headed};
 use crate::part_changes::{PartChange, part_changes};
 use aa_explain_diff::Feature;
-use aatry_policy::FolderParts;
-use aatry_report::{Form, Record, Teller, push_shown};
+use aatry_report::{Form, Teller};
 use aatry_shared::{
     Finders, PartPair, Sharing, Side, SidePart, finders_in, push_lines, push_shared,
 };
 use std::alloc::{AllocError, Global};
-
-// Appends the line of a part to a text: a word, and its full name.
-fn push_headed_line(word: &str, name: &[u8], out: &mut Vec<u8>) -> Result<(), AllocError>
-    ensures { OnOk result (out.new.items ≡ out.old.items ++ headed_line word.now name.now) }
-{
-    out.extend_from_slice(word.as_bytes())?;
-    out.extend_from_slice(b": ")?;
-    push_shown(out, name)?;
-    out.push(b'\n')?;
-    Ok(())
-}
-
-// The same as a record.
-fn headed_record(alloc: Global, word: &str, name: &[u8]) -> Result<Record, AllocError>
-    ensures { IfOk result (λ made. seen_record made ≡ headed_record word.now name.now) }
-{
-    let mut made = Record::new(alloc, word)?;
-    made.put_text(alloc, "name", name)?;
-    Ok(made)
-}
-
-// Appends what is told of a part before its lines to a text.
-fn push_headed(teller: Teller, word: &str, name: &[u8], out: &mut Vec<u8>) -> Result<(), AllocError>
-    ensures { OnOk result (out.new.items ≡ out.old.items ++ headed teller.form word.now name.now) }
-{
-    match teller.form {
-        Form::Lines => push_headed_line(word, name, out),
-        Form::Records => headed_record(teller.alloc, word, name)?.push(teller.alloc, out),
-    }
-}
 
 // Appends what is told of a part that is changed before its lines to a text, by those that it has by itself.
 fn push_heading(
@@ -149,24 +119,23 @@ fn push_changed(
 fn push_change(
     finders: &mut Finders<'_>,
     teller: Teller,
-    old: &FolderParts<'_>,
-    new: &FolderParts<'_>,
+    compared: &Compared<'_>,
     sharing: &Sharing<'_>,
     change: &PartChange<'_>,
     out: &mut Vec<u8>,
 ) -> Result<(), AllocError>
-    requires { FindIn (seen_folder old.now) (seen_folder new.now) finders.old }
+    requires { FindIn (seen_folder compared.now.old.now) (seen_folder compared.now.new.now) finders.old }
     ensures told { OnOk result (out.new.items
-        ≡ out.old.items ++ told_change teller.form (seen_folder old.now) (seen_folder new.now) sharing.now (seen_change change.now)) }
+        ≡ out.old.items ++ told_change teller.form (all_left_out compared.now.left_out.now.heads.items) (seen_folder compared.now.old.now) (seen_folder compared.now.new.now) sharing.now (seen_change change.now)) }
     ensures same { finders.new ≡ finders.old }
 {
     match change {
-        PartChange::Gone(part) => push_headed(teller, "gone", part.name.as_slice(), out),
+        PartChange::Gone(part) => push_gone(teller, compared.left_out, part, out),
         PartChange::New(part) => push_headed(teller, "new", part.name.as_slice(), out),
         PartChange::Changed(changed) => {
             let pair = PartPair {
-                old,
-                new,
+                old: compared.old,
+                new: compared.new,
                 part: changed.part,
                 other: changed.other,
             };
@@ -187,20 +156,19 @@ fn push_change(
 fn push_each(
     finders: &mut Finders<'_>,
     teller: Teller,
-    old: &FolderParts<'_>,
-    new: &FolderParts<'_>,
+    compared: &Compared<'_>,
     sharing: &Sharing<'_>,
     changes: &[PartChange<'_>],
     out: &mut Vec<u8>,
 ) -> Result<(), AllocError>
-    requires { FindIn (seen_folder old.now) (seen_folder new.now) finders.old }
+    requires { FindIn (seen_folder compared.now.old.now) (seen_folder compared.now.new.now) finders.old }
     ensures told { OnOk result (out.new.items ≡ out.old.items
-        ++ flat_map (told_change teller.form (seen_folder old.now) (seen_folder new.now) sharing.now) (seen_changes changes.now)) }
+        ++ flat_map (told_change teller.form (all_left_out compared.now.left_out.now.heads.items) (seen_folder compared.now.old.now) (seen_folder compared.now.new.now) sharing.now) (seen_changes changes.now)) }
     ensures same { finders.new ≡ finders.old }
 {
     let mut rest = changes;
     while let [change, behind @ ..] = rest {
-        push_change(finders, teller, old, new, sharing, change, out)?;
+        push_change(finders, teller, compared, sharing, change, out)?;
         rest = behind;
     }
     Ok(())
@@ -209,28 +177,28 @@ fn push_each(
 // Appends what is told of what changes to a text: what is shared first, and then what each part has by itself.
 fn push_folded(
     teller: Teller,
-    old: &FolderParts<'_>,
-    new: &FolderParts<'_>,
+    compared: &Compared<'_>,
     sharing: &Sharing<'_>,
     changes: &[PartChange<'_>],
     out: &mut Vec<u8>,
 ) -> Result<(), AllocError>
     ensures { OnOk result (out.new.items
-        ≡ out.old.items ++ told_changes teller.form (seen_folder old.now) (seen_folder new.now) sharing.now (seen_changes changes.now)) }
+        ≡ out.old.items ++ told_changes teller.form (all_left_out compared.now.left_out.now.heads.items) (seen_folder compared.now.old.now) (seen_folder compared.now.new.now) sharing.now (seen_changes changes.now)) }
 {
-    let mut finders = finders_in(teller.alloc, old, new);
+    let mut finders = finders_in(teller.alloc, compared.old, compared.new);
     push_shared(&mut finders, teller, sharing, out)?;
-    push_each(&mut finders, teller, old, new, sharing, changes, out)
+    push_each(&mut finders, teller, compared, sharing, changes, out)
 }
 
-/// Puts what a change of policy changes behind a text. First stands each change that two or more parts have, a rule that is written at one place and told
+/// Puts what a change of policy changes behind a text. A part that is gone is told as unread where a file of the new folder is left out that has the name of
+/// its profile, as far as that can be read. First stands each change that two or more parts have, a rule that is written at one place and told
 /// alike, once, with the full names of those that have it (`aatry_shared::push_shared`). Then stands each part of the old folder that is gone or
 /// changed, in their order, and then each of the new folder that is new. Behind one that is changed stands each line that tells of the old part
 /// alone, and then each that tells of the new one alone, but for those that are shared: its mode, a flag, an attachment, or a rule, with the
 /// place where it is written. Lines that tell the same are equal, wherever they are written. Gives how many parts are gone, changed or new.
 ///
 /// As lines, a word and the full name tell a part, and the lines of the old part alone stand behind `- `, and those of the new one behind `+ `; one of
-/// which all that is changed is shared is told by that alone. As records, a part's kind is `gone`, `changed` or `new`, with its full name
+/// which all that is changed is shared is told by that alone. As records, a part's kind is `gone`, `unread`, `changed` or `new`, with its full name
 /// (`name`), and its lines are of the kinds `less` and `more`, with the part's full name (`name`), what is told (`text`), and of a rule where
 /// it stands (`aatry_why_lines::put_where`).
 ///
@@ -239,15 +207,15 @@ fn push_folded(
 /// Where memory runs out. A beginning may have been put then.
 pub fn push_changes(
     teller: Teller,
-    old: &FolderParts<'_>,
-    new: &FolderParts<'_>,
+    compared: &Compared<'_>,
     out: &mut Vec<u8>,
 ) -> Result<usize, AllocError>
-    ensures told { OnOk result (out.new.items ≡ out.old.items ++ change_lines teller.form (seen_folder old.now) (seen_folder new.now)) }
-    ensures count { IfOk result (λ count. count ≡ changed_count (seen_folder old.now) (seen_folder new.now)) }
+    ensures told { OnOk result (out.new.items ≡ out.old.items
+        ++ change_lines teller.form (all_left_out compared.now.left_out.now.heads.items) (seen_folder compared.now.old.now) (seen_folder compared.now.new.now)) }
+    ensures count { IfOk result (λ count. count ≡ changed_count (seen_folder compared.now.old.now) (seen_folder compared.now.new.now)) }
 {
-    let changes = part_changes(teller.alloc, old, new)?;
+    let changes = part_changes(teller.alloc, compared.old, compared.new)?;
     let sharing = sharing_of(teller.alloc, &changes)?;
-    push_folded(teller, old, new, &sharing, &changes, out)?;
+    push_folded(teller, compared, &sharing, &changes, out)?;
     Ok(changes.len())
 }

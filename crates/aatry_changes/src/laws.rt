@@ -8,12 +8,14 @@ ghost use Rattle.aatry_changes.specs.Changes.{change_lines};
 ghost use Rattle.aatry_changes.specs.Folded.{all_havings, groups_of, is_own, own_features};
 ghost use Rattle.aatry_changes.specs.Laws.{HasAlike, HasAnsweringAlike, HaveAlike, IsTold};
 ghost use Rattle.aatry_changes.specs.PartChanges.{OfChanged, PartChange, changed_count, is_gone_or_changed, is_new, new_change, old_change};
+ghost use Rattle.aatry_changes.specs.Stat.{stat_lines};
 ghost use Rattle.aatry_policy.specs.FolderParts.{FolderParts};
 ghost use Rattle.aatry_policy.specs.Parts.{Part};
 ghost use Rattle.aatry_report.specs.declared.form.Form.{Form};
 ghost use Rattle.aatry_shared.specs.Sharing.{Group, are_several, shared};
 ghost use Rattle.aatry_shared.specs.declared.side.Side.{Side};
 ghost use Rattle.aatry_shared.specs.declared.side.Side.TheVariants.{New, Old};
+ghost use Rattle.aatry_uncertain.specs.LeftOutHeads.{LeftOutHead};
 
 use aa_explain_diff::sections_alike_answer_alike;
 use aatry_shared::what_is_shared_is_told_once;
@@ -21,10 +23,10 @@ use aatry_shared::what_is_shared_is_told_once;
 /// Nothing is told of two folders, in either form, where each part of either has one of its full name in the other, and neither of the two has something
 /// that the other lacks, wherever their rules are written. And where nothing changes of a part of the old folder, the new one has such a part.
 pub fn when_nothing_is_told()
-    ensures of_alike { (form : Form) (old new : FolderParts)
+    ensures of_alike { (form : Form) (heads : List LeftOutHead) (old new : FolderParts)
         → HaveAlike old.parts new.parts
         → HaveAlike new.parts old.parts
-        → change_lines form old new ≡ [] }
+        → change_lines form heads old new ≡ [] }
     ensures only_of_alike { (new : FolderParts) (part : Part) → old_change new part ≡ [] → HasAlike new.parts part }
 {}
 
@@ -32,8 +34,8 @@ pub fn when_nothing_is_told()
 /// mode or disabled too, no verdict is another one, and no line that logs one. So it is of each part where nothing is told of the folders.
 pub fn what_is_not_told_answers_alike()
     ensures of_a_part { (new : FolderParts) (part : Part) → old_change new part ≡ [] → HasAnsweringAlike new.parts part }
-    ensures of_all { (form : Form) (old new : FolderParts) (part : Part)
-        → change_lines form old new ≡ []
+    ensures of_all { (form : Form) (heads : List LeftOutHead) (old new : FolderParts) (part : Part)
+        → change_lines form heads old new ≡ []
         → Contains old.parts part
         → HasAnsweringAlike new.parts part }
 {
@@ -42,11 +44,12 @@ pub fn what_is_not_told_answers_alike()
 }
 
 /// What is counted changes, and is told, in either form: something changes of a part of the old folder exactly where it is gone or changed, of a part of
-/// the new one exactly where it is new, and something is told of the folders exactly where there is such a part.
+/// the new one exactly where it is new, and something is told of the folders, what differs or how much, exactly where there is such a part.
 pub fn what_is_counted_is_told()
     ensures of_the_old { (new : FolderParts) (part : Part) → is_empty (old_change new part) ≡ not (is_gone_or_changed new part) }
     ensures of_the_new { (old : FolderParts) (part : Part) → is_empty (new_change old part) ≡ not (is_new old part) }
-    ensures of_both { (form : Form) (old new : FolderParts) → is_empty (change_lines form old new) ≡ (changed_count old new == 0) }
+    ensures of_both { (form : Form) (heads : List LeftOutHead) (old new : FolderParts) → is_empty (change_lines form heads old new) ≡ (changed_count old new == 0) }
+    ensures of_stat { (form : Form) (heads : List LeftOutHead) (old new : FolderParts) → is_empty (stat_lines form heads old new) ≡ (changed_count old new == 0) }
 {}
 
 /// Each thing that one side of a part has alone is told once: below the part, or in exactly one change among those that are shared, which names the part.

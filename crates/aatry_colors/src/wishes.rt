@@ -3,7 +3,7 @@
 ghost use Rattle.std.specs.Prelude.{◌≡◌, IfOk, map, string_bytes};
 ghost use Rattle.std.specs.Option.{option_map};
 ghost use Rattle.aatry_colors.specs.Wishes.{is_colored, seen_wished, wish_named, wish_of, wished, wished_by};
-ghost use Rattle.aatry_arguments.specs.code.ValueSoFar.{seen_value};
+ghost use Rattle.aatry_arguments.specs.SeenValues.{seen_value};
 
 use aatry_arguments::{NamedOption, WithValue, value_of};
 use std::alloc::{AllocError, Global};

@@ -20,7 +20,7 @@ pub compared : (form : Form) (verbose : Bool) (language : Language) (folders : T
     → AreBelow folders known asked.old before.files before.unread → AreBelow folders known asked.new after.files after.unread
     → AreTop folders asked.old (tried_names (names_of before.files) before.unread) before.top → AreTop folders asked.new (tried_names (names_of after.files) after.unread) after.top
     → IsGathered known asked.source requests
-    → report.text ≡ diff_text form verbose before after requests → report.notes ≡ diff_notes before after
+    → report.text ≡ diff_text form verbose asked.stat before after requests → report.notes ≡ diff_notes before after
     → report.failed ≡ failed_by (is_unchanged before after requests)
     → IsComparedBelow form verbose language folders known asked report
 compared form verbose language folders known asked report before after requests read also old-base new-base old-below new-below old-top new-top gathered told noted failed =
@@ -41,7 +41,7 @@ compared form verbose language folders known asked report before after requests 
       new_loaded = new-top;
       requests = requests;
       gathered = gathered;
-      told = told ∙ (λ i. diff_text form verbose (old i) (new i) requests);
+      told = told ∙ (λ i. diff_text form verbose asked.stat (old i) (new i) requests);
       noted = noted ∙ (λ i. diff_notes (old i) (new i));
       counted = failed ∙ (λ i. failed_by (is_unchanged (old i) (new i) requests));
     }

@@ -56,6 +56,6 @@ pub record IsComparedBelow
   pub new_loaded : AreTop folders asked.new (tried_names (names_of new_files) new_unread) new_top
   pub requests : Option Gathered
   pub gathered : IsGathered known asked.source requests
-  pub told : report.text ≡ diff_text form verbose (folder_at language asked.old old_files old_unread old_top) (folder_at language asked.new new_files new_unread new_top) requests
+  pub told : report.text ≡ diff_text form verbose asked.stat (folder_at language asked.old old_files old_unread old_top) (folder_at language asked.new new_files new_unread new_top) requests
   pub noted : report.notes ≡ diff_notes (folder_at language asked.old old_files old_unread old_top) (folder_at language asked.new new_files new_unread new_top)
   pub counted : report.failed ≡ failed_by (is_unchanged (folder_at language asked.old old_files old_unread old_top) (folder_at language asked.new new_files new_unread new_top) requests)

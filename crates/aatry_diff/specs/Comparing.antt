@@ -1,27 +1,34 @@
 -- What is told of two folders of policy that are compared (docs/aatry.md).
-use Rattle.std.specs.Prelude.{ℕ, Bool, ◌==◌, ◌&&◌, List, ◌++◌, Option}
+use Rattle.std.specs.Prelude.{ℕ, Bool, ◌==◌, ◌&&◌, if◌then◌else◌, List, ◌++◌, Option}
 use Rattle.aa_bytes.specs.Texts.{is_empty}
 use Rattle.aatry_changes.specs.Changes.{change_lines}
 use Rattle.aatry_changes.specs.PartChanges.{changed_count}
+use Rattle.aatry_changes.specs.Stat.{stat_lines}
 use Rattle.aatry_diff.specs.Sources.{differing_count, requests_text}
 use Rattle.aatry_diff.specs.Folders.{BothFolders}
 use Rattle.aatry_diff.specs.NewlyLeftOut.{newly_left_out, newly_lines}
 use Rattle.aatry_policy.specs.Folders.{Folder, left_out_in, left_out_note, policy_in}
-use Rattle.aatry_policy.specs.FolderParts.{by_parts}
+use Rattle.aatry_policy.specs.FolderParts.{FolderParts, by_parts}
 use Rattle.aatry_report.specs.declared.form.Form.{Form}
 use Rattle.aatry_requests.specs.Gathering.{Gathered}
+use Rattle.aatry_uncertain.specs.LeftOutHeads.{LeftOutHead, heads_left_out}
 
 -- both folders by their profiles, children and hats
 abbrev pub both : Folder → Folder → BothFolders
 both old new = record { old = by_parts old; new = by_parts new }
 
+-- what is told of their profiles, children and hats, where files with these heads are left out of the new one: how much of each differs where that is
+-- asked, and else what does
+abbrev pub parts_text : Form → Bool → List LeftOutHead → FolderParts → FolderParts → List ℕ
+parts_text form stat heads old new = if stat then stat_lines form heads old new else change_lines form heads old new
+
 -- what is told of two folders: the files that are left out, at length or not, those that are so newly, the profiles, children and hats that are gone,
 -- changed or new, and the requests
-abbrev pub diff_text : Form → Bool → Folder → Folder → Option Gathered → List ℕ
-diff_text form verbose old new requests =
+abbrev pub diff_text : Form → (verbose stat : Bool) → Folder → Folder → Option Gathered → List ℕ
+diff_text form verbose stat old new requests =
     left_out_in form verbose old ++ left_out_in form verbose new ++ newly_lines form new (newly_left_out old new)
-    ++ change_lines form (by_parts old) (by_parts new)
-    ++ requests_text form (both old new) (policy_in old) (policy_in new) requests
+    ++ parts_text form stat (heads_left_out new) (by_parts old) (by_parts new)
+    ++ requests_text form stat (both old new) (policy_in old) (policy_in new) requests
 
 -- what is noted of them: how many files of each are left out
 abbrev pub diff_notes : Folder → Folder → List ℕ

@@ -1,5 +1,5 @@
 -- Requests by the source that tells of them, where there is one.
-use Rattle.std.specs.Prelude.{ℕ, List, [], ◌++◌, Option, None, Some, length, option_map}
+use Rattle.std.specs.Prelude.{ℕ, Bool, if◌then◌else◌, List, [], ◌++◌, Option, None, Some, length, option_map}
 use Rattle.std.specs.Borrow.{Bor}
 use Rattle.aa_decide_slots.specs.Entries.{Loaded}
 use Rattle.aatry_diff.specs.Differences.{difference_lines, told_differences}
@@ -37,10 +37,14 @@ abbrev pub summary_text : Form → Option Gathered → ℕ → List ℕ
 summary_text form None differing = []
 summary_text form (Some requests) differing = summary_line form requests differing
 
--- what is told of a source by what is found: each question that is answered otherwise, and what sums up
-abbrev pub told_requests : Form → BothFolders → Option Gathered → List Difference → List ℕ
-told_requests form folders requests found = told_differences form folders found ++ summary_text form requests (length found)
+-- each question that is answered otherwise, unless it is asked how much differs
+abbrev pub differences_unless : Form → Bool → BothFolders → List Difference → List ℕ
+differences_unless form stat folders found = if stat then [] else told_differences form folders found
+
+-- what is told of a source by what is found: these, and what sums up
+abbrev pub told_requests : Form → Bool → BothFolders → Option Gathered → List Difference → List ℕ
+told_requests form stat folders requests found = differences_unless form stat folders found ++ summary_text form requests (length found)
 
 -- the same of all that two policy sets answer otherwise
-abbrev pub requests_text : Form → BothFolders → List Loaded → List Loaded → Option Gathered → List ℕ
-requests_text form folders old new requests = told_requests form folders requests (differences_of old new requests)
+abbrev pub requests_text : Form → Bool → BothFolders → List Loaded → List Loaded → Option Gathered → List ℕ
+requests_text form stat folders old new requests = told_requests form stat folders requests (differences_of old new requests)

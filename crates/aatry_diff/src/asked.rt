@@ -3,7 +3,7 @@
 ghost use Rattle.std.specs.Prelude.{◌≡◌, ◌++◌, IfOk, OnOk, option_map};
 ghost use Rattle.aatry_diff.specs.Folders.{seen_folders};
 ghost use Rattle.aatry_diff.specs.SeenDifferences.{seen_differences};
-ghost use Rattle.aatry_diff.specs.Sources.{differences_of, seen_source, summary_text, told_requests};
+ghost use Rattle.aatry_diff.specs.Sources.{differences_of, differences_unless, seen_source, summary_text, told_requests};
 ghost use Rattle.aatry_requests.specs.Gathering.{seen_requests};
 
 use crate::differences::push_differences;
@@ -78,22 +78,40 @@ fn push_summary_of(
     }
 }
 
-/// Appends what is told of requests to a text: each question that is answered otherwise (`push_differences`), and what sums up
-/// (`push_summary`). Where there is no source of requests, that is nothing.
+// Appends what is told of each question that is answered otherwise to a text, unless it is asked how much differs.
+fn push_differences_unless(
+    teller: Teller,
+    stat: bool,
+    folders: &BothFolders<'_>,
+    differences: &[Difference<'_, '_>],
+    out: &mut Vec<u8>,
+) -> Result<(), AllocError>
+    ensures { OnOk result (out.new.items
+        ≡ out.old.items ++ differences_unless teller.form stat (seen_folders folders.now) (seen_differences differences.now)) }
+{
+    if stat {
+        return Ok(());
+    }
+    push_differences(teller, folders, differences, out)
+}
+
+/// Appends what is told of requests to a text: each question that is answered otherwise (`push_differences`), unless it is asked how much differs
+/// (`stat`), and what sums up (`push_summary`). Where there is no source of requests, that is nothing.
 ///
 /// # Errors
 ///
 /// Where memory runs out. A beginning may have been appended then.
 pub fn push_asked(
     teller: Teller,
+    stat: bool,
     folders: &BothFolders<'_>,
     asked: &Asked<'_>,
     out: &mut Vec<u8>,
 ) -> Result<(), AllocError>
     ensures { OnOk result (out.new.items ≡ out.old.items
-        ++ told_requests teller.form (seen_folders folders.now) (option_map seen_requests asked.now.requests.now)
+        ++ told_requests teller.form stat (seen_folders folders.now) (option_map seen_requests asked.now.requests.now)
         (seen_differences asked.now.differences.now)) }
 {
-    push_differences(teller, folders, asked.differences, out)?;
+    push_differences_unless(teller, stat, folders, asked.differences, out)?;
     push_summary_of(teller, asked.requests, asked.differences.len(), out)
 }

@@ -103,9 +103,14 @@ pub fn diff_folders<F: Folders, D: FileSystem>(
         (seen_report report)) }
     ensures fault { IfErr result (IsEndOfDiff (F.told folders.now) (D.known disk.now) (meant_comparison asked)) }
 {
-    let Comparison { old, new, source } = asked;
+    let Comparison {
+        old,
+        new,
+        source,
+        stat,
+    } = asked;
     let before = policy_below(teller.alloc, language, folders, disk, old.as_str())?;
     let after = policy_below(teller.alloc, language, folders, disk, new.as_str())?;
     let found = requests_at(teller.alloc, disk, source)?;
-    Ok(diff(teller, &before, &after, source_of(&found))?)
+    Ok(diff(teller, stat, &before, &after, source_of(&found))?)
 }

@@ -17,6 +17,7 @@ ghost use Rattle.aatry_policy.specs.Parts.{Part};
 ghost use Rattle.aatry_report.specs.declared.form.Form.{Form};
 ghost use Rattle.aatry_requests.specs.Gathering.{Gathered};
 ghost use Rattle.aatry_requests.specs.Tallies.{Tally};
+ghost use Rattle.aatry_uncertain.specs.LeftOutHeads.{heads_left_out};
 
 use aatry_changes::{what_is_counted_is_told, what_is_not_told_answers_alike};
 
@@ -31,7 +32,7 @@ pub fn what_differs_is_told()
 pub fn what_is_alike_is_not_told()
     ensures { (form : Form) (old new : Folder) (requests : Option Gathered)
         → are_alike old new requests
-        ≡ (is_empty (change_lines form (by_parts old) (by_parts new))
+        ≡ (is_empty (change_lines form (heads_left_out new) (by_parts old) (by_parts new))
         && is_empty (differences_text form (both old new) (policy_in old) (policy_in new) requests)) }
 {
     what_is_counted_is_told();

@@ -33,4 +33,4 @@ pub record IsLogToldBelow (form : Form) (verbose : Bool) (language : Language) (
   pub loaded : AreTop folders asked.base (tried_names (names_of files) unread) top
   pub logs : LogRequests
   pub read : AreGathered (selection_by asked.lines) known left (meant_paths asked.paths) nothing logs
-  pub told : IsLogAnswered asked.rules form verbose (folder_at language asked.base files unread top) asked.strict logs report
+  pub told : IsLogAnswered asked.telling form verbose (folder_at language asked.base files unread top) logs report

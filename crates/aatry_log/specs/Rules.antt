@@ -1,5 +1,6 @@
 -- The rules with which the requests of logs are allowed, asked of a folder of policy.
 use Rattle.std.specs.Prelude.{◌≡◌, ℕ, Bool, true, false, List, ◌++◌, codes}
+use Rattle.aatry_arguments.specs.LogWords.{LogTellingAsked}
 use Rattle.aatry_folder.specs.Reports.{Report, failed_by}
 use Rattle.aatry_log.specs.Log.{IsLogTold, passes}
 use Rattle.aatry_log.specs.Notes.{logs_note}
@@ -15,17 +16,22 @@ use Rattle.aatry_report.specs.declared.form.Form.{Form}
 abbrev pub aside : Form → List ℕ → List ℕ
 aside form text = prefixed_text form (codes "# ") text
 
--- A report tells the rules with which the requests of logs are allowed that lack something of a folder, and on lines as comments what is left out before
--- them, and behind them the first lines that can't be read, and what sums up. It notes what is noted of logs, and one failed where they don't pass.
-pub record AreLogRulesTold (form : Form) (verbose : Bool) (folder : Folder) (strict : Bool) (logs : LogRequests) (report : Report) : Type 0 where
+-- A report tells the rules with which the requests of logs are allowed that lack something of a folder, with wider ones where these are asked for, and on
+-- lines as comments what is left out before them, and behind them the first lines that can't be read, and what sums up. It notes what is noted of logs, and
+-- one failed where they don't pass.
+pub record AreLogRulesTold (telling : LogTellingAsked) (form : Form) (verbose : Bool) (folder : Folder) (logs : LogRequests) (report : Report) : Type 0 where
   pub rules : List ℕ
   pub nobody : ℕ
-  pub told : AreRulesTold form folder logs.requests.tallies (aside form (left_out_in form verbose folder)) rules nobody
+  pub told : AreRulesTold form telling.globs folder logs.requests.tallies (aside form (left_out_in form verbose folder)) rules nobody
   pub text_is : report.text ≡ rules ++ aside form (unreadable_text form logs.unreadable ++ summary_line form logs nobody)
   pub noted : report.notes ≡ left_out_note folder ++ logs_note logs nobody
-  pub counted : report.failed ≡ failed_by (passes strict logs nobody)
+  pub counted : report.failed ≡ failed_by (passes telling.strict logs nobody)
 
 -- a report tells these rules, or else the answers
-abbrev pub IsLogAnswered : (rules : Bool) → Form → Bool → Folder → Bool → LogRequests → Report → Type 0
-IsLogAnswered true form verbose folder strict logs report = AreLogRulesTold form verbose folder strict logs report
-IsLogAnswered false form verbose folder strict logs report = IsLogTold form verbose folder strict logs report
+abbrev pub IsAnswered : (rules : Bool) → LogTellingAsked → Form → Bool → Folder → LogRequests → Report → Type 0
+IsAnswered true telling form verbose folder logs report = AreLogRulesTold telling form verbose folder logs report
+IsAnswered false telling form verbose folder logs report = IsLogTold form verbose folder telling.strict logs report
+
+-- as it is asked for
+abbrev pub IsLogAnswered : LogTellingAsked → Form → Bool → Folder → LogRequests → Report → Type 0
+IsLogAnswered telling form verbose folder logs report = IsAnswered telling.rules telling form verbose folder logs report

@@ -57,18 +57,17 @@ pub fn log_folder<F: Folders, D: FileSystem, S: Source>(
     let Logs {
         base,
         paths,
-        strict,
-        rules,
+        telling,
         lines,
     } = asked;
     let folder = policy_below(teller.alloc, language, folders, disk, base.as_str())?;
     let meant = meant_paths(teller.alloc, paths)?;
     let selection = selection_of(&lines);
     let logs = gather_logs(teller.alloc, selection, disk, &meant, input)?;
-    let report = if rules {
-        log_rules(teller, &folder, strict, &logs)?
+    let report = if telling.rules {
+        log_rules(teller, &folder, telling, &logs)?
     } else {
-        log(teller, &folder, strict, &logs)?
+        log(teller, &folder, telling.strict, &logs)?
     };
     Ok(report)
 }

@@ -1,6 +1,7 @@
 //! The rules with which the requests of logs are allowed, asked of a folder of policy.
 
 ghost use Rattle.std.specs.Prelude.{◌≡◌, ◌++◌, IfOk, OnOk};
+ghost use Rattle.aatry_arguments.specs.Given.{meant_telling};
 ghost use Rattle.aatry_folder.specs.Reports.{seen_report};
 ghost use Rattle.aatry_log.specs.Rules.{AreLogRulesTold, aside};
 ghost use Rattle.aatry_log.specs.Summary.{summary_line};
@@ -13,11 +14,13 @@ use crate::prefixing::push_prefixed;
 use crate::summary::push_summary;
 use crate::telling::passes;
 use crate::unreadable::push_unreadable;
+use aatry_arguments::LogTelling;
 use aatry_folder::{PolicyFolder, Report, failed_by};
 use aatry_log_rules::push_rules;
 use aatry_logs::LogRequests;
-use aatry_policy::load_folder;
+use aatry_policy::{LoadedFolder, load_folder};
 use aatry_report::{Form, Teller};
+use aatry_requests::{Tallies, most_asked_first};
 use std::alloc::AllocError;
 
 // Appends what was told to a text, on lines as comments.
@@ -43,10 +46,28 @@ fn push_behind(
     push_aside(teller.form, &behind, out)
 }
 
+// Has the policy of a loaded folder remember what some requests pass of the rules of who asks, so that these are made ready once for all of them. It
+// changes nothing that is seen.
+fn remember_all(
+    teller: Teller,
+    loaded: &mut LoadedFolder<'_>,
+    tallies: &Tallies<'_>,
+) -> Result<(), AllocError>
+    ensures folder { loaded.new.folder.now ≡ loaded.old.folder.now }
+    ensures manager { loaded.new.policy.manager ≡ loaded.old.policy.manager }
+    ensures places { loaded.new.policy.origins.items ≡ loaded.old.policy.origins.items }
+{
+    let asked = most_asked_first(teller.alloc, tallies)?;
+    for tally in asked {
+        loaded.policy.manager.remember(&tally.question.question());
+    }
+    Ok(())
+}
+
 /// The rules with which the requests of logs are allowed that lack something of a folder of policy that was read, told in a form
 /// (`aatry_log_rules::push_rules`). Before them stand the files that are left out, where they are told, and behind them the first lines that can't be read,
 /// and what sums up; on lines as comments, so that what isn't one is a rule. It notes what `log` notes, and
-/// one failed where `log` has it so.
+/// one failed where `log` has it so. Wider rules are offered beside them where these are asked for.
 ///
 /// # Errors
 ///
@@ -54,19 +75,27 @@ fn push_behind(
 pub fn log_rules(
     teller: Teller,
     folder: &PolicyFolder<'_>,
-    strict: bool,
+    telling: LogTelling,
     logs: &LogRequests<'_>,
 ) -> Result<Report, AllocError>
-    ensures { IfOk result (λ report. AreLogRulesTold teller.form teller.verbose (seen_folder folder.now) strict (seen_logs logs.now) (seen_report report)) }
+    ensures { IfOk result (λ report. AreLogRulesTold (meant_telling telling) teller.form teller.verbose (seen_folder folder.now) (seen_logs logs.now)
+        (seen_report report)) }
 {
     let mut report = Report::new(teller.alloc);
-    let loaded = load_folder(teller, folder, &mut report)?;
+    let mut loaded = load_folder(teller, folder, &mut report)?;
+    remember_all(teller, &mut loaded, &logs.requests.tallies)?;
     let mut text = Vec::new(teller.alloc);
     push_aside(teller.form, &report.text, &mut text)?;
-    let nobody = push_rules(teller, &loaded, &logs.requests.tallies, &mut text)?;
+    let nobody = push_rules(
+        teller,
+        telling.globs,
+        &loaded,
+        &logs.requests.tallies,
+        &mut text,
+    )?;
     push_behind(teller, logs, nobody, &mut text)?;
     report.text = text;
     push_logs_note(logs, nobody, &mut report.notes)?;
-    report.failed = failed_by(passes(strict, logs, nobody));
+    report.failed = failed_by(passes(telling.strict, logs, nobody));
     Ok(report)
 }

@@ -1,8 +1,10 @@
 -- Rules to add, as they are told.
-use Rattle.std.specs.Prelude.{ℕ, List, [], ◌∷◌, ◌++◌, codes}
+use Rattle.std.specs.Prelude.{ℕ, List, [], ◌∷◌, ◌++◌, codes, Option}
 use Rattle.serde_json.specs.Data.{Members}
 use Rattle.aa_bytes.specs.Bytes.{line_feed}
 use Rattle.aa_profile_data.specs.declared.profile.Rule.{Rule}
+use Rattle.aatry_log_rules.specs.Wider.{with_wider}
+use Rattle.aatry_log_wants.specs.Wanted.{Wanted}
 use Rattle.aatry_report.specs.Records.{record_line, record_of, with_number, with_text}
 use Rattle.aatry_report.specs.declared.form.Form.{Form}
 use Rattle.aatry_report.specs.declared.form.Form.TheVariants.{Lines, Records}
@@ -17,13 +19,13 @@ asked_text times = codes "asked " ++ times_text times
 abbrev pub rule_line : Rule → ℕ → List ℕ
 rule_line rule times = codes "  " ++ shown_missing rule ++ codes "  # " ++ asked_text times ++ line_feed ∷ []
 
--- its record
-abbrev pub rule_record : List ℕ → List ℕ → Rule → ℕ → Members
-rule_record path who rule times =
-    with_number (codes "times") times (with_text (codes "file") path (with_text (codes "profile") who
-    (with_text (codes "rule") (pasted_rule rule) (record_of (codes "missing")))))
+-- its record, with the wider one, if there is one
+abbrev pub rule_record : List ℕ → List ℕ → Rule → ℕ → Option (List ℕ) → Members
+rule_record path who rule times wider =
+    with_wider wider (with_number (codes "times") times (with_text (codes "file") path (with_text (codes "profile") who
+    (with_text (codes "rule") (pasted_rule rule) (record_of (codes "missing"))))))
 
--- a rule to add to who asks, by the path of the file, in a form
-abbrev pub rule_text : Form → List ℕ → List ℕ → Rule → ℕ → List ℕ
-rule_text Lines path who rule times = rule_line rule times
-rule_text Records path who rule times = record_line (rule_record path who rule times)
+-- a rule to add for what is wanted, by the path of the file, in a form
+abbrev pub rule_text : Form → List ℕ → Wanted → Rule → Option (List ℕ) → List ℕ
+rule_text Lines path wanted rule wider = rule_line rule wanted.times
+rule_text Records path wanted rule wider = record_line (rule_record path wanted.who rule wanted.times wider)

@@ -11,6 +11,7 @@ use Rattle.aatry_log_rules.specs.declared.telling_by.RuleTelling.{RuleTelling}
 abbrev pub seen_telling : RuleTelling → Telling
 seen_telling telling = record {
   form = telling.teller.form;
+  globs = telling.globs;
   base = telling.base.now;
   origins = telling.origins.now;
   entries = filled telling.slots.now;

@@ -1,5 +1,5 @@
 -- What is told of the rules with which the requests of logs are allowed (docs/aatry.md).
-use Rattle.std.specs.Prelude.{◌≡◌, ℕ, List, [], ◌∷◌, ◌++◌, if◌then◌else◌, Option, None, Some, flat_map, map}
+use Rattle.std.specs.Prelude.{◌≡◌, ℕ, Bool, List, [], ◌∷◌, ◌++◌, if◌then◌else◌, Option, None, Some, flat_map, map}
 use Rattle.aa_decide_slots.specs.Entries.{Loaded}
 use Rattle.aatry_abstractions.specs.Letting.{IsNarrowestFirst, Letting, lettings}
 use Rattle.aatry_log_wants.specs.Findings.{finding_of}
@@ -8,6 +8,7 @@ use Rattle.aatry_log_wants.specs.Gathered.{IsGathered, Wants}
 use Rattle.aatry_log_rules.specs.Headings.{file_for, heading_text, is_of}
 use Rattle.aatry_log_rules.specs.Offers.{offers}
 use Rattle.aatry_log_rules.specs.Unlet.{question_of, unlet_text}
+use Rattle.aatry_log_rules.specs.Wider.{told_with, wider_for, wider_text}
 use Rattle.aatry_log_wants.specs.Wanted.{IsByWho, Wanted}
 use Rattle.aatry_log_wants.specs.declared.finding.Finding.{Finding}
 use Rattle.aatry_log_wants.specs.declared.finding.Finding.TheVariants as finding
@@ -18,14 +19,19 @@ use Rattle.aatry_report.specs.declared.form.Form.{Form}
 use Rattle.aatry_requests.specs.Tallies.{Tally}
 
 -- what is found for what is wanted, by the path of the file: the rule, or why there is none
-abbrev pub finding_text : Form → List ℕ → Wanted → Finding → List ℕ
-finding_text form path wanted (finding.Missing rule) = rule_text form path wanted.who rule wanted.times
-finding_text form path wanted (finding.None reason) = unlet_text form reason (question_of wanted) wanted.times
+abbrev pub finding_text : Form → List ℕ → Wanted → Finding → Option (List ℕ) → List ℕ
+finding_text form path wanted (finding.Missing rule) wider = rule_text form path wanted rule wider
+finding_text form path wanted (finding.None reason) wider = unlet_text form reason (question_of wanted) wanted.times
 
--- What the telling of rules goes by: its form, the folder's path, where its profiles were read, the policy set, all that is wanted, and the abstractions
+-- the same with the wider rule behind it, if one is asked for, there is one, and it isn't told yet
+abbrev pub found_text : Form → List ℕ → Wanted → Finding → Option (List ℕ) → List (List ℕ) → List ℕ
+found_text form path wanted found wider told = finding_text form path wanted found wider ++ wider_text form told wider
+
+-- What the telling of rules goes by: its form, whether wider rules are asked for, the folder's path, where its profiles were read, the policy set, all that is wanted, and the abstractions
 -- that let some of it.
 pub record Telling : Type 0 where
   pub form : Form
+  pub globs : Bool
   pub base : List ℕ
   pub origins : List Origin
   pub entries : List Loaded
@@ -40,16 +46,33 @@ opening telling path who = heading_text telling.form path who ++ offers telling.
 abbrev pub opening_behind : Telling → Option (List ℕ) → List ℕ → List ℕ → List ℕ
 opening_behind telling last path who = if is_of last who then [] else opening telling path who
 
--- what is wanted, below whose it is, where what came last was of somebody else
-abbrev pub wanted_text : Telling → Option (List ℕ) → Wanted → List ℕ
-wanted_text telling last wanted =
+-- the wider rules that are told of who asks: none yet, where what came last was of somebody else
+abbrev pub told_of : Option (List ℕ) → List ℕ → List (List ℕ) → List (List ℕ)
+told_of last who told = if is_of last who then told else []
+
+-- what is found for what is wanted, and the wider rule than that, if there is one and it is asked for
+abbrev pub found_for : Telling → Wanted → Finding
+found_for telling wanted = finding_of telling.entries wanted
+
+abbrev pub wider_of : Telling → Wanted → Option (List ℕ)
+wider_of telling wanted = wider_for telling.globs wanted.request (found_for telling wanted)
+
+-- What is wanted, below whose it is, where what came last was of somebody else; these wider rules are told of what came last.
+abbrev pub wanted_text : Telling → Option (List ℕ) → List (List ℕ) → Wanted → List ℕ
+wanted_text telling last told wanted =
     let path = file_for telling.base telling.origins wanted.who in
-    opening_behind telling last path wanted.who ++ finding_text telling.form path wanted (finding_of telling.entries wanted)
+    opening_behind telling last path wanted.who
+    ++ found_text telling.form path wanted (found_for telling wanted) (wider_of telling wanted) (told_of last wanted.who told)
+
+-- the wider rules that are told of who asks then
+abbrev pub told_behind : Telling → Option (List ℕ) → List (List ℕ) → Wanted → List (List ℕ)
+told_behind telling last told wanted = told_with (wider_of telling wanted) (told_of last wanted.who told)
 
 -- all of it, in this order
-abbrev pub wanted_texts : Telling → Option (List ℕ) → List Wanted → List ℕ
-wanted_texts telling last [] = []
-wanted_texts telling last (wanted ∷ more) = wanted_text telling last wanted ++ wanted_texts telling (Some wanted.who) more
+abbrev pub wanted_texts : Telling → Option (List ℕ) → List (List ℕ) → List Wanted → List ℕ
+wanted_texts telling last told [] = []
+wanted_texts telling last told (wanted ∷ more) =
+    wanted_text telling last told wanted ++ wanted_texts telling (Some wanted.who) (told_behind telling last told wanted) more
 
 -- a request of which a rule denies something
 abbrev pub denied_one : Form → Tally → List ℕ
@@ -63,9 +86,10 @@ abbrev pub AreOffered : Folder → List Wanted → List Letting → Type 0
 AreOffered folder wanted found = IsNarrowestFirst (lettings folder.language folder.files (map (λ one. one.request) wanted)) found
 
 -- the telling of what is wanted in a folder, in this order, with these abstractions
-abbrev pub telling_of : Form → Folder → List Wanted → List Letting → Telling
-telling_of form folder wanted found = record {
+abbrev pub telling_of : Form → Bool → Folder → List Wanted → List Letting → Telling
+telling_of form globs folder wanted found = record {
   form = form;
+  globs = globs;
   base = folder.base;
   origins = origins_in folder;
   entries = policy_in folder;
@@ -73,14 +97,14 @@ telling_of form folder wanted found = record {
   lettings = found;
 }
 
--- Behind a text stand the rules with which some requests are allowed that lack something, by who asks, with abstractions that let some, and those of which a rule denies something; so many
--- nobody asks who is in the folder.
-pub record AreRulesTold (form : Form) (folder : Folder) (tallies : List Tally) (before text : List ℕ) (nobody : ℕ) : Type 0 where
+-- Behind a text stand the rules with which some requests are allowed that lack something, by who asks, with abstractions that let some, and with wider
+-- rules where these are asked for, and those of which a rule denies something; so many nobody asks who is in the folder.
+pub record AreRulesTold (form : Form) (globs : Bool) (folder : Folder) (tallies : List Tally) (before text : List ℕ) (nobody : ℕ) : Type 0 where
   pub wants : Wants
   pub gathered : IsGathered (policy_in folder) tallies wants
   pub wanted : List Wanted
   pub order : IsByWho wants.wanted wanted
   pub found : List Letting
   pub offered : AreOffered folder wanted found
-  pub text_is : text ≡ before ++ wanted_texts (telling_of form folder wanted found) None wanted ++ denied_text form wants.denied
+  pub text_is : text ≡ before ++ wanted_texts (telling_of form globs folder wanted found) None [] wanted ++ denied_text form wants.denied
   pub counted : nobody ≡ wants.nobody

@@ -7,5 +7,6 @@ mod offers;
 mod telling;
 mod telling_by;
 mod unlet;
+mod wider;
 
 pub use telling::push_rules;

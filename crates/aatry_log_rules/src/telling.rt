@@ -1,13 +1,15 @@
 //! The rules with which the requests of logs are allowed, as they are told.
 
-ghost use Rattle.std.specs.Prelude.{◌≡◌, ◌++◌, IfOk, List, None, OnOk, map};
-ghost use Rattle.std.specs.Option.{option_copied};
+ghost use Rattle.std.specs.Prelude.{◌≡◌, ◌++◌, [], IfOk, List, None, OnOk, map};
+ghost use Rattle.std.specs.Option.{option_copied, option_map};
 ghost use Rattle.aa_profile_access.specs.SeenRequests.{request_of};
 ghost use Rattle.aatry_abstractions.specs.Letting.{IsNarrowestFirst, Letting, lettings};
 ghost use Rattle.aatry_abstractions.specs.SeenLetting.{seen_letting};
 ghost use Rattle.aatry_log_rules.specs.SeenTelling.{seen_telling};
 ghost use Rattle.aatry_log_wants.specs.SeenWanted.{seen_wanted};
-ghost use Rattle.aatry_log_rules.specs.Told.{AreOffered, AreRulesTold, denied_text, finding_text, opening_behind, telling_of, wanted_text, wanted_texts};
+ghost use Rattle.aatry_log_rules.specs.Told.{AreOffered, AreRulesTold, denied_text, finding_text, found_for, found_text, opening_behind, told_behind, told_of};
+ghost use Rattle.aatry_log_rules.specs.Told.{telling_of, wanted_text, wanted_texts, wider_of};
+ghost use Rattle.aatry_log_rules.specs.Wider.{told_with};
 ghost use Rattle.aatry_policy.specs.Folders.{loaded_in, origins_in, seen_folder};
 ghost use Rattle.aatry_requests.specs.SeenTallies.{seen_all};
 
@@ -16,6 +18,7 @@ use crate::headings::{file_for, is_of, push_heading};
 use crate::offers::push_offers;
 use crate::telling_by::RuleTelling;
 use crate::unlet::{push_unlet, question_of};
+use crate::wider::{WiderTold, wider_for};
 use aa_profile_access::Request;
 use aatry_abstractions::{LettingAbstraction, letting_abstractions};
 use aatry_folder::PolicyFolder;
@@ -25,18 +28,20 @@ use aatry_report::Teller;
 use aatry_requests::{Tallies, Tally};
 use std::alloc::{AllocError, Global};
 
-// Appends what is found for what is wanted to a text, by the path of the file.
+// Appends what is found for what is wanted to a text, by the path of the file, as a record with the wider rule, if there is one.
 fn push_finding(
     teller: Teller,
     path: &[u8],
     wanted: &Wanted<'_>,
     finding: &Finding,
+    wider: Option<&[u8]>,
     out: &mut Vec<u8>,
 ) -> Result<(), AllocError>
-    ensures { OnOk result (out.new.items ≡ out.old.items ++ finding_text teller.form path.now (seen_wanted wanted.now) finding.now) }
+    ensures { OnOk result (out.new.items
+        ≡ out.old.items ++ finding_text teller.form path.now (seen_wanted wanted.now) finding.now (option_copied wider.entry)) }
 {
     match finding {
-        Finding::Missing(rule) => push_rule(teller, path, wanted.who, rule, wanted.times, out),
+        Finding::Missing(rule) => push_rule(teller, path, wanted, rule, wider, out),
         Finding::None(reason) => push_unlet(
             teller,
             *reason,
@@ -45,6 +50,36 @@ fn push_finding(
             out,
         ),
     }
+}
+
+// The bytes of a text, if there is one.
+fn as_slice(text: &Option<Vec<u8>>) -> Option<&[u8]>
+    ensures { option_copied result ≡ option_map (λ text. text.items) text.now }
+{
+    match text {
+        None => None,
+        Some(text) => Some(text.as_slice()),
+    }
+}
+
+// Appends what is found for what is wanted to a text, by the path of the file, with the wider rule behind it that is asked for, if there is one, and it isn't
+// told yet.
+fn push_found(
+    telling: &RuleTelling<'_, '_>,
+    path: &[u8],
+    wanted: &Wanted<'_>,
+    told: &mut WiderTold,
+    out: &mut Vec<u8>,
+) -> Result<(), AllocError>
+    ensures text { OnOk result (out.new.items ≡ out.old.items ++ found_text telling.now.teller.form path.now (seen_wanted wanted.now)
+        (found_for (seen_telling telling.now) (seen_wanted wanted.now)) (wider_of (seen_telling telling.now) (seen_wanted wanted.now)) told.old) }
+    ensures told { OnOk result (told.new ≡ told_with (wider_of (seen_telling telling.now) (seen_wanted wanted.now)) told.old) }
+{
+    let teller = telling.teller;
+    let finding = finding_of(teller.alloc, telling.slots, wanted)?;
+    let wider = wider_for(teller.alloc, telling.globs, &wanted.request, &finding)?;
+    push_finding(teller, path, wanted, &finding, as_slice(&wider), out)?;
+    told.push(teller.form, wider, out)
 }
 
 // Appends to a text whose rules come next, and the abstractions that let some of them, where what came last was of somebody else.
@@ -64,30 +99,38 @@ fn push_opening_behind(
     push_offers(telling, path, who, out)
 }
 
-// Appends what is wanted to a text, below whose it is, where what came last was of somebody else.
+// Appends what is wanted to a text, below whose it is, where what came last was of somebody else; these wider rules are told of what came last.
 fn push_wanted(
     telling: &RuleTelling<'_, '_>,
     last: Option<&[u8]>,
+    told: &mut WiderTold,
     wanted: &Wanted<'_>,
     out: &mut Vec<u8>,
 ) -> Result<(), AllocError>
-    ensures { OnOk result (out.new.items ≡ out.old.items ++ wanted_text (seen_telling telling.now) (option_copied last.entry) (seen_wanted wanted.now)) }
+    ensures text { OnOk result (out.new.items
+        ≡ out.old.items ++ wanted_text (seen_telling telling.now) (option_copied last.entry) told.old (seen_wanted wanted.now)) }
+    ensures told { OnOk result (told.new ≡ told_behind (seen_telling telling.now) (option_copied last.entry) told.old (seen_wanted wanted.now)) }
 {
-    let alloc = telling.teller.alloc;
-    let path = file_for(alloc, telling.base, telling.origins, wanted.who)?;
+    let path = file_for(
+        telling.teller.alloc,
+        telling.base,
+        telling.origins,
+        wanted.who,
+    )?;
     push_opening_behind(telling, last, &path, wanted.who, out)?;
-    let finding = finding_of(alloc, telling.slots, wanted)?;
-    push_finding(telling.teller, &path, wanted, &finding, out)
+    told.pass_to(last, wanted.who);
+    push_found(telling, &path, wanted, told, out)
 }
 
 // Appends all of what is wanted to a text, in its order.
 fn push_all_wanted(telling: &RuleTelling<'_, '_>, out: &mut Vec<u8>) -> Result<(), AllocError>
-    ensures { OnOk result (out.new.items ≡ out.old.items ++ wanted_texts (seen_telling telling.now) None (seen_telling telling.now).wanted) }
+    ensures { OnOk result (out.new.items ≡ out.old.items ++ wanted_texts (seen_telling telling.now) None [] (seen_telling telling.now).wanted) }
 {
     let mut last: Option<&[u8]> = None;
+    let mut told = WiderTold::new(telling.teller.alloc);
     let mut rest = telling.wanted;
     while let [one, behind @ ..] = rest {
-        push_wanted(telling, last, one, out)?;
+        push_wanted(telling, last, &mut told, one, out)?;
         last = Some(one.who);
         rest = behind;
     }
@@ -123,6 +166,7 @@ fn abstractions_for(
 // Appends all of what is wanted of the profiles of a loaded folder to a text, in its order, with the abstractions that let some of it.
 fn push_told(
     teller: Teller,
+    globs: bool,
     loaded: &LoadedFolder<'_>,
     wanted: &[Wanted<'_>],
     out: &mut Vec<u8>,
@@ -131,12 +175,13 @@ fn push_told(
     requires origins { loaded.now.policy.origins.items ≡ origins_in (seen_folder loaded.now.folder.now) }
     ensures { OnOk result ((found : List Letting) × AreOffered (seen_folder loaded.now.folder.now) (map seen_wanted wanted.now) found
         × (out.new.items ≡ out.old.items
-        ++ wanted_texts (telling_of teller.form (seen_folder loaded.now.folder.now) (map seen_wanted wanted.now) found) None (map seen_wanted wanted.now))) }
+        ++ wanted_texts (telling_of teller.form globs (seen_folder loaded.now.folder.now) (map seen_wanted wanted.now) found) None [] (map seen_wanted wanted.now))) }
 {
     let slots = loaded.policy.manager.policy_set().slots();
     let abstractions = abstractions_for(teller.alloc, loaded.folder, wanted)?;
     let telling = RuleTelling {
         teller,
+        globs,
         base: loaded.folder.base.as_bytes(),
         origins: &loaded.policy.origins,
         slots: &slots,
@@ -172,20 +217,22 @@ fn push_denied(
 /// owner's; and one for each capability, and for each type of sockets. Ahead of them stand the abstractions of the folder that let some of what they are
 /// for (`aatry_abstractions::letting_abstractions`). In its place stands a comment, where a rule is in the way of it, or it can't be written. Behind all of
 /// them stands a comment for each request of which a rule denies something. As records these are of the kinds `abstraction`, `missing` and
-/// `no_rule`.
+/// `no_rule`. Where wider rules are asked for, one stands in a comment behind each rule on a path of which something is widened
+/// (`aatry_log_globs::wider`), unless the same one stands behind another rule of the same name ahead of it; as records each is in that of its rule.
 ///
 /// # Errors
 ///
 /// Where memory runs out. A beginning may have been appended then.
 pub fn push_rules(
     teller: Teller,
+    globs: bool,
     loaded: &LoadedFolder<'_>,
     tallies: &Tallies<'_>,
     out: &mut Vec<u8>,
 ) -> Result<usize, AllocError>
     requires set { loaded.now.policy.manager ≡ loaded_in (seen_folder loaded.now.folder.now) }
     requires origins { loaded.now.policy.origins.items ≡ origins_in (seen_folder loaded.now.folder.now) }
-    ensures { IfOk result (λ nobody. AreRulesTold teller.form (seen_folder loaded.now.folder.now) tallies.now out.old.items out.new.items nobody) }
+    ensures { IfOk result (λ nobody. AreRulesTold teller.form globs (seen_folder loaded.now.folder.now) tallies.now out.old.items out.new.items nobody) }
 {
     let slots = loaded.policy.manager.policy_set().slots();
     let RuleWants {
@@ -194,7 +241,7 @@ pub fn push_rules(
         nobody,
     } = gather_wants(teller.alloc, &slots, tallies)?;
     let wanted = wanted.by_who(teller.alloc)?;
-    push_told(teller, loaded, &wanted, out)?;
+    push_told(teller, globs, loaded, &wanted, out)?;
     push_denied(teller, denied, out)?;
     Ok(nobody)
 }

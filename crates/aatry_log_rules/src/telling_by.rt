@@ -11,6 +11,8 @@ use aatry_report::Teller;
 pub struct RuleTelling<'l, 't> {
     /// In which form it is told.
     pub teller: Teller,
+    /// Whether wider rules are asked for.
+    pub globs: bool,
     /// The path of the folder of policy.
     pub base: &'l [u8],
     /// Where the loaded profiles were read.

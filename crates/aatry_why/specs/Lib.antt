@@ -6,4 +6,5 @@ pub mod Meant
 pub mod Sources
 pub mod Transitions
 pub mod Unasked
+pub mod Uncertain
 pub mod Why

@@ -34,6 +34,7 @@ use Rattle.aatry_requests.specs.Questions.{rule_request}
 use Rattle.aatry_why.specs.How.{confinement_of, how_lines}
 use Rattle.aatry_why.specs.Meant.{meant_name}
 use Rattle.aatry_why.specs.Unasked.{unasked_lines}
+use Rattle.aatry_why.specs.Uncertain.{uncertain_in}
 use Rattle.aatry_why_lines.specs.Why.{why_lines}
 use Rattle.aatry_report.specs.Records.{record_line, record_of, with_text}
 use Rattle.aatry_report.specs.Refusals.{with_named_refusal}
@@ -120,11 +121,12 @@ has_answer entries question = is_ok (answered entries question)
 abbrev pub sources_in : Folder → Question → Sources
 sources_in folder question = record { below = below folder; origin = asked_origin (origins_in folder) question }
 
--- The words ask a question of the policy set of a folder, and a text tells the files that are left out, at length or not, and what is answered.
+-- The words ask a question of the policy set of a folder, and a text tells the files that are left out, at length or not, what is answered, and on which
+-- profiles of files that are left out that could hang.
 abbrev pub IsWhyTold : Form → Bool → Folder → List (List ℕ) → List ℕ → Bool → Type 0
 IsWhyTold form verbose folder words text found =
     (question : Question) × (asked_by words ≡ Some question)
-    × (text ≡ left_out_in form verbose folder ++ answered_text form (sources_in folder question) (policy_in folder) question)
+    × (text ≡ left_out_in form verbose folder ++ answered_text form (sources_in folder question) (policy_in folder) question ++ uncertain_in form folder question)
     × (found ≡ has_answer (policy_in folder) question)
 
 -- The question was asked of the files at the top of the folder, with all that lies below it, by a language: the text tells its answer and the rules

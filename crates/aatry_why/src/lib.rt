@@ -12,6 +12,7 @@ mod replies;
 mod sources;
 mod transition;
 mod unasked;
+mod uncertain;
 mod why;
 
 pub use laws::which_rules_why_tells;

@@ -23,6 +23,7 @@ use crate::meant::meant_name;
 use crate::replies::{is_lacking, push_refused, push_reply};
 use crate::sources::{Sources, asked_origin, written_by};
 use crate::unasked::push_unasked;
+use crate::uncertain::push_uncertain;
 use aa_decide::{Asker, Confinement};
 use aa_profile_access::Request;
 use aa_profile_parsing::Language;
@@ -227,7 +228,10 @@ fn told_of(teller: Teller, folder: &PolicyFolder<'_>, words: &[String]) -> Resul
     };
     let mut report = Report::new(teller.alloc);
     let mut loaded = load_folder(teller, folder, &mut report)?;
+    let mut uncertain = Vec::new(teller.alloc);
+    push_uncertain(teller, &loaded, &asked.question(), &mut uncertain)?;
     let found = push_asked(teller, &mut loaded, &asked.question(), &mut report.text)?;
+    report.text.append(&mut uncertain)?;
     report.failed = failed_by(found);
     Ok(report)
 }
@@ -239,6 +243,7 @@ fn told_of(teller: Teller, folder: &PolicyFolder<'_>, words: &[String]) -> Resul
 /// place where it is written (`aatry_why_lines`); where something isn't allowed, the rule that is missing and the nearest ones too; and of the start
 /// of a program where its transition leads and what its path may be attached to. Where who asks is in mode unconfined, it is told in place of rules
 /// that none is asked. Where nobody of the name is loaded, the refusal is told, and one failed; and the loaded name that may have been meant, if one is near.
+/// Behind all stand the profiles of files that are left out on which the answer could hang (`push_uncertain`).
 ///
 /// As records, the reply is one of the kind `answer`, with the texts `answer` and `audit`, the line that logs it, which
 /// is empty where none does; and a refusal is one of the kind `refused`, with `number` and `refusal`, and with `near`,

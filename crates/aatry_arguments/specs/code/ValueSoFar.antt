@@ -1,18 +1,8 @@
 -- How far the reading of an option's value has come.
-use Rattle.std.specs.Prelude.{ℕ, List, ◌++◌, Option, option_map, map, string_bytes}
+use Rattle.std.specs.Prelude.{ℕ, List, ◌++◌, Option, option_map}
 use Rattle.aatry_arguments.specs.Values.{ValueOption, WithValue, value_in}
-use Rattle.aatry_arguments.specs.declared.values.NamedOption.{NamedOption}
-use Rattle.aatry_arguments.specs.declared.values.WithValue.{WithValue as CodeValue}
 
--- an option of the code
-abbrev pub seen_option : NamedOption → ValueOption
-seen_option option = record { word = option.word.now; opening = option.opening.now }
-
--- what words say, as the code holds it
-abbrev pub seen_value : CodeValue → WithValue
-seen_value read = record { value = option_map (λ value. value.items) read.value; words = map string_bytes read.words.items }
-
--- the same with words before those that are left
+-- what words say, with words before those that are left
 abbrev pub with_words : List (List ℕ) → WithValue → WithValue
 with_words words read = record { value = read.value; words = words ++ read.words }
 

@@ -1,14 +1,15 @@
 -- What is found of one question, and what is told of folders by what is found.
 use Rattle.std.specs.Prelude.{ℕ, Bool, ◌==◌, ◌&&◌, if◌then◌else◌, List, [], ◌∷◌, ◌++◌, Option, None, Some, length}
 use Rattle.aa_decide_slots.specs.Entries.{Loaded}
-use Rattle.aatry_changes.specs.Changes.{change_lines}
 use Rattle.aatry_changes.specs.PartChanges.{changed_count}
+use Rattle.aatry_diff.specs.Comparing.{parts_text}
 use Rattle.aatry_diff.specs.Differing.{Difference, difference_of, differs}
 use Rattle.aatry_diff.specs.Folders.{BothFolders}
 use Rattle.aatry_diff.specs.Sources.{told_requests}
 use Rattle.aatry_report.specs.declared.form.Form.{Form}
 use Rattle.aatry_requests.specs.Gathering.{Gathered}
 use Rattle.aatry_requests.specs.Tallies.{Tally}
+use Rattle.aatry_uncertain.specs.LeftOutHeads.{LeftOutHead}
 
 -- the question with what the policy sets answer, where they answer it otherwise
 abbrev pub difference_if : List Loaded → List Loaded → Tally → List Difference
@@ -19,9 +20,10 @@ abbrev pub difference_at : List Loaded → List Loaded → Option Tally → List
 difference_at old new None = []
 difference_at old new (Some tally) = difference_if old new tally
 
--- what is told of two folders, of whose policy sets this is found
-abbrev pub compared_text : Form → BothFolders → Option Gathered → List Difference → List ℕ
-compared_text form folders requests found = change_lines form folders.old folders.new ++ told_requests form folders requests found
+-- what is told of two folders, of whose policy sets this is found, where files with these heads are left out of the new one
+unfoldable pub compared_text : Form → Bool → List LeftOutHead → BothFolders → Option Gathered → List Difference → List ℕ
+compared_text form stat heads folders requests found =
+    parts_text form stat heads folders.old folders.new ++ told_requests form stat folders requests found
 
 -- nothing differs of them
 abbrev pub nothing_differs : BothFolders → List Difference → Bool

@@ -2,7 +2,8 @@ use Rattle.std.proofs.Common.{◌≡◌, ◌∙◌, ◌++◌, ◌∷◌, [], ℕ
 use Rattle.std.proofs.lemmas.List.{map-append}
 use Rattle.std.specs.Option.{option_map}
 use Rattle.aatry_arguments.specs.Languages.{ends_options}
-use Rattle.aatry_arguments.specs.code.ValueSoFar.{read_behind, seen_option}
+use Rattle.aatry_arguments.specs.SeenValues.{seen_option}
+use Rattle.aatry_arguments.specs.code.ValueSoFar.{read_behind}
 use Rattle.aatry_arguments.proofs.ValueLemmas.{word_kept}
 use Rattle.aatry_arguments.proofs.values.read_word.Goals as goal
 

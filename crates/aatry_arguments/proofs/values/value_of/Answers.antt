@@ -1,6 +1,7 @@
 use Rattle.std.proofs.Common.{◌≡◌, ◌∙◌, ◌∷◌, ◌-◌, ℕ, List, Option, ap, drop, length, map, string_bytes, sym, take}
 use Rattle.std.specs.Option.{option_map}
-use Rattle.aatry_arguments.specs.code.ValueSoFar.{read_behind, seen_option}
+use Rattle.aatry_arguments.specs.SeenValues.{seen_option}
+use Rattle.aatry_arguments.specs.code.ValueSoFar.{read_behind}
 use Rattle.aatry_arguments.proofs.LanguageLemmas.{parts_of}
 use Rattle.aatry_arguments.proofs.values.value_of.Goals as goal
 

@@ -1,7 +1,8 @@
 use Rattle.std.proofs.Common.{◌≡◌, length, map, string_bytes}
 use Rattle.std.specs.Option.{option_map}
 use Rattle.aatry_arguments.specs.Values.{value_of}
-use Rattle.aatry_arguments.specs.code.ValueSoFar.{read_behind, seen_option}
+use Rattle.aatry_arguments.specs.SeenValues.{seen_option}
+use Rattle.aatry_arguments.specs.code.ValueSoFar.{read_behind}
 use Rattle.aatry_arguments.proofs.values.value_of.Given as goal
 
 -- the others so far stand before what the words that are left say

@@ -8,4 +8,4 @@ use Rattle.aatry_policy.specs.FolderParts.{seen_folder}
 pub returns-clause-count : goal.returns-clause-count
 returns-clause-count c =
     c.len.ensures ∙ c.in_ok-changes.changes.ok.0 ∙ sym (length-map c.in_ok-changes.changes.items seen_change)
-    ∙ ap length c.in_ok-changes.ensures ∙ changes-counted (seen_folder c.args.old.now) (seen_folder c.args.new.now)
+    ∙ ap length c.in_ok-changes.ensures ∙ changes-counted (seen_folder c.args.compared.now.old.now) (seen_folder c.args.compared.now.new.now)

@@ -15,8 +15,8 @@ returns-clause-of_a_part c new part none =
     )
 
 pub returns-clause-of_all : goal.returns-clause-of_all
-returns-clause-of_all c form old new part none there =
-    let (other, found, alike) = c.when_nothing_is_told.ensures.only_of_alike new part (old-untold form old new none part there) in
+returns-clause-of_all c form heads old new part none there =
+    let (other, found, alike) = c.when_nothing_is_told.ensures.only_of_alike new part (old-untold form heads old new none part there) in
     let law = c.sections_alike_answer_alike.ensures in (
       other,
       found,

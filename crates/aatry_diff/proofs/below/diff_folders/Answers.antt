@@ -28,6 +28,6 @@ returns-clause-told g c =
     (subst (λ (path : List ℕ). AreTop folders path (tried_names (names_of before.files) before.unread.items) (map seen_top before.top.items)) old-path c.in_ok-before.ensures.top)
     (subst (λ (path : List ℕ). AreTop folders path (tried_names (names_of after.files) after.unread.items) (map seen_top after.top.items)) new-path c.in_ok-after.ensures.top)
     c.in_ok-found.ensures.gathered
-    (c.in_ok-diff.ensures.told ∙ ap (diff_text form verbose (seen_folder before) (seen_folder after)) c.source_of.ensures)
+    (c.in_ok-diff.ensures.told ∙ ap (diff_text form verbose c.args.asked.stat (seen_folder before) (seen_folder after)) c.source_of.ensures)
     c.in_ok-diff.ensures.noted
     (c.in_ok-diff.ensures.failed ∙ ap (λ requests. failed_by (is_unchanged (seen_folder before) (seen_folder after) requests)) c.source_of.ensures)

@@ -1,0 +1,3 @@
+pub mod OutcomeLemmas
+pub mod PathLemmas
+pub mod StandLemmas

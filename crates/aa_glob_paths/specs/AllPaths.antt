@@ -1,0 +1,40 @@
+-- What is told of all paths: which patterns match one of them together.
+use Rattle.std.specs.Prelude.{◌≡◌, ◌↔◌, ℕ, ◌<◌, ◌≤◌, List, length, All, AllPairs, Contains}
+use Rattle.aa_glob_nfa.specs.Graphs.{AreBytes}
+use Rattle.aa_glob_pairs.specs.Graphs.{class_at}
+use Rattle.aa_glob_sets.specs.Wanted.{wanted_class}
+use Rattle.aa_glob_syntax.specs.Patterns.{AreMatching}
+use Rattle.aa_glob_paths.specs.declared.outcome.Outcome.{Outcome}
+
+-- the same places, in whatever order they are told
+abbrev pub SamePlaces : List ℕ → List ℕ → Type 0
+SamePlaces places others = (p : ℕ) → Contains places p ↔ Contains others p
+
+-- one of the patterns is wanted
+abbrev pub IsWanted : List ℕ → List ℕ → Type 0
+IsWanted classes places = (p : ℕ) × Contains places p × (class_at classes p ≡ wanted_class)
+
+-- an outcome has these places, and its path is no longer than this one
+abbrev pub HasPlaces : List Outcome → List ℕ → List ℕ → Type 0
+HasPlaces outcomes path places = (o : Outcome) × Contains outcomes o × SamePlaces o.places.items places × (length o.path.items ≤ length path)
+
+-- Its path is one, and its places, in rising order, are those of the patterns that match it. One of these is wanted.
+pub record IsOutcome (patterns : List (List ℕ)) (classes : List ℕ) (o : Outcome) : Type 0 where
+  pub bytes : AreBytes o.path.items
+  pub matching : AreMatching patterns o.path.items o.places.items
+  pub rise : AllPairs (λ p q. p < q) o.places.items
+  pub wanted : IsWanted classes o.places.items
+
+-- each path has the places of one of the outcomes, whose own path is no longer, as far as a pattern that is wanted matches
+abbrev pub EachPathHasPlaces : List (List ℕ) → List ℕ → List Outcome → Type 0
+EachPathHasPlaces patterns classes outcomes =
+    (path places : List ℕ) → AreBytes path → AreMatching patterns path places → IsWanted classes places → HasPlaces outcomes path places
+
+-- These tell of all paths of bytes which patterns match them, as far as a pattern that is wanted matches: each such path has the places of one of
+-- them, and each of them has such a path. No two have the same places, so no shorter path has those of one of them. Those with shorter paths stand
+-- first.
+pub record TellAllPaths (patterns : List (List ℕ)) (classes : List ℕ) (outcomes : List Outcome) : Type 0 where
+  pub each_path : EachPathHasPlaces patterns classes outcomes
+  pub each_outcome : All (IsOutcome patterns classes) outcomes
+  pub by_length : AllPairs (λ one later. length one.path.items ≤ length later.path.items) outcomes
+  pub apart : AllPairs (λ one later. SamePlaces one.places.items later.places.items → ⊥) outcomes

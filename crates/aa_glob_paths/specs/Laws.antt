@@ -1,0 +1,48 @@
+-- Paths that stand for all.
+use Rattle.std.specs.Prelude.{◌≡◌, ℕ, ◌≤◌, true, List, length, map, Contains}
+use Rattle.aa_glob_nfa.specs.Graphs.{AreBytes}
+use Rattle.aa_glob_pairs.specs.Graphs.{class_at}
+use Rattle.aa_glob_sets.specs.Wanted.{wanted_class}
+use Rattle.aa_glob_syntax.specs.Matching.{matches}
+use Rattle.aa_glob_syntax.specs.Patterns.{AreMatching, IsPatternAt}
+use Rattle.aa_glob_syntax.specs.Reading.{items_of}
+use Rattle.aa_glob_paths.specs.AllPaths.{TellAllPaths}
+use Rattle.aa_glob_paths.specs.declared.outcome.Outcome.{Outcome}
+
+-- the same patterns match both paths
+abbrev pub AreMatchedAlike : List (List ℕ) → List ℕ → List ℕ → Type 0
+AreMatchedAlike patterns path other =
+    (place : ℕ) (pattern : List ℕ) → IsPatternAt patterns place pattern → matches (items_of pattern) path ≡ matches (items_of pattern) other
+
+-- a pattern that is wanted matches the path
+abbrev pub IsMatchedByWanted : List (List ℕ) → List ℕ → List ℕ → Type 0
+IsMatchedByWanted patterns classes path =
+    (place : ℕ) × (pattern : List ℕ) × IsPatternAt patterns place pattern × (class_at classes place ≡ wanted_class) × (matches (items_of pattern) path ≡ true)
+
+-- another path stands for a path: the same patterns match both, and it is no longer
+pub record StandsFor (patterns : List (List ℕ)) (path other : List ℕ) : Type 0 where
+  pub bytes : AreBytes other
+  pub alike : AreMatchedAlike patterns path other
+  pub no_longer : length other ≤ length path
+
+-- some paths stand for all that a wanted pattern matches
+abbrev pub StandForAllPaths : List (List ℕ) → List ℕ → List (List ℕ) → Type 0
+StandForAllPaths patterns classes paths =
+    (path : List ℕ) → AreBytes path → IsMatchedByWanted patterns classes path → (other : List ℕ) × Contains paths other × StandsFor patterns path other
+
+-- the paths of outcomes
+abbrev pub paths_of : List Outcome → List (List ℕ)
+paths_of outcomes = map (λ o. o.path.items) outcomes
+
+-- the paths of outcomes that tell of all paths stand for all
+abbrev pub OutcomesStandForAll : Type 0
+OutcomesStandForAll =
+    (patterns : List (List ℕ)) (classes : List ℕ) (outcomes : List Outcome)
+    → TellAllPaths patterns classes outcomes → StandForAllPaths patterns classes (paths_of outcomes)
+
+-- no path that has exactly the places of an outcome is shorter than its own
+abbrev pub OutcomesAreShortest : Type 0
+OutcomesAreShortest =
+    (patterns : List (List ℕ)) (classes : List ℕ) (outcomes : List Outcome) (o : Outcome)
+    → TellAllPaths patterns classes outcomes → Contains outcomes o
+    → (path : List ℕ) → AreBytes path → AreMatching patterns path o.places.items → length o.path.items ≤ length path

@@ -1,0 +1,4 @@
+pub mod AllPaths
+pub mod Laws
+pub mod TooMany
+pub mod code

@@ -1,0 +1,112 @@
+//! The outcomes of the sets that live behind texts.
+
+ghost use Rattle.std.specs.Prelude.{◌≡◌, ◌+◌, ◌<◌, length, All, IfOk, IfSome, None, OnOk};
+ghost use Rattle.aa_glob_nfa.specs.OfTables.{AreSound, AreSorted, graph_of};
+ghost use Rattle.aa_glob_pairs.specs.Graphs.{IsLaid};
+ghost use Rattle.aa_glob_pairs.specs.Pairs.{AreClassed};
+ghost use Rattle.aa_glob_sets.specs.Found.{AreByLength, AreFound};
+ghost use Rattle.aa_glob_sets.specs.Reachable.{AreMoreThan};
+ghost use Rattle.aa_glob_paths.specs.code.AllTexts.{AreOutcomesBefore, TellAllTexts, has_wanted};
+ghost use Rattle.aa_glob_paths.specs.code.Kept.{kept_outcomes};
+
+use crate::outcome::Outcome;
+use aa_glob_nfa::Tables;
+use aa_glob_run::patterns_of;
+use aa_glob_sets::{Sets, WANTED, reachable, wanted_states};
+use indexmap::IndexMap;
+use std::alloc::{AllocError, Global};
+
+// Whether one of the patterns at some places is wanted.
+fn has_wanted(classes: &[u32], places: &[usize]) -> bool
+    requires { All (λ p. p < length classes.now) places.now }
+    ensures { result ≡ has_wanted classes.now places.now }
+{
+    for place in places {
+        if classes[*place] == WANTED {
+            return true;
+        }
+    }
+    false
+}
+
+// Appends the patterns of the set of a number to those of the sets before it, with the text that leads to it, if one of them is wanted and they aren't
+// there.
+fn put_outcome(
+    alloc: Global,
+    tables: &Tables,
+    classes: &[u32],
+    sets: &Sets,
+    number: usize,
+    kept: &mut IndexMap<Vec<usize>, Vec<u8>>,
+) -> Result<(), AllocError>
+    requires sound { AreSound tables.now }
+    requires sorted { AreSorted tables.now }
+    requires classed { AreClassed tables.now classes.now }
+    requires found { AreFound (graph_of tables.now) (length tables.now.states) sets.now }
+    requires by_length { AreByLength sets.now }
+    requires within { number < length sets.now }
+    requires before { AreOutcomesBefore (graph_of tables.now) classes.now sets.now number (kept_outcomes kept.old.entries) }
+    ensures { OnOk result (AreOutcomesBefore (graph_of tables.now) classes.now sets.now (number + 1) (kept_outcomes kept.new.entries)) }
+{
+    let places = patterns_of(alloc, tables, sets.set(number))?;
+    if !has_wanted(classes, &places) {
+        return Ok(());
+    }
+    if kept.contains_key(places.as_slice()) {
+        return Ok(());
+    }
+    let path = sets.text(alloc, number)?;
+    kept.insert(places, path)?;
+    Ok(())
+}
+
+// The outcomes that are kept, as a list.
+fn listed(alloc: Global, kept: IndexMap<Vec<usize>, Vec<u8>>) -> Result<Vec<Outcome>, AllocError>
+    ensures { IfOk result (λ outcomes. outcomes.items ≡ kept_outcomes kept.entries) }
+{
+    let mut outcomes = Vec::with_capacity(alloc, kept.len())?;
+    for (places, path) in kept {
+        outcomes.push(Outcome { places, path })?;
+    }
+    Ok(outcomes)
+}
+
+// Those of all sets.
+fn outcomes_of(
+    alloc: Global,
+    tables: &Tables,
+    classes: &[u32],
+    sets: &Sets,
+) -> Result<Vec<Outcome>, AllocError>
+    requires sound { AreSound tables.now }
+    requires sorted { AreSorted tables.now }
+    requires classed { AreClassed tables.now classes.now }
+    requires found { AreFound (graph_of tables.now) (length tables.now.states) sets.now }
+    requires by_length { AreByLength sets.now }
+    ensures { IfOk result (λ outcomes. AreOutcomesBefore (graph_of tables.now) classes.now sets.now (length sets.now) outcomes.items) }
+{
+    let mut kept = IndexMap::new(alloc);
+    for number in 0..sets.len() {
+        put_outcome(alloc, tables, classes, sets, number, &mut kept)?;
+    }
+    listed(alloc, kept)
+}
+
+/// The outcomes of all texts that lead to an end of a wanted pattern; none where there are more sets than a limit.
+pub fn outcomes_in(
+    alloc: Global,
+    tables: &Tables,
+    classes: &[u32],
+    limit: usize,
+) -> Result<Option<Vec<Outcome>>, AllocError>
+    requires classed { AreClassed tables.now classes.now }
+    requires later { IsLaid (graph_of tables.now) }
+    ensures told { IfOk result (λ found. IfSome found (λ outcomes. TellAllTexts (graph_of tables.now) classes.now outcomes.items)) }
+    ensures full { IfOk result (λ found. found ≡ None → AreMoreThan (graph_of tables.now) limit) }
+{
+    let wanted = wanted_states(alloc, tables, classes)?;
+    match reachable(alloc, tables, &wanted, limit)? {
+        None => Ok(None),
+        Some(sets) => Ok(Some(outcomes_of(alloc, tables, classes, &sets)?)),
+    }
+}

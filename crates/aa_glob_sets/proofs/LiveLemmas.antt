@@ -1,0 +1,88 @@
+-- States that live together, in whatever order they are told.
+use Rattle.std.proofs.Common.{◌≡◌, ℕ, ◌<◌, Bool, false, ◌==◌, List, [], ◌∷◌, eqb-true, refl, sym, ◌∙◌, ap, subst, inl, inr, eq-eqb}
+use Rattle.std.proofs.Math.Dec.{eqb}
+use Rattle.std.proofs.lemmas.Bool.{cases_Bool, true≢false, or_parts, or_from}
+use Rattle.std.proofs.lemmas.List.Kept.{AllPairs-from_increasing}
+use Rattle.std.proofs.lemmas.List.Sorted.{All-permutation, Contains-permutation}
+use Rattle.std.proofs.lemmas.Map.Keys.{IsDistinct-IsPermutation, IsStrictlyIncreasing-from_distinct}
+use Rattle.std.proofs.lemmas.List.Folds.{list_any-from_Any}
+use Rattle.std.specs.Prelude.{Contains}
+use Rattle.std.specs.List.{AllByRecursion, IsDistinct, list_any}
+use Rattle.std.specs.List.Sorted.{IsNonDecreasing, IsPermutation}
+use Rattle.aa_glob_nfa.specs.Graphs.{Graph, Reaches}
+use Rattle.aa_glob_nfa.specs.Graphs.Reaches.{begins}
+use Rattle.aa_glob_nfa.proofs.ListLemmas.{Contains-first}
+use Rattle.aa_glob_front.specs.Fronts.{AreDistinct, is_in, IsLive, Live, with_state}
+use Rattle.aa_glob_front.specs.Runs.{IsBegun, IsWhole}
+use Rattle.aa_glob_front.proofs.RunLemmas.{reached_next}
+use Rattle.std.proofs.lemmas.List.Elements.{All-cons, All-nil}
+use Rattle.aa_glob_sets.specs.Found.{IsStateSet, LeadsTo}
+use Rattle.aa_glob_sets.specs.Reachable.{IsOver, matters}
+
+-- no number of a list is another, by recursion on the list
+none-all : (r : ℕ) (xs : List ℕ) → is_in r xs ≡ false → AllByRecursion (λ x. eqb r x ≡ false) xs
+none-all r [] none = tt
+none-all r (x ∷ xs) none = let parts = or_parts (r == x) (is_in r xs) none in (parts.0, none-all r xs parts.1)
+
+all-none : (r : ℕ) (xs : List ℕ) → AllByRecursion (λ x. eqb r x ≡ false) xs → is_in r xs ≡ false
+all-none r [] all = refl
+all-none r (x ∷ xs) all = or_from (r == x) (is_in r xs) all.0 (all-none r xs all.1)
+
+-- no number stands twice, as the library says it
+distinct-there : (xs : List ℕ) → AreDistinct xs → IsDistinct eqb xs
+unfolding IsDistinct
+distinct-there [] distinct = tt
+distinct-there (x ∷ xs) distinct = (none-all x xs distinct.0, distinct-there xs distinct.1)
+
+distinct-back : (xs : List ℕ) → IsDistinct eqb xs → AreDistinct xs
+unfolding IsDistinct
+distinct-back [] distinct = tt
+distinct-back (x ∷ xs) distinct = (all-none x xs distinct.0, distinct-back xs distinct.1)
+
+eqb-turned : (q r : ℕ) → eqb q r ≡ eqb r q
+eqb-turned q r = elim (cases_Bool (eqb q r)) [
+  | inl same ↦ same ∙ sym (eq-eqb r q (sym (eqb-true q r same)))
+  | inr other ↦ elim (cases_Bool (eqb r q)) [
+    | inl same ↦ absurd (true≢false (sym (eq-eqb q r (sym (eqb-true r q same))) ∙ other))
+    | inr none ↦ other ∙ sym none
+  ]
+]
+
+-- states of which none stands twice are a set, once they are put in order
+pub set-in_order : (room : ℕ) (xs ys : List ℕ) → IsPermutation xs ys → IsNonDecreasing ys → IsLive room xs → IsStateSet room ys
+set-in_order room xs ys moved order live =
+    let distinct = IsDistinct-IsPermutation eqb eqb-turned xs ys moved (distinct-there xs live.0) in
+    record {
+      live = (distinct-back ys distinct, All-permutation (λ r. r < room) xs ys moved live.1);
+      rise = AllPairs-from_increasing ys (IsStrictlyIncreasing-from_distinct ys order distinct);
+    }
+
+-- a list has all that is reached behind a text in any order
+pub whole-permutation : (g : Graph) (past xs ys : List ℕ) → IsPermutation xs ys → IsWhole g past xs → IsWhole g past ys
+whole-permutation g past xs ys moved whole = record {
+  reached = All-permutation (Reaches g past) xs ys moved whole.reached;
+  each = λ r at. Contains-permutation xs ys r moved (whole.each r at);
+}
+
+-- a list that has all that is reached has what the last byte brings
+pub begun-whole : (g : Graph) (past live : List ℕ) → IsWhole g past live → IsBegun g past live
+begun-whole g [] live whole = record { reached = whole.reached; brought = whole.each 0 begins }
+begun-whole g (c ∷ past) live whole = record {
+  reached = whole.reached;
+  brought = λ q r at follow. whole.each r (reached_next g past c q r at follow);
+}
+
+-- before a text state 0 is there, by itself
+pub begun-first : (g : Graph) (room : ℕ) (empty here : Live) → empty ≡ record { states = []; room = room } → here ≡ with_state 0 empty → IsBegun g [] here.states
+begun-first g room empty here none put =
+    let is : here ≡ record { states = 0 ∷ []; room = room } = put ∙ ap (with_state 0) none in
+    subst (IsBegun g []) (sym (ap (λ l. l.states) is)) (record {
+      reached = All-cons (Reaches g []) 0 [] begins (All-nil (Reaches g []));
+      brought = Contains-first 0 [];
+    })
+
+-- where none of the states matters that live behind a byte, nothing that matters does
+pub over-none : (g : Graph) (wanted : List Bool) (from to : List ℕ) (c : ℕ) → LeadsTo g from c to → list_any (matters wanted) to ≡ false → IsOver g wanted from c
+over-none g wanted from to c leads none past whole lives =
+    let there : Contains to lives.0 = (leads past whole).each lives.0 lives.1 in
+    true≢false (sym (list_any-from_Any (matters wanted) to (there.0, lives.0, there.1, there.2, lives.2)) ∙ none)

@@ -1,0 +1,21 @@
+-- Bytes that no state tells apart.
+use Rattle.std.specs.Prelude.{◌≡◌, ℕ, ◌^◌, ◌<◌, List, Contains, codes}
+use Rattle.aa_glob_nfa.specs.Entries.{stays_at, takes_byte}
+use Rattle.aa_glob_nfa.specs.Graphs.{entry_of, Graph}
+
+-- two bytes lead into the same states, and leave the same states as they are
+abbrev pub AreAlike : Graph → ℕ → ℕ → Type 0
+AreAlike g c d =
+    (r : ℕ) → (takes_byte (entry_of g r) c ≡ takes_byte (entry_of g r) d) × (stays_at (entry_of g r) c ≡ stays_at (entry_of g r) d)
+
+-- each byte has one like it among some
+abbrev pub StandForAll : Graph → List ℕ → Type 0
+StandForAll g bytes = (c : ℕ) → c < 2 ^ 8 → (b : ℕ) × Contains bytes b × AreAlike g b c
+
+-- the bytes that can be printed, in the order in which texts are written with them: letters and digits first, and those that shells read otherwise last
+abbrev pub printed : List ℕ
+printed = codes "abcdefghijklmnopqrstuvwxyzABCDEFGHIJKLMNOPQRSTUVWXYZ0123456789._-+/,:=@%~!#^$&'()*;<>?[]`{|}\"\\ "
+
+-- each byte that can be printed has one like it among some, which can be printed too
+abbrev pub StandForPrinted : Graph → List ℕ → Type 0
+StandForPrinted g bytes = (c : ℕ) → Contains printed c → (b : ℕ) × Contains bytes b × Contains printed b × AreAlike g b c

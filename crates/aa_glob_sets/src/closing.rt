@@ -1,0 +1,114 @@
+//! The sets that live behind texts, found one after the other.
+
+ghost use Rattle.std.specs.Prelude.{◌≡◌, ◌<◌, ℕ, [], length, IfOk, IfSome, None, OnOk};
+ghost use Rattle.aa_glob_nfa.specs.OfTables.{AreSound, AreSorted, graph_of};
+ghost use Rattle.aa_glob_sets.specs.Alike.{StandForAll};
+ghost use Rattle.aa_glob_sets.specs.Found.{AreFound};
+ghost use Rattle.aa_glob_sets.specs.Reachable.{AreMoreThan, AreReachable, IsFollowed, IsKeptBack};
+ghost use Rattle.aa_glob_sets.specs.code.Closing.{AreMore, ComeOfUpTo, IsFollowedByAll};
+
+use crate::bytes::bytes_for_all;
+use crate::lives::{first, follow, some_matter};
+use crate::origin::Origin;
+use crate::sets::Sets;
+use aa_glob_nfa::Tables;
+use std::alloc::{AllocError, Global};
+
+// The set that lives before a text, alone.
+fn begin(alloc: Global, tables: &Tables) -> Result<Sets, AllocError>
+    requires sound { AreSound tables.now }
+    requires sorted { AreSorted tables.now }
+    ensures found { IfOk result (AreFound (graph_of tables.now) (length tables.now.states)) }
+    ensures up_to { IfOk result (λ sets. ComeOfUpTo sets 0) }
+{
+    let mut sets = Sets::new(alloc);
+    let states = first(alloc, tables)?;
+    sets.place(states, Origin { from: 0, byte: 0 })?;
+    Ok(sets)
+}
+
+// Appends the set that lives behind that of a number and a byte, if it isn't there and a state in it matters.
+fn follow_byte(
+    alloc: Global,
+    tables: &Tables,
+    wanted: &[bool],
+    sets: &mut Sets,
+    from: usize,
+    byte: u8,
+) -> Result<(), AllocError>
+    requires sound { AreSound tables.now }
+    requires sorted { AreSorted tables.now }
+    requires wanted { length wanted.now ≡ length tables.now.states }
+    requires found { AreFound (graph_of tables.now) (length tables.now.states) sets.old }
+    requires up_to { ComeOfUpTo sets.old from }
+    requires within { from < length sets.old }
+    ensures more { OnOk result (AreMore (graph_of tables.now) (length tables.now.states) from sets.old sets.new) }
+    ensures followed { OnOk result (IsFollowed (graph_of tables.now) wanted.now sets.new from byte) }
+{
+    let states = follow(alloc, tables, sets.set(from), byte)?;
+    if some_matter(&states, wanted) {
+        sets.place(states, Origin { from, byte })
+    } else {
+        Ok(())
+    }
+}
+
+// The same behind each of some bytes, which stand for all.
+fn follow_each(
+    alloc: Global,
+    tables: &Tables,
+    wanted: &[bool],
+    bytes: &[u8],
+    sets: &mut Sets,
+    from: usize,
+) -> Result<(), AllocError>
+    requires sound { AreSound tables.now }
+    requires sorted { AreSorted tables.now }
+    requires wanted { length wanted.now ≡ length tables.now.states }
+    requires found { AreFound (graph_of tables.now) (length tables.now.states) sets.old }
+    requires up_to { ComeOfUpTo sets.old from }
+    requires within { from < length sets.old }
+    requires bytes { StandForAll (graph_of tables.now) bytes.now }
+    ensures more { OnOk result (AreMore (graph_of tables.now) (length tables.now.states) from sets.old sets.new) }
+    ensures followed { OnOk result (IsFollowedByAll (graph_of tables.now) wanted.now sets.new from) }
+{
+    for byte in bytes {
+        follow_byte(alloc, tables, wanted, sets, from, *byte)?;
+    }
+    Ok(())
+}
+
+/// The sets of states that live behind texts of bytes, as far as a state among them matters, in the order of the lengths of these texts; none where
+/// they are more than a limit. `wanted` tells of each state whether it matters.
+///
+/// It takes time for each set, each of its states and each byte that states tell apart from others, and memory for each set and each of its states.
+///
+/// # Errors
+///
+/// Where memory runs out.
+pub fn reachable(
+    alloc: Global,
+    tables: &Tables,
+    wanted: &[bool],
+    limit: usize,
+) -> Result<Option<Sets>, AllocError>
+    requires sound { AreSound tables.now }
+    requires sorted { AreSorted tables.now }
+    requires wanted { length wanted.now ≡ length tables.now.states }
+    requires back { IsKeptBack (graph_of tables.now) wanted.now }
+    ensures found { IfOk result (λ found. IfSome found (AreFound (graph_of tables.now) (length tables.now.states))) }
+    ensures full { IfOk result (λ found. found ≡ None → AreMoreThan (graph_of tables.now) limit) }
+    ensures reachable { IfOk result (λ found. IfSome found (AreReachable (graph_of tables.now) wanted.now)) }
+{
+    let bytes = bytes_for_all(alloc, tables)?;
+    let mut sets = begin(alloc, tables)?;
+    let mut at = 0;
+    while at < sets.len() {
+        if sets.len() > limit {
+            return Ok(None);
+        }
+        follow_each(alloc, tables, wanted, &bytes, &mut sets, at)?;
+        at += 1;
+    }
+    Ok(Some(sets))
+}

@@ -1,0 +1,13 @@
+-- What contracts see of an option of the code, and of what words say of it.
+use Rattle.std.specs.Prelude.{option_map, map, string_bytes}
+use Rattle.aatry_arguments.specs.Values.{ValueOption, WithValue}
+use Rattle.aatry_arguments.specs.declared.values.NamedOption.{NamedOption}
+use Rattle.aatry_arguments.specs.declared.values.WithValue.{WithValue as CodeValue}
+
+-- an option of the code
+abbrev pub seen_option : NamedOption → ValueOption
+seen_option option = record { word = option.word.now; opening = option.opening.now }
+
+-- what words say, as the code holds it
+abbrev pub seen_value : CodeValue → WithValue
+seen_value read = record { value = option_map (λ value. value.items) read.value; words = map string_bytes read.words.items }

@@ -1,0 +1,121 @@
+//! How much differs of profiles, children and hats.
+
+ghost use Rattle.std.specs.Prelude.{◌≡◌, ◌++◌, IfOk, OnOk, flat_map};
+ghost use Rattle.aatry_changes.specs.PartChanges.{changed_count, seen_change, seen_changes};
+ghost use Rattle.aatry_changes.specs.Stat.{stat_change, stat_changed, stat_line, stat_lines, stat_record};
+ghost use Rattle.aatry_policy.specs.FolderParts.{seen_folder};
+ghost use Rattle.aatry_report.specs.SeenRecord.{seen_record};
+ghost use Rattle.aatry_uncertain.specs.SeenHeads.{all_left_out};
+
+use crate::compared::Compared;
+use crate::headed::{headed_record, push_gone, push_headed};
+use crate::part_changes::{PartChange, part_changes};
+use aatry_report::{Form, Record, Teller, push_number, push_shown};
+use aatry_uncertain::LeftOutHeads;
+use std::alloc::{AllocError, Global};
+
+// Appends the line of a part that is changed to a text, by how many lines the old one and the new one have alone.
+fn push_stat_line(
+    name: &[u8],
+    less: usize,
+    more: usize,
+    out: &mut Vec<u8>,
+) -> Result<(), AllocError>
+    ensures { OnOk result (out.new.items ≡ out.old.items ++ stat_line name.now less more) }
+{
+    out.extend_from_slice(b"changed: ")?;
+    push_shown(out, name)?;
+    push_number(out, " (-", less)?;
+    push_number(out, " +", more)?;
+    out.extend_from_slice(b")\n")?;
+    Ok(())
+}
+
+// The same as a record.
+fn stat_record(alloc: Global, name: &[u8], less: usize, more: usize) -> Result<Record, AllocError>
+    ensures { IfOk result (λ made. seen_record made ≡ stat_record name.now less more) }
+{
+    let mut made = headed_record(alloc, "changed", name)?;
+    made.put_number(alloc, "less", less)?;
+    made.put_number(alloc, "more", more)?;
+    Ok(made)
+}
+
+// Appends what is told of a part that is changed to a text.
+fn push_stat_changed(
+    teller: Teller,
+    name: &[u8],
+    less: usize,
+    more: usize,
+    out: &mut Vec<u8>,
+) -> Result<(), AllocError>
+    ensures { OnOk result (out.new.items ≡ out.old.items ++ stat_changed teller.form name.now less more) }
+{
+    match teller.form {
+        Form::Lines => push_stat_line(name, less, more, out),
+        Form::Records => stat_record(teller.alloc, name, less, more)?.push(teller.alloc, out),
+    }
+}
+
+// Appends how much changes of a part to a text.
+fn push_stat_change(
+    teller: Teller,
+    left_out: &LeftOutHeads<'_>,
+    change: &PartChange<'_>,
+    out: &mut Vec<u8>,
+) -> Result<(), AllocError>
+    ensures { OnOk result (out.new.items ≡ out.old.items ++ stat_change teller.form (all_left_out left_out.now.heads.items) (seen_change change.now)) }
+{
+    match change {
+        PartChange::Gone(part) => push_gone(teller, left_out, part, out),
+        PartChange::New(part) => push_headed(teller, "new", part.name.as_slice(), out),
+        PartChange::Changed(changed) => push_stat_changed(
+            teller,
+            changed.part.name.as_slice(),
+            changed.less.len(),
+            changed.more.len(),
+            out,
+        ),
+    }
+}
+
+// The same of some parts.
+fn push_each(
+    teller: Teller,
+    left_out: &LeftOutHeads<'_>,
+    changes: &[PartChange<'_>],
+    out: &mut Vec<u8>,
+) -> Result<(), AllocError>
+    ensures { OnOk result (out.new.items ≡ out.old.items ++ flat_map (stat_change teller.form (all_left_out left_out.now.heads.items)) (seen_changes changes.now)) }
+{
+    let mut rest = changes;
+    while let [change, behind @ ..] = rest {
+        push_stat_change(teller, left_out, change, out)?;
+        rest = behind;
+    }
+    Ok(())
+}
+
+/// Appends how much a change of policy changes to a text: each part of the old folder that is gone, unread (`push_changes`) or changed, in their order, and then each of the new
+/// folder that is new; of one that is changed how many lines `push_changes` tells of the old part alone, and how many of the new one, those that are
+/// shared too. Gives how many parts are gone, changed or new.
+///
+/// As lines, a word and the full name tell a part, and behind one that is changed stands `(-LESS +MORE)`. As records, a part's kind is `gone`, `unread`, `changed` or
+/// `new`, with its full name (`name`), and one that is changed has the numbers `less` and `more`.
+///
+/// # Errors
+///
+/// Where memory runs out. A beginning may have been appended then.
+pub fn push_stat(
+    teller: Teller,
+    compared: &Compared<'_>,
+    out: &mut Vec<u8>,
+) -> Result<usize, AllocError>
+    ensures told { OnOk result (out.new.items ≡ out.old.items
+        ++ stat_lines teller.form (all_left_out compared.now.left_out.now.heads.items) (seen_folder compared.now.old.now) (seen_folder compared.now.new.now)) }
+    ensures count { IfOk result (λ count. count ≡ changed_count (seen_folder compared.now.old.now) (seen_folder compared.now.new.now)) }
+{
+    let changes = part_changes(teller.alloc, compared.old, compared.new)?;
+    push_each(teller, compared.left_out, &changes, out)?;
+    Ok(changes.len())
+}

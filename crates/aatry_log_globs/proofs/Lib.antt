@@ -1,0 +1,3 @@
+mod FrontLemmas
+mod MatchLemmas
+mod RunLemmas
