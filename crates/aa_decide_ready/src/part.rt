@@ -53,19 +53,42 @@ fn with_file(
     }
 }
 
+/// The same with the patterns of the file rules among some more, in their order.
+///
+/// # Errors
+///
+/// Where memory runs out, and where there are more than 4,294,967,295 patterns or states.
+pub fn with_files(
+    builder: AutomatonBuilder,
+    alloc: Global,
+    rules: &[Rule],
+) -> Result<AutomatonBuilder, AllocError>
+    ensures { IfOk result (λ added. (patterns : List (List ℕ))
+        → IsBuilt builder patterns
+        → IsBuilt added (patterns ++ file_patterns rules.now)) }
+{
+    let mut added = builder;
+    for rule in rules {
+        added = with_file(added, alloc, rule)?;
+    }
+    Ok(added)
+}
+
 // The automaton of the patterns of the file rules.
 fn files_of(alloc: Global, rules: &[Rule]) -> Result<Automaton, AllocError>
     ensures { IfOk result (λ automaton. IsAutomatonOf automaton (file_patterns rules.now)) }
 {
-    let mut builder = AutomatonBuilder::new(alloc)?;
-    for rule in rules {
-        builder = with_file(builder, alloc, rule)?;
-    }
-    Ok(builder.finish())
+    let builder = AutomatonBuilder::new(alloc)?;
+    let added = with_files(builder, alloc, rules)?;
+    Ok(added.finish())
 }
 
-// The places of the file rules.
-fn places_of(alloc: Global, rules: &[Rule]) -> Result<Vec<usize>, AllocError>
+/// The places of the file rules among some rules, in rising order.
+///
+/// # Errors
+///
+/// Where memory runs out.
+pub fn file_places(alloc: Global, rules: &[Rule]) -> Result<Vec<usize>, AllocError>
     ensures { IfOk result (λ places. places.items ≡ places_from 0 rules.now) }
 {
     let mut places = Vec::new(alloc);
@@ -110,7 +133,7 @@ impl FileRules {
         ensures { IfOk result (λ made. AreFileRulesOf made rules.now) }
     {
         let automaton = files_of(alloc, rules)?;
-        let places = places_of(alloc, rules)?;
+        let places = file_places(alloc, rules)?;
         Ok(FileRules {
             automaton,
             places: Sequence::from_vec(places),

@@ -1,10 +1,9 @@
 //! The slots of attachments.
 
-ghost use Rattle.std.specs.Prelude.{◌≡◌, ◌++◌, ℕ, IfOk, List, Option, OnOk, length, replicate};
+ghost use Rattle.std.specs.Prelude.{◌≡◌, ◌++◌, IfOk, List, Option, OnOk, length, replicate};
 ghost use Rattle.aa_decide_slots.specs.Entries.{Loaded};
 ghost use Rattle.aa_decide_slots.specs.SlotAttachments.{AreAttaching, attachments_in};
 ghost use Rattle.aa_decide_slots.specs.Indexes.{IsAttachmentIndexOf};
-ghost use Rattle.aa_glob_automaton.specs.Built.{IsBuilt};
 
 use crate::entry::Entry;
 use aa_bytes::Sequence;
@@ -32,21 +31,6 @@ fn attachments_in(slot: &Option<Entry>) -> &[Pattern]
     }
 }
 
-// The same with some patterns more.
-fn with_patterns(
-    builder: AutomatonBuilder,
-    alloc: Global,
-    more: &[Pattern],
-) -> Result<AutomatonBuilder, AllocError>
-    ensures { IfOk result (λ added. (patterns : List (List ℕ)) → IsBuilt builder patterns → IsBuilt added (patterns ++ more.now)) }
-{
-    let mut added = builder;
-    for pattern in more {
-        added = added.add(alloc, pattern)?;
-    }
-    Ok(added)
-}
-
 // Puts a slot behind others, so many times.
 fn push_owner(owners: &mut Vec<usize>, slot: usize, count: usize) -> Result<(), AllocError>
     ensures { OnOk result (owners.new.items ≡ owners.old.items ++ replicate count slot) }
@@ -70,7 +54,7 @@ impl AttachmentIndex {
         let mut owners = Vec::new(alloc);
         for (place, slot) in slots.iter().enumerate() {
             let attachments = attachments_in(slot);
-            builder = with_patterns(builder, alloc, attachments)?;
+            builder = builder.add_each(alloc, attachments)?;
             push_owner(&mut owners, place, attachments.len())?;
         }
         Ok(AttachmentIndex {

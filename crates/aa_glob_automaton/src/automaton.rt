@@ -60,11 +60,9 @@ impl Automaton {
     pub fn build(alloc: Global, patterns: &[Pattern]) -> Result<Automaton, AllocError>
         ensures { IfOk result (λ automaton. IsAutomatonOf automaton patterns.now) }
     {
-        let mut builder = AutomatonBuilder::new(alloc)?;
-        for pattern in patterns {
-            builder = builder.add(alloc, pattern)?;
-        }
-        Ok(builder.finish())
+        let builder = AutomatonBuilder::new(alloc)?;
+        let added = builder.add_each(alloc, patterns)?;
+        Ok(added.finish())
     }
 
     /// What is run, lent, or nothing where there are no patterns. It takes no memory.

@@ -84,6 +84,21 @@ impl AutomatonBuilder {
         })
     }
 
+    /// The same with more patterns, which have their places behind the others, in their order.
+    ///
+    /// # Errors
+    ///
+    /// As `add`.
+    pub fn add_each(self, alloc: Global, more: &[Pattern]) -> Result<AutomatonBuilder, AllocError>
+        ensures { IfOk result (λ added. (patterns : List (List ℕ)) → IsBuilt self patterns → IsBuilt added (patterns ++ more.now)) }
+    {
+        let mut added = self;
+        for pattern in more {
+            added = added.add(alloc, pattern)?;
+        }
+        Ok(added)
+    }
+
     /// How many states there are so far: one for each different beginning of the patterns. It takes no memory.
     pub fn states(&self) -> usize
         ensures states { (patterns : List (List ℕ)) → IsBuilt self.now patterns → HasStates patterns result }

@@ -152,6 +152,15 @@ whole_early g n text [] begun none =
     }
 whole_early g n text (q ∷ live) begun none = absurd (omega arith)
 
+-- before a text state 0 is there, by itself
+pub begun-first : (g : Graph) (room : ℕ) (empty here : Live) → empty ≡ record { states = []; room = room } → here ≡ with_state 0 empty → IsBegun g [] here.states
+begun-first g room empty here none put =
+    let is : here ≡ record { states = 0 ∷ []; room = room } = put ∙ ap (with_state 0) none in
+    subst (IsBegun g []) (sym (ap (λ l. l.states) is)) (record {
+      reached = All-cons (Reaches g []) 0 [] begins (All-nil (Reaches g []));
+      brought = Contains-first 0 [];
+    })
+
 -- the run begins at state 0
 pub running_start : (g : Graph) (room old : ℕ) (empty here next : Live) → empty ≡ record { states = []; room = room } → here ≡ with_state 0 empty
     → next ≡ record { states = []; room = room } → IsRunning g [] room 0 here next old old
@@ -159,10 +168,7 @@ running_start g room old empty here next none put other =
     let is : here ≡ record { states = 0 ∷ []; room = room } = put ∙ ap (with_state 0) none in
     let states : here.states ≡ 0 ∷ [] = ap (λ l. l.states) is in
     record {
-      begun = subst (IsBegun g []) (sym states) (record {
-        reached = All-cons (Reaches g []) 0 [] begins (All-nil (Reaches g []));
-        brought = Contains-first 0 [];
-      });
+      begun = begun-first g room empty here none put;
       room_here = ap (λ l. l.room) is;
       empty = other;
       visits = 0;
@@ -240,3 +246,11 @@ running_end g past room places old mid new here next mine behind running passed 
 -- a text's front that is longer by one byte, the last byte first
 pub reverse-longer : (text : List ℕ) (i d : ℕ) → i < length text → reverse (take (i + 1) text) ≡ get_or text i d ∷ reverse (take i text)
 reverse-longer text i d within = ap reverse (take_more text i d within) ∙ reverse-append (take i text) (get_or text i d ∷ [])
+
+-- a list that has all that is reached has what the last byte brings
+pub begun-whole : (g : Graph) (past live : List ℕ) → IsWhole g past live → IsBegun g past live
+begun-whole g [] live whole = record { reached = whole.reached; brought = whole.each 0 begins }
+begun-whole g (c ∷ past) live whole = record {
+  reached = whole.reached;
+  brought = λ q r at follow. whole.each r (reached_next g past c q r at follow);
+}

@@ -42,6 +42,10 @@ pub record IsWhole (g : Graph) (past live : List ℕ) : Type 0 where
   pub reached : AreReached g past live
   pub each : HasReached g past live
 
+-- behind any text that reaches the states of one list, and a byte more, those of another are reached
+abbrev pub LeadsTo : Graph → List ℕ → ℕ → List ℕ → Type 0
+LeadsTo g from c to = (past : List ℕ) → IsWhole g past from → IsWhole g (c ∷ past) to
+
 -- all states that live at a place were visited
 pub record IsPassed (g : Graph) (byte : Option ℕ) (old here next : Live) : Type 0 where
   pub room : here.room ≡ old.room

@@ -9,7 +9,7 @@ use Rattle.aa_glob_front.specs.Runs.{IsWhole}
 use Rattle.aa_glob_front.proofs.RunLemmas.{Contains-slice_get}
 use Rattle.aa_glob_pairs.specs.Graphs.{IsLaid}
 use Rattle.aa_glob_pairs.proofs.MeetLemmas.{there}
-use Rattle.aa_glob_run.specs.code.Ends.{IsEndIn}
+use Rattle.aa_glob_run.specs.Ends.{IsEndIn}
 use Rattle.aa_glob_automaton.proofs.ClashLemmas.{bytes-reverse, graph-laid}
 use Rattle.aa_glob_sets.specs.Found.{FoundSet, set_at}
 use Rattle.aa_glob_sets.specs.Laws.{EndIn}

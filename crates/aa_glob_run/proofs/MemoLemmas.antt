@@ -2,15 +2,12 @@
 use Rattle.std.proofs.Common.{◌≡◌, ℕ, suc, ◌+◌, ◌-◌, ◌*◌, ◌<◌, List, [], ◌∷◌, ◌++◌, length, get_or, Result, Ok, Err, OnOk, OnErr, refl, sym, ◌∙◌, ap, subst, inl, inr, arith, length-append}
 use Rattle.std.proofs.lemmas.Bool.{cases_eq}
 use Rattle.std.proofs.lemmas.List.{get_or-append_right, get_or_append_left, get_or-replicate, get_or-set_other, get_or-set_same, length-set}
-use Rattle.std.proofs.lemmas.List.Elements.{All-cons, All-nil, All-push}
+use Rattle.std.proofs.lemmas.List.Elements.{All-nil, All-push}
 use Rattle.std.specs.declared.alloc.AllocError.{AllocError}
 use Rattle.aa_glob_nfa.specs.Graphs.{Graph, Reaches}
-use Rattle.aa_glob_nfa.specs.Graphs.Reaches.{begins}
-use Rattle.aa_glob_nfa.proofs.ListLemmas.{Contains-first}
-use Rattle.aa_glob_front.proofs.RunLemmas.{reached_next}
-use Rattle.aa_glob_front.specs.Fronts.{IsLive, Live, with_state}
-use Rattle.aa_glob_front.specs.Runs.{IsBegun, IsWhole}
-use Rattle.aa_glob_run.specs.code.Memos.{IsMemo, IsRight, LeadsTo, front_of, place_of, unknown_row, with_move}
+use Rattle.aa_glob_front.specs.Fronts.{IsLive}
+use Rattle.aa_glob_front.specs.Runs.{IsWhole, LeadsTo}
+use Rattle.aa_glob_run.specs.code.Memos.{IsMemo, IsRight, front_of, place_of, unknown_row, with_move}
 
 -- nothing is remembered yet
 pub memo-none : (g : Graph) (room : ℕ) → IsMemo g room [] []
@@ -104,20 +101,3 @@ memo-note g room fronts moves from byte to memo low small within leads = record 
         (sym (get_or-set_other moves (place_of from byte) (place_of other_from other_byte) (suc to) 0 apart) ∙ notes)
   ];
 }
-
--- a list that has all that is reached has what the last byte brings
-pub begun-whole : (g : Graph) (past live : List ℕ) → IsWhole g past live → IsBegun g past live
-begun-whole g [] live whole = record { reached = whole.reached; brought = whole.each 0 begins }
-begun-whole g (c ∷ past) live whole = record {
-  reached = whole.reached;
-  brought = λ q r at follow. whole.each r (reached_next g past c q r at follow);
-}
-
--- before a text state 0 is there, by itself
-pub begun-first : (g : Graph) (room : ℕ) (empty here : Live) → empty ≡ record { states = []; room = room } → here ≡ with_state 0 empty → IsBegun g [] here.states
-begun-first g room empty here none put =
-    let is : here ≡ record { states = 0 ∷ []; room = room } = put ∙ ap (with_state 0) none in
-    subst (IsBegun g []) (sym (ap (λ l. l.states) is)) (record {
-      reached = All-cons (Reaches g []) 0 [] begins (All-nil (Reaches g []));
-      brought = Contains-first 0 [];
-    })

@@ -10,7 +10,8 @@ use Rattle.std.specs.List.Sorted.{IsNonDecreasing}
 use Rattle.aa_glob_nfa.specs.Graphs.{Graph, EndsAt, IsFound, Reaches}
 use Rattle.aa_glob_front.specs.Runs.{IsWhole}
 use Rattle.aa_glob_front.proofs.RunLemmas.{Contains-slice_get}
-use Rattle.aa_glob_run.specs.code.Ends.{Gets, is_new, IsEndIn}
+use Rattle.aa_glob_run.specs.Ends.{IsEndIn}
+use Rattle.aa_glob_run.specs.code.Ends.{Gets, is_new}
 use Rattle.aa_glob_nfa.specs.OfTables.{graph_of}
 use Rattle.aa_glob_nfa.specs.declared.state.End.{End}
 use Rattle.aa_glob_nfa.specs.declared.tables.Tables.{Tables}

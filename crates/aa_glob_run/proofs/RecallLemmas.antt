@@ -7,8 +7,7 @@ use Rattle.aa_glob_nfa.specs.Graphs.{Graph}
 use Rattle.aa_glob_nfa.specs.Graphs.Reaches.{begins}
 use Rattle.aa_glob_front.specs.Steps.{counted, IsCounted}
 use Rattle.aa_glob_front.specs.Runs.{IsRunning, IsWhole}
-use Rattle.aa_glob_run.proofs.MemoLemmas.{begun-whole}
-use Rattle.aa_glob_front.proofs.RunLemmas.{more_visits}
+use Rattle.aa_glob_front.proofs.RunLemmas.{begun-whole, more_visits}
 use Rattle.aa_glob_front.proofs.StepLemmas.{counted-counted}
 
 -- before a text, where some state lives

@@ -3,7 +3,8 @@
 ghost use Rattle.std.specs.Prelude.{◌≡◌, ◌<◌, ◌≤◌, ◌↔◌, ℕ, length, All, AllPairs, Contains, IfOk, OnOk};
 ghost use Rattle.std.specs.List.Sorted.{IsNonDecreasing};
 ghost use Rattle.aa_glob_nfa.specs.Graphs.{EndsAt};
-ghost use Rattle.aa_glob_run.specs.code.Ends.{AreEndsOf, Gets, is_new, with_new};
+ghost use Rattle.aa_glob_run.specs.Ends.{AreEndsOf};
+ghost use Rattle.aa_glob_run.specs.code.Ends.{Gets, is_new, with_new};
 ghost use Rattle.aa_glob_nfa.specs.OfTables.{AreSound, AreSorted, graph_of};
 
 use aa_glob_nfa::Tables;

@@ -1,14 +1,14 @@
 //! What follows at a place of a text, by what is remembered, and how it comes to be remembered.
 
-ghost use Rattle.std.specs.Prelude.{◌≡◌, ◌<◌, ◌≤◌, [], ℕ, List, length, true, IfOk, IfSome, OnOk};
+ghost use Rattle.std.specs.Prelude.{◌≡◌, ◌<◌, ◌≤◌, ℕ, length, true, IfOk, IfSome, OnOk};
 ghost use Rattle.aa_glob_nfa.specs.Graphs.{Graph};
 ghost use Rattle.aa_glob_nfa.specs.OfTables.{AreSound, AreSorted, graph_of};
 ghost use Rattle.aa_glob_front.specs.Fronts.{IsLive};
-ghost use Rattle.aa_glob_front.specs.Runs.{IsBegun, IsWhole};
-ghost use Rattle.aa_glob_run.specs.code.Memos.{HasRows, IsRecalling, LeadsTo, Remembers, front_at, fronts_in, most_fronts, most_new};
+ghost use Rattle.aa_glob_front.specs.Runs.{LeadsTo};
+ghost use Rattle.aa_glob_run.specs.code.Memos.{HasRows, IsRecalling, Remembers, front_at, fronts_in, most_fronts, most_new};
 
 use crate::memo::Memo;
-use aa_glob_front::{Front, Steps, pass};
+use aa_glob_front::{Steps, first, follow};
 use aa_glob_nfa::Tables;
 use std::alloc::{AllocError, Global};
 
@@ -17,47 +17,6 @@ const LONGEST: usize = 64;
 
 // A text of so many bytes is worth learning the first time: what is learnt at one of its places comes again at others.
 const LONG: usize = 1024;
-
-// All states that live at a place, of those that its last byte brought.
-fn close(alloc: Global, tables: &Tables, brought: Front) -> Result<Vec<u32>, AllocError>
-    requires sound { AreSound tables.now }
-    requires sorted { AreSorted tables.now }
-    requires room { brought.room ≡ length tables.now.states }
-    ensures whole { IfOk result (λ states. (past : List ℕ) → IsBegun (graph_of tables.now) past brought.states → IsWhole (graph_of tables.now) past states.items) }
-    ensures live { IfOk result (λ states. IsLive (length tables.now.states) states.items) }
-{
-    let mut here = brought;
-    let mut next = Front::new(alloc, tables.states.len())?;
-    pass(tables, None, &mut here, &mut next, &mut Steps::new())?;
-    Ok(here.into_states())
-}
-
-// The states that live before a text.
-fn first(alloc: Global, tables: &Tables) -> Result<Vec<u32>, AllocError>
-    requires sound { AreSound tables.now }
-    requires sorted { AreSorted tables.now }
-    ensures whole { IfOk result (λ states. IsWhole (graph_of tables.now) [] states.items) }
-    ensures live { IfOk result (λ states. IsLive (length tables.now.states) states.items) }
-{
-    let mut here = Front::new(alloc, tables.states.len())?;
-    here.insert(0)?;
-    close(alloc, tables, here)
-}
-
-// The states that live behind a byte, of those that live before it.
-fn follow(alloc: Global, tables: &Tables, from: &[u32], byte: u8) -> Result<Vec<u32>, AllocError>
-    requires sound { AreSound tables.now }
-    requires sorted { AreSorted tables.now }
-    requires live { IsLive (length tables.now.states) from.now }
-    ensures leads { IfOk result (λ to. LeadsTo (graph_of tables.now) from.now byte to.items) }
-    ensures live { IfOk result (λ to. IsLive (length tables.now.states) to.items) }
-{
-    let count = tables.states.len();
-    let mut here = Front::of(alloc, count, from)?;
-    let mut next = Front::new(alloc, count)?;
-    pass(tables, Some(byte), &mut here, &mut next, &mut Steps::new())?;
-    close(alloc, tables, next)
-}
 
 impl Memo {
     // Sees to it that the list of the states that live before a text is there. Its number is 0.

@@ -6,10 +6,10 @@ use Rattle.std.proofs.lemmas.List.Elements.{All-cons, All-get_or, All-nil, All-p
 use Rattle.std.proofs.lemmas.List.Quantifiers.{all_pairs_push}
 use Rattle.std.specs.Prelude.{All, Contains, slice_index_or}
 use Rattle.aa_glob_nfa.specs.Graphs.{Graph, Reaches}
-use Rattle.aa_glob_front.specs.Runs.{IsWhole}
+use Rattle.aa_glob_front.specs.Runs.{IsWhole, LeadsTo}
 use Rattle.aa_glob_sets.proofs.AlikeLemmas.{alike-turned, reached-alike}
 use Rattle.aa_glob_sets.specs.Alike.{AreAlike, StandForAll}
-use Rattle.aa_glob_sets.specs.Found.{AreFound, ComesOfEarlier, FoundSet, IsStateSet, LeadsTo, no_set, origin_at, set_at}
+use Rattle.aa_glob_sets.specs.Found.{AreFound, ComesOfEarlier, FoundSet, IsStateSet, no_set, origin_at, set_at}
 use Rattle.aa_glob_sets.specs.Reachable.{IsFollowed, IsOver}
 use Rattle.aa_glob_sets.specs.code.Closing.{AreMore, ComeOfUpTo, Grows, HasPlaced, IsClosedBefore, IsFollowedBehind, IsFollowedByAll}
 

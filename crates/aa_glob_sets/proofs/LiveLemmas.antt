@@ -1,5 +1,5 @@
 -- States that live together, in whatever order they are told.
-use Rattle.std.proofs.Common.{◌≡◌, ℕ, ◌<◌, Bool, false, ◌==◌, List, [], ◌∷◌, eqb-true, refl, sym, ◌∙◌, ap, subst, inl, inr, eq-eqb}
+use Rattle.std.proofs.Common.{◌≡◌, ℕ, ◌<◌, Bool, false, ◌==◌, List, [], ◌∷◌, eqb-true, refl, sym, ◌∙◌, inl, inr, eq-eqb}
 use Rattle.std.proofs.Math.Dec.{eqb}
 use Rattle.std.proofs.lemmas.Bool.{cases_Bool, true≢false, or_parts, or_from}
 use Rattle.std.proofs.lemmas.List.Kept.{AllPairs-from_increasing}
@@ -10,13 +10,9 @@ use Rattle.std.specs.Prelude.{Contains}
 use Rattle.std.specs.List.{AllByRecursion, IsDistinct, list_any}
 use Rattle.std.specs.List.Sorted.{IsNonDecreasing, IsPermutation}
 use Rattle.aa_glob_nfa.specs.Graphs.{Graph, Reaches}
-use Rattle.aa_glob_nfa.specs.Graphs.Reaches.{begins}
-use Rattle.aa_glob_nfa.proofs.ListLemmas.{Contains-first}
-use Rattle.aa_glob_front.specs.Fronts.{AreDistinct, is_in, IsLive, Live, with_state}
-use Rattle.aa_glob_front.specs.Runs.{IsBegun, IsWhole}
-use Rattle.aa_glob_front.proofs.RunLemmas.{reached_next}
-use Rattle.std.proofs.lemmas.List.Elements.{All-cons, All-nil}
-use Rattle.aa_glob_sets.specs.Found.{IsStateSet, LeadsTo}
+use Rattle.aa_glob_front.specs.Fronts.{AreDistinct, is_in, IsLive}
+use Rattle.aa_glob_front.specs.Runs.{IsWhole, LeadsTo}
+use Rattle.aa_glob_sets.specs.Found.{IsStateSet}
 use Rattle.aa_glob_sets.specs.Reachable.{IsOver, matters}
 
 -- no number of a list is another, by recursion on the list
@@ -63,23 +59,6 @@ whole-permutation g past xs ys moved whole = record {
   reached = All-permutation (Reaches g past) xs ys moved whole.reached;
   each = λ r at. Contains-permutation xs ys r moved (whole.each r at);
 }
-
--- a list that has all that is reached has what the last byte brings
-pub begun-whole : (g : Graph) (past live : List ℕ) → IsWhole g past live → IsBegun g past live
-begun-whole g [] live whole = record { reached = whole.reached; brought = whole.each 0 begins }
-begun-whole g (c ∷ past) live whole = record {
-  reached = whole.reached;
-  brought = λ q r at follow. whole.each r (reached_next g past c q r at follow);
-}
-
--- before a text state 0 is there, by itself
-pub begun-first : (g : Graph) (room : ℕ) (empty here : Live) → empty ≡ record { states = []; room = room } → here ≡ with_state 0 empty → IsBegun g [] here.states
-begun-first g room empty here none put =
-    let is : here ≡ record { states = 0 ∷ []; room = room } = put ∙ ap (with_state 0) none in
-    subst (IsBegun g []) (sym (ap (λ l. l.states) is)) (record {
-      reached = All-cons (Reaches g []) 0 [] begins (All-nil (Reaches g []));
-      brought = Contains-first 0 [];
-    })
 
 -- where none of the states matters that live behind a byte, nothing that matters does
 pub over-none : (g : Graph) (wanted : List Bool) (from to : List ℕ) (c : ℕ) → LeadsTo g from c to → list_any (matters wanted) to ≡ false → IsOver g wanted from c

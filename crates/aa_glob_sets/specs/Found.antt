@@ -2,7 +2,7 @@
 use Rattle.std.specs.Prelude.{◌≡◌, ◌≢◌, ℕ, ◌^◌, ◌<◌, ◌≤◌, List, [], ◌∷◌, length, slice_index_or, All, AllPairs}
 use Rattle.aa_glob_nfa.specs.Graphs.{Graph}
 use Rattle.aa_glob_front.specs.Fronts.{IsLive}
-use Rattle.aa_glob_front.specs.Runs.{IsWhole}
+use Rattle.aa_glob_front.specs.Runs.{IsWhole, LeadsTo}
 use Rattle.aa_glob_sets.specs.declared.origin.Origin.{Origin}
 
 -- a set of states as a list: each once, in rising order. There are so many states.
@@ -30,10 +30,6 @@ set_at found n = (found_at found n).set
 -- where the set of a number was found first
 abbrev pub origin_at : List FoundSet → ℕ → Origin
 origin_at found n = (found_at found n).origin
-
--- behind any text that leads to one set, and a byte more, another set lives
-abbrev pub LeadsTo : Graph → List ℕ → ℕ → List ℕ → Type 0
-LeadsTo g from c to = (past : List ℕ) → IsWhole g past from → IsWhole g (c ∷ past) to
 
 -- the set of a number comes of an earlier one behind a byte
 pub record ComesOfEarlier (g : Graph) (found : List FoundSet) (n : ℕ) : Type 0 where

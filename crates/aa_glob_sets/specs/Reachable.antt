@@ -1,8 +1,8 @@
 -- Which sets of states texts of bytes lead to, as far as they matter.
 use Rattle.std.specs.Prelude.{◌≡◌, ◌↔◌, ◌⊎◌, ℕ, ◌^◌, ◌<◌, ◌≤◌, Bool, true, false, List, ◌∷◌, length, slice_index_or, All, AllPairs}
 use Rattle.aa_glob_nfa.specs.Graphs.{AreBytes, Graph, Leads, Reaches}
-use Rattle.aa_glob_front.specs.Runs.{IsWhole}
-use Rattle.aa_glob_sets.specs.Found.{AreByLength, FoundSet, IsFoundBehind, IsFoundWithin, LeadsTo, origin_at, set_at}
+use Rattle.aa_glob_front.specs.Runs.{IsWhole, LeadsTo}
+use Rattle.aa_glob_sets.specs.Found.{AreByLength, FoundSet, IsFoundBehind, IsFoundWithin, origin_at, set_at}
 
 -- a state matters
 abbrev pub matters : List Bool → ℕ → Bool

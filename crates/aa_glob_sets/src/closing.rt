@@ -8,7 +8,7 @@ ghost use Rattle.aa_glob_sets.specs.Reachable.{AreMoreThan, AreReachable, IsFoll
 ghost use Rattle.aa_glob_sets.specs.code.Closing.{AreMore, ComeOfUpTo, IsFollowedByAll};
 
 use crate::bytes::bytes_for_all;
-use crate::lives::{first, follow, some_matter};
+use crate::lives::{first_set, next_set, some_matter};
 use crate::origin::Origin;
 use crate::sets::Sets;
 use aa_glob_nfa::Tables;
@@ -22,7 +22,7 @@ fn begin(alloc: Global, tables: &Tables) -> Result<Sets, AllocError>
     ensures up_to { IfOk result (λ sets. ComeOfUpTo sets 0) }
 {
     let mut sets = Sets::new(alloc);
-    let states = first(alloc, tables)?;
+    let states = first_set(alloc, tables)?;
     sets.place(states, Origin { from: 0, byte: 0 })?;
     Ok(sets)
 }
@@ -45,7 +45,7 @@ fn follow_byte(
     ensures more { OnOk result (AreMore (graph_of tables.now) (length tables.now.states) from sets.old sets.new) }
     ensures followed { OnOk result (IsFollowed (graph_of tables.now) wanted.now sets.new from byte) }
 {
-    let states = follow(alloc, tables, sets.set(from), byte)?;
+    let states = next_set(alloc, tables, sets.set(from), byte)?;
     if some_matter(&states, wanted) {
         sets.place(states, Origin { from, byte })
     } else {

@@ -1,15 +1,15 @@
 //! Which states live behind a byte.
 
-ghost use Rattle.std.specs.Prelude.{◌≡◌, ◌<◌, [], ℕ, List, length, All, IfOk};
+ghost use Rattle.std.specs.Prelude.{◌≡◌, ◌<◌, [], List, length, All, IfOk};
 ghost use Rattle.std.specs.List.{list_any};
 ghost use Rattle.std.specs.List.Sorted.{IsNonDecreasing, IsPermutation};
 ghost use Rattle.aa_glob_nfa.specs.OfTables.{AreSound, AreSorted, graph_of};
 ghost use Rattle.aa_glob_front.specs.Fronts.{IsLive};
-ghost use Rattle.aa_glob_front.specs.Runs.{IsBegun, IsWhole};
-ghost use Rattle.aa_glob_sets.specs.Found.{IsStateSet, LeadsTo};
+ghost use Rattle.aa_glob_front.specs.Runs.{IsWhole, LeadsTo};
+ghost use Rattle.aa_glob_sets.specs.Found.{IsStateSet};
 ghost use Rattle.aa_glob_sets.specs.Reachable.{matters};
 
-use aa_glob_front::{Front, Steps, pass};
+use aa_glob_front::{first, follow};
 use aa_glob_nfa::Tables;
 use std::alloc::{AllocError, Global};
 
@@ -23,34 +23,19 @@ fn in_order(states: Vec<u32>) -> Vec<u32>
     states
 }
 
-// All states that live at a place, of those that its last byte brought.
-fn close(alloc: Global, tables: &Tables, brought: Front) -> Result<Vec<u32>, AllocError>
-    requires sound { AreSound tables.now }
-    requires sorted { AreSorted tables.now }
-    requires room { brought.room ≡ length tables.now.states }
-    ensures whole { IfOk result (λ states. (past : List ℕ) → IsBegun (graph_of tables.now) past brought.states → IsWhole (graph_of tables.now) past states.items) }
-    ensures set { IfOk result (λ states. IsStateSet (length tables.now.states) states.items) }
-{
-    let mut here = brought;
-    let mut next = Front::new(alloc, tables.states.len())?;
-    pass(tables, None, &mut here, &mut next, &mut Steps::new())?;
-    Ok(in_order(here.into_states()))
-}
-
-// The states that live before a text.
-pub fn first(alloc: Global, tables: &Tables) -> Result<Vec<u32>, AllocError>
+// The states that live before a text, as a set.
+pub fn first_set(alloc: Global, tables: &Tables) -> Result<Vec<u32>, AllocError>
     requires sound { AreSound tables.now }
     requires sorted { AreSorted tables.now }
     ensures whole { IfOk result (λ states. IsWhole (graph_of tables.now) [] states.items) }
     ensures set { IfOk result (λ states. IsStateSet (length tables.now.states) states.items) }
 {
-    let mut here = Front::new(alloc, tables.states.len())?;
-    here.insert(0)?;
-    close(alloc, tables, here)
+    let states = first(alloc, tables)?;
+    Ok(in_order(states))
 }
 
-// The states that live behind a byte, of those that live before it.
-pub fn follow(
+// The states that live behind a byte, of those that live before it, as a set.
+pub fn next_set(
     alloc: Global,
     tables: &Tables,
     from: &[u32],
@@ -62,11 +47,8 @@ pub fn follow(
     ensures leads { IfOk result (λ to. LeadsTo (graph_of tables.now) from.now byte to.items) }
     ensures set { IfOk result (λ to. IsStateSet (length tables.now.states) to.items) }
 {
-    let count = tables.states.len();
-    let mut here = Front::of(alloc, count, from)?;
-    let mut next = Front::new(alloc, count)?;
-    pass(tables, Some(byte), &mut here, &mut next, &mut Steps::new())?;
-    close(alloc, tables, next)
+    let states = follow(alloc, tables, from, byte)?;
+    Ok(in_order(states))
 }
 
 // Whether one of some states matters.

@@ -1,8 +1,8 @@
 -- What is remembered of runs: states that live together at a place, and which follow behind a byte.
-use Rattle.std.specs.Prelude.{◌≡◌, ℕ, suc, ◌+◌, ◌*◌, ◌/◌, ◌<◌, List, [], ◌∷◌, length, map, replicate, reverse, set, take, All, slice_index_or}
+use Rattle.std.specs.Prelude.{◌≡◌, ℕ, suc, ◌+◌, ◌*◌, ◌/◌, ◌<◌, List, [], length, map, replicate, reverse, set, take, All, slice_index_or}
 use Rattle.aa_glob_nfa.specs.Graphs.{Graph}
 use Rattle.aa_glob_front.specs.Fronts.{IsLive}
-use Rattle.aa_glob_front.specs.Runs.{HasRun, IsWhole}
+use Rattle.aa_glob_front.specs.Runs.{HasRun, IsWhole, LeadsTo}
 use Rattle.aa_glob_run.specs.declared.memo.Memo.{Memo}
 
 -- how many lists are remembered at most
@@ -12,10 +12,6 @@ most_fronts = 8192
 -- how many moves of a text are looked for at most, each time it is remembered: some, and more of a long one
 abbrev pub most_new : List ℕ → ℕ
 most_new text = 32 + length text / 128
-
--- behind any text that reaches the states of one list, and a byte more, those of another are reached
-abbrev pub LeadsTo : Graph → List ℕ → ℕ → List ℕ → Type 0
-LeadsTo g from c to = (past : List ℕ) → IsWhole g past from → IsWhole g (c ∷ past) to
 
 -- the list of a number
 abbrev pub front_of : List (List ℕ) → ℕ → List ℕ

@@ -5,7 +5,7 @@ use Rattle.std.specs.Prelude.{All}
 use Rattle.indexmap.proofs.CallerLemmas.{insert_entry-new}
 use Rattle.aa_glob_nfa.specs.OfTables.{graph_of}
 use Rattle.aa_glob_run.proofs.PatternLemmas.{found_all}
-use Rattle.aa_glob_run.specs.code.Ends.{AreEndsOf}
+use Rattle.aa_glob_run.specs.Ends.{AreEndsOf}
 use Rattle.aa_glob_sets.specs.Found.{FoundSet, IsStateSet, no_set, set_at}
 use Rattle.aa_glob_sets.proofs.PlaceLemmas.{kept_at, not_some}
 use Rattle.aa_glob_paths.specs.code.AllTexts.{AreOutcomesBefore, has_wanted}

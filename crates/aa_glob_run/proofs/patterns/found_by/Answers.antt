@@ -1,7 +1,7 @@
 use Rattle.std.proofs.Common.{◌≡◌, ◌↔◌, ℕ, length, subst, arith}
 use Rattle.std.proofs.lemmas.Option.{slice_get-get_or}
 use Rattle.std.specs.Prelude.{Contains}
-use Rattle.aa_glob_run.specs.code.Ends.{IsEndIn}
+use Rattle.aa_glob_run.specs.Ends.{IsEndIn}
 use Rattle.aa_glob_nfa.specs.OfTables.{graph_of}
 use Rattle.aa_glob_run.proofs.PatternLemmas.{ends_more}
 use Rattle.aa_glob_run.proofs.patterns.found_by.Goals as goal

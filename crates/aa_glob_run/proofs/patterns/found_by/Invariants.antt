@@ -1,6 +1,6 @@
 use Rattle.std.proofs.Common.{ℕ, ◌↔◌}
 use Rattle.std.specs.Prelude.{Contains}
-use Rattle.aa_glob_run.specs.code.Ends.{IsEndIn}
+use Rattle.aa_glob_run.specs.Ends.{IsEndIn}
 use Rattle.aa_glob_nfa.specs.OfTables.{graph_of}
 use Rattle.aa_glob_run.proofs.patterns.found_by.Given as goal
 

@@ -2,7 +2,7 @@ use Rattle.std.proofs.Common.{◌↔◌, ℕ, sym, subst, length}
 use Rattle.std.proofs.lemmas.List.Sorted.{Contains-permutation, IsPermutation-sym, IsNonDecreasingBy-from_sort}
 use Rattle.std.specs.Prelude.{Contains}
 use Rattle.std.specs.List.Sorted.{IsNonDecreasing}
-use Rattle.aa_glob_run.specs.code.Ends.{IsEndIn}
+use Rattle.aa_glob_run.specs.Ends.{IsEndIn}
 use Rattle.aa_glob_nfa.specs.OfTables.{graph_of}
 use Rattle.std.proofs.lemmas.Result.{IfOk-weaker}
 use Rattle.aa_glob_run.proofs.patterns.patterns_of.Goals as goal

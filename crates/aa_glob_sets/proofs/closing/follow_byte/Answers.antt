@@ -2,7 +2,8 @@ use Rattle.std.proofs.Common.{◌≡◌, false, length, inr, subst, sym, ◌∙�
 use Rattle.std.proofs.lemmas.Result.{on_ok_weaker}
 use Rattle.std.specs.List.{list_any}
 use Rattle.aa_glob_nfa.specs.OfTables.{graph_of}
-use Rattle.aa_glob_sets.specs.Found.{FoundSet, LeadsTo, set_at}
+use Rattle.aa_glob_front.specs.Runs.{LeadsTo}
+use Rattle.aa_glob_sets.specs.Found.{FoundSet, set_at}
 use Rattle.aa_glob_sets.specs.Reachable.{matters}
 use Rattle.aa_glob_sets.proofs.FoundLemmas.{found-placed, placed-next}
 use Rattle.aa_glob_sets.proofs.LiveLemmas.{over-none}

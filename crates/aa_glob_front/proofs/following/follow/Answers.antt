@@ -1,10 +1,10 @@
 use Rattle.std.proofs.Common.{◌∷◌, refl, subst, sym}
 use Rattle.aa_glob_nfa.specs.OfTables.{graph_of}
-use Rattle.aa_glob_run.proofs.MemoLemmas.{begun-whole}
+use Rattle.aa_glob_front.proofs.RunLemmas.{begun-whole}
 use Rattle.std.proofs.lemmas.Result.{IfOk-weaker}
-use Rattle.aa_glob_run.specs.code.Memos.{LeadsTo}
+use Rattle.aa_glob_front.specs.Runs.{LeadsTo}
 use Rattle.aa_glob_front.specs.Runs.{IsBegun}
-use Rattle.aa_glob_run.proofs.recall.follow.Goals as goal
+use Rattle.aa_glob_front.proofs.following.follow.Goals as goal
 
 pub returns-clause-leads : goal.returns-clause-leads
 returns-clause-leads c =

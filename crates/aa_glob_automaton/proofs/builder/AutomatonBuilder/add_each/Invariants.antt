@@ -1,6 +1,6 @@
 use Rattle.std.proofs.Common.{List, ℕ, take, ◌++◌}
 use Rattle.aa_glob_automaton.specs.Built.{IsBuilt}
-use Rattle.aa_decide_slots.proofs.attachments.with_patterns.Given as goal
+use Rattle.aa_glob_automaton.proofs.builder.AutomatonBuilder.add_each.Given as goal
 
 -- the patterns so far were added
 abbrev pub invariant-loop-pattern : goal.invariant-loop-pattern

@@ -1,9 +1,9 @@
 use Rattle.std.proofs.Common.{[]}
 use Rattle.aa_glob_nfa.specs.OfTables.{graph_of}
-use Rattle.aa_glob_run.proofs.MemoLemmas.{begun-first}
+use Rattle.aa_glob_front.proofs.RunLemmas.{begun-first}
 use Rattle.std.proofs.lemmas.Result.{IfOk-weaker}
 use Rattle.aa_glob_front.specs.Runs.{IsWhole}
-use Rattle.aa_glob_run.proofs.recall.first.Goals as goal
+use Rattle.aa_glob_front.proofs.following.first.Goals as goal
 
 pub returns-clause-whole : goal.returns-clause-whole
 returns-clause-whole c =

@@ -2,7 +2,7 @@ use Rattle.std.proofs.Common.{◌≡◌, List, ℕ, ◌++◌, ◌∷◌, [], ◌
 use Rattle.std.proofs.lemmas.List.{take_more}
 use Rattle.std.proofs.Math.Seq.{take-length}
 use Rattle.aa_glob_automaton.specs.Built.{IsBuilt}
-use Rattle.aa_decide_slots.proofs.attachments.with_patterns.Goals as goal
+use Rattle.aa_glob_automaton.proofs.builder.AutomatonBuilder.add_each.Goals as goal
 
 pub loop-pattern-preserved : goal.loop-pattern-preserved
 loop-pattern-preserved c = λ patterns built.

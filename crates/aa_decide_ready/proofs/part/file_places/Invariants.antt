@@ -1,6 +1,6 @@
 use Rattle.std.proofs.Common.{◌≡◌, ◌+◌, ◌++◌, length}
 use Rattle.aa_profile_data.specs.FileRules.{places_from}
-use Rattle.aa_decide_ready.proofs.part.places_of.Given as goal
+use Rattle.aa_decide_ready.proofs.part.file_places.Given as goal
 
 -- the places so far and those of the other rules are all
 abbrev pub invariant-loop-rest : goal.invariant-loop-rest

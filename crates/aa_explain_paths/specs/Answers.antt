@@ -1,0 +1,41 @@
+-- What a question about all paths is answered.
+use Rattle.std.specs.Prelude.{◌≡◌, ℕ, ◌≤◌, Bool, true, false, List, ◌++◌, length}
+use Rattle.aa_glob_nfa.specs.Graphs.{AreBytes}
+use Rattle.aa_glob_paths.specs.TooMany.{AreMoreTextsThan}
+use Rattle.aa_profile_data.specs.FileRules.{file_patterns}
+use Rattle.aa_profile_data.specs.declared.profile.Rule.{Rule}
+use Rattle.aa_explain_paths.specs.Claims.{breaks_for}
+use Rattle.aa_explain_paths.specs.Meant.{is_meant, unasked_patterns}
+use Rattle.aa_explain_paths.specs.declared.question.Claim.{Claim}
+use Rattle.aa_explain_paths.specs.declared.question.PathAnswer.{PathAnswer}
+use Rattle.aa_explain_paths.specs.declared.question.PathAnswer.TheVariants.{Fails, Holds, TooMany}
+use Rattle.aa_explain_paths.specs.declared.question.Whose.{Whose}
+
+-- a question: what is claimed, the letters, whose files are meant, and the patterns
+pub record Asked : Type 0 where
+  pub claim : Claim
+  pub letters : ℕ
+  pub whose : Whose
+  pub patterns : List (List ℕ)
+
+-- by some rules, a path that is meant says otherwise
+pub record IsBreaking (rules : List Rule) (asked : Asked) (path : List ℕ) : Type 0 where
+  pub bytes : AreBytes path
+  pub meant : is_meant asked.patterns path ≡ true
+  pub breaks : breaks_for asked.claim rules asked.letters asked.whose path ≡ true
+
+-- What is claimed holds of each path that is meant: none says otherwise.
+abbrev pub HoldsOfAll : List Rule → Asked → Type 0
+HoldsOfAll rules asked = (path : List ℕ) → IsBreaking rules asked path → ⊥
+
+-- this path says otherwise, and none that does is shorter
+pub record IsShortestBreaking (rules : List Rule) (asked : Asked) (path : List ℕ) : Type 0 where
+  pub breaking : IsBreaking rules asked path
+  pub shortest : (other : List ℕ) → IsBreaking rules asked other → length path ≤ length other
+
+-- The answer is right. That there are too many paths is told only where more texts than the limit are read differently by the patterns of the rules,
+-- those of the question, and those of the paths that the kernel never asks about.
+abbrev pub IsAnswer : List Rule → Asked → ℕ → PathAnswer → Type 0
+IsAnswer rules asked limit (Holds count) = HoldsOfAll rules asked
+IsAnswer rules asked limit (Fails path) = IsShortestBreaking rules asked path.items
+IsAnswer rules asked limit TooMany = AreMoreTextsThan ((file_patterns rules ++ asked.patterns) ++ unasked_patterns) limit

@@ -1,0 +1,3 @@
+-- What the code's own forms mean. No public contract names these.
+pub mod Breaking
+pub mod Telling

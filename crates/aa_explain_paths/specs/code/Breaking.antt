@@ -1,0 +1,34 @@
+-- The first of some paths that says otherwise.
+use Rattle.std.specs.Prelude.{ℕ, Bool, not, ◌&&◌, if◌then◌else◌, List, [], ◌∷◌, Option, None, Some}
+use Rattle.aa_glob_paths.specs.declared.outcome.Outcome.{Outcome}
+use Rattle.aa_profile_data.specs.declared.profile.Rule.{Rule}
+use Rattle.aa_explain_paths.specs.Answers.{Asked}
+use Rattle.aa_explain_paths.specs.Claims.{breaks_for}
+use Rattle.aa_explain_paths.specs.Meant.{is_matched}
+use Rattle.aa_explain_paths.specs.declared.question.PathAnswer.{PathAnswer}
+use Rattle.aa_explain_paths.specs.declared.question.PathAnswer.TheVariants.{Fails, Holds, TooMany}
+
+-- none of some patterns matches a path, and it says otherwise
+abbrev pub says_otherwise : List Rule → Asked → List (List ℕ) → List ℕ → Bool
+says_otherwise rules asked unasked path = not (is_matched unasked path) && breaks_for asked.claim rules asked.letters asked.whose path
+
+-- the path of the first outcome whose path passes a test
+abbrev pub first_break : (List ℕ → Bool) → List Outcome → Option (List ℕ)
+first_break test [] = None
+first_break test (outcome ∷ outcomes) = if test outcome.path.items then Some outcome.path.items else first_break test outcomes
+
+-- an answer, as definitions see it
+pub data SeenAnswer : Type 0 where
+  HoldsOf : (count : ℕ) → SeenAnswer
+  FailsAt : (path : List ℕ) → SeenAnswer
+  AreTooMany : SeenAnswer
+
+abbrev pub seen_answer : PathAnswer → SeenAnswer
+seen_answer (Holds count) = HoldsOf count
+seen_answer (Fails path) = FailsAt path.items
+seen_answer TooMany = AreTooMany
+
+-- the answer where so many paths stand for all, and this is the first that says otherwise, if one does
+abbrev pub answer_of : ℕ → Option (List ℕ) → SeenAnswer
+answer_of count None = HoldsOf count
+answer_of count (Some path) = FailsAt path
