@@ -67,6 +67,7 @@ _aatry_offer_options() {
     case $1 in
     check) _aatry_offer '-b --json --language --color -h --help --' ;;
     why | who) _aatry_offer '-b --verbose --json --language --color -h --help --' ;;
+    never | always) _aatry_offer '-b --limit --names --verbose --json --language --color -h --help --' ;;
     log) _aatry_offer '-b --denied --globs --profile --rules --since --strict --verbose --json --language --color -h --help --' ;;
     diff) _aatry_offer '--log --questions --stat --verbose --json --language --color -h --help --' ;;
     session) _aatry_offer '-b --language --color -h --help --' ;;
@@ -91,7 +92,7 @@ _aatry() {
     COMPREPLY=()
     if [ "$word" = = ]; then word=; fi
     if [ "$COMP_CWORD" -eq 1 ]; then
-        _aatry_offer 'check why log who diff session test -h --help -V --version'
+        _aatry_offer 'check why log who never always diff session test -h --help -V --version'
         return
     fi
 
@@ -116,6 +117,7 @@ _aatry() {
             --color) awaited=color ;;
             --profile) awaited=profile ;;
             --since) awaited=time ;;
+            --limit) awaited=limit ;;
             --log | --questions) awaited=file ;;
             esac
         else
@@ -129,7 +131,7 @@ _aatry() {
     folder:*) mapfile -t COMPREPLY < <(compgen -d -- "$word") ;;
     file:*) mapfile -t COMPREPLY < <(compgen -f -- "$word") ;;
     profile:*) _aatry_offer_names ;;
-    time:*) ;;
+    time:* | limit:*) ;;
     *)
         if [ -n "$options" ] && [[ $word == -* ]]; then
             _aatry_offer_options "$command"
@@ -139,6 +141,9 @@ _aatry() {
         why:0 | who:0) _aatry_offer 'file exec cap net -b' ;;
         why:*) _aatry_offer_asked "${words[@]}" ;;
         who:*) _aatry_offer_letting "${words[@]}" ;;
+        never:1 | always:1) _aatry_offer 'owner other any' ;;
+        never:0 | always:0 | never:2 | always:2) ;;
+        never:* | always:*) _aatry_offer_names ;;
         diff:*) mapfile -t COMPREPLY < <(compgen -d -- "$word") ;;
         test:* | log:*) mapfile -t COMPREPLY < <(compgen -f -- "$word") ;;
         check:*) if [[ $word != */* ]]; then _aatry_offer_files; fi ;;

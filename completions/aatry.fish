@@ -36,7 +36,7 @@ function __aatry_read --no-scope-shadowing
             switch $token
                 case --
                     set options no
-                case -b --language --color --profile --since --log --questions
+                case -b --language --color --profile --since --limit --log --questions
                     set awaited $token
                 case '-b*'
                     set base (string replace -r -- '^-b=?' '' $token)
@@ -113,6 +113,21 @@ function __aatry_asked
     end
 end
 
+# What may stand at the next place of a claim about all paths.
+function __aatry_claimed
+    set -l base
+    set -l language
+    set -l own
+    __aatry_read
+    switch (count $own)
+        case 2
+            printf '%s\n' owner other any
+        case 1 3
+        case '*'
+            __aatry_names
+    end
+end
+
 # The files at the top of the folder, without folders.
 function __aatry_files
     set -l base
@@ -125,25 +140,28 @@ function __aatry_files
 end
 
 complete -c aatry -f
-complete -c aatry -n __aatry_is_none -a 'check why log who diff session test'
+complete -c aatry -n __aatry_is_none -a 'check why log who never always diff session test'
 complete -c aatry -n __aatry_is_none -s V -l version -d 'Prints the version'
 complete -c aatry -s h -l help -d 'Prints help'
 complete -c aatry -l language -x -a '3 4' -d 'Reads policy by language N'
 complete -c aatry -l color -x -a 'auto always never' -d 'When lines are in colours'
-complete -c aatry -n '__aatry_is check why log who session test' -s b -x -a '(__fish_complete_directories)' -d 'The folder of policy'
-complete -c aatry -n '__aatry_is check why log who diff' -l json -d 'Tells in records of JSON'
-complete -c aatry -n '__aatry_is why log who diff' -l verbose -d 'Tells each file first that is left out, and why'
+complete -c aatry -n '__aatry_is check why log who never always session test' -s b -x -a '(__fish_complete_directories)' -d 'The folder of policy'
+complete -c aatry -n '__aatry_is check why log who never always diff' -l json -d 'Tells in records of JSON'
+complete -c aatry -n '__aatry_is why log who never always diff' -l verbose -d 'Tells each file first that is left out, and why'
 complete -c aatry -n '__aatry_is log' -l denied -d 'Passes over requests that were not denied'
 complete -c aatry -n '__aatry_is log' -l profile -x -a '(__aatry_names)' -d 'Passes over requests of others'
 complete -c aatry -n '__aatry_is log' -l since -x -d 'Passes over what came before'
 complete -c aatry -n '__aatry_is log' -l rules -d 'Tells rules to add'
 complete -c aatry -n '__aatry_is log' -l globs -d 'Offers wider rules beside these'
 complete -c aatry -n '__aatry_is log' -l strict -d 'Ends with 1 where a line was not answered'
+complete -c aatry -n '__aatry_is never always' -l names -d 'Tells no rules'
+complete -c aatry -n '__aatry_is never always' -l limit -x -d 'How many sets of states are looked at'
 complete -c aatry -n '__aatry_is test' -l accept -d 'Writes what is told in place of what is wanted'
 complete -c aatry -n '__aatry_is diff' -l stat -d 'Tells how much differs'
 complete -c aatry -n '__aatry_is diff' -l log -r -F -d 'Asks both what a log asked'
 complete -c aatry -n '__aatry_is diff' -l questions -r -F -d 'Asks both the questions of a file'
 complete -c aatry -n '__aatry_is check' -a '(__aatry_files)'
 complete -c aatry -n '__aatry_is why who' -a '(__aatry_asked)'
+complete -c aatry -n '__aatry_is never always' -a '(__aatry_claimed)'
 complete -c aatry -n '__aatry_is log test' -F
 complete -c aatry -n '__aatry_is diff' -a '(__fish_complete_directories)'

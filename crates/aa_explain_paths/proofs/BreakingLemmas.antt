@@ -17,7 +17,7 @@ use Rattle.aa_explain_paths.specs.Claims.{breaks, breaks_for, is_allow, owners, 
 use Rattle.aa_explain_paths.specs.Laws.{AreAnsweredAlike}
 use Rattle.aa_explain_paths.specs.Meant.{is_matched, is_meant, unasked_patterns}
 use Rattle.aa_explain_paths.specs.code.Breaking.{AreTooMany, FailsAt, HoldsOf, answer_of, first_break, says_otherwise, seen_answer}
-use Rattle.aa_explain_paths.specs.code.Telling.{all_classes, telling_patterns}
+use Rattle.aa_explain_paths.specs.Telling.{all_classes, telling_patterns}
 use Rattle.aa_explain_paths.specs.declared.question.Claim.{Claim}
 use Rattle.aa_explain_paths.specs.declared.question.Claim.TheVariants.{Always, Never}
 use Rattle.aa_explain_paths.specs.declared.question.PathAnswer.{PathAnswer}
@@ -151,7 +151,7 @@ module _ (rules : List Rule) (asked : Asked) where
       where
         by : (answer : PathAnswer) (found : Option (List ℕ)) → first_break test outcomes ≡ found → seen_answer answer ≡ answer_of (length outcomes) found
             → IsAnswer rules asked limit answer
-        by (Holds count) None is seen = holds is
+        by (Holds count) None is seen = let same : count ≡ length outcomes = cc in (holds is, record { outcomes = outcomes; told = told; counted = same })
         by (Holds count) (Some path) is seen = absurd cc
         by (Fails own) None is seen = absurd cc
         by (Fails own) (Some path) is seen = let same : own.items ≡ path = cc in fails own.items (is ∙ ap Some (sym same))

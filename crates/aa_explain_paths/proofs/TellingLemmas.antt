@@ -20,7 +20,7 @@ use Rattle.aa_profile_data.specs.declared.profile.Rule.{Rule}
 use Rattle.aa_profile_data.specs.declared.profile.Rule.TheVariants.{Cap, File, Net, Other}
 use Rattle.aa_explain_paths.specs.Laws.{HavePatternsAmong}
 use Rattle.aa_explain_paths.specs.Meant.{is_matched}
-use Rattle.aa_explain_paths.specs.code.Telling.{all_classes, classes_of, other_class, telling_patterns}
+use Rattle.aa_explain_paths.specs.Telling.{all_classes, classes_of, other_class, telling_patterns}
 
 -- a pattern at a place behind others
 behind-at : (ps qs : List (List ℕ)) (place : ℕ) → slice_get (ps ++ qs) (length ps + place) ≡ slice_get qs place

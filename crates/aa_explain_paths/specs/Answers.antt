@@ -1,11 +1,13 @@
 -- What a question about all paths is answered.
-use Rattle.std.specs.Prelude.{◌≡◌, ℕ, ◌≤◌, Bool, true, false, List, ◌++◌, length}
+use Rattle.std.specs.Prelude.{◌≡◌, ℕ, ◌≤◌, Bool, true, false, List, length}
 use Rattle.aa_glob_nfa.specs.Graphs.{AreBytes}
+use Rattle.aa_glob_paths.specs.AllPaths.{TellAllPaths}
 use Rattle.aa_glob_paths.specs.TooMany.{AreMoreTextsThan}
-use Rattle.aa_profile_data.specs.FileRules.{file_patterns}
+use Rattle.aa_glob_paths.specs.declared.outcome.Outcome.{Outcome}
 use Rattle.aa_profile_data.specs.declared.profile.Rule.{Rule}
 use Rattle.aa_explain_paths.specs.Claims.{breaks_for}
 use Rattle.aa_explain_paths.specs.Meant.{is_meant, unasked_patterns}
+use Rattle.aa_explain_paths.specs.Telling.{all_classes, telling_patterns}
 use Rattle.aa_explain_paths.specs.declared.question.Claim.{Claim}
 use Rattle.aa_explain_paths.specs.declared.question.PathAnswer.{PathAnswer}
 use Rattle.aa_explain_paths.specs.declared.question.PathAnswer.TheVariants.{Fails, Holds, TooMany}
@@ -33,9 +35,15 @@ pub record IsShortestBreaking (rules : List Rule) (asked : Asked) (path : List �
   pub breaking : IsBreaking rules asked path
   pub shortest : (other : List ℕ) → IsBreaking rules asked other → length path ≤ length other
 
--- The answer is right. That there are too many paths is told only where more texts than the limit are read differently by the patterns of the rules,
--- those of the question, and those of the paths that the kernel never asks about.
+-- There are so many kinds of paths that a pattern of the question matches: paths are of one kind where the same patterns match them, of the rules, of the
+-- question, and of the paths that the kernel never asks about.
+pub record AreKinds (rules : List Rule) (asked : Asked) (count : ℕ) : Type 0 where
+  pub outcomes : List Outcome
+  pub told : TellAllPaths (telling_patterns rules asked.patterns unasked_patterns) (all_classes rules asked.patterns unasked_patterns) outcomes
+  pub counted : count ≡ length outcomes
+
+-- The answer is right. That there are too many paths is told only where more texts than the limit are read differently by the same patterns.
 abbrev pub IsAnswer : List Rule → Asked → ℕ → PathAnswer → Type 0
-IsAnswer rules asked limit (Holds count) = HoldsOfAll rules asked
+IsAnswer rules asked limit (Holds count) = HoldsOfAll rules asked × AreKinds rules asked count
 IsAnswer rules asked limit (Fails path) = IsShortestBreaking rules asked path.items
-IsAnswer rules asked limit TooMany = AreMoreTextsThan ((file_patterns rules ++ asked.patterns) ++ unasked_patterns) limit
+IsAnswer rules asked limit TooMany = AreMoreTextsThan (telling_patterns rules asked.patterns unasked_patterns) limit

@@ -52,8 +52,8 @@ fn answer_by(
 
 /// Whether what is claimed holds of all paths of any bytes that patterns match, as far as the kernel may ask about them: by what some rules let of the files
 /// of these paths in enforce mode (`aa_decide_rules::rules_verdict`). A folder's path ends with `/`, and is a path. The kernel asks about none with two
-/// slashes together, and none with a part `.` or `..`. Where a path says otherwise, it is one of the shortest that do, and whichever of them is told has letters
-/// rather than other bytes.
+/// slashes together, and none with a part `.` or `..`. Where a path says otherwise, it is one of the shortest that do. Where it holds, it is told of how many
+/// kinds of paths.
 ///
 /// No path of those that are meant is passed over: each is matched by the same patterns as one of those that are looked at, which is no longer. Where more
 /// than `limit` sets of states of the patterns' automaton were to be looked at for that, `TooMany` is told.

@@ -2,7 +2,7 @@
 
 ghost use Rattle.std.specs.Prelude.{◌≡◌, ◌++◌, IfOk, IfSome, None, OnOk, length, replicate};
 ghost use Rattle.aa_explain_paths.specs.Meant.{is_matched, unasked_patterns};
-ghost use Rattle.aa_explain_paths.specs.code.Telling.{all_classes, telling_patterns};
+ghost use Rattle.aa_explain_paths.specs.Telling.{all_classes, telling_patterns};
 ghost use Rattle.aa_glob_automaton.specs.Automata.{IsAutomatonOf};
 ghost use Rattle.aa_glob_paths.specs.AllPaths.{TellAllPaths};
 ghost use Rattle.aa_glob_paths.specs.TooMany.{AreMoreTextsThan};

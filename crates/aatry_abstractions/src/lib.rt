@@ -5,3 +5,4 @@ mod letting;
 mod probes;
 
 pub use letting::{LettingAbstraction, letting_abstractions};
+pub use probes::{copied, only_profile, push_preamble, put};

@@ -23,8 +23,12 @@ pub fn is_abstraction(name: &[u8]) -> bool
     begins_with(b"abstractions/", name) && !Files::is_folder(name)
 }
 
-// Appends the include of the variables to a text, where the folder has them.
-fn push_preamble(files: &Files, out: &mut Vec<u8>) -> Result<(), AllocError>
+/// Appends the include of the variables that stock policy's profiles begin with to a text, where the folder has them.
+///
+/// # Errors
+///
+/// Where memory runs out. A beginning may have been appended then.
+pub fn push_preamble(files: &Files, out: &mut Vec<u8>) -> Result<(), AllocError>
     ensures { OnOk result (out.new.items ≡ out.old.items ++ preamble files.now) }
 {
     if files.has(TUNABLES) {
@@ -54,8 +58,12 @@ fn probe_text(alloc: Global, files: &Files, name: &[u8]) -> Result<Vec<u8>, Allo
     Ok(text)
 }
 
-// Puts a file behind others, where it can stand there.
-fn put(files: &mut Files, name: Vec<u8>, bytes: Vec<u8>) -> Result<(), AllocError>
+/// Puts a file behind others, where it can stand there.
+///
+/// # Errors
+///
+/// Where memory runs out. The files are as they were then.
+pub fn put(files: &mut Files, name: Vec<u8>, bytes: Vec<u8>) -> Result<(), AllocError>
     ensures { OnOk result (files.new ≡ with_file files.old (name.items, bytes.items)) }
 {
     match files.insert(name, bytes) {
@@ -75,8 +83,12 @@ fn put_copy(alloc: Global, name: &[u8], bytes: &[u8], into: &mut Files) -> Resul
     put(into, name, bytes)
 }
 
-// Copies of files.
-fn copied(alloc: Global, files: &Files) -> Result<Files, AllocError>
+/// Copies of files.
+///
+/// # Errors
+///
+/// Where memory runs out.
+pub fn copied(alloc: Global, files: &Files) -> Result<Files, AllocError>
     ensures { IfOk result (λ copies. copies ≡ with_files [] files.now) }
 {
     let mut copies = Files::new(alloc);
@@ -117,8 +129,8 @@ pub fn probed(alloc: Global, files: &Files) -> Result<Files, AllocError>
     Ok(made)
 }
 
-// The profile of a file that has one.
-fn only_profile(profiles: Vec<Profile>) -> Option<Profile>
+/// The profile of a file that has one alone. It takes no memory.
+pub fn only_profile(profiles: Vec<Profile>) -> Option<Profile>
     ensures { result ≡ only_profile (Ok profiles.items) }
 {
     let mut left = profiles;

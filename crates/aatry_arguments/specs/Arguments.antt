@@ -1,11 +1,12 @@
 -- What the words of the arguments ask for.
-use Rattle.std.specs.Prelude.{ℕ, Bool, ◌||◌, if◌then◌else◌, List, [], ◌∷◌, codes}
+use Rattle.std.specs.Prelude.{ℕ, Bool, false, true, ◌||◌, if◌then◌else◌, List, [], ◌∷◌, codes}
 use Rattle.std.specs.Str.{bytes_eq}
 use Rattle.aa_options.specs.Options.{Asked, ForHelp, ForVersion, Nothing, asked_as}
 use Rattle.aatry_arguments.specs.AskingWords.{AskingAsked, asked_words}
 use Rattle.aatry_arguments.specs.CheckWords.{CheckAsked, asked_check}
 use Rattle.aatry_arguments.specs.DiffWords.{ComparisonAsked, asked_diff}
 use Rattle.aatry_arguments.specs.LogWords.{LogsAsked, asked_logs}
+use Rattle.aatry_arguments.specs.PathsWords.{AllPathsAsked, asked_paths}
 use Rattle.aatry_arguments.specs.SessionWords.{SessionAsked, asked_session}
 use Rattle.aatry_arguments.specs.TestWords.{TestAsked, asked_test}
 
@@ -15,6 +16,7 @@ pub data CommandAsked : Type 0 where
   ForTest : TestAsked → CommandAsked
   ForWho : AskingAsked → CommandAsked
   ForWhy : AskingAsked → CommandAsked
+  ForPaths : AllPathsAsked → CommandAsked
   ForLog : LogsAsked → CommandAsked
   ForDiff : ComparisonAsked → CommandAsked
   ForSession : SessionAsked → CommandAsked
@@ -34,6 +36,8 @@ asked_by_first first words =
     else if bytes_eq first (codes "test") then asked_as ForTest (asked_test words)
     else if bytes_eq first (codes "who") then asked_as ForWho (asked_words words)
     else if bytes_eq first (codes "why") then asked_as ForWhy (asked_words words)
+    else if bytes_eq first (codes "never") then asked_as ForPaths (asked_paths false words)
+    else if bytes_eq first (codes "always") then asked_as ForPaths (asked_paths true words)
     else if bytes_eq first (codes "log") then asked_as ForLog (asked_logs words)
     else if bytes_eq first (codes "diff") then asked_as ForDiff (asked_diff words)
     else if bytes_eq first (codes "session") then asked_as ForSession (asked_session words)

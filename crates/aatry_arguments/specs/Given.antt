@@ -3,12 +3,14 @@ use Rattle.std.specs.Prelude.{◌≡◌, option_map, string_bytes}
 use Rattle.aa_options.specs.Texts.{texts}
 use Rattle.aatry_arguments.specs.AskingWords.{AskingAsked, asking_with}
 use Rattle.aatry_arguments.specs.CheckWords.{CheckAsked, check_with}
-use Rattle.aatry_arguments.specs.Arguments.{CommandAsked, ForCheck, ForDiff, ForLog, ForSession, ForTest, ForWho, ForWhy}
+use Rattle.aatry_arguments.specs.Arguments.{CommandAsked, ForCheck, ForDiff, ForLog, ForPaths, ForSession, ForTest, ForWho, ForWhy}
 use Rattle.aatry_arguments.specs.DiffWords.{ComparisonAsked, LogAt, QuestionsAt, SourceAsked, comparison_with}
 use Rattle.aatry_arguments.specs.Forms.{CallAsked}
 use Rattle.aatry_arguments.specs.LogWords.{LogLinesAsked, LogTellingAsked, LogsAsked, lines_with, logs_with, telling_with}
+use Rattle.aatry_arguments.specs.PathsWords.{AllPathsAsked, paths_with}
 use Rattle.aatry_arguments.specs.SessionWords.{SessionAsked, session_with}
 use Rattle.aatry_arguments.specs.TestWords.{TestAsked, test_with}
+use Rattle.aatry_arguments.specs.declared.arguments.AllPaths.{AllPaths}
 use Rattle.aatry_arguments.specs.declared.arguments.Asking.{Asking}
 use Rattle.aatry_arguments.specs.declared.arguments.Call.{Call}
 use Rattle.aatry_arguments.specs.declared.arguments.Check.{Check}
@@ -36,6 +38,10 @@ meant_test test = test_with (string_bytes test.base) (texts test.paths) test.acc
 -- the asking that is meant
 abbrev pub meant_asking : Asking → AskingAsked
 meant_asking asking = asking_with (string_bytes asking.base) (texts asking.words)
+
+-- the question about all paths that is meant
+abbrev pub meant_paths : AllPaths → AllPathsAsked
+meant_paths paths = paths_with paths.always paths.names paths.limit (meant_asking paths.asking)
 
 -- which lines of logs are meant
 abbrev pub meant_lines : LogLines → LogLinesAsked
@@ -70,6 +76,7 @@ meant_command (command.Check check) = ForCheck (meant_check check)
 meant_command (command.Test test) = ForTest (meant_test test)
 meant_command (command.Who asking) = ForWho (meant_asking asking)
 meant_command (command.Why asking) = ForWhy (meant_asking asking)
+meant_command (command.Paths paths) = ForPaths (meant_paths paths)
 meant_command (command.Log logs) = ForLog (meant_logs logs)
 meant_command (command.Diff comparison) = ForDiff (meant_comparison comparison)
 meant_command (command.Session session) = ForSession (meant_session session)

@@ -9,6 +9,7 @@ pub mod Forms
 pub mod Given
 pub mod Languages
 pub mod LogWords
+pub mod PathsWords
 pub mod SeenValues
 pub mod SessionWords
 pub mod TestWords

@@ -27,6 +27,8 @@ pub enum Command {
     Who(Asking),
     /// Why a question is answered as it is, is asked of a folder of policy.
     Why(Asking),
+    /// It is asked of a folder of policy whether something is never let, or always, of all files of a pattern: the words are those of the question.
+    Paths(AllPaths),
     /// What logs tell of is asked of a folder of policy.
     Log(Logs),
     /// Two folders of policy are to be compared.
@@ -62,6 +64,19 @@ pub struct Asking {
     pub base: String,
     /// The words of the question, in this order: one at least. They may make no question.
     pub words: Vec<String>,
+}
+
+/// What is asked of a folder of policy about all files of a pattern.
+#[derive(Drop)]
+pub struct AllPaths {
+    /// The folder of policy, and the words of the question: one at least. They may make no question.
+    pub asking: Asking,
+    /// Whether all of the access is claimed to be let to each file, and not nothing of it to any.
+    pub always: bool,
+    /// Whether names alone are to be told, without rules.
+    pub names: bool,
+    /// How many sets of states are to be looked at, at most, for each of those who are asked about.
+    pub limit: usize,
 }
 
 /// Which logs ask of a folder of policy.

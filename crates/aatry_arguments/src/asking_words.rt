@@ -97,8 +97,12 @@ fn asking_of(check: Check) -> Result<Asking, ArgumentFault>
     Ok(Asking { base, words })
 }
 
-// What words ask that are read as those behind `check`, with what help says of their command.
-fn asked_words(alloc: Global, words: &[String], help: &str) -> Result<Asking, ArgumentFault>
+/// What words ask that are read as those behind `check`, with what help says of their command.
+///
+/// # Errors
+///
+/// Those of `check_of`, and `Bad` where the question has no word.
+pub fn asked_words(alloc: Global, words: &[String], help: &str) -> Result<Asking, ArgumentFault>
     ensures { IsGivenFor meant_asking (asked_words (map string_bytes words.now)) result }
 {
     match check_of(alloc, words) {

@@ -13,6 +13,7 @@ mod forms;
 mod languages;
 mod laws;
 mod log_words;
+mod paths_words;
 mod reading;
 mod session_words;
 mod test_words;
@@ -20,8 +21,8 @@ mod values;
 
 pub use aa_options::ArgumentFault;
 pub use arguments::{
-    Asking, Call, Check, Command, Comparison, LogLines, LogTelling, Logs, RequestSource, Session,
-    Test,
+    AllPaths, Asking, Call, Check, Command, Comparison, LogLines, LogTelling, Logs, RequestSource,
+    Session, Test,
 };
 pub use forms::call_of;
 pub use laws::{

@@ -10,6 +10,7 @@ use crate::check_words::check_of;
 use crate::diff_words::diff_of;
 use crate::faults::help_with;
 use crate::log_words::logs_of;
+use crate::paths_words::paths_of;
 use crate::session_words::session_of;
 use crate::test_words::test_of;
 use aa_options::{ArgumentFault, VERSION};
@@ -26,13 +27,15 @@ Commands:
   why      Tells the answer to a question, and the rules behind it
   log      Asks what the lines of a log asked, and tells what is answered now
   who      Tells which profiles, children and hats would let through what a question asks for
+  never    Tells whether some access is let to no file of a pattern, or a path that says otherwise
+  always   Tells whether it is let to each file of a pattern, or a path that says otherwise
   diff     Tells which profiles of two folders of policy differ, and what they answer otherwise
   session  Takes commands over a folder of policy, as they come: changes, questions, undo
   test     Runs transcripts of commands over a folder of policy, and tells each reply that differs
 
 Options:
-  --json          Behind check, why, log, who and diff: tells in records of JSON, one a line
-  --verbose       Behind why, log, who and diff: tells each file first that is left out, and why
+  --json          Tells in records of JSON, one a line; not behind session and test
+  --verbose       Tells each file first that is left out, and why; not behind check, session and test
   --language <N>  Reads policy by language N, 3 or 4; 4 if none is named
   --color <WHEN>  Shows lines in colours: auto, always or never; auto if nothing is said
   -h, --help      Prints help, and behind a COMMAND help on it
@@ -58,6 +61,8 @@ fn command_by(alloc: Global, first: &str, words: &[String]) -> Result<Command, A
         "test" => test_of(alloc, words).map(Command::Test),
         "who" => who_of(alloc, words).map(Command::Who),
         "why" => why_of(alloc, words).map(Command::Why),
+        "never" => paths_of(alloc, words, false).map(Command::Paths),
+        "always" => paths_of(alloc, words, true).map(Command::Paths),
         "log" => logs_of(alloc, words).map(Command::Log),
         "diff" => diff_of(alloc, words).map(Command::Diff),
         "session" => session_of(alloc, words).map(Command::Session),

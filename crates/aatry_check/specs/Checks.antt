@@ -3,6 +3,7 @@ use Rattle.std.specs.Prelude.{◌≡◌, ◌+◌, ℕ, List, [], ◌∷◌, ◌+
 use Rattle.std.specs.Str.{bytes_eq}
 use Rattle.serde_json.specs.Data.{Members}
 use Rattle.aa_bytes.specs.Bytes.{line_feed}
+use Rattle.aa_explain_conflicts.specs.EarlierRules.{earlier_rule}
 use Rattle.aa_text_files.specs.Files.{File, bytes_at, name_at}
 use Rattle.aa_text_files.specs.declared.text_error.Place.{Place}
 use Rattle.aa_profile.specs.FileReading.{file_profiles_in}
@@ -13,6 +14,7 @@ use Rattle.aa_profile_parsing.specs.declared.language.Language.{Language}
 use Rattle.aaset_start.specs.Readable.{unread_in, words_of}
 use Rattle.aaset_start.specs.declared.readable.UnreadFault.{UnreadFault}
 use Rattle.aatry_check.specs.Loading.{loading_in, told_loading}
+use Rattle.aatry_check.specs.Others.{other_lines, with_other}
 use Rattle.aatry_folder.specs.Loadings.{TopFile}
 use Rattle.aatry_report.specs.Faults.{fault_lines, with_fault}
 use Rattle.aatry_report.specs.FilePlaces.{path_below}
@@ -36,6 +38,16 @@ included_lines files base name (Some place) = included_line base name (name_at f
 abbrev pub with_included : List ℕ → List ℕ → List ℕ → Members → Members
 with_included base name faulty members = if bytes_eq name faulty then members else with_text (codes "included_from") (path_below base name) members
 
+-- what is told below a refusal of the rule before, with which the refused one conflicts, if there is one
+abbrev pub earlier_lines : List File → List ℕ → Option Place → List ℕ
+earlier_lines files base None = []
+earlier_lines files base (Some place) = other_lines files base place
+
+-- a record with the same
+abbrev pub with_earlier : List File → List ℕ → Option Place → Members → Members
+with_earlier files base None members = members
+with_earlier files base (Some place) members = with_other files base place members
+
 -- a record with what is wrong with a file that is refused, in these words
 abbrev pub with_refusal : List ℕ → List File → List ℕ → List ℕ → ℕ → Option Place → Members → Members
 with_refusal words files base name number None members = with_fault words (path_below base name) number None [] members
@@ -43,15 +55,16 @@ with_refusal words files base name number (Some place) members =
     with_included base name (name_at files place.file)
     (with_fault words (path_below base (name_at files place.file)) number (Some place.at) (bytes_at files place.file) members)
 
--- a record of a file that is refused, in these words
-abbrev pub refusal_record : List ℕ → List File → List ℕ → List ℕ → ℕ → Option Place → Members
-refusal_record words files base name number place = with_refusal words files base name number place (record_of (codes "refused"))
+-- a record of a file that is refused, in these words, and of the rule before, if there is one
+abbrev pub refusal_record : List ℕ → List File → List ℕ → List ℕ → ℕ → Option Place → Option Place → Members
+refusal_record words files base name number place earlier =
+    with_earlier files base earlier (with_refusal words files base name number place (record_of (codes "refused")))
 
--- what is told of a file that is refused, in these words: lines, or its record
-abbrev pub refusal_lines : Form → List ℕ → List File → List ℕ → List ℕ → ℕ → Option Place → List ℕ
-refusal_lines Lines words files base name number place =
-    placed_refusal words files base (path_below base name) number place ++ included_lines files base name place
-refusal_lines Records words files base name number place = record_line (refusal_record words files base name number place)
+-- what is told of a file that is refused, in these words, and of the rule before, if there is one: lines, or its record
+abbrev pub refusal_lines : Form → List ℕ → List File → List ℕ → List ℕ → ℕ → Option Place → Option Place → List ℕ
+refusal_lines Lines words files base name number place earlier =
+    placed_refusal words files base (path_below base name) number place ++ included_lines files base name place ++ earlier_lines files base earlier
+refusal_lines Records words files base name number place earlier = record_line (refusal_record words files base name number place earlier)
 
 -- lines of a file that is refused since another one of these names, or itself, wasn't read, for which these are the words
 abbrev pub unread_text : List ℕ → List ℕ → List ℕ → ℕ → List ℕ → List ℕ
@@ -67,23 +80,25 @@ abbrev pub unread_lines : Form → List ℕ → List ℕ → List ℕ → ℕ �
 unread_lines Lines base name unread number words = unread_text base name unread number words
 unread_lines Records base name unread number words = record_line (unread_record base name unread number words)
 
--- what is told of a file that is refused, in these words; but where the fault stands in a file that wasn't read, in the words of that
-abbrev pub told_refusal : Form → List ℕ → List File → List ℕ → List ℕ → ℕ → Option Place → Option (ℕ × UnreadFault) → List ℕ
-told_refusal form words files base name number place None = refusal_lines form words files base name number place
-told_refusal form words files base name number place (Some unread) = unread_lines form base name (name_at files unread.0) number (words_of unread.1)
+-- what is told of a file that is refused, in these words, and of the rule before, if there is one; but where the fault stands in a file that wasn't
+-- read, in the words of that
+abbrev pub told_refusal : Form → List ℕ → List File → List ℕ → List ℕ → ℕ → Option Place → Option Place → Option (ℕ × UnreadFault) → List ℕ
+told_refusal form words files base name number place earlier None = refusal_lines form words files base name number place earlier
+told_refusal form words files base name number place earlier (Some unread) =
+    unread_lines form base name (name_at files unread.0) number (words_of unread.1)
 
--- lines tell how the reading of a file came out
-abbrev pub TellsReading : Form → List File → List (Option UnreadFault) → List ℕ → List ℕ → Result (List Profile) ProfileError → List ℕ → Type 0
-TellsReading form files unread base name (Ok profiles) lines = lines ≡ taken_line form (path_below base name) profiles
-TellsReading form files unread base name (Err error) lines =
-    (words : List ℕ) × (lines ≡ told_refusal form words files base name (number_of error.refusal) error.place (unread_in unread error.place))
+-- lines tell how the reading of a file came out, and the rule before the refused one, if there is one
+abbrev pub TellsReading : Form → List File → List (Option UnreadFault) → List ℕ → List ℕ → Option Place → Result (List Profile) ProfileError → List ℕ → Type 0
+TellsReading form files unread base name earlier (Ok profiles) lines = lines ≡ taken_line form (path_below base name) profiles
+TellsReading form files unread base name earlier (Err error) lines =
+    (words : List ℕ) × (lines ≡ told_refusal form words files base name (number_of error.refusal) error.place earlier (unread_in unread error.place))
 
--- lines tell a file: that it was taken, or why it is refused, exactly as its reading by a language says; and how it is loaded, by the files at the
--- top
+-- lines tell a file: that it was taken, or why it is refused, exactly as its reading by a language says, with the rule before the refused one, where two
+-- conflict; and how it is loaded, by the files at the top
 abbrev pub Tells : Form → Language → List File → List (Option UnreadFault) → List ℕ → List TopFile → List ℕ → List ℕ → Type 0
 Tells form language files unread base top name lines =
     (first : List ℕ) × (lines ≡ first ++ told_loading form base name (loading_in top name))
-    × TellsReading form files unread base name (file_profiles_in language files name) first
+    × TellsReading form files unread base name (earlier_rule language files name) (file_profiles_in language files name) first
 
 -- one file is refused, or none: its reading gives no profiles
 abbrev pub refused_in : Language → List File → List ℕ → ℕ

@@ -3,12 +3,15 @@
 ghost use Rattle.std.specs.Prelude.{◌≡◌, ◌≤◌, ◌+◌, ◌++◌, ℕ, List, IfOk, OnOk, length, map, string_bytes};
 ghost use Rattle.aatry_report.specs.Taken.{taken_line};
 ghost use Rattle.aatry_check.specs.Checks.{Tells, TellsEach, TellsReading, refused_count, refused_in};
+ghost use Rattle.aa_explain_conflicts.specs.EarlierRules.{earlier_rule};
 ghost use Rattle.aa_profile.specs.FileReading.{file_profiles_in};
 ghost use Rattle.aatry_folder.specs.Loadings.{seen_top};
 ghost use Rattle.aatry_report.specs.FilePlaces.{path_below};
 
 use crate::loading::{loading_in, push_loading};
+use crate::refusal::Refused;
 use crate::unread::push_told;
+use aa_explain_conflicts::earlier_rule;
 use aa_profile::{Language, Profile, ProfileRefusal, read_file_in};
 use aa_text_files::Files;
 use aaset_start::UnreadFault;
@@ -52,7 +55,8 @@ fn check_reading(
     ensures refused { IfOk result (λ refused. refused ≡ refused_in language files.now name.now) }
     ensures few { IfOk result (λ refused. refused ≤ 1) }
     ensures told { OnOk result ((lines : List ℕ) × (out.new.items ≡ out.old.items ++ lines)
-        × TellsReading teller.form files.now unread.now base.now name.now (file_profiles_in language files.now name.now) lines) }
+        × TellsReading teller.form files.now unread.now base.now name.now (earlier_rule language files.now name.now)
+        (file_profiles_in language files.now name.now) lines) }
 {
     match read_file_in(teller.alloc, language, files, name) {
         Ok(read) => {
@@ -63,7 +67,13 @@ fn check_reading(
             if error.refusal == ProfileRefusal::Memory {
                 return Err(AllocError);
             }
-            push_told(teller, files, unread, base, name, error, out)?;
+            let earlier = earlier_rule(teller.alloc, language, files, name, error)?;
+            let refused = Refused {
+                language,
+                error,
+                earlier,
+            };
+            push_told(teller, files, unread, base, name, refused, out)?;
             Ok(1)
         }
     }
@@ -91,14 +101,16 @@ fn check_file(
 }
 
 /// Checks files of policy by a language, each by itself, with the files that they include, and puts what is told of each behind a text, in their
-/// order: that it was taken, or why it is refused and where; and behind that, that its profiles are disabled or loaded in complain mode, where they
-/// are by the files at the top of the folder, which `top` has. `base` is the folder that `files` were taken from, without a `/` at its end; each file
-/// is told by its path below that. A name that no file has is told as such. `unread` says of each of `files`, in their order, why it wasn't read, if
-/// it wasn't: a file that is refused where such a one is entered is told with that, and with no place.
+/// order: that it was taken, or why it is refused and where, with the rule before where two conflict; and behind that, that its profiles are disabled
+/// or loaded in complain mode, where they are by the files at the top of the folder, which `top` has. `base` is the folder that `files` were taken
+/// from, without a `/` at its end; each file is told by its path below that. A name that no file has is told as such. `unread` says of each of
+/// `files`, in their order, why it wasn't read, if it wasn't: a file that is refused where such a one is entered is told with that, and with no
+/// place.
 ///
 /// The record of a file that was taken is that of `aatry_report::push_taken`. That of one that is refused is of the kind `refused`, with the file
 /// that the fault stands in and the fault as `aatry_report::put_fault_at` puts it, or `put_fault` where it has no place; and with `included_from`,
-/// the file that is checked, where the fault stands in another. That of a file that isn't loaded by its flags is of the kind `loading`, with the
+/// the file that is checked, where the fault stands in another. Where two rules conflict it has the one before, as `other_file`, `other_line`,
+/// `other_column` and `other_text`, the line that it stands in. That of a file that isn't loaded by its flags is of the kind `loading`, with the
 /// file, its `state`, which is `disabled` or `complain`, and what makes it so, `by`.
 ///
 /// # Errors

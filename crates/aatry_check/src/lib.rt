@@ -4,6 +4,7 @@
 mod below;
 mod checked;
 mod loading;
+mod other;
 mod records;
 mod refusal;
 mod unread;

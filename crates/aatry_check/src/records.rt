@@ -3,11 +3,13 @@
 ghost use Rattle.std.specs.Prelude.{◌≡◌, Some, IfOk, OnOk};
 ghost use Rattle.aa_profile_errors.specs.ProfileError.{number_of};
 ghost use Rattle.aa_text_files.specs.Files.{bytes_at, name_at};
-ghost use Rattle.aatry_check.specs.Checks.{refusal_record, with_included, with_refusal};
+ghost use Rattle.aatry_check.specs.Checks.{refusal_record, with_earlier, with_included, with_refusal};
 ghost use Rattle.aatry_report.specs.Faults.{with_fault};
 ghost use Rattle.aatry_report.specs.FilePlaces.{path_below};
 ghost use Rattle.aatry_report.specs.SeenRecord.{seen_record};
 
+use crate::other::put_other;
+use crate::refusal::Refused;
 use aa_profile::ProfileError;
 use aa_text_files::{Files, Place};
 use aatry_report::{Record, path_below, put_fault, put_fault_at};
@@ -81,6 +83,22 @@ fn put_refusal(
     }
 }
 
+// Puts the rule before into a record, if there is one.
+fn put_earlier(
+    alloc: Global,
+    files: &Files,
+    base: &[u8],
+    earlier: Option<Place>,
+    into: &mut Record,
+) -> Result<(), AllocError>
+    ensures { OnOk result (seen_record into.new ≡ with_earlier files.now base.now earlier (seen_record into.old)) }
+{
+    match earlier {
+        None => Ok(()),
+        Some(place) => put_other(alloc, files, base, place, into),
+    }
+}
+
 /// The record of a file that is refused, in these words.
 pub fn refusal_record(
     alloc: Global,
@@ -88,12 +106,14 @@ pub fn refusal_record(
     base: &[u8],
     name: &[u8],
     words: &str,
-    error: ProfileError,
+    refused: Refused,
 ) -> Result<Record, AllocError>
     ensures { IfOk result (λ made. seen_record made
-        ≡ refusal_record words.now files.now base.now name.now (number_of error.refusal) error.place) }
+        ≡ refusal_record words.now files.now base.now name.now (number_of refused.error.refusal) refused.error.place refused.earlier) }
 {
+    let Refused { error, earlier, .. } = refused;
     let mut made = Record::new(alloc, "refused")?;
     put_refusal(alloc, files, base, name, words, error, &mut made)?;
+    put_earlier(alloc, files, base, earlier, &mut made)?;
     Ok(made)
 }

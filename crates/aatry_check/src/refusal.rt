@@ -2,14 +2,27 @@
 
 ghost use Rattle.std.specs.Prelude.{◌≡◌, ◌++◌, ℕ, List, OnOk};
 ghost use Rattle.aa_profile_errors.specs.ProfileError.{number_of};
-ghost use Rattle.aatry_check.specs.Checks.{included_line, included_lines, refusal_lines};
+ghost use Rattle.aatry_check.specs.Checks.{earlier_lines, included_line, included_lines, refusal_lines};
 ghost use Rattle.aatry_report.specs.declared.form.Form.TheVariants as form;
 
+use crate::other::push_other;
 use crate::records::refusal_record;
-use aa_profile::ProfileError;
+use aa_profile::{Language, ProfileError};
 use aa_text_files::{Files, Place};
-use aatry_report::{Form, Teller, path_below, push_placed_refusal, push_shown, words_of};
+use aatry_refusal_words::words_of;
+use aatry_report::{Form, Teller, path_below, push_placed_refusal, push_shown};
 use std::alloc::{AllocError, Global};
+
+/// Why a file is refused, and the rule before the refused one.
+#[derive(Clone, Copy)]
+pub struct Refused {
+    /// The language that it was read by.
+    pub language: Language,
+    /// The refusal.
+    pub error: ProfileError,
+    /// Where two rules conflict, the place of the one before.
+    pub earlier: Option<Place>,
+}
 
 /// Puts which file includes the one that a fault stands in behind a text, where it isn't that file itself.
 pub fn push_included(
@@ -48,6 +61,22 @@ fn push_included_at(
     }
 }
 
+// Puts what is told of the rule before behind a text, if there is one.
+fn push_earlier(
+    alloc: Global,
+    files: &Files,
+    base: &[u8],
+    earlier: Option<Place>,
+    out: &mut Vec<u8>,
+) -> Result<(), AllocError>
+    ensures { OnOk result (out.new.items ≡ out.old.items ++ earlier_lines files.now base.now earlier) }
+{
+    match earlier {
+        None => Ok(()),
+        Some(place) => push_other(alloc, files, base, place, out),
+    }
+}
+
 // Puts the lines of a file that is refused behind a text, in these words.
 fn push_lines(
     alloc: Global,
@@ -55,12 +84,13 @@ fn push_lines(
     base: &[u8],
     name: &[u8],
     words: &str,
-    error: ProfileError,
+    refused: Refused,
     out: &mut Vec<u8>,
 ) -> Result<(), AllocError>
-    ensures { OnOk result (out.new.items
-        ≡ out.old.items ++ refusal_lines form.Lines words.now files.now base.now name.now (number_of error.refusal) error.place) }
+    ensures { OnOk result (out.new.items ≡ out.old.items
+        ++ refusal_lines form.Lines words.now files.now base.now name.now (number_of refused.error.refusal) refused.error.place refused.earlier) }
 {
+    let Refused { error, earlier, .. } = refused;
     let path = path_below(alloc, base, name)?;
     push_placed_refusal(
         alloc,
@@ -72,7 +102,30 @@ fn push_lines(
         error.place,
         out,
     )?;
-    push_included_at(alloc, files, base, name, error.place, out)
+    push_included_at(alloc, files, base, name, error.place, out)?;
+    push_earlier(alloc, files, base, earlier, out)
+}
+
+// Puts what is told of a file that is refused behind a text, in these words.
+fn push_in_words(
+    teller: Teller,
+    files: &Files,
+    base: &[u8],
+    name: &[u8],
+    words: &str,
+    refused: Refused,
+    out: &mut Vec<u8>,
+) -> Result<(), AllocError>
+    ensures { OnOk result (out.new.items ≡ out.old.items
+        ++ refusal_lines teller.form words.now files.now base.now name.now (number_of refused.error.refusal) refused.error.place refused.earlier) }
+{
+    match teller.form {
+        Form::Lines => push_lines(teller.alloc, files, base, name, words, refused, out),
+        Form::Records => refusal_record(teller.alloc, files, base, name, words, refused)?.push(
+            teller.alloc,
+            out,
+        ),
+    }
 }
 
 /// Puts what is told of a file that is refused behind a text.
@@ -81,20 +134,12 @@ pub fn push_refusal(
     files: &Files,
     base: &[u8],
     name: &[u8],
-    error: ProfileError,
+    refused: Refused,
     out: &mut Vec<u8>,
 ) -> Result<(), AllocError>
     ensures { OnOk result ((words : List ℕ) × (out.new.items ≡ out.old.items
-        ++ refusal_lines teller.form words files.now base.now name.now (number_of error.refusal) error.place)) }
+        ++ refusal_lines teller.form words files.now base.now name.now (number_of refused.error.refusal) refused.error.place refused.earlier)) }
 {
-    let words = words_of(teller.alloc, error.refusal)?;
-    match teller.form {
-        Form::Lines => push_lines(teller.alloc, files, base, name, words.as_str(), error, out),
-        Form::Records => {
-            refusal_record(teller.alloc, files, base, name, words.as_str(), error)?.push(
-                teller.alloc,
-                out,
-            )
-        }
-    }
+    let words = words_of(teller.alloc, refused.language, files, refused.error)?;
+    push_in_words(teller, files, base, name, words.as_str(), refused, out)
 }

@@ -7,8 +7,7 @@ ghost use Rattle.aatry_check.specs.Checks.{told_refusal, unread_lines, unread_re
 ghost use Rattle.aatry_report.specs.SeenRecord.{seen_record};
 
 use crate::records::put_included;
-use crate::refusal::{push_included, push_refusal};
-use aa_profile::ProfileError;
+use crate::refusal::{Refused, push_included, push_refusal};
 use aa_text_files::Files;
 use aaset_start::{UnreadFault, unread_in};
 use aatry_report::{Form, Record, Teller, path_below, push_fault, put_fault};
@@ -77,20 +76,20 @@ pub fn push_told(
     unread: &[Option<UnreadFault>],
     base: &[u8],
     name: &[u8],
-    error: ProfileError,
+    refused: Refused,
     out: &mut Vec<u8>,
 ) -> Result<(), AllocError>
     ensures { OnOk result ((words : List ℕ) × (out.new.items ≡ out.old.items ++ told_refusal teller.form words files.now base.now name.now
-        (number_of error.refusal) error.place (unread_in unread.now error.place))) }
+        (number_of refused.error.refusal) refused.error.place refused.earlier (unread_in unread.now refused.error.place))) }
 {
-    match unread_in(unread, error.place) {
-        None => push_refusal(teller, files, base, name, error, out),
+    match unread_in(unread, refused.error.place) {
+        None => push_refusal(teller, files, base, name, refused, out),
         Some((file, fault)) => push_unread(
             teller,
             base,
             name,
             files.name_at(file),
-            error.number(),
+            refused.error.number(),
             fault.words(),
             out,
         ),

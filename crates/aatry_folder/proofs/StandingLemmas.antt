@@ -132,6 +132,12 @@ among-index first name (file ∷ files) has none = by (among-index (first + 1) n
     by more false e (zero, lt, at) none = let same : bytes_eq name file.0 ≡ true = (bytes_eq-Decides name file.0).1 (sym at) in absurd (cc)
     by more false e (suc k, lt, at) none = more (k, omega (arith, lt), at) (rw e at none)
 
+-- what is among some names is among those of files that have these, and others behind them
+pub among-more : (Has : List ℕ → List (List ℕ) → Type 0) (names others : List (List ℕ)) (files : List File) → names_of files ≡ names ++ others
+    → ((text : List ℕ) → Stands Has text → Contains names text) → (text : List ℕ) → Stands Has text → Contains (names_of files) text
+among-more Has names others files named among text stands =
+    subst (λ all. Contains all text) (sym named) (Contains-append_left names others text (among text stands))
+
 -- where files lack what a name looks up, and all that stands is among their names, nothing stands for it
 pub lacked-nowhere : (Has : List ℕ → List (List ℕ) → Type 0) (files : List File) → ((text : List ℕ) → Stands Has text → Contains (names_of files) text)
     → (name : List ℕ) → Lacks files name → NothingStandsFor Has name

@@ -12,4 +12,5 @@ pub mod Reaching
 pub mod Reports
 pub mod Told
 pub mod Unread
+pub mod Whole
 pub mod code

@@ -35,6 +35,14 @@ pub trait Folders {
     /// Where memory runs out.
     fn is_there(&self, path: &str) -> Result<bool, AllocError>
         ensures { IfOk result (λ there. (told self.now).IsThere path.now there) };
+
+    /// The whole path of the folder at a path that isn't whole: one that begins with `/`, if the system leads to it.
+    ///
+    /// # Errors
+    ///
+    /// Where memory runs out.
+    fn whole_path(&self, alloc: Global, path: &str) -> Result<Option<String>, AllocError>
+        ensures { IfOk result (λ found. (told self.now).IsWhole path.now (option_map string_bytes found)) };
 }
 
 /// The folders of a runtime's file system. Whatever it tells of their members is believed. They come in the order of their
@@ -103,6 +111,29 @@ fn leads_there(followed: io::Result<FileType>) -> Result<bool, AllocError>
     }
 }
 
+// The path that a path leads to: whole, and without a link in it.
+fn canonical<R: rt::Files + AllocGlobal + Drop>(
+    rt: &R,
+    alloc: Global,
+    path: &str,
+) -> io::Result<String> {
+    let found = fs::canonicalize(rt, path)?;
+    Ok(String::from_str(alloc, found.as_str())?)
+}
+
+// The path that was found, if one was. It is unknown for want of memory alone.
+fn path_found(found: io::Result<String>) -> Result<Option<String>, AllocError>
+    ensures there { IfOk found (λ path. result ≡ Ok (Some path)) }
+    ensures nowhere { IfErr found (λ error. is_for_memory (error_kind error) ≡ false → result ≡ Ok None) }
+    ensures unknown { IfErr found (λ error. is_for_memory (error_kind error) ≡ true → is_err result ≡ true) }
+{
+    match found {
+        Ok(path) => Ok(Some(path)),
+        Err(error) if is_for_memory(error.kind()) => Err(AllocError),
+        Err(_) => Ok(None),
+    }
+}
+
 // A folder's name, with `/` behind it.
 fn folder_name(alloc: Global, name: &str) -> Result<String, AllocError>
     ensures { IfOk result (λ told. string_bytes told ≡ name.now ++ codes "/") }
@@ -168,5 +199,9 @@ impl<R: rt::Files + AllocGlobal + Clone + Drop> Folders for RuntimeFolders<R> {
 
     fn is_there(&self, path: &str) -> Result<bool, AllocError> {
         leads_there(kind_at(&self.rt, path))
+    }
+
+    fn whole_path(&self, alloc: Global, path: &str) -> Result<Option<String>, AllocError> {
+        path_found(canonical(&self.rt, alloc, path))
     }
 }

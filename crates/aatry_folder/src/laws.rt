@@ -1,6 +1,6 @@
 //! What holds of includes whose files aren't there, or weren't read, as laws over the definitions that the calls are proved to follow.
 
-ghost use Rattle.std.specs.Prelude.{◌≡◌, ℕ, [], ◌∷◌, IsTrue, List, Contains, Option, None, Some, Err, is_err, true};
+ghost use Rattle.std.specs.Prelude.{◌≡◌, ℕ, [], ◌∷◌, ◌++◌, IsTrue, List, Contains, Option, None, Some, Err, is_err, true};
 ghost use Rattle.aa_text_files.specs.Files.{File, file_at};
 ghost use Rattle.aa_text_files.specs.declared.text_error.Place.{Place};
 ghost use Rattle.aa_text_files.specs.declared.text_error.TextRefusal.TheVariants.{NoFile};
@@ -37,16 +37,18 @@ pub fn what_is_missing_is_asked_for()
     ensures itself { (files : List File) (name : List ℕ) → spliced files name ≡ Err (NoFile, None) → IsMissingAsAWhole files name }
 {}
 
-/// So nothing is missing that stands in the folder of policy: where the names of the files come of a walk, nothing stands there for the include that the
-/// fault is told at, by what the file system answered in the walk; and where it tells the same as often as it is asked, by what it tells. This is so of all
+/// So nothing is missing that stands in the folder of policy: where the names of the files come of a walk, whatever others stand behind them, nothing
+/// stands there for the include that the fault is told at, by what the file system answered in the walk; and where it tells the same as often as it is asked, by what it tells. This is so of all
 /// that `policy_below` reads, for each command.
 pub fn nothing_that_stands_is_missing<F: Folders>(folders: &F)
-    ensures answered { (base : List ℕ) (answers : List Answer) (files : List File) (name : List ℕ) (place : Place)
-        → IsWalk (F.told folders.now) base answers (names_of files)
+    ensures answered { (base : List ℕ) (answers : List Answer) (names others : List (List ℕ)) (files : List File) (name : List ℕ) (place : Place)
+        → IsWalk (F.told folders.now) base answers names
+        → names_of files ≡ names ++ others
         → spliced files name ≡ Err (NoFile, Some place)
         → IsMissing files place (NothingStandsFor (Answered answers)) }
-    ensures steady { (base : List ℕ) (answers : List Answer) (files : List File) (name : List ℕ) (place : Place)
-        → IsWalk (F.told folders.now) base answers (names_of files)
+    ensures steady { (base : List ℕ) (answers : List Answer) (names others : List (List ℕ)) (files : List File) (name : List ℕ) (place : Place)
+        → IsWalk (F.told folders.now) base answers names
+        → names_of files ≡ names ++ others
         → IsSteady (F.told folders.now)
         → spliced files name ≡ Err (NoFile, Some place)
         → IsMissing files place (NothingStandsFor (ToldBelow (F.told folders.now) base)) }

@@ -13,6 +13,7 @@ mod passed_over;
 mod policy_files;
 mod policy_folder;
 mod report;
+mod whole;
 
 pub use below::{FolderFault, MOST_NAMES, names_below};
 pub use fault::Fault;

@@ -1,18 +1,22 @@
 //! Folders of policy, read from a disk.
 
 ghost use Rattle.std.specs.Prelude.{◌≡◌, ◌++◌, ◌∷◌, [], IfErr, IfOk, OnOk, map, string_bytes};
-ghost use Rattle.aaset_start.specs.Gathering.{names_of, texts_of};
+ghost use Rattle.std.specs.List.{All};
+ghost use Rattle.aaset_start.specs.Gathering.{IsTakable, names_of, texts_of};
+ghost use Rattle.aaset_start.specs.Readable.{AreTakenSo};
 ghost use Rattle.aatry_folder.specs.Loadings.{AreTop, seen_top};
 ghost use Rattle.aatry_folder.specs.PolicyFiles.{seen_files};
 ghost use Rattle.aatry_folder.specs.PolicyFolders.{AreBelow, is_at_top, top_names, tried_names, unread_below, unread_if};
 ghost use Rattle.aatry_folder.specs.Unread.{IsOfFolder};
+ghost use Rattle.aatry_folder.specs.declared.fault.Fault.TheVariants.{NoMemory};
 
 use crate::below::names_below;
 use crate::fault::Fault;
 use crate::folders::Folders;
 use crate::loading::{TopFile, top_files};
 use crate::policy_files::PolicyFiles;
-use aa_bytes::has_byte;
+use crate::whole::names_asked_whole;
+use aa_bytes::{begins_with_byte, has_byte};
 use aa_profile_parsing::Language;
 use aa_text_files::Files;
 use aaset_start::{FileSystem, ReadableFiles, UnreadFault, gather_readable};
@@ -25,7 +29,8 @@ pub struct PolicyFolder<'a> {
     pub language: Language,
     /// Its path.
     pub base: &'a str,
-    /// All files and folders below it, by their names in it. A text that is refused stands in place of each that wasn't read.
+    /// All files and folders below it, by their names in it, and those once more by their whole paths that includes ask for by these. A text that is
+    /// refused stands in place of each that wasn't read.
     pub files: Files,
     /// For each of them, in their order, why it wasn't read; nothing where it was.
     pub unread: Vec<Option<UnreadFault>>,
@@ -74,7 +79,7 @@ fn top_names(alloc: Global, names: &[String]) -> Result<Vec<String>, AllocError>
     Ok(top)
 }
 
-// Appends the name of a file to others that wasn't read, if it doesn't stand at the top of the folder.
+// Appends the name of a file to others that wasn't read, if it doesn't stand at the top of the folder and is no whole path, which is a further name.
 fn push_unread(
     alloc: Global,
     names: &mut Vec<String>,
@@ -83,7 +88,7 @@ fn push_unread(
 ) -> Result<(), AllocError>
     ensures { OnOk result (texts_of names.new ≡ texts_of names.old ++ unread_if name.now fault) }
 {
-    if fault.is_some() && !is_at_top(name) {
+    if fault.is_some() && !is_at_top(name) && !begins_with_byte(b'/', name.as_bytes()) {
         names.push(String::from_str(alloc, name)?)?;
     }
     Ok(())
@@ -124,10 +129,73 @@ fn tried_names(
     Ok(tried)
 }
 
+// Reads the files of names that fit together, so that this fails for want of memory alone.
+fn read_again<D: FileSystem>(
+    disk: &D,
+    alloc: Global,
+    base: &str,
+    names: &[String],
+) -> Result<ReadableFiles, Fault>
+    ensures names { IfOk result (λ read. names_of read.files ≡ map string_bytes names.now) }
+    ensures takable { IfOk result (λ read. All IsTakable read.files) }
+    ensures read { IfOk result (λ read. AreTakenSo (D.known disk.now) base.now read.files read.unread.items) }
+    ensures fault { IfErr result (λ told. told ≡ NoMemory) }
+{
+    match gather_readable(disk, alloc, base, names) {
+        Ok(read) => Ok(read),
+        Err(_) => Err(Fault::NoMemory),
+    }
+}
+
+// All files of some names and of whole paths behind them: those of the names, which were read, where there are no others.
+fn with_whole<D: FileSystem>(
+    disk: &D,
+    alloc: Global,
+    base: &str,
+    names: Vec<String>,
+    mut whole: Vec<String>,
+    files: ReadableFiles,
+) -> Result<(Vec<String>, ReadableFiles), Fault>
+    requires named { names_of files.files ≡ texts_of names }
+    requires takable { All IsTakable files.files }
+    requires read { AreTakenSo (D.known disk.now) base.now files.files files.unread.items }
+    ensures all { IfOk result (λ found. texts_of found.0 ≡ texts_of names ++ texts_of whole) }
+    ensures named { IfOk result (λ found. names_of found.1.files ≡ texts_of found.0) }
+    ensures takable { IfOk result (λ found. All IsTakable found.1.files) }
+    ensures read { IfOk result (λ found. AreTakenSo (D.known disk.now) base.now found.1.files found.1.unread.items) }
+    ensures fault { IfErr result (λ told. told ≡ NoMemory) }
+{
+    if whole.is_empty() {
+        return Ok((names, files));
+    }
+    let mut all = names;
+    all.append(&mut whole)?;
+    let read = read_again(disk, alloc, base, &all)?;
+    Ok((all, read))
+}
+
+// All files and folders below a folder of policy, and behind them those whose whole paths are asked for, by their names and read.
+fn files_below<F: Folders, D: FileSystem>(
+    folders: &F,
+    disk: &D,
+    alloc: Global,
+    base: &str,
+) -> Result<(Vec<String>, ReadableFiles), Fault>
+    ensures named { IfOk result (λ found. names_of found.1.files ≡ texts_of found.0) }
+    ensures below { IfOk result (λ found. AreBelow (F.told folders.now) (D.known disk.now) base.now found.1.files found.1.unread.items) }
+    ensures fault { IfErr result (IsOfFolder (F.told folders.now) base.now) }
+{
+    let names = names_below(folders, alloc, base)?;
+    let files = gather_readable(disk, alloc, base, &names)?;
+    let whole = names_asked_whole(folders, alloc, base, &names, &files.files)?;
+    let found = with_whole(disk, alloc, base, names, whole, files)?;
+    Ok(found)
+}
+
 /// A folder of policy, of which all files and folders are found, as `names_below` does, and their bytes read, as `aaset_start::gather_readable` does. So
 /// nothing that an include asks for is missing where it stands in the folder and isn't passed over, and nothing is taken of a file that includes one
-/// that can't be read. Of each file that is tried it is asked how its profiles are loaded, as `top_files` does. The language is the one by which they
-/// are to be read as policy.
+/// that can't be read. A file or folder that an include asks for by its whole path has this as a further name, behind all others. Of each file that is
+/// tried it is asked how its profiles are loaded, as `top_files` does. The language is the one by which they are to be read as policy.
 ///
 /// # Errors
 ///
@@ -148,8 +216,8 @@ pub fn policy_below<'a, F: Folders, D: FileSystem>(
         AreTop (F.told folders.now) base.now (tried_names (names_of policy.files) policy.unread.items) (map seen_top policy.top.items)) }
     ensures fault { IfErr result (IsOfFolder (F.told folders.now) base.now) }
 {
-    let names = names_below(folders, alloc, base)?;
-    let ReadableFiles { files, unread } = gather_readable(disk, alloc, base, &names)?;
+    let (names, read) = files_below(folders, disk, alloc, base)?;
+    let ReadableFiles { files, unread } = read;
     let top = top_files(folders, alloc, base, tried_names(alloc, &names, &unread)?)?;
     Ok(PolicyFolder {
         language,

@@ -14,7 +14,7 @@ use Rattle.aatry_requests.specs.Tallies.{Tally}
 use Rattle.aatry_requests.specs.Texts.{question_text}
 use Rattle.aatry_requests.specs.declared.spans.Span.{Span}
 use Rattle.aatry_times.specs.Told.{time_text}
-use Rattle.aatry_why.specs.Why.{answered_text, has_answer, sources_in}
+use Rattle.aatry_why.specs.Why.{asked_text, has_answer}
 
 -- when it came first and last: one time, where these are the same, and nothing where no time is known
 abbrev pub last_text : Span → List ℕ
@@ -44,11 +44,9 @@ abbrev pub head_text : Form → Tally → List ℕ
 head_text Lines tally = request_line tally
 head_text Records tally = record_line (request_record tally)
 
--- a request, and below it, two spaces in, what the policy of a folder answers to it now, as `why` tells it
+-- a request, and below it, two spaces in, what the policy of a folder answers to it now, and on what that could hang, as `why` tells it
 abbrev pub request_text : Form → Folder → Tally → List ℕ
-request_text form folder tally =
-    head_text form tally
-    ++ prefixed_text form (codes "  ") (answered_text form (sources_in folder tally.question) (policy_in folder) tally.question)
+request_text form folder tally = head_text form tally ++ prefixed_text form (codes "  ") (asked_text form folder tally.question)
 
 -- requests, in this order
 abbrev pub requests_text : Form → Folder → List Tally → List ℕ

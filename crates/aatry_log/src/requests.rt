@@ -5,6 +5,8 @@ ghost use Rattle.aatry_folder.specs.Reports.{failed_by};
 ghost use Rattle.aatry_log.specs.Requests.{AreRequestsTold, request_text};
 ghost use Rattle.aatry_policy.specs.Folders.{loaded_in, origins_in, policy_in, seen_folder};
 ghost use Rattle.aatry_requests.specs.SeenTallies.{seen_tally};
+ghost use Rattle.aatry_uncertain.specs.LeftOutHeads.{heads_left_out};
+ghost use Rattle.aatry_uncertain.specs.SeenHeads.{all_left_out};
 ghost use Rattle.aatry_why.specs.Why.{has_answer};
 
 use crate::heads::push_head;
@@ -13,6 +15,7 @@ use aatry_folder::failed_by;
 use aatry_policy::LoadedFolder;
 use aatry_report::Teller;
 use aatry_requests::{Tallies, Tally, most_asked_first};
+use aatry_uncertain::LeftOutHeads;
 use aatry_why::push_asked;
 use std::alloc::AllocError;
 
@@ -20,11 +23,14 @@ use std::alloc::AllocError;
 fn push_request(
     teller: Teller,
     loaded: &mut LoadedFolder<'_>,
+    left_out: &LeftOutHeads<'_>,
     tally: &Tally<'_>,
     out: &mut Vec<u8>,
 ) -> Result<usize, AllocError>
     requires set { loaded.old.policy.manager ≡ loaded_in (seen_folder loaded.old.folder.now) }
     requires origins { loaded.old.policy.origins.items ≡ origins_in (seen_folder loaded.old.folder.now) }
+    requires base { left_out.now.base.now ≡ (seen_folder loaded.old.folder.now).base }
+    requires heads { all_left_out left_out.now.heads.items ≡ heads_left_out (seen_folder loaded.old.folder.now) }
     ensures told { OnOk result (out.new.items ≡ out.old.items ++ request_text teller.form (seen_folder loaded.old.folder.now) (seen_tally tally.now)) }
     ensures nobody { IfOk result (λ nobody.
         nobody ≡ failed_by (has_answer (policy_in (seen_folder loaded.old.folder.now)) (seen_tally tally.now).question)) }
@@ -35,13 +41,19 @@ fn push_request(
 {
     push_head(teller, tally, out)?;
     let mut told = Vec::new(teller.alloc);
-    let found = push_asked(teller, loaded, &tally.question.question(), &mut told)?;
+    let found = push_asked(
+        teller,
+        loaded,
+        left_out,
+        &tally.question.question(),
+        &mut told,
+    )?;
     push_prefixed(teller.form, b"  ", &told, out)?;
     Ok(failed_by(found))
 }
 
-/// Appends requests to a text, those first that came most often, each with what the policy of a loaded folder answers to it now and the rules behind the
-/// answer, as `why` tells them; and says how many of them nobody asks who is loaded.
+/// Appends requests to a text, those first that came most often, each with what the policy of a loaded folder answers to it now, the rules behind the
+/// answer, and the profiles that are left out on which it could hang, as `why` tells them; and says how many of them nobody asks who is loaded.
 ///
 /// # Errors
 ///
@@ -49,17 +61,20 @@ fn push_request(
 pub fn push_requests(
     teller: Teller,
     loaded: &mut LoadedFolder<'_>,
+    left_out: &LeftOutHeads<'_>,
     tallies: &Tallies<'_>,
     out: &mut Vec<u8>,
 ) -> Result<usize, AllocError>
     requires set { loaded.old.policy.manager ≡ loaded_in (seen_folder loaded.old.folder.now) }
     requires origins { loaded.old.policy.origins.items ≡ origins_in (seen_folder loaded.old.folder.now) }
+    requires base { left_out.now.base.now ≡ (seen_folder loaded.old.folder.now).base }
+    requires heads { all_left_out left_out.now.heads.items ≡ heads_left_out (seen_folder loaded.old.folder.now) }
     ensures { IfOk result (λ nobody. AreRequestsTold teller.form (seen_folder loaded.old.folder.now) tallies.now out.old.items out.new.items nobody) }
 {
     let told = most_asked_first(teller.alloc, tallies)?;
     let mut nobody: usize = 0;
     for tally in told {
-        nobody += push_request(teller, loaded, tally, out)?;
+        nobody += push_request(teller, loaded, left_out, tally, out)?;
     }
     Ok(nobody)
 }

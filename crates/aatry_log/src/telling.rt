@@ -14,6 +14,7 @@ use aatry_folder::{PolicyFolder, Report, failed_by};
 use aatry_logs::LogRequests;
 use aatry_policy::load_folder;
 use aatry_report::Teller;
+use aatry_uncertain::heads_left_out;
 use std::alloc::AllocError;
 
 /// Whether logs pass: where they are taken strictly, each of their lines can be read, and none asks for somebody who isn't there.
@@ -26,7 +27,7 @@ pub fn passes(strict: bool, logs: &LogRequests<'_>, nobody: usize) -> bool
 /// What the requests of logs come to, asked of a folder of policy that was read, told in a form. First come the files that are left out, where they
 /// are told, and it is noted how many they are (`aatry_policy::load_folder`). Then comes each request once, those first that came most often: a line
 /// with how often it came, when and what it asks, and below it what the policy answers now, with the rules behind the answer and the one that is
-/// missing, as `why` tells them. Then come the first lines that can't be read, and at the end stands what sums up. It is noted how many lines can't be
+/// missing, and the profiles of files that are left out on which it could hang, as `why` tells them. Then come the first lines that can't be read, and at the end stands what sums up. It is noted how many lines can't be
 /// read, and how many questions are of nobody who is there. Where the logs are taken strictly, one failed where there is such a line or question.
 ///
 /// # Errors
@@ -42,9 +43,11 @@ pub fn log(
 {
     let mut report = Report::new(teller.alloc);
     let mut loaded = load_folder(teller, folder, &mut report)?;
+    let left_out = heads_left_out(teller.alloc, &loaded)?;
     let nobody = push_requests(
         teller,
         &mut loaded,
+        &left_out,
         &logs.requests.tallies,
         &mut report.text,
     )?;

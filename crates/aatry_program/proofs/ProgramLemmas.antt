@@ -1,7 +1,7 @@
 -- What is done is what the words ask for.
 use Rattle.std.proofs.Common.{◌≡◌, ◌⊎◌, ℕ, Bool, List, [], Result, Ok, Err, IfErr, IfOk, MatchResult, OnOk, inl, inr, refl, string_bytes, subst, sym}
 use Rattle.aa_profile_parsing.specs.declared.language.Language.{Language}
-use Rattle.aatry_arguments.specs.Arguments.{CommandAsked, ForCheck, ForDiff, ForLog, ForSession, ForTest, ForWho, ForWhy}
+use Rattle.aatry_arguments.specs.Arguments.{CommandAsked, ForCheck, ForDiff, ForLog, ForPaths, ForSession, ForTest, ForWho, ForWhy}
 use Rattle.aa_options.specs.Options.{Asked, ForHelp, ForThis, ForVersion, Nothing}
 use Rattle.aatry_arguments.specs.Forms.{CallAsked}
 use Rattle.aa_options.specs.Given.{IsGivenFor}
@@ -13,7 +13,9 @@ use Rattle.aatry_folder.specs.Reports.{Report, seen_report}
 use Rattle.aatry_folder.specs.declared.report.Report.{Report as CodeReport}
 use Rattle.aatry_folder.specs.declared.fault.Fault.{Fault}
 use Rattle.aatry_folder.specs.declared.fault.Fault.TheVariants as fault
-use Rattle.aatry_program.specs.Program.{Input, IsCommandDone, IsDone, IsDoneBy, IsFaultShown, IsKept, IsOutcomeShown, IsReported, Output, Store}
+use Rattle.aatry_never.specs.Never.{PathsReport, seen_paths_report}
+use Rattle.aatry_never.specs.declared.never.PathsReport.{PathsReport as CodePathsReport}
+use Rattle.aatry_program.specs.Program.{Input, IsCommandDone, IsDone, IsDoneBy, IsFaultShown, IsKept, IsOutcomeShown, IsPathsDone, IsPathsOutcomeShown, IsReported, Output, Store}
 use Rattle.aatry_program.specs.Questions.{IsEndOf, IsToldBelow, words_asking}
 use Rattle.aatry_program.specs.Status.{status_of}
 use Rattle.aatry_program.specs.declared.questions.Inquiry.{Inquiry}
@@ -31,6 +33,13 @@ pub command_done : (Tells : Report → Type 0) (Ends : Fault → Type 0) (output
     → IsCommandDone Tells Ends output status
 command_done Tells Ends output status (Ok report) told ends shown = inl (seen_report report, told, shown)
 command_done Tells Ends output status (Err fault) told ends shown = inr (fault, ends, shown)
+
+-- the same of a question about all paths
+pub paths_done : (Tells : PathsReport → Type 0) (Ends : Fault → Type 0) (output : Output) (status : ℕ) (outcome : Result CodePathsReport Fault)
+    → IfOk outcome (λ told. Tells (seen_paths_report told)) → IfErr outcome Ends → IsPathsOutcomeShown outcome output status
+    → IsPathsDone Tells Ends output status
+paths_done Tells Ends output status (Ok told) tells ends shown = inl (seen_paths_report told, tells, shown)
+paths_done Tells Ends output status (Err fault) tells ends shown = inr (fault, ends, shown)
 
 -- where the words of a question ask none, that is reported
 pub words_told : (inquiry : Inquiry) (form : Form) (verbose : Bool) (language : Language) (folders : ToldFolders) (known : Known) (base : List ℕ) (words : List (List ℕ))
@@ -74,6 +83,7 @@ no_memory_done language form verbose folders known store input (ForCheck check) 
 no_memory_done language form verbose folders known store input (ForTest test) output status kept is = inr (fault.NoMemory, inl (inl tt, none_replaced store kept), is)
 no_memory_done language form verbose folders known store input (ForWho asking) output status kept is = (inr (fault.NoMemory, inl tt, is), kept)
 no_memory_done language form verbose folders known store input (ForWhy asking) output status kept is = (inr (fault.NoMemory, inl tt, is), kept)
+no_memory_done language form verbose folders known store input (ForPaths paths) output status kept is = (inr (fault.NoMemory, inl tt, is), kept)
 no_memory_done language form verbose folders known store input (ForLog logs) output status kept is = (inr (fault.NoMemory, inl tt, is), kept)
 no_memory_done language form verbose folders known store input (ForDiff comparison) output status kept is = (inr (fault.NoMemory, inl tt, is), kept)
 no_memory_done language form verbose folders known store input (ForSession session) output status kept is = (inr (fault.NoMemory, inl (tt, is.0), is.1), kept)

@@ -4,7 +4,7 @@ use Rattle.std.specs.Io.KnownBytes.{Appends}
 use Rattle.aa_set_lines.specs.Streams.{AppendsFront}
 use Rattle.aa_text_files.specs.Files.{File}
 use Rattle.aa_profile_parsing.specs.declared.language.Language.{Language}
-use Rattle.aatry_arguments.specs.Arguments.{CommandAsked, ForCheck, ForDiff, ForLog, ForSession, ForTest, ForWho, ForWhy}
+use Rattle.aatry_arguments.specs.Arguments.{CommandAsked, ForCheck, ForDiff, ForLog, ForPaths, ForSession, ForTest, ForWho, ForWhy}
 use Rattle.aa_options.specs.Options.{Asked, ForHelp, ForThis, ForVersion, Nothing}
 use Rattle.aatry_arguments.specs.Forms.{CallAsked, asked_call}
 use Rattle.aa_options.specs.declared.fault.ArgumentFault.{ArgumentFault}
@@ -27,7 +27,10 @@ use Rattle.aatry_folder.specs.declared.fault.Fault.{Fault}
 use Rattle.aatry_folder.specs.declared.fault.Fault.TheVariants.{BadArguments, NoMemory}
 use Rattle.aatry_session_run.specs.Broken.{IsBrokenSession}
 use Rattle.aatry_session_run.specs.Session.{IsSession}
-use Rattle.aatry_program.specs.Status.{failure_status, status_of}
+use Rattle.aatry_never.specs.Ends.{IsEndOfPaths}
+use Rattle.aatry_never.specs.Never.{IsPathsToldBelow, PathsReport, claim_of, seen_paths_report}
+use Rattle.aatry_never.specs.declared.never.PathsReport.{PathsReport as CodePathsReport}
+use Rattle.aatry_program.specs.Status.{failure_status, paths_status, status_of}
 use Rattle.aatry_report.specs.declared.form.Form.{Form}
 use Rattle.aatry_folder.specs.Told.{ToldFolders}
 use Rattle.aaset_start.specs.Known.{Known}
@@ -86,7 +89,20 @@ IsCommandDone Tells Ends output status =
     ((report : Report) × Tells report × IsReportShown report output status)
     ⊎ ((fault : Fault) × Ends fault × IsReported fault output status)
 
--- the same, and no file was replaced
+-- What a question about all paths came to is shown, or why it came to nothing is reported. The status tells whether the claim is refuted, or nothing is known.
+abbrev pub IsPathsShown : PathsReport → Output → ℕ → Type 0
+IsPathsShown told output status = IsShown told.report.text (paths_status told.report.failed told.undecided) output status
+
+abbrev pub IsPathsOutcomeShown : Result CodePathsReport Fault → Output → ℕ → Type 0
+IsPathsOutcomeShown (Ok told) output status = IsPathsShown (seen_paths_report told) output status
+IsPathsOutcomeShown (Err fault) output status = IsReported fault output status
+
+abbrev pub IsPathsDone : (PathsReport → Type 0) → (Fault → Type 0) → Output → ℕ → Type 0
+IsPathsDone Tells Ends output status =
+    ((told : PathsReport) × Tells told × IsPathsShown told output status)
+    ⊎ ((fault : Fault) × Ends fault × IsReported fault output status)
+
+-- a command is done, and no file was replaced
 abbrev pub IsReadingDone : (Report → Type 0) → (Fault → Type 0) → Store → Output → ℕ → Type 0
 IsReadingDone Tells Ends store output status = IsCommandDone Tells Ends output status × IsKept store
 
@@ -104,6 +120,7 @@ IsDoneBy language form verbose folders known store input (ForCheck check) output
 IsDoneBy language form verbose folders known store input (ForTest test) output status = IsCommandDone (IsTestedAndReplaced language folders known test.base test.paths test.accept store.before store.after) (IsEndOfTest language folders known test.base test.paths test.accept store.before store.after) output status
 IsDoneBy language form verbose folders known store input (ForWho asking) output status = IsReadingDone (IsWhoToldBelow form verbose language folders known asking.base asking.words) (IsEndOfWho folders asking.base asking.words) store output status
 IsDoneBy language form verbose folders known store input (ForWhy asking) output status = IsReadingDone (IsWhyToldBelow form verbose language folders known asking.base asking.words) (IsEndOfWhy folders asking.base asking.words) store output status
+IsDoneBy language form verbose folders known store input (ForPaths paths) output status = IsPathsDone (IsPathsToldBelow form verbose language folders known paths.asking.base paths.asking.words (claim_of paths.always) paths.names paths.limit) (IsEndOfPaths language folders known paths.asking.base paths.asking.words) output status × IsKept store
 IsDoneBy language form verbose folders known store input (ForLog logs) output status = IsReadingDone (IsLogToldBelow form verbose language folders known input.left logs) (IsEndOfLog folders known logs) store output status
 IsDoneBy language form verbose folders known store input (ForDiff comparison) output status = IsReadingDone (IsComparedBelow form verbose language folders known comparison) (IsEndOfDiff folders known comparison) store output status
 IsDoneBy language form verbose folders known store input (ForSession session) output status = IsSessionDone language folders known session.base input output status × IsKept store

@@ -4,24 +4,27 @@ ghost use Rattle.std.specs.Prelude.{◌≡◌, ◌≤◌, ◌^◌, MatchResult, 
 ghost use Rattle.aatry_arguments.specs.Forms.{asked_call};
 ghost use Rattle.aatry_arguments.specs.Given.{meant_command};
 ghost use Rattle.aaset_start.specs.Gathering.{texts_of};
-ghost use Rattle.aatry_program.specs.Program.{IsCommandDone, IsDone, IsDoneBy, IsFaultShown, IsOutcomeShown, IsSessionDone, IsShown, IsStarted};
+ghost use Rattle.aatry_program.specs.Program.{IsCommandDone, IsDone, IsDoneBy, IsFaultShown, IsOutcomeShown, IsPathsDone, IsPathsOutcomeShown, IsSessionDone, IsShown, IsStarted};
 ghost use Rattle.aatry_program.specs.Program.{input_of, output_of, store_of};
+ghost use Rattle.aatry_never.specs.Ends.{IsEndOfPaths};
+ghost use Rattle.aatry_never.specs.Never.{IsPathsToldBelow, claim_of};
 ghost use Rattle.aatry_program.specs.Questions.{IsEndOf, IsToldBelow};
 ghost use Rattle.aatry_program.specs.Status.{status_of};
 
 use crate::disk::Disk;
 use crate::questions::{Inquiry, inquire, inquiry_fault};
 use crate::reporting::{report, report_line};
-use crate::status::failure_status;
+use crate::status::{failure_status, paths_status};
 use crate::streams::Streams;
 use aa_profile_parsing::Language;
 use aa_set_lines::{Sink, Source, write_all};
 use aaset_start::FileSystem;
-use aatry_arguments::{ArgumentFault, Asking, Call, Command, Session, call_of};
+use aatry_arguments::{AllPaths, ArgumentFault, Asking, Call, Command, Session, call_of};
 use aatry_check::check_folder;
 use aatry_diff::diff_folders;
 use aatry_folder::{Fault, Folders, Report};
 use aatry_log::log_folder;
+use aatry_never::{PathsReport, paths_fault, paths_folder};
 use aatry_report::Teller;
 use aatry_session_run::session_folder;
 use aatry_test::{FileStore, test_folder};
@@ -130,6 +133,57 @@ fn tell_question<F: Folders, D: FileSystem, S, W: Sink, E: Sink>(
     }
 }
 
+// Shows what a question about all paths came to, or reports why it came to nothing, and gives the exit status. Where its words ask nothing, a line tells why.
+fn show_paths<S, W: Sink, E: Sink>(
+    alloc: Global,
+    line: &[u8],
+    outcome: Result<PathsReport, Fault>,
+    streams: &mut Streams<S, W, E>,
+) -> u8
+    ensures { IsPathsOutcomeShown outcome (output_of (W.written streams.old.output) (W.written streams.new.output) (W.failed streams.new.output)) result }
+{
+    match outcome {
+        Ok(
+            PathsReport {
+                report: found,
+                undecided,
+            },
+        ) => {
+            let fine = paths_status(found.failed, undecided);
+            let status = show(alloc, found.text.as_slice(), fine, streams);
+            note(&mut streams.errors, found.notes.as_slice());
+            status
+        }
+        Err(Fault::BadQuestion) => report_line(&mut streams.errors, line, &Fault::BadQuestion),
+        Err(fault) => report(alloc, &mut streams.errors, &fault),
+    }
+}
+
+// Asks a folder about all paths, and shows what it comes to; where the words ask nothing, what is wrong with them is reported.
+fn tell_paths<F: Folders, D: FileSystem, S, W: Sink, E: Sink>(
+    teller: Teller,
+    language: Language,
+    asked: AllPaths,
+    folders: &F,
+    disk: &D,
+    streams: &mut Streams<S, W, E>,
+) -> u8
+    ensures { IsPathsDone (IsPathsToldBelow teller.form teller.verbose language (F.told folders.now) (D.known disk.now) (string_bytes asked.asking.base)
+        (texts_of asked.asking.words) (claim_of asked.always) asked.names asked.limit)
+        (IsEndOfPaths language (F.told folders.now) (D.known disk.now) (string_bytes asked.asking.base) (texts_of asked.asking.words))
+        (output_of (W.written streams.old.output) (W.written streams.new.output) (W.failed streams.new.output)) result }
+{
+    match paths_fault(teller.alloc, &asked.asking.words) {
+        Ok(line) => show_paths(
+            teller.alloc,
+            &line,
+            paths_folder(teller, language, folders, disk, asked),
+            streams,
+        ),
+        Err(_) => report(teller.alloc, &mut streams.errors, &Fault::NoMemory),
+    }
+}
+
 // Does what a call asks for.
 fn perform<F: Folders, D: FileSystem, T: FileStore, S: Source, W: Sink, E: Sink>(
     alloc: Global,
@@ -182,6 +236,14 @@ fn perform<F: Folders, D: FileSystem, T: FileStore, S: Source, W: Sink, E: Sink>
         Command::Why(asked) => tell_question(
             teller,
             Inquiry::Why,
+            language,
+            asked,
+            &disk.folders,
+            &disk.files,
+            streams,
+        ),
+        Command::Paths(asked) => tell_paths(
+            teller,
             language,
             asked,
             &disk.folders,
@@ -256,9 +318,9 @@ fn do_asked<F: Folders, D: FileSystem, T: FileStore, S: Source, W: Sink, E: Sink
 /// its own, and so is what a command notes beside what it tells, once that was written. A session takes its lines from standard input, and writes
 /// `prompt` before it reads one; `log` reads it where it names no file. No file is replaced but transcripts, where a test is to accept what is told. The
 /// status is 0 where each file that was checked was taken, each transcript that was tested passed or was accepted, a question has an answer,
-/// somebody would be let through, nothing differs between two folders, logs were read, a session ended, or a text was asked for and shown; 1 where one of
-/// these isn't so; 2 where the arguments or a question are no good, or a folder of policy or another file can't be read; and 3 where a stream or
-/// memory failed, or a transcript can't be replaced.
+/// somebody would be let through, what is claimed of all paths holds, nothing differs between two folders, logs were read, a session ended, or a text was
+/// asked for and shown; 1 where one of these isn't so; 2 where the arguments or a question are no good, or a folder of policy or another file can't be read; and 3 where a stream or
+/// memory failed, a transcript can't be replaced, or a claim about all paths isn't refuted, and nothing is known of somebody.
 pub fn start<F: Folders, D: FileSystem, T: FileStore, S: Source, W: Sink, E: Sink>(
     alloc: Global,
     words: Result<Vec<String>, Fault>,

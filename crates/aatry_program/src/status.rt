@@ -2,7 +2,7 @@
 
 ghost use Rattle.std.specs.Prelude.{◌≡◌};
 ghost use Rattle.std.specs.IoError.{error_kind};
-ghost use Rattle.aatry_program.specs.Status.{failure_status, fault_of_words, status_of};
+ghost use Rattle.aatry_program.specs.Status.{failure_status, fault_of_words, paths_status, status_of};
 
 use aatry_folder::Fault;
 use std::io;
@@ -12,6 +12,17 @@ pub fn failure_status(failed: usize) -> u8
     ensures { result ≡ failure_status failed }
 {
     if failed == 0 { 0 } else { 1 }
+}
+
+// The exit status of a question about all paths, by how much of it failed, and whether nothing is known of somebody.
+pub fn paths_status(failed: usize, undecided: bool) -> u8
+    ensures { result ≡ paths_status failed undecided }
+{
+    if failed == 0 && undecided {
+        3
+    } else {
+        failure_status(failed)
+    }
 }
 
 // The exit status of a fault.

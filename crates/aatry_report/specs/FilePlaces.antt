@@ -2,6 +2,7 @@
 use Rattle.std.specs.Prelude.{ℕ, Bool, ◌==◌, if◌then◌else◌, List, [], ◌∷◌, ◌++◌, codes}
 use Rattle.std.specs.List.{list_all}
 use Rattle.aa_bytes.specs.Bytes.{slash}
+use Rattle.aa_bytes.specs.Texts.{begins_with_byte}
 use Rattle.aatry_report.specs.Columns.{column}
 use Rattle.aatry_report.specs.Lines.{line_number}
 use Rattle.aatry_report.specs.Records.{with_number, with_text}
@@ -16,9 +17,9 @@ abbrev pub without_slashes : List ℕ → List ℕ
 without_slashes [] = []
 without_slashes (b ∷ bs) = if are_slashes (b ∷ bs) then [] else b ∷ without_slashes bs
 
--- the path that a file is told by: its name below the folder of policy, whose path may end in slashes
+-- the path that a file is told by: its name below the folder of policy, whose path may end in slashes; a name that is a whole path is told as it is
 abbrev pub path_below : List ℕ → List ℕ → List ℕ
-path_below base name = without_slashes base ++ codes "/" ++ name
+path_below base name = if begins_with_byte slash name then name else without_slashes base ++ codes "/" ++ name
 
 -- a record with a place in a file: by what the file is told, the line and the column
 abbrev pub with_line_place : List ℕ → ℕ → ℕ → Members → Members

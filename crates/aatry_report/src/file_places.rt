@@ -6,6 +6,7 @@ ghost use Rattle.aatry_report.specs.SeenRecord.{seen_record};
 
 use crate::place::LinePlace;
 use crate::record::Record;
+use aa_bytes::begins_with_byte;
 use std::alloc::{AllocError, Global};
 
 // A path without the slashes at its end.
@@ -22,7 +23,8 @@ fn without_slashes(path: &[u8]) -> &[u8]
     rest
 }
 
-/// The path that a file is told by: its name below the folder of policy, whose path is `base`. Slashes at the end of that aren't told twice.
+/// The path that a file is told by: its name below the folder of policy, whose path is `base`. Slashes at the end of that aren't told twice. A name that
+/// is a whole path, by which another file includes this one, is told as it is.
 ///
 /// # Errors
 ///
@@ -30,6 +32,9 @@ fn without_slashes(path: &[u8]) -> &[u8]
 pub fn path_below(alloc: Global, base: &[u8], name: &[u8]) -> Result<Vec<u8>, AllocError>
     ensures { IfOk result (λ path. path.items ≡ path_below base.now name.now) }
 {
+    if begins_with_byte(b'/', name) {
+        return Vec::from_slice(alloc, name);
+    }
     let mut path = Vec::from_slice(alloc, without_slashes(base))?;
     path.push(b'/')?;
     path.extend_from_slice(name)?;

@@ -168,7 +168,7 @@ said_outcome files base words kept line flag Quit = record { answer = Ended; kep
 said_outcome files base words kept line flag Reload = record { answer = Anew; kept = kept }
 said_outcome files base words kept line flag Status = record { answer = Compared; kept = kept }
 said_outcome files base words kept line flag (Why question) = record { answer = Asked question; kept = kept }
-said_outcome files base words kept line flag (NoQuestion fault) = record { answer = Told (no_question_told files base words fault); kept = kept }
+said_outcome files base words kept line flag (NoQuestion fault) = record { answer = Told (no_question_told words fault); kept = kept }
 
 -- what a line is answered
 abbrev pub turn_outcome : List File → List ℕ → List ℕ → Kept → List ℕ → Bool → Outcome

@@ -11,6 +11,7 @@ ghost use Rattle.aatry_session.specs.Turns.{Adds, AddsOrLeaves, Leaves, LeavesAs
 use crate::changes::{Changes, keep, make_room};
 use crate::making::{Made, add, make};
 use aa_bytes::Sequence;
+use aa_profile_parsing::Language;
 use aa_set_commands::{PolicyChange, RefusalKind, plain};
 use aa_set_manager::{Manager, Reply, reply_to};
 use aa_text_files::Files;
@@ -21,6 +22,7 @@ use std::alloc::{AllocError, Global};
 // Puts what is told of a reply behind a text. `from` is how many changes were done before it, `to` how many are done now.
 fn push_reply(
     alloc: Global,
+    language: Language,
     files: &Files,
     base: &[u8],
     texts: &[Sequence<u8>],
@@ -35,13 +37,14 @@ fn push_reply(
         Reply::Silent => Ok(()),
         Reply::Done => push_moves(out, texts, from, to),
         Reply::Answered(lines) => push_shown_lines(out, lines.as_slice()),
-        Reply::Refused(refusal) => push_refusal(alloc, files, base, *refusal, out),
+        Reply::Refused(refusal) => push_refusal(alloc, language, files, base, *refusal, out),
     }
 }
 
 // Keeps a change that was made, where so many were done before it, and appends what is told of it.
 fn keep_and_tell(
     alloc: Global,
+    language: Language,
     files: &Files,
     base: &[u8],
     changes: &mut Changes,
@@ -60,7 +63,17 @@ fn keep_and_tell(
 {
     let Made { reply, origins } = made;
     keep(changes, done, text, origins, &reply);
-    push_reply(alloc, files, base, &changes.texts, done, done, &reply, out)
+    push_reply(
+        alloc,
+        language,
+        files,
+        base,
+        &changes.texts,
+        done,
+        done,
+        &reply,
+        out,
+    )
 }
 
 // Obeys a line that makes a change.
@@ -84,7 +97,17 @@ fn obey_change(
     make_room(changes)?;
     let done = manager.depth();
     let made = make(alloc, files, manager, change, line);
-    keep_and_tell(alloc, files, base, changes, done, text, made, out)
+    keep_and_tell(
+        alloc,
+        manager.language(),
+        files,
+        base,
+        changes,
+        done,
+        text,
+        made,
+        out,
+    )
 }
 
 /// Adds the profiles of a file, keeps that change, and appends what is told of it to a text.
@@ -110,7 +133,17 @@ pub fn obey_add(
     make_room(changes)?;
     let done = manager.depth();
     let made = add(alloc, files, manager, name);
-    keep_and_tell(alloc, files, base, changes, done, text, made, out)
+    keep_and_tell(
+        alloc,
+        manager.language(),
+        files,
+        base,
+        changes,
+        done,
+        text,
+        made,
+        out,
+    )
 }
 
 // How many changes can be undone, where the history leaves out so many.
@@ -149,7 +182,17 @@ fn obey_other(
     let from = manager.depth();
     let reply = reply_behind(files, manager, changes.loaded, line);
     let to = manager.depth();
-    push_reply(alloc, files, base, &changes.texts, from, to, &reply, out)
+    push_reply(
+        alloc,
+        manager.language(),
+        files,
+        base,
+        &changes.texts,
+        from,
+        to,
+        &reply,
+        out,
+    )
 }
 
 /// Obeys a line, keeps the change that it makes, if it makes one, and appends what is told of it to a text.

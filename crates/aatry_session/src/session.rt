@@ -204,7 +204,7 @@ impl Session {
             Saying::Why(question) => Ok(Turn::Why(question)),
             Saying::NoQuestion(fault) => {
                 let mut out = Vec::new(alloc);
-                push_no_question(alloc, files, base.as_bytes(), fault, &mut out)?;
+                push_no_question(alloc, fault, &mut out)?;
                 Ok(Turn::Told(Sequence::from_vec(out)))
             }
         }

@@ -4,8 +4,10 @@ use Rattle.std.specs.Prelude.{is_some}
 use Rattle.std.specs.Str.{bytes_eq}
 use Rattle.std.proofs.lemmas.Bool.{true≢false}
 use Rattle.std.proofs.lemmas.Slice.Eq.{bytes_eq-Decides}
-use Rattle.aa_text_files.specs.Files.{File, file_named, has_file, is_folder_name}
-use Rattle.aatry_session_told.specs.Differing.{difference_if, difference_of, gone_or_newer}
+use Rattle.aa_bytes.specs.Bytes.{slash}
+use Rattle.aa_bytes.specs.Texts.{begins_with_byte}
+use Rattle.aa_text_files.specs.Files.{File, bytes_of, file_named, has_file, is_folder_name}
+use Rattle.aatry_session_told.specs.Differing.{difference_if, difference_of, gone_or_newer, is_apart}
 use Rattle.aatry_session_told.specs.DifferingLaws.{WhatDoesNotDifferIsTheSame}
 use Rattle.aatry_session_told.specs.declared.differing.Differs.TheVariants.{New}
 use Rattle.aatry_session_told.specs.declared.differing.Side.TheVariants.{Disk, Read}
@@ -24,8 +26,13 @@ same_bytes name bytes (Some later) h = by (bytes_eq later bytes) refl h
     by true e h = ap Some ((bytes_eq-Decides later bytes).0 e)
     by false e h = let wrong = rw e at h in absurd (cc)
 
+-- where neither holds, the first doesn't
+first_false : (one other : Bool) → (one || other) ≡ false → one ≡ false
+first_false true other h = absurd (true≢false h)
+first_false false other h = refl
+
 -- a file of a name that was read, and doesn't differ, has its bytes on disk
-none_gone : (read disk : List File) (name bytes : List ℕ) → flat_map (difference_of Read disk) read ≡ [] → is_folder_name name ≡ false
+none_gone : (read disk : List File) (name bytes : List ℕ) → flat_map (difference_of Read disk) read ≡ [] → is_apart name ≡ false
     → file_named read name ≡ Some bytes → file_named disk name ≡ Some bytes
 none_gone [] disk name bytes h single is = absurd (cc)
 none_gone (file ∷ read) disk name bytes h single is =
@@ -37,16 +44,18 @@ none_gone (file ∷ read) disk name bytes h single is =
         → cond own (Some file.1) (file_named read name) ≡ Some bytes → file_named disk name ≡ Some bytes
     by true e same rest one =
         let named : name ≡ file.0 = (bytes_eq-Decides name file.0).0 e in
-        let plain : is_folder_name file.0 ≡ false = subst (λ n. is_folder_name n ≡ false) named single in
+        let plain : is_apart file.0 ≡ false = subst (λ n. is_apart n ≡ false) named single in
+        let single_file : is_folder_name file.0 ≡ false = first_false (is_folder_name file.0) (begins_with_byte slash file.0) plain in
         let own : file.1 ≡ bytes = cc in
         let there : file_named disk file.0 ≡ Some file.1 =
         same_bytes file.0 file.1 (file_named disk file.0)
-        (subst (λ folder. difference_if file.0 (cond folder None (gone_or_newer file.1 (cond folder None (file_named disk file.0)))) ≡ []) plain same) in
+        (subst (λ folder. difference_if file.0 (gone_or_newer file.1 (cond folder None (file_named disk file.0))) ≡ []) single_file
+        (subst (λ apart. difference_if file.0 (cond apart None (gone_or_newer file.1 (bytes_of disk file.0))) ≡ []) plain same)) in
         subst (λ n. file_named disk n ≡ Some bytes) (sym named) (there ∙ ap Some own)
     by false e same rest one = rest one
 
 -- a file of a name on disk, which isn't new, was read
-none_new : (read disk : List File) (name bytes : List ℕ) → flat_map (difference_of Disk read) disk ≡ [] → is_folder_name name ≡ false
+none_new : (read disk : List File) (name bytes : List ℕ) → flat_map (difference_of Disk read) disk ≡ [] → is_apart name ≡ false
     → file_named disk name ≡ Some bytes → has_file read name ≡ true
 none_new read [] name bytes h single is = absurd (cc)
 none_new read (file ∷ disk) name bytes h single is =
@@ -62,9 +71,9 @@ none_new read (file ∷ disk) name bytes h single is =
         → cond own (Some file.1) (file_named disk name) ≡ Some bytes → has_file read name ≡ true
     by true e same rest one =
         let named : name ≡ file.0 = (bytes_eq-Decides name file.0).0 e in
-        let plain : is_folder_name file.0 ≡ false = subst (λ n. is_folder_name n ≡ false) named single in
+        let plain : is_apart file.0 ≡ false = subst (λ n. is_apart n ≡ false) named single in
         subst (λ n. has_file read n ≡ true) (sym named)
-        (either (has_file read file.0) (subst (λ folder. difference_if file.0 (cond (folder || has_file read file.0) None (Some New)) ≡ []) plain same))
+        (either (has_file read file.0) (subst (λ apart. difference_if file.0 (cond (apart || has_file read file.0) None (Some New)) ≡ []) plain same))
     by false e same rest one = rest one
 
 pub same : WhatDoesNotDifferIsTheSame

@@ -1,9 +1,11 @@
--- How the files that a session read differ from those that lie on disk now, by their names and bytes. Folders have no bytes, and aren't compared.
-use Rattle.std.specs.Prelude.{ℕ, ◌||◌, if◌then◌else◌, List, [], ◌∷◌, ◌++◌, codes, flat_map, length, slice_index_or, Option, None, Some}
+-- How the files that a session read differ from those that lie on disk now, by their names and bytes. Folders have no bytes, and aren't compared; nor are
+-- whole paths, which are further names of files (docs/aatry.md).
+use Rattle.std.specs.Prelude.{ℕ, Bool, ◌||◌, if◌then◌else◌, List, [], ◌∷◌, ◌++◌, codes, flat_map, length, slice_index_or, Option, None, Some}
 use Rattle.std.specs.List.{sum_by}
 use Rattle.std.specs.Fmt.{decimal}
 use Rattle.std.specs.Str.{bytes_eq}
-use Rattle.aa_bytes.specs.Bytes.{line_feed}
+use Rattle.aa_bytes.specs.Bytes.{line_feed, slash}
+use Rattle.aa_bytes.specs.Texts.{begins_with_byte}
 use Rattle.aa_text_files.specs.Files.{File, bytes_of, has_file, is_folder_name}
 use Rattle.aatry_report.specs.FilePlaces.{path_below}
 use Rattle.aatry_report.specs.Shown.{shown}
@@ -15,6 +17,10 @@ use Rattle.aatry_session_told.specs.declared.differing.Side.TheVariants.{Disk, R
 -- the file at a place of some, where there is one
 abbrev pub at_place : List File → ℕ → File
 at_place files place = slice_index_or files place ([], [])
+
+-- a name that isn't compared: a folder's, or a whole path
+abbrev pub is_apart : List ℕ → Bool
+is_apart name = is_folder_name name || begins_with_byte slash name
 
 -- a file that differs: its name, and how
 pub record Difference : Type 0 where
@@ -28,11 +34,11 @@ gone_or_newer bytes (Some later) = if bytes_eq later bytes then None else Some N
 
 -- how a file that was read differs from those of the disk, if it does
 abbrev pub read_differs : List File → File → Option Differs
-read_differs disk file = if is_folder_name file.0 then None else gone_or_newer file.1 (bytes_of disk file.0)
+read_differs disk file = if is_apart file.0 then None else gone_or_newer file.1 (bytes_of disk file.0)
 
 -- how a file of the disk differs from those that were read by its name alone, if it does: none of its name was read
 abbrev pub disk_differs : List File → List ℕ → Option Differs
-disk_differs read name = if is_folder_name name || has_file read name then None else Some New
+disk_differs read name = if is_apart name || has_file read name then None else Some New
 
 -- how a file of one side differs from those of the other, if it does
 abbrev pub side_differs : Side → List File → File → Option Differs
@@ -62,9 +68,9 @@ words_of New = codes "new on disk: "
 abbrev pub difference_line : List ℕ → Difference → List ℕ
 difference_line base difference = words_of difference.how ++ shown (path_below base difference.name) ++ line_feed ∷ []
 
--- a name counts as one file, and that of a folder as none
+-- a name counts as one file, and one that isn't compared as none
 abbrev pub counted : List ℕ → ℕ
-counted name = if is_folder_name name then 0 else 1
+counted name = if is_apart name then 0 else 1
 
 -- how many of these are files
 abbrev pub file_count : List File → ℕ

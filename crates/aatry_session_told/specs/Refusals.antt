@@ -43,5 +43,5 @@ abbrev pub refusal_told : List NamedFile → List ℕ → List ℕ → Refusal �
 refusal_told files base words refusal = told_by (unread_at files refusal.place) files base words refusal
 
 -- what is told of words that are no question, in these words: they are refused as what is wrong with them says
-abbrev pub no_question_told : List NamedFile → List ℕ → List ℕ → Found → List ℕ
-no_question_told files base words fault = placed_refusal words files base (codes "refused") (number_of (refusal_of fault.wrong)) None
+abbrev pub no_question_told : List ℕ → Found → List ℕ
+no_question_told words fault = fault_lines words (codes "refused") (number_of (refusal_of fault.wrong)) None []

@@ -3,9 +3,10 @@
 ghost use Rattle.std.specs.Prelude.{◌≡◌, ◌≤◌, ◌++◌, IfOk, OnOk, flat_map, option_map};
 ghost use Rattle.aa_text_files.specs.Files.{name_at};
 ghost use Rattle.aatry_session_told.specs.Differing.{at_place, count_line, counted, difference_if, difference_line, difference_of, differences};
-ghost use Rattle.aatry_session_told.specs.Differing.{differing_lines, disk_differs, file_count, gone_or_newer, read_differs, side_differs, words_of};
+ghost use Rattle.aatry_session_told.specs.Differing.{differing_lines, disk_differs, file_count, gone_or_newer, is_apart, read_differs, side_differs, words_of};
 ghost use Rattle.aatry_session_told.specs.SeenDifferences.{seen_difference, seen_differences};
 
+use aa_bytes::begins_with_byte;
 use aa_text_files::Files;
 use aatry_report::{path_below, push_number, push_shown};
 use std::alloc::{AllocError, Global};
@@ -55,11 +56,18 @@ fn gone_or_newer(bytes: &[u8], later: Option<&[u8]>) -> Option<Differs>
     }
 }
 
+// Whether a name isn't compared.
+fn is_apart(name: &[u8]) -> bool
+    ensures { result ≡ is_apart name.now }
+{
+    Files::is_folder(name) || begins_with_byte(b'/', name)
+}
+
 // How a file that was read differs from those of the disk, if it does.
 fn read_differs(disk: &Files, name: &[u8], bytes: &[u8]) -> Option<Differs>
     ensures { result ≡ read_differs disk.now (name.now, bytes.now) }
 {
-    if Files::is_folder(name) {
+    if is_apart(name) {
         return None;
     }
     gone_or_newer(bytes, disk.bytes(name))
@@ -69,7 +77,7 @@ fn read_differs(disk: &Files, name: &[u8], bytes: &[u8]) -> Option<Differs>
 fn disk_differs(read: &Files, name: &[u8]) -> Option<Differs>
     ensures { result ≡ disk_differs read.now name.now }
 {
-    if Files::is_folder(name) || read.has(name) {
+    if is_apart(name) || read.has(name) {
         None
     } else {
         Some(Differs::New)
@@ -196,16 +204,12 @@ fn push_lines(
     Ok(())
 }
 
-// Counts the file at a place as one, and a folder as none.
+// Counts the file at a place as one, and what isn't compared as none.
 fn counted_at(files: &Files, place: usize) -> usize
     ensures counted { result ≡ counted (name_at files.now place) }
     ensures few { result ≤ 1 }
 {
-    if Files::is_folder(files.name_at(place)) {
-        0
-    } else {
-        1
-    }
+    if is_apart(files.name_at(place)) { 0 } else { 1 }
 }
 
 // How many of these are files.
@@ -232,7 +236,7 @@ fn push_count(out: &mut Vec<u8>, files: usize, differing: usize) -> Result<(), A
 /// Puts behind a text how the files that were read from a folder, whose path is `base`, differ from those that lie there now, `disk`: a line for each that
 /// has other bytes now or isn't there any more, in the order in which they were read; behind these one for each of whose name none was read; and how many
 /// files were read, and how many lines these are. Of a file that couldn't be read, then or now, what stands in its place counts as its bytes
-/// (`aaset_start::gather_readable`). Folders are none of these.
+/// (`aaset_start::gather_readable`). Folders are none of these, and whole paths aren't, by which files have a further name.
 ///
 /// # Errors
 ///

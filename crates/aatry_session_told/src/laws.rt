@@ -2,7 +2,7 @@
 
 ghost use Rattle.aatry_session_told.specs.DifferingLaws.{WhatDoesNotDifferIsTheSame};
 
-/// Where no file is told to differ, the disk has what was read under each name of a file: one of the same bytes, or none.
+/// Where no file is told to differ, the disk has what was read under each name that is compared, of a file and no whole path: one of the same bytes, or none.
 pub fn what_does_not_differ()
     ensures { WhatDoesNotDifferIsTheSame }
 {}

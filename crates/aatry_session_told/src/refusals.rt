@@ -9,11 +9,14 @@ ghost use Rattle.aatry_report.specs.Refusals.{placed_refusal};
 ghost use Rattle.aatry_questions.specs.Faults.{seen_fault};
 ghost use Rattle.aatry_session_told.specs.Refusals.{no_question_told, refusal_told, told_by, unread_at, words_for};
 
+use aa_profile_errors::ProfileError;
+use aa_profile_parsing::Language;
 use aa_set_commands::{Refusal, RefusalKind};
 use aa_text_files::{Files, Place};
 use aaset_start::is_stand_in;
 use aatry_questions::{WordFault, push_words_fault, refusal_of, with_nearest};
-use aatry_report::{path_below, push_fault, push_placed_refusal, words_of};
+use aatry_refusal_words::words_of;
+use aatry_report::{path_below, push_fault, push_placed_refusal};
 use std::alloc::{AllocError, Global};
 use std::str::from_utf8;
 
@@ -52,13 +55,11 @@ fn question_words(alloc: Global, fault: WordFault<'_>) -> Result<Vec<u8>, AllocE
 /// Where memory runs out. A beginning may have been put then.
 pub fn push_no_question(
     alloc: Global,
-    files: &Files,
-    base: &[u8],
     fault: WordFault<'_>,
     out: &mut Vec<u8>,
 ) -> Result<(), AllocError>
     ensures { OnOk result ((words : List ℕ)
-        × (out.new.items ≡ out.old.items ++ no_question_told files.now base.now words (seen_fault fault.entry))) }
+        × (out.new.items ≡ out.old.items ++ no_question_told words (seen_fault fault.entry))) }
 {
     let refusal = refusal_of(fault.wrong);
     let words = question_words(alloc, fault)?;
@@ -66,7 +67,7 @@ pub fn push_no_question(
         Ok(text) => text,
         Err(_) => own_words(refusal.refusal),
     };
-    push_in_words(alloc, files, base, text, refusal, out)
+    push_fault(out, b"refused", text, refusal.number())
 }
 
 // Puts what is told of a refusal behind a text, in these words.
@@ -122,6 +123,7 @@ fn push_unread(
 // Puts what is told of a refusal that stands in no file that wasn't read.
 fn push_plain(
     alloc: Global,
+    language: Language,
     files: &Files,
     base: &[u8],
     refusal: Refusal,
@@ -132,18 +134,23 @@ fn push_plain(
     let RefusalKind::File(fault) = refusal.refusal else {
         return push_in_words(alloc, files, base, own_words(refusal.refusal), refusal, out);
     };
-    let words = words_of(alloc, fault)?;
+    let error = ProfileError {
+        refusal: fault,
+        place: refusal.place,
+    };
+    let words = words_of(alloc, language, files, error)?;
     push_in_words(alloc, files, base, words.as_str(), refusal, out)
 }
 
-/// Puts what is told of a refusal behind a text: where it has a place in a file, as a check of that file tells it; but where that file wasn't read,
-/// that it wasn't, without why.
+/// Puts what is told of a refusal behind a text: where it has a place in a file, as a check of that file, which is read by a language, tells it; but
+/// where that file wasn't read, that it wasn't, without why.
 ///
 /// # Errors
 ///
 /// Where memory runs out. A beginning may have been put then.
 pub fn push_refusal(
     alloc: Global,
+    language: Language,
     files: &Files,
     base: &[u8],
     refusal: Refusal,
@@ -152,7 +159,7 @@ pub fn push_refusal(
     ensures { OnOk result ((words : List ℕ) × (out.new.items ≡ out.old.items ++ refusal_told files.now base.now words refusal)) }
 {
     match unread_at(files, refusal.place) {
-        None => push_plain(alloc, files, base, refusal, out),
+        None => push_plain(alloc, language, files, base, refusal, out),
         Some(file) => push_unread(alloc, files, base, file, refusal.number(), out),
     }
 }

@@ -4,9 +4,10 @@ use Rattle.std.specs.Prelude.{flat_map}
 use Rattle.std.proofs.lemmas.Grind.{flat_map-append}
 use Rattle.std.proofs.lemmas.List.{length-take-le}
 use Rattle.std.proofs.lemmas.List.Sums.{sum_by-append}
-use Rattle.aatry_test.specs.Differences.{differs, failure, front_text, last_line, part_of, part_text, parts, seen_part}
+use Rattle.aatry_test.specs.Differences.{Counts, counts_of, differs, failure, front_text, last_line, part_of, part_text, parts, seen_part}
+use Rattle.aatry_assertions.specs.Running.{Asserted}
 use Rattle.aatry_transcripts.specs.Replies.{told_next}
-use Rattle.aatry_transcripts.specs.Transcripts.{before_command, is_command, wanted_in}
+use Rattle.aatry_transcripts.specs.Transcripts.{before_command, is_assertion, is_command, wanted_in}
 
 -- the part of a line that holds a command
 pub part_is : (number : ℕ) (line : List ℕ) (behind told wanted : List (List ℕ)) → is_command line ≡ true → wanted ≡ wanted_in (before_command behind)
@@ -47,18 +48,28 @@ counted-step number line behind told size before count whole within is counted a
     ap (count_by differs) (parts-step number line behind told size within is) ∙ sum_by-append _ own left in
     omega (arith, counted, all, both)
 
--- what is told ahead of the commands, of each of them, and at the end, one behind the other
-pub failure-is : (accepted : Bool) (path : List ℕ) (lines told wanted : List (List ℕ)) (commands differing : ℕ) (before first second after : List ℕ)
-    → wanted ≡ wanted_in (before_command lines) → commands ≡ count_by is_command lines → differing ≡ count_by differs (parts 1 lines told)
-    → first ≡ before ++ front_text path wanted → second ≡ first ++ flat_map (part_text path) (parts 1 lines told)
-    → after ≡ second ++ last_line accepted path commands differing → after ≡ before ++ failure accepted path lines told
-failure-is accepted path lines told wanted commands differing before first second after is counted found front each end =
+abbrev pub counts_with : ℕ → ℕ → ℕ → ℕ → Counts
+counts_with commands differing assertions failing = record { commands = commands; differing = differing; assertions = assertions; failing = failing }
+
+-- the counts of a transcript, by each of them
+pub counts-are : (lines told : List (List ℕ)) (commands differing assertions failing : ℕ) → commands ≡ count_by is_command lines
+    → differing ≡ count_by differs (parts 1 lines told) → assertions ≡ count_by is_assertion lines
+    → counts_with commands differing assertions failing ≡ counts_of lines told failing
+counts-are lines told commands differing assertions failing one two three = rw (one, two, three) refl
+
+-- what is told ahead of the commands, of each of them, of the assertions, and at the end, one behind the other
+pub failure-is : (accepted : Bool) (path : List ℕ) (lines told wanted : List (List ℕ)) (asserted : Asserted) (counts : Counts) (before first second third after : List ℕ)
+    → wanted ≡ wanted_in (before_command lines) → counts ≡ counts_of lines told asserted.failing
+    → first ≡ before ++ front_text path wanted → second ≡ first ++ flat_map (part_text path) (parts 1 lines told) → third ≡ second ++ asserted.text
+    → after ≡ third ++ last_line accepted path counts → after ≡ before ++ failure accepted path lines told asserted
+failure-is accepted path lines told wanted asserted counts before first second third after is counted front each more end =
+    let ahead = front_text path wanted in
     let text = flat_map (part_text path) (parts 1 lines told) in
-    let last = last_line accepted path commands differing in
-    let all : front_text path wanted ++ text ++ last ≡ failure accepted path lines told = rw (is, counted, found) refl in
-    end ∙ ap (λ t. t ++ last) (each ∙ ap (λ t. t ++ text) front ∙ append_assoc before (front_text path wanted) text)
-    ∙ append_assoc before (front_text path wanted ++ text) last
-    ∙ ap (λ t. before ++ t) all
+    let last = last_line accepted path counts in
+    let all : ahead ++ text ++ asserted.text ++ last ≡ failure accepted path lines told asserted = rw (is, counted) refl in
+    let two = each ∙ ap (λ t. t ++ text) front ∙ append_assoc before ahead text in
+    let three = more ∙ ap (λ t. t ++ asserted.text) two ∙ append_assoc before (ahead ++ text) asserted.text in
+    end ∙ ap (λ t. t ++ last) three ∙ append_assoc before (ahead ++ text ++ asserted.text) last ∙ ap (λ t. before ++ t) all
 
 -- the next of a list stands before those that are left behind it
 pub next_left : {S : Type 0} (f : S → List ℕ) (xs : List S) (i : ℕ) (x : S) → i < length xs → x ≡ get_or xs i x

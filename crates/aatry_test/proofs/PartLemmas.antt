@@ -8,7 +8,7 @@ use Rattle.aatry_transcripts.proofs.ReplyLemmas.{before_on, reply_taken}
 use Rattle.aatry_test.specs.Differences.{Part, part_of, parts}
 use Rattle.aatry_test.specs.Laws.{AllIsTold, AllIsWanted, AreReplies, EachHasItsReply, IsReplyTo, parts_by, told_by}
 use Rattle.aatry_transcripts.specs.Replies.{begins_reply, reply_to, told_next}
-use Rattle.aatry_transcripts.specs.Transcripts.{before_command, is_command, is_note, wanted_in}
+use Rattle.aatry_transcripts.specs.Transcripts.{before_command, is_aside, is_command, wanted_in}
 
 abbrev told_of : List Part → List (List ℕ)
 told_of ps = flat_map (λ part. part.told) ps
@@ -47,7 +47,7 @@ all_wanted number (line ∷ behind) told = elim (cases_Bool (is_command line)) [
   | inl command ↦ rw command (all_wanted (number + 1) behind _)
   | inr other ↦
       ap (λ front. wanted_in front ++ wanted_of (parts number (line ∷ behind) told)) (before_on line behind other)
-      ∙ elim (cases_Bool (is_note line)) [
+      ∙ elim (cases_Bool (is_aside line)) [
         | inl note ↦ rw (other, note) (all_wanted (number + 1) behind told)
         | inr plain ↦ rw (other, plain) (ap (λ l. line ∷ l) (all_wanted (number + 1) behind told))
       ]

@@ -1,13 +1,15 @@
--- How the lines that a run tells differ from those that a transcript wants.
-use Rattle.std.specs.Prelude.{ℕ, ◌+◌, Bool, ◌&&◌, ◌||◌, not, if◌then◌else◌, List, [], ◌∷◌, ◌++◌, codes, count_by, drop, flat_map, length}
+-- How the lines that a run tells differ from those that a transcript wants, and which assertions don't hold.
+use Rattle.std.specs.Prelude.{ℕ, ◌+◌, Bool, ◌&&◌, ◌||◌, ◌==◌, not, if◌then◌else◌, List, [], ◌∷◌, ◌++◌, codes, count_by, drop, flat_map, length}
 use Rattle.std.specs.Fmt.{decimal}
 use Rattle.std.specs.List.{filter, list_all, list_any}
 use Rattle.std.specs.Str.{bytes_eq}
 use Rattle.aa_bytes.specs.Bytes.{line_feed}
+use Rattle.aatry_assertions.specs.Headings.{heading}
+use Rattle.aatry_assertions.specs.Running.{Asserted}
 use Rattle.aatry_report.specs.Shown.{shown}
 use Rattle.aatry_transcripts.specs.Meeting.{are_met}
 use Rattle.aatry_transcripts.specs.Replies.{told_next}
-use Rattle.aatry_transcripts.specs.Transcripts.{before_command, is_command, wanted_in}
+use Rattle.aatry_transcripts.specs.Transcripts.{before_command, is_assertion, is_command, wanted_in}
 
 -- a line is one of these
 abbrev pub is_among : List (List ℕ) → List ℕ → Bool
@@ -55,10 +57,6 @@ abbrev pub differing_lines : List (List ℕ) → List (List ℕ) → List ℕ
 differing_lines wanted told =
     marked_lines (codes "- ") (are_reordered wanted told) told wanted ++ marked_lines (codes "+ ") (are_reordered wanted told) wanted told
 
--- the line that stands above them
-abbrev pub heading : List ℕ → ℕ → List ℕ → List ℕ
-heading path number line = shown path ++ codes ":" ++ decimal number ++ codes ": " ++ shown line ++ line_feed ∷ []
-
 -- what is told of a part: nothing, where the reply is the one that is wanted
 abbrev pub part_text : List ℕ → Part → List ℕ
 part_text path part = if differs part then heading path part.number part.line ++ differing_lines part.wanted part.told else []
@@ -70,26 +68,60 @@ ahead_line path line = shown path ++ codes ": ahead of the first command: " ++ s
 abbrev pub front_text : List ℕ → List (List ℕ) → List ℕ
 front_text path wanted = flat_map (ahead_line path) wanted
 
--- the line that tells how a transcript came out that is as it is wanted
-abbrev pub passed_line : List ℕ → ℕ → List ℕ
-passed_line path commands = shown path ++ codes ": passed: commands " ++ decimal commands ++ line_feed ∷ []
+-- a count behind these words, where there are assertions
+abbrev pub count_words : ℕ → List ℕ → ℕ → List ℕ
+count_words assertions words count = if assertions == 0 then [] else words ++ decimal count
 
--- the words between the path of one that isn't and its numbers, where it is accepted as it is told or not
+-- how many assertions there are, and how many of them don't hold
+abbrev pub assertions_words : ℕ → List ℕ
+assertions_words assertions = count_words assertions (codes ", assertions ") assertions
+
+abbrev pub failing_words : ℕ → ℕ → List ℕ
+failing_words assertions failing = count_words assertions (codes ", failing ") failing
+
+-- the line that tells how a transcript came out that is as it is wanted, and whose assertions hold
+abbrev pub passed_line : List ℕ → ℕ → ℕ → List ℕ
+passed_line path commands assertions = shown path ++ codes ": passed: commands " ++ decimal commands ++ assertions_words assertions ++ line_feed ∷ []
+
+-- the words between the path of another one and its numbers, where it is accepted as it is told or not
 abbrev pub outcome_words : Bool → List ℕ
 outcome_words accepted = if accepted then codes ": accepted: commands " else codes ": failed: commands "
 
+-- how many commands it has and how many replies differ, and the same of its assertions
+pub record Counts : Type 0 where
+  pub commands : ℕ
+  pub differing : ℕ
+  pub assertions : ℕ
+  pub failing : ℕ
+
 -- and the line that tells how it came out
-abbrev pub last_line : Bool → List ℕ → ℕ → ℕ → List ℕ
-last_line accepted path commands differing =
-    shown path ++ outcome_words accepted ++ decimal commands ++ codes ", differing " ++ decimal differing ++ line_feed ∷ []
+abbrev pub last_line : Bool → List ℕ → Counts → List ℕ
+last_line accepted path counts =
+    shown path ++ outcome_words accepted ++ decimal counts.commands ++ codes ", differing " ++ decimal counts.differing
+    ++ assertions_words counts.assertions ++ failing_words counts.assertions counts.failing ++ line_feed ∷ []
 
--- what is told of a transcript that isn't as it is wanted, where it is accepted or not
-abbrev pub failure : Bool → List ℕ → List (List ℕ) → List (List ℕ) → List ℕ
-failure accepted path lines told =
+-- the counts of a transcript, by its lines, those that the run tells, and what its assertions come to
+abbrev pub counts_of : List (List ℕ) → List (List ℕ) → ℕ → Counts
+counts_of lines told failing = record {
+  commands = count_by is_command lines;
+  differing = count_by differs (parts 1 lines told);
+  assertions = count_by is_assertion lines;
+  failing = failing;
+}
+
+-- what is told of such a transcript, where it is accepted or not: replies that differ, assertions that don't hold, and how it came out
+abbrev pub failure : Bool → List ℕ → List (List ℕ) → List (List ℕ) → Asserted → List ℕ
+failure accepted path lines told asserted =
     front_text path (wanted_in (before_command lines)) ++ flat_map (part_text path) (parts 1 lines told)
-    ++ last_line accepted path (count_by is_command lines) (count_by differs (parts 1 lines told))
+    ++ asserted.text ++ last_line accepted path (counts_of lines told asserted.failing)
 
--- what is told of a transcript, by its lines and those that the run tells, where it is accepted as they are or not
-abbrev pub comparison : Bool → List ℕ → List (List ℕ) → List (List ℕ) → List ℕ
-comparison accepted path lines told =
-    if are_met (wanted_in lines) told then passed_line path (count_by is_command lines) else failure accepted path lines told
+-- what is told is what is wanted, and all assertions hold
+abbrev pub passes : List (List ℕ) → List (List ℕ) → Asserted → Bool
+passes lines told asserted = are_met (wanted_in lines) told && asserted.failing == 0
+
+-- what is told of a transcript, by its lines, those that the run tells, and its assertions, where it is accepted as they are told or not
+abbrev pub comparison : Bool → List ℕ → List (List ℕ) → List (List ℕ) → Asserted → List ℕ
+comparison accepted path lines told asserted =
+    if passes lines told asserted
+    then passed_line path (count_by is_command lines) (count_by is_assertion lines)
+    else failure accepted path lines told asserted

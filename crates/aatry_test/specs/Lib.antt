@@ -2,6 +2,7 @@ pub mod Below
 pub mod Differences
 pub mod Ends
 pub mod Laws
+pub mod SeenCounts
 pub mod SeenOutcomes
 pub mod SeenTests
 pub mod Stores

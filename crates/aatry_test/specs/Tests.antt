@@ -1,5 +1,5 @@
 -- What a test of a transcript comes to.
-use Rattle.std.specs.Prelude.{◌≡◌, ◌&&◌, ℕ, Bool, false, if◌then◌else◌, List, [], ◌∷◌, codes}
+use Rattle.std.specs.Prelude.{◌≡◌, ◌&&◌, ◌==◌, ℕ, Bool, false, if◌then◌else◌, List, [], ◌∷◌, codes}
 use Rattle.std.specs.List.{list_any}
 use Rattle.aa_bytes.specs.Texts.{begins_with}
 use Rattle.aa_profile_parsing.specs.declared.language.Language.{Language}
@@ -7,10 +7,10 @@ use Rattle.aa_set.specs.Run.{output}
 use Rattle.aa_set_lines.specs.Lines.{lines}
 use Rattle.aa_set_manager.specs.Manager.{new_manager_in}
 use Rattle.aa_text_files.specs.Files.{File}
+use Rattle.aatry_assertions.specs.Running.{Asserted, IsTranscriptAsserted}
 use Rattle.aatry_transcripts.specs.Accepting.{accepted_text, can_be_accepted}
-use Rattle.aatry_transcripts.specs.Meeting.{are_met}
-use Rattle.aatry_transcripts.specs.Transcripts.{input_of, transcript_lines, wanted_in}
-use Rattle.aatry_test.specs.Differences.{comparison}
+use Rattle.aatry_transcripts.specs.Transcripts.{input_of, transcript_lines}
+use Rattle.aatry_test.specs.Differences.{comparison, passes}
 
 -- the lines that a run over these files, read by a language, writes for the commands of a transcript, from the empty policy set on, for these flags
 -- on commands that found no memory
@@ -27,15 +27,15 @@ pub data Outcome : Type 0 where
   Failed : Outcome
   Accepted : List ℕ → Outcome
 
--- what is told of a transcript is accepted: that is asked for, and can be done
-abbrev pub is_accepted : Bool → List ℕ → List (List ℕ) → Bool
-is_accepted accept transcript told = accept && can_be_accepted (transcript_lines transcript) told
+-- what is told of a transcript is accepted: that is asked for, it can be done, and all assertions hold
+abbrev pub is_accepted : Bool → List ℕ → List (List ℕ) → Asserted → Bool
+is_accepted accept transcript told asserted = accept && (can_be_accepted (transcript_lines transcript) told && asserted.failing == 0)
 
--- how a transcript came out, by what is told: it passed where that is what its wanted lines ask for
-abbrev pub outcome_of : Bool → List ℕ → List (List ℕ) → Outcome
-outcome_of accept transcript told =
-    if are_met (wanted_in (transcript_lines transcript)) told then Passed
-    else if is_accepted accept transcript told then Accepted (accepted_text transcript told)
+-- how a transcript came out, by what is told and by its assertions: it passed where the first is what its wanted lines ask for, and the others hold
+abbrev pub outcome_of : Bool → List ℕ → List (List ℕ) → Asserted → Outcome
+outcome_of accept transcript told asserted =
+    if passes (transcript_lines transcript) told asserted then Passed
+    else if is_accepted accept transcript told asserted then Accepted (accepted_text transcript told)
     else Failed
 
 -- how many transcripts failed, of one
@@ -50,12 +50,14 @@ replaced_of path Passed = []
 replaced_of path Failed = []
 replaced_of path (Accepted text) = (path, text) ∷ []
 
--- A transcript was compared with what a run of its commands tells, in which each found memory: how it came out goes by that, and where what is told is to
--- be accepted; and the text tells how it differs.
+-- A transcript was compared with what a run of its commands tells, in which each found memory, and its assertions were asked: how it came out goes by
+-- both, and where what is told is to be accepted; and the text tells how it differs, and which assertions don't hold.
 pub record IsTested (language : Language) (files : List File) (accept : Bool) (path transcript : List ℕ) (outcome : Outcome) (text : List ℕ) : Type 0 where
   pub flags : List Bool
   pub answered : list_any says_memory (told_for language files transcript flags) ≡ false
-  pub decided : outcome ≡ outcome_of accept transcript (told_for language files transcript flags)
+  pub assertions : Asserted
+  pub asserted : IsTranscriptAsserted language files path (transcript_lines transcript) assertions
+  pub decided : outcome ≡ outcome_of accept transcript (told_for language files transcript flags) assertions
   pub told : text
-      ≡ comparison (is_accepted accept transcript (told_for language files transcript flags)) path (transcript_lines transcript)
-      (told_for language files transcript flags)
+      ≡ comparison (is_accepted accept transcript (told_for language files transcript flags) assertions) path (transcript_lines transcript)
+      (told_for language files transcript flags) assertions

@@ -1,29 +1,67 @@
-//! A transcript, compared with what the run of its commands tells.
+//! A transcript, compared with what the run of its commands tells, and with what its assertions come to.
 
 ghost use Rattle.std.specs.Prelude.{◌≡◌, ◌++◌, ◌∷◌, [], IfOk, OnOk, ◌≤◌, count_by, flat_map};
-ghost use Rattle.aatry_test.specs.Differences.{comparison, differs, failure, last_line, outcome_words};
-ghost use Rattle.aatry_test.specs.Differences.{part_of, part_text, parts, passed_line, seen_part};
-ghost use Rattle.aatry_transcripts.specs.Meeting.{are_met};
-ghost use Rattle.aatry_transcripts.specs.Transcripts.{texts, wanted_in};
+ghost use Rattle.aatry_assertions.specs.Running.{seen_asserted};
+ghost use Rattle.aatry_test.specs.Differences.{comparison, count_words, differs, failure, last_line, outcome_words};
+ghost use Rattle.aatry_test.specs.Differences.{part_of, part_text, parts, passed_line, passes, seen_part};
+ghost use Rattle.aatry_test.specs.SeenCounts.{seen_counts};
+ghost use Rattle.aatry_transcripts.specs.Transcripts.{texts};
 
-use crate::differences::{push_differing_lines, push_front, push_heading};
+use crate::differences::{push_differing_lines, push_front};
+use aatry_assertions::{Asserted, push_heading};
 use aatry_report::{push_number, push_shown};
 use aatry_transcripts::{
-    are_met, command_count, is_command, line_at, lines_behind, told_size, wanted_in, wanted_next,
+    are_met, assertion_count, command_count, is_command, line_at, lines_behind, told_size,
+    wanted_in, wanted_next,
 };
 use std::alloc::{AllocError, Global};
 
-// Puts how a transcript came out that is as it is wanted behind a text.
-fn push_passed(out: &mut Vec<u8>, path: &[u8], commands: usize) -> Result<(), AllocError>
-    ensures { OnOk result (out.new.items ≡ out.old.items ++ passed_line path.now commands) }
+/// How many commands and assertions a transcript has, how many replies differ, and how many assertions don't hold.
+#[derive(Clone, Copy)]
+pub struct Counts {
+    /// Its commands.
+    pub commands: usize,
+    /// Those whose replies differ.
+    pub differing: usize,
+    /// Its assertions.
+    pub assertions: usize,
+    /// Those that don't hold.
+    pub failing: usize,
+}
+
+// Puts a count behind a text, in these words, where there are assertions.
+fn push_count(
+    out: &mut Vec<u8>,
+    assertions: usize,
+    words: &str,
+    count: usize,
+) -> Result<(), AllocError>
+    ensures { OnOk result (out.new.items ≡ out.old.items ++ count_words assertions words.now count) }
+{
+    if assertions == 0 {
+        Ok(())
+    } else {
+        push_number(out, words, count)
+    }
+}
+
+// Puts how a transcript came out that passed behind a text.
+fn push_passed(
+    out: &mut Vec<u8>,
+    path: &[u8],
+    commands: usize,
+    assertions: usize,
+) -> Result<(), AllocError>
+    ensures { OnOk result (out.new.items ≡ out.old.items ++ passed_line path.now commands assertions) }
 {
     push_shown(out, path)?;
     push_number(out, ": passed: commands ", commands)?;
+    push_count(out, assertions, ", assertions ", assertions)?;
     out.push(b'\n')?;
     Ok(())
 }
 
-// The words between the path of a transcript that isn't as it is wanted and its numbers.
+// The words between the path of a transcript that didn't and its numbers.
 fn outcome_words(accepted: bool) -> &'static str
     ensures { result.now ≡ outcome_words accepted }
 {
@@ -34,19 +72,20 @@ fn outcome_words(accepted: bool) -> &'static str
     }
 }
 
-// Puts how one came out that isn't behind a text, where it is accepted or not.
+// Puts how one came out that didn't behind a text, where it is accepted or not.
 fn push_last(
     out: &mut Vec<u8>,
     accepted: bool,
     path: &[u8],
-    commands: usize,
-    differing: usize,
+    counts: Counts,
 ) -> Result<(), AllocError>
-    ensures { OnOk result (out.new.items ≡ out.old.items ++ last_line accepted path.now commands differing) }
+    ensures { OnOk result (out.new.items ≡ out.old.items ++ last_line accepted path.now (seen_counts counts)) }
 {
     push_shown(out, path)?;
-    push_number(out, outcome_words(accepted), commands)?;
-    push_number(out, ", differing ", differing)?;
+    push_number(out, outcome_words(accepted), counts.commands)?;
+    push_number(out, ", differing ", counts.differing)?;
+    push_count(out, counts.assertions, ", assertions ", counts.assertions)?;
+    push_count(out, counts.assertions, ", failing ", counts.failing)?;
     out.push(b'\n')?;
     Ok(())
 }
@@ -118,30 +157,39 @@ fn push_parts(
     Ok(differing)
 }
 
-// Puts what is told of a transcript that isn't as it is wanted behind a text, where it is accepted or not.
+// Puts what is told of a transcript that didn't pass behind a text, where it is accepted or not.
 fn push_failure(
     alloc: Global,
     accepted: bool,
     path: &[u8],
     lines: &[&[u8]],
     told: &[&[u8]],
+    asserted: &Asserted,
     out: &mut Vec<u8>,
 ) -> Result<(), AllocError>
-    ensures { OnOk result (out.new.items ≡ out.old.items ++ failure accepted path.now (texts lines.now) (texts told.now)) }
+    ensures { OnOk result (out.new.items
+        ≡ out.old.items ++ failure accepted path.now (texts lines.now) (texts told.now) (seen_asserted asserted.now)) }
 {
     let front = wanted_next(alloc, lines)?;
     push_front(out, path, &front)?;
     let differing = push_parts(alloc, path, lines, told, out)?;
-    push_last(out, accepted, path, command_count(lines), differing)
+    out.extend_from_slice(&asserted.text)?;
+    let counts = Counts {
+        commands: command_count(lines),
+        differing,
+        assertions: assertion_count(lines),
+        failing: asserted.failing,
+    };
+    push_last(out, accepted, path, counts)
 }
 
-/// Compares a transcript with what the run of its commands tells, puts what is found behind a text, and says whether the transcript is as it is
-/// wanted: all lines that are told are those that its wanted lines ask for, in their order (`are_met`). `lines` are those of the transcript, which is told by
-/// `path`, and `told` those of all that the run writes.
+/// Compares a transcript with what the run of its commands tells, and with what its assertions come to, puts what is found behind a text, and says whether the
+/// transcript passed: all lines that are told are those that its wanted lines ask for, in their order (`are_met`), and all its assertions hold. `lines`
+/// are those of the transcript, which is told by `path`, and `told` those of all that the run writes.
 ///
-/// Of a transcript that is as it is wanted one line is put. Of another each command is told whose reply differs, with the number of its line,
-/// and below it the lines that are wanted and not told, and those that are told and not wanted; and at the end that it failed, or where it is to be
-/// accepted as it is told, that it is.
+/// Of a transcript that passed one line is put. Of another each command is told whose reply differs, with the number of its line, and below it the
+/// lines that are wanted and not told, and those that are told and not wanted; then the assertions that don't hold; and at the end that it failed, or where it
+/// is to be accepted as it is told, that it is.
 ///
 /// # Errors
 ///
@@ -152,16 +200,18 @@ pub fn compare(
     path: &[u8],
     lines: &[&[u8]],
     told: &[&[u8]],
+    asserted: &Asserted,
     out: &mut Vec<u8>,
 ) -> Result<bool, AllocError>
-    ensures passed { IfOk result (λ passed. passed ≡ are_met (wanted_in (texts lines.now)) (texts told.now)) }
-    ensures told { OnOk result (out.new.items ≡ out.old.items ++ comparison accepted path.now (texts lines.now) (texts told.now)) }
+    ensures passed { IfOk result (λ passed. passed ≡ passes (texts lines.now) (texts told.now) (seen_asserted asserted.now)) }
+    ensures told { OnOk result (out.new.items
+        ≡ out.old.items ++ comparison accepted path.now (texts lines.now) (texts told.now) (seen_asserted asserted.now)) }
 {
     let wanted = wanted_in(alloc, lines)?;
-    if are_met(&wanted, told) {
-        push_passed(out, path, command_count(lines))?;
+    if are_met(&wanted, told) && asserted.failing == 0 {
+        push_passed(out, path, command_count(lines), assertion_count(lines))?;
         return Ok(true);
     }
-    push_failure(alloc, accepted, path, lines, told, out)?;
+    push_failure(alloc, accepted, path, lines, told, asserted, out)?;
     Ok(false)
 }

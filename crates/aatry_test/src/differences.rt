@@ -3,10 +3,10 @@
 ghost use Rattle.std.specs.Prelude.{◌≡◌, ◌++◌, OnOk};
 ghost use Rattle.std.specs.List.{list_all};
 ghost use Rattle.aatry_test.specs.Differences.{ahead_line, are_reordered, differing_lines, front_text};
-ghost use Rattle.aatry_test.specs.Differences.{heading, is_among, marked_line, marked_lines};
+ghost use Rattle.aatry_test.specs.Differences.{is_among, marked_line, marked_lines};
 ghost use Rattle.aatry_transcripts.specs.Transcripts.{texts};
 
-use aatry_report::{push_number, push_shown};
+use aatry_report::push_shown;
 use std::alloc::AllocError;
 
 // Whether a line is one of these.
@@ -83,24 +83,6 @@ pub fn push_differing_lines(
     let all = are_reordered(wanted, told);
     push_marked_lines(out, "- ", all, told, wanted)?;
     push_marked_lines(out, "+ ", all, wanted, told)
-}
-
-/// Puts the line that stands above lines that differ behind a text.
-///
-/// # Errors
-///
-/// Where memory runs out.
-pub fn push_heading(
-    out: &mut Vec<u8>,
-    path: &[u8],
-    number: usize,
-    line: &[u8],
-) -> Result<(), AllocError>
-    ensures { OnOk result (out.new.items ≡ out.old.items ++ heading path.now number line.now) }
-{
-    push_shown(out, path)?;
-    push_number(out, ":", number)?;
-    push_marked(out, ": ", line)
 }
 
 // Puts what is told of one wanted line ahead of the first command behind a text.

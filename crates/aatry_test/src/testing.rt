@@ -8,6 +8,7 @@ ghost use Rattle.aa_set_manager.specs.Manager.{new_manager_in};
 ghost use Rattle.aatry_test.specs.Differences.{comparison};
 ghost use Rattle.aatry_test.specs.SeenOutcomes.{seen_outcome};
 ghost use Rattle.aatry_test.specs.Tests.{Accepted, Failed, IsTested, is_accepted, outcome_of, says_memory};
+ghost use Rattle.aatry_assertions.specs.Running.{seen_asserted};
 ghost use Rattle.aatry_transcripts.specs.Accepting.{accepted_text};
 ghost use Rattle.aatry_transcripts.specs.Transcripts.{input_of, texts, transcript_lines};
 
@@ -15,6 +16,7 @@ use crate::comparing::compare;
 use aa_bytes::begins_with;
 use aa_set::{FromRead, Language, ToWrite, run_in};
 use aa_text_files::Files;
+use aatry_assertions::{Asserted, Run, assert_lines};
 use aatry_transcripts::{accepted_text, can_be_accepted, input_of, lines_of, transcript_lines};
 use std::alloc::{AllocError, Global};
 
@@ -105,7 +107,7 @@ fn outcome_of_differing(
     }
 }
 
-// Compares a transcript, whose lines are given, with what a run writes, puts what is found behind a text, and says how it came out. Where a command found
+// Compares a transcript, whose lines are given, with what a run writes and what its assertions come to, puts what is found behind a text, and says how it came out. Where a command found
 // no memory, that is unknown.
 fn compare_with(
     alloc: Global,
@@ -113,31 +115,42 @@ fn compare_with(
     transcript: &Transcript,
     lines: &[&[u8]],
     told: &[u8],
+    asserted: &Asserted,
     out: &mut Vec<u8>,
 ) -> Result<Outcome, AllocError>
     requires { texts lines.now ≡ transcript_lines transcript.now.text.now }
     ensures { IfOk result (λ outcome. (list_any says_memory (lines_in told.now) ≡ false)
-        × (seen_outcome outcome ≡ outcome_of accept transcript.now.text.now (lines_in told.now))
-        × (out.new.items ≡ out.old.items ++ comparison (is_accepted accept transcript.now.text.now (lines_in told.now)) transcript.now.path.now
-        (transcript_lines transcript.now.text.now) (lines_in told.now))) }
+        × (seen_outcome outcome ≡ outcome_of accept transcript.now.text.now (lines_in told.now) (seen_asserted asserted.now))
+        × (out.new.items ≡ out.old.items ++ comparison (is_accepted accept transcript.now.text.now (lines_in told.now) (seen_asserted asserted.now))
+        transcript.now.path.now (transcript_lines transcript.now.text.now) (lines_in told.now) (seen_asserted asserted.now))) }
 {
     let told = lines_of(alloc, told)?;
     if lacked_memory(&told) {
         return Err(AllocError);
     }
-    let accepted = accept && can_be_accepted(lines, &told);
-    if compare(alloc, accepted, transcript.path, lines, &told, out)? {
+    let accepted = accept && can_be_accepted(lines, &told) && asserted.failing == 0;
+    if compare(
+        alloc,
+        accepted,
+        transcript.path,
+        lines,
+        &told,
+        asserted,
+        out,
+    )? {
         return Ok(Outcome::Passed);
     }
     outcome_of_differing(alloc, accepted, transcript.text, &told)
 }
 
 /// Runs the commands of a transcript over these files, read by a language, from the empty policy set on, compares what is told with what the
-/// transcript wants, puts what is found behind a text, and says how the transcript came out. In a transcript a line that begins with `> ` holds a command,
-/// a line that begins with `#` and one of blanks are left out, and each other line is wanted. A carriage return at a line's end is left out.
+/// transcript wants, asks its assertions, puts what is found behind a text, and says how the transcript came out. In a transcript a line that begins with `> `
+/// holds a command, and one that begins with `! ` an assertion (`aatry_assertions::assert_lines`); a line that begins with `#` and one of blanks are left
+/// out, and each other line is wanted. A carriage return at a line's end is left out.
 ///
-/// It passed where all that is told is what its wanted lines ask for. Otherwise it failed; or where `accept`, and what is told can be accepted
-/// (`aatry_transcripts::can_be_accepted`), it is accepted, and its text from now on is given (`aatry_transcripts::accepted_text`).
+/// It passed where all that is told is what its wanted lines ask for, and all its assertions hold. Otherwise it failed; or where `accept`, what is told
+/// can be accepted (`aatry_transcripts::can_be_accepted`), and all its assertions hold, it is accepted, and its text from now on is given
+/// (`aatry_transcripts::accepted_text`).
 ///
 /// # Errors
 ///
@@ -155,5 +168,11 @@ pub fn test(
 {
     let lines = transcript_lines(alloc, transcript.text)?;
     let told = output_for_lines(alloc, language, files, &lines)?;
-    compare_with(alloc, accept, transcript, &lines, &told, out)
+    let run = Run {
+        language,
+        files,
+        path: transcript.path,
+    };
+    let asserted = assert_lines(alloc, run, &lines)?;
+    compare_with(alloc, accept, transcript, &lines, &told, &asserted, out)
 }

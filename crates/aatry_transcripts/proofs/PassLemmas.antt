@@ -12,10 +12,10 @@ use Rattle.std.proofs.lemmas.Slice.Eq.{bytes_eq-Decides}
 use Rattle.aa_bytes.specs.Texts.{is_empty}
 use Rattle.aa_set_lines.specs.Lines.{is_line_feed, lines}
 use Rattle.aatry_transcripts.specs.Accepting.{accepted_from, accepted_line, accepted_lines, accepted_text, can_be_wanted, end_of, is_answered, new_lines, other_line, renewed, shortened, stay_behind, told_to, wanted_behind}
-use Rattle.aatry_transcripts.specs.Laws.{AsksTheSame, KeepsTheOthers, PassesThen}
+use Rattle.aatry_transcripts.specs.Laws.{AsksTheSame, CanBeAccepted, KeepsTheOthers, PassesThen}
 use Rattle.aatry_transcripts.specs.Meeting.{are_met, leaves_out, left_out}
 use Rattle.aatry_transcripts.specs.Replies.{begins_reply, is_audit_line, is_small_letter}
-use Rattle.aatry_transcripts.specs.Transcripts.{before_command, given_line, is_command, is_note, is_wanted, transcript_lines, wanted_in}
+use Rattle.aatry_transcripts.specs.Transcripts.{before_command, given_line, is_aside, is_command, is_wanted, transcript_lines, wanted_in}
 use Rattle.aatry_transcripts.proofs.AcceptLemmas.{answered-first, plain-first}
 use Rattle.aatry_transcripts.proofs.MeetLemmas.{itself-more, met-append, met_is_asked, same-met, short-more}
 use Rattle.aatry_transcripts.proofs.ReadBackLemmas.{is_whole, lines-ended, lines-whole}
@@ -79,14 +79,14 @@ filter_kept p x xs is = rw is refl
 filter_dropped : {X : Type 0} (p : X → Bool) (x : X) (xs : List X) → p x ≡ false → filter p (x ∷ xs) ≡ filter p xs
 filter_dropped p x xs other = rw other refl
 
--- a command isn't wanted, nor is a note; what is neither is
+-- a command isn't wanted, nor is what stands beside the replies; what is neither is
 command-unwanted : (line : List ℕ) → is_command line ≡ true → is_wanted line ≡ false
 command-unwanted line command = rw command refl
 
-note-unwanted : (line : List ℕ) → is_command line ≡ false → is_note line ≡ true → is_wanted line ≡ false
-note-unwanted line other note = rw (other, note) refl
+aside-unwanted : (line : List ℕ) → is_command line ≡ false → is_aside line ≡ true → is_wanted line ≡ false
+aside-unwanted line other note = rw (other, note) refl
 
-else-wanted : (line : List ℕ) → is_command line ≡ false → is_note line ≡ false → is_wanted line ≡ true
+else-wanted : (line : List ℕ) → is_command line ≡ false → is_aside line ≡ false → is_wanted line ≡ true
 else-wanted line other none = rw (other, none) refl
 
 -- an answer without its audit line can be wanted
@@ -97,10 +97,11 @@ answer-wanted : (b : ℕ) (bs : List ℕ) → 97 ≤ b → is_wanted (b ∷ bs) 
 answer-wanted b bs high =
     let greater : eqb b 62 ≡ false = ne_eqb b 62 (λ e. absurd (omega arith)) in
     let comment : eqb b 35 ≡ false = ne_eqb b 35 (λ e. absurd (omega arith)) in
+    let assertion : eqb b 33 ≡ false = ne_eqb b 33 (λ e. absurd (omega arith)) in
     let space : eqb b 32 ≡ false = ne_eqb b 32 (λ e. absurd (omega arith)) in
     let tab : eqb b 9 ≡ false = ne_eqb b 9 (λ e. absurd (omega arith)) in
     let return : eqb b 13 ≡ false = ne_eqb b 13 (λ e. absurd (omega arith)) in
-    rw (greater, comment, space, tab, return) refl
+    rw (greater, comment, space, tab, return, assertion) refl
 
 short-plain : (line : List ℕ) → strip_carriage_return (line ++ left_out) ≡ line ++ left_out
 short-plain line =
@@ -253,13 +254,13 @@ passes-unmet stays raw behind told command unmet ready next =
     )
 
 -- what is wanted ahead of the next command from a line on that holds none
-ahead-note : (raw : List ℕ) (behind : List (List ℕ)) → is_command (strip_carriage_return raw) ≡ false → is_note (strip_carriage_return raw) ≡ true
+ahead-aside : (raw : List ℕ) (behind : List (List ℕ)) → is_command (strip_carriage_return raw) ≡ false → is_aside (strip_carriage_return raw) ≡ true
     → wanted_behind (raw ∷ behind) ≡ wanted_behind behind
-ahead-note raw behind other note =
+ahead-aside raw behind other note =
     let line = strip_carriage_return raw in
-    ap wanted_in (before_on line (plain behind) other) ∙ filter_dropped is_wanted line (before_command (plain behind)) (note-unwanted line other note)
+    ap wanted_in (before_on line (plain behind) other) ∙ filter_dropped is_wanted line (before_command (plain behind)) (aside-unwanted line other note)
 
-ahead-wanted : (raw : List ℕ) (behind : List (List ℕ)) → is_command (strip_carriage_return raw) ≡ false → is_note (strip_carriage_return raw) ≡ false
+ahead-wanted : (raw : List ℕ) (behind : List (List ℕ)) → is_command (strip_carriage_return raw) ≡ false → is_aside (strip_carriage_return raw) ≡ false
     → wanted_behind (raw ∷ behind) ≡ strip_carriage_return raw ∷ wanted_behind behind
 ahead-wanted raw behind other none =
     let line = strip_carriage_return raw in
@@ -270,11 +271,11 @@ passes-other : (stays : Bool) (raw : List ℕ) (behind told : List (List ℕ)) �
 passes-other true raw behind told other next =
     let line = strip_carriage_return raw in
     let rest = accepted_from true behind told in
-    elim (cases_Bool (is_note line)) [
+    elim (cases_Bool (is_aside line)) [
       | inl note ↦ (
         next.0,
-        ap wants (from-other true raw behind told other) ∙ filter_dropped is_wanted line (plain rest) (note-unwanted line other note) ∙ next.1
-            ∙ ap (λ front. front ++ next.0) (sym (ahead-note raw behind other note)),
+        ap wants (from-other true raw behind told other) ∙ filter_dropped is_wanted line (plain rest) (aside-unwanted line other note) ∙ next.1
+            ∙ ap (λ front. front ++ next.0) (sym (ahead-aside raw behind other note)),
         next.2,
       )
       | inr none ↦ (
@@ -287,11 +288,11 @@ passes-other true raw behind told other next =
 passes-other false raw behind told other next =
     let line = strip_carriage_return raw in
     let rest = accepted_from false behind told in
-    elim (cases_Bool (is_note line)) [
+    elim (cases_Bool (is_aside line)) [
       | inl note ↦ (
         next.0,
         ap wants (from-other false raw behind told other ∙ ap (λ n. (if n then raw ∷ [] else []) ++ rest) note)
-            ∙ filter_dropped is_wanted line (plain rest) (note-unwanted line other note) ∙ next.1,
+            ∙ filter_dropped is_wanted line (plain rest) (aside-unwanted line other note) ∙ next.1,
         next.2,
       )
       | inr none ↦ (
@@ -366,26 +367,28 @@ kept-from stays (raw ∷ behind) told ready =
   where
     other-kept : (stays : Bool) (raw : List ℕ) → is_command (strip_carriage_return raw) ≡ false → filter keeps (other_line stays raw) ≡ filter keeps (raw ∷ [])
     other-kept true raw other = refl
-    other-kept false raw other = elim (cases_Bool (is_note (strip_carriage_return raw))) [
+    other-kept false raw other = elim (cases_Bool (is_aside (strip_carriage_return raw))) [
       | inl note ↦ ap (λ n. filter keeps (if n then raw ∷ [] else [])) note
       | inr none ↦
           ap (λ n. filter keeps (if n then raw ∷ [] else [])) none
           ∙ sym (filter_dropped keeps raw [] (ap not (else-wanted (strip_carriage_return raw) other none)))
     ]
 
--- commands are among the lines that stay
-commands-kept : (raw : List (List ℕ)) → filter is_command (plain raw) ≡ filter is_command (plain (filter keeps raw))
-commands-kept [] = refl
-commands-kept (raw ∷ behind) =
+-- lines of a kind that is wanted of no reply are among those that stay
+kind-kept : (kind : List ℕ → Bool) → ((line : List ℕ) → kind line ≡ true → is_wanted line ≡ false) → (raw : List (List ℕ))
+    → filter kind (plain raw) ≡ filter kind (plain (filter keeps raw))
+kind-kept kind unwanted [] = refl
+kind-kept kind unwanted (raw ∷ behind) =
     let line = strip_carriage_return raw in
-    elim (cases_Bool (is_command line)) [
-      | inl command ↦
-          let stands : keeps raw ≡ true = ap not (command-unwanted line command) in
-          filter_kept is_command line (plain behind) command ∙ ap (λ ls. line ∷ ls) (commands-kept behind)
-          ∙ sym (ap (λ ls. filter is_command (plain ls)) (filter_kept keeps raw behind stands) ∙ filter_kept is_command line (plain (filter keeps behind)) command)
-      | inr other ↦ filter_dropped is_command line (plain behind) other ∙ commands-kept behind ∙ sym (elim (cases_Bool (keeps raw)) [
-        | inl stands ↦ ap (λ ls. filter is_command (plain ls)) (filter_kept keeps raw behind stands) ∙ filter_dropped is_command line (plain (filter keeps behind)) other
-        | inr none ↦ ap (λ ls. filter is_command (plain ls)) (filter_dropped keeps raw behind none)
+    let more = kind-kept kind unwanted behind in
+    elim (cases_Bool (kind line)) [
+      | inl is ↦
+          let stands : keeps raw ≡ true = ap not (unwanted line is) in
+          filter_kept kind line (plain behind) is ∙ ap (λ ls. line ∷ ls) more
+          ∙ sym (ap (λ ls. filter kind (plain ls)) (filter_kept keeps raw behind stands) ∙ filter_kept kind line (plain (filter keeps behind)) is)
+      | inr other ↦ filter_dropped kind line (plain behind) other ∙ more ∙ sym (elim (cases_Bool (keeps raw)) [
+        | inl stands ↦ ap (λ ls. filter kind (plain ls)) (filter_kept keeps raw behind stands) ∙ filter_dropped kind line (plain (filter keeps behind)) other
+        | inr none ↦ ap (λ ls. filter kind (plain ls)) (filter_dropped keeps raw behind none)
       ])
     ]
 
@@ -419,7 +422,7 @@ line-whole stays raw wanted told whole all = elim (cases_Bool (is_command (strip
         ∙ ended-whole (end_of raw) (renewed wanted told) (dropped-whole (length (strip_carriage_return raw)) raw (not-true (list_any is_line_feed raw) whole))
         (renewed-all is_whole short-whole wanted told all)
   ]))
-  | inr other ↦ rw other (elim (cases_Bool (stays || is_note (strip_carriage_return raw))) [
+  | inr other ↦ rw other (elim (cases_Bool (stays || is_aside (strip_carriage_return raw))) [
     | inl stands ↦ ap (λ s. list_all is_whole (if s then raw ∷ [] else [])) stands ∙ and_from (is_whole raw) true whole refl
     | inr none ↦ ap (λ s. list_all is_whole (if s then raw ∷ [] else [])) none
   ])
@@ -455,8 +458,14 @@ keeps_the_others transcript output can =
     let parts = and_parts (list_all can_be_wanted told) (is_empty told || list_any is_command (transcript_lines transcript)) can in
     ap (filter keeps) (text-lines transcript output) ∙ kept-from false (lines transcript) told parts.0
 
-pub asks_the_same : AsksTheSame
-asks_the_same transcript output can =
+-- lines of such a kind stay, in their order
+pub kind-stays : (kind : List ℕ → Bool) → ((line : List ℕ) → kind line ≡ true → is_wanted line ≡ false) → (transcript output : List ℕ)
+    → CanBeAccepted transcript output
+    → filter kind (transcript_lines (accepted_text transcript (lines output))) ≡ filter kind (transcript_lines transcript)
+kind-stays kind unwanted transcript output can =
     let text = accepted_text transcript (lines output) in
-    ap (flat_map given_line)
-    (commands-kept (lines text) ∙ ap (λ ls. filter is_command (plain ls)) (keeps_the_others transcript output can) ∙ sym (commands-kept (lines transcript)))
+    kind-kept kind unwanted (lines text) ∙ ap (λ ls. filter kind (plain ls)) (keeps_the_others transcript output can)
+    ∙ sym (kind-kept kind unwanted (lines transcript))
+
+pub asks_the_same : AsksTheSame
+asks_the_same transcript output can = ap (flat_map given_line) (kind-stays is_command command-unwanted transcript output can)

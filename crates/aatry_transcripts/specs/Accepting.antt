@@ -9,9 +9,9 @@ use Rattle.aa_bytes.specs.Texts.{is_empty}
 use Rattle.aa_set_lines.specs.Lines.{lines}
 use Rattle.aatry_transcripts.specs.Meeting.{are_met, leaves_out, left_out}
 use Rattle.aatry_transcripts.specs.Replies.{begins_reply, is_audit_line, told_next}
-use Rattle.aatry_transcripts.specs.Transcripts.{before_command, is_command, is_note, is_wanted, wanted_in}
+use Rattle.aatry_transcripts.specs.Transcripts.{before_command, is_aside, is_command, is_wanted, wanted_in}
 
--- a told line that a transcript can want: it would be taken for no command, comment or blanks, and doesn't lose a carriage return
+-- a told line that a transcript can want: it would be taken for no command, assertion, comment or blanks, and doesn't lose a carriage return
 abbrev pub can_be_wanted : List ℕ → Bool
 can_be_wanted line = is_wanted line && bytes_eq (strip_carriage_return line) line
 
@@ -45,9 +45,9 @@ end_of raw = drop (length (strip_carriage_return raw)) raw
 abbrev pub new_lines : List ℕ → List (List ℕ) → List (List ℕ) → List (List ℕ)
 new_lines raw wanted told = if are_met wanted told then [] else map (λ line. line ++ end_of raw) (renewed wanted told)
 
--- what becomes of a line without a command: a comment or blanks stay, and a wanted line stays where its reply is the wanted one
+-- what becomes of a line without a command: an assertion, a comment or blanks stay, and a wanted line stays where its reply is the wanted one
 abbrev pub other_line : Bool → List ℕ → List (List ℕ)
-other_line stays raw = if stays || is_note (strip_carriage_return raw) then raw ∷ [] else []
+other_line stays raw = if stays || is_aside (strip_carriage_return raw) then raw ∷ [] else []
 
 -- What becomes of a line: a command stays, with the new lines of its reply behind it. For a command what is wanted and what is told as its reply is given.
 abbrev pub accepted_line : Bool → List ℕ → List (List ℕ) → List (List ℕ) → List (List ℕ)

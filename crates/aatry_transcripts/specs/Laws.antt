@@ -7,7 +7,7 @@ use Rattle.aatry_transcripts.specs.Accepting.{accepted_text, can_be_accepted}
 use Rattle.aatry_transcripts.specs.Meeting.{are_met}
 use Rattle.aatry_transcripts.specs.Transcripts.{input_of, is_wanted, transcript_lines, wanted_in}
 
--- the lines of a file that no reply is to have, each byte of them: commands, comments and lines of blanks
+-- the lines of a file that no reply is to have, each byte of them: commands, assertions, comments and lines of blanks
 abbrev pub other_lines : List ℕ → List (List ℕ)
 other_lines text = filter (λ raw. not (is_wanted (strip_carriage_return raw))) (lines text)
 

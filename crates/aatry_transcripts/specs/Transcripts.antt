@@ -1,4 +1,4 @@
--- What a transcript says: commands, and behind each the lines that are wanted as its reply.
+-- What a transcript says: commands, behind each the lines that are wanted as its reply, and assertions.
 use Rattle.std.specs.Prelude.{ℕ, Bool, ◌||◌, not, List, [], ◌∷◌, ◌++◌, codes, drop, flat_map, map, take}
 use Rattle.std.specs.Borrow.{Bor}
 use Rattle.std.specs.List.{filter, list_all, prefix_len}
@@ -32,9 +32,21 @@ is_blank text = list_all is_command_blank text
 abbrev pub is_note : List ℕ → Bool
 is_note line = begins_with_byte hash line || is_blank line
 
+-- a line that holds an assertion: what the policy set is to meet there
+abbrev pub is_assertion : List ℕ → Bool
+is_assertion line = begins_with (codes "! ") line
+
+-- the assertion that it holds: what stands behind the sign and its blank
+abbrev pub assertion_in : List ℕ → List ℕ
+assertion_in line = drop 2 line
+
+-- a line that stands beside the replies, and is part of none
+abbrev pub is_aside : List ℕ → Bool
+is_aside line = is_note line || is_assertion line
+
 -- each other line is wanted as part of a reply
 abbrev pub is_wanted : List ℕ → Bool
-is_wanted line = not (is_command line || is_note line)
+is_wanted line = not (is_command line || is_aside line)
 
 -- the lines that are wanted of these
 abbrev pub wanted_in : List (List ℕ) → List (List ℕ)

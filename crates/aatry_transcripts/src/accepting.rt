@@ -11,7 +11,7 @@ ghost use Rattle.aatry_transcripts.specs.Transcripts.{before_command, texts, wan
 use crate::lines::{line_at, lines_behind, lines_of, without_return, without_returns};
 use crate::meeting::{LEFT_OUT, are_met, leaves_out};
 use crate::replies::{begins_reply, has_command, is_audit_line, told_size};
-use crate::transcripts::{is_command, is_note, is_wanted, wanted_next};
+use crate::transcripts::{is_aside, is_command, is_wanted, wanted_next};
 use aa_bytes::behind;
 use std::alloc::{AllocError, Global};
 
@@ -35,7 +35,8 @@ fn all_can_be_wanted(told: &[&[u8]]) -> bool
 }
 
 /// Whether what is told of a transcript, by its lines, can be accepted: a transcript can want each line of it, and where there is any, there is a command
-/// to stand behind. A line can't be wanted that would be taken for a command, a comment or blanks, or that a carriage return ends.
+/// to stand behind. A line can't be wanted that would be taken for a command, an assertion, a comment or blanks,
+/// or that a carriage return ends.
 pub fn can_be_accepted(lines: &[&[u8]], told: &[&[u8]]) -> bool
     ensures { result ≡ can_be_accepted (texts lines.now) (texts told.now) }
 {
@@ -166,7 +167,7 @@ fn push_command(
 fn push_other(stays: bool, raw: &[u8], out: &mut Vec<u8>) -> Result<(), AllocError>
     ensures { OnOk result (out.new.items ≡ out.old.items ++ ended (other_line stays raw.now)) }
 {
-    if stays || is_note(without_return(raw)) {
+    if stays || is_aside(without_return(raw)) {
         push_ended(raw, b"", out)
     } else {
         Ok(())
@@ -218,8 +219,8 @@ fn push_accepted(
     Ok(())
 }
 
-/// The text of a transcript's file, as it becomes where the lines that are told for its commands are accepted. Each command, comment and line of blanks stays
-/// as it stands, and so do the wanted lines of a reply that is the wanted one (`are_met`). Where a reply differs, the lines that are told stand right
+/// The text of a transcript's file, as it becomes where the lines that are told for its commands are accepted. Each command, assertion, comment and line of
+/// blanks stays as it stands, and so do the wanted lines of a reply that is the wanted one (`are_met`). Where a reply differs, the lines that are told stand right
 /// behind its command, in place of those that were wanted, each ended as the command's line is; where one of these left its audit line out, each told
 /// answer leaves out its own. Wanted lines ahead of the first command fall away. Each line ends with a line feed, the last one too.
 ///

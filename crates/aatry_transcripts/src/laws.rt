@@ -18,7 +18,7 @@ pub fn what_a_comparison_says()
 {}
 
 /// Where what a run tells for a transcript can be accepted, the accepted text is that of a transcript that passes with what was told, and whose run is given
-/// the same commands; and each command, comment and line of blanks stands in it as before, byte for byte and in their order, and none besides.
+/// the same commands; and each command, assertion, comment and line of blanks stands in it as before, byte for byte and in their order, and none besides.
 pub fn what_acceptance_makes()
     ensures passes { PassesThen }
     ensures same { AsksTheSame }

@@ -1,4 +1,4 @@
-//! Transcripts of the machine: their lines, the commands that they hold, where the reply to each ends in what a run tells, which told lines meet those
+//! Transcripts of the machine: their lines, the commands and assertions that they hold, where the reply to each ends in what a run tells, which told lines meet those
 //! that are wanted, and what a transcript becomes whose replies are accepted.
 #![tactic(auto)]
 
@@ -14,4 +14,7 @@ pub use laws::{what_a_comparison_says, what_acceptance_makes};
 pub use lines::{line_at, lines_behind, lines_of, transcript_lines};
 pub use meeting::are_met;
 pub use replies::told_size;
-pub use transcripts::{command_count, input_of, is_command, wanted_in, wanted_next};
+pub use transcripts::{
+    assertion_count, assertion_in, command_count, command_in, input_of, is_assertion, is_command,
+    wanted_in, wanted_next,
+};

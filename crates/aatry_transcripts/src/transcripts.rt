@@ -1,14 +1,16 @@
-//! What a transcript says: commands, and behind each the lines that are wanted as its reply.
+//! What a transcript says: commands, behind each the lines that are wanted as its reply, and assertions.
 
 ghost use Rattle.std.specs.Prelude.{◌≡◌, ◌++◌, ◌≤◌, IfOk, OnOk, length, count_by, not};
 ghost use Rattle.std.specs.List.{prefix_len};
-ghost use Rattle.aatry_transcripts.specs.Transcripts.{before_command, command_in, given_line, input_of, is_blank};
+ghost use Rattle.aatry_transcripts.specs.Transcripts.{assertion_in, before_command, command_in, given_line, input_of, is_aside, is_assertion, is_blank};
 ghost use Rattle.aatry_transcripts.specs.Transcripts.{is_command, is_note, is_wanted, texts, wanted_in};
 
 use aa_bytes::{begins_with, begins_with_byte, behind};
 use std::alloc::{AllocError, Global};
 
 const COMMAND_SIGN: &[u8] = b"> ";
+
+const ASSERTION_SIGN: &[u8] = b"! ";
 
 /// Whether a line holds a command.
 pub fn is_command(line: &[u8]) -> bool
@@ -32,18 +34,39 @@ pub fn is_blank(text: &[u8]) -> bool
         .all(|byte| *byte == b' ' || *byte == b'\t' || *byte == b'\r')
 }
 
-/// Whether a line is for the reader alone: a comment, or blanks.
-pub fn is_note(line: &[u8]) -> bool
+/// Whether a line holds an assertion.
+pub fn is_assertion(line: &[u8]) -> bool
+    ensures { result ≡ is_assertion line.now }
+{
+    begins_with(ASSERTION_SIGN, line)
+}
+
+/// The assertion that it holds.
+pub fn assertion_in(line: &[u8]) -> &[u8]
+    ensures { result.now ≡ assertion_in line.now }
+{
+    behind(ASSERTION_SIGN.len(), line)
+}
+
+// Whether a line is for the reader alone: a comment, or blanks.
+fn is_note(line: &[u8]) -> bool
     ensures { result ≡ is_note line.now }
 {
     begins_with_byte(b'#', line) || is_blank(line)
+}
+
+/// Whether a line stands beside the replies, and is part of none: a comment, blanks, or an assertion.
+pub fn is_aside(line: &[u8]) -> bool
+    ensures { result ≡ is_aside line.now }
+{
+    is_note(line) || is_assertion(line)
 }
 
 /// Whether a line is wanted as part of a reply.
 pub fn is_wanted(line: &[u8]) -> bool
     ensures { result ≡ is_wanted line.now }
 {
-    !(is_command(line) || is_note(line))
+    !(is_command(line) || is_aside(line))
 }
 
 /// The lines that are wanted of these.
@@ -88,6 +111,19 @@ pub fn command_count(lines: &[&[u8]]) -> usize
     let mut count = 0;
     for line in lines {
         if is_command(line) {
+            count += 1;
+        }
+    }
+    count
+}
+
+/// How many of these lines hold an assertion.
+pub fn assertion_count(lines: &[&[u8]]) -> usize
+    ensures { result ≡ count_by is_assertion (texts lines.now) }
+{
+    let mut count = 0;
+    for line in lines {
+        if is_assertion(line) {
             count += 1;
         }
     }

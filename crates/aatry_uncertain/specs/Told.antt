@@ -47,9 +47,13 @@ start_text form base path left_out =
 abbrev pub start_lines : Form → List ℕ → List ℕ → List LeftOutHead → List ℕ
 start_lines form base path heads = flat_map (start_text form base path) heads
 
+-- of a profile, whatever it is attached to
+abbrev pub profile_text : Form → List ℕ → LeftOutHead → List ℕ
+profile_text form base left_out = unsure_text form (path_below base left_out.file) left_out.head.name None
+
 -- of a profile of this name
 abbrev pub name_text : Form → List ℕ → List ℕ → LeftOutHead → List ℕ
-name_text form base name left_out = if bytes_eq left_out.head.name name then unsure_text form (path_below base left_out.file) left_out.head.name None else []
+name_text form base name left_out = if bytes_eq left_out.head.name name then profile_text form base left_out else []
 
 -- of all that have the name of the profile in a full name
 abbrev pub name_lines : Form → List ℕ → List ℕ → List LeftOutHead → List ℕ

@@ -122,22 +122,23 @@ fn is_among(heads: &[LeftOutHead<'_>], name: &[u8]) -> bool
 }
 
 /// The heads of profiles in the files of a loaded folder that are left out, as far as they can be read (`heads_of`). Of a file that can't be read there is
-/// none.
+/// none. They are lent by the folder, and what is loaded of it may change meanwhile.
 ///
 /// # Errors
 ///
 /// Where memory runs out.
 pub fn heads_left_out<'a>(
     alloc: Global,
-    loaded: &'a LoadedFolder<'_>,
+    loaded: &LoadedFolder<'a>,
 ) -> Result<LeftOutHeads<'a>, AllocError>
     ensures base { IfOk result (λ left_out. left_out.base.now ≡ loaded.now.folder.now.base.now) }
     ensures heads { IfOk result (λ left_out. all_left_out left_out.heads.items ≡ heads_loaded loaded.now) }
 {
-    let left_out = left_out_of(alloc, &loaded.folder.top, &loaded.policy.outcomes)?;
-    let heads = heads_in_files(alloc, &loaded.folder.files, &left_out)?;
+    let folder = loaded.folder;
+    let left_out = left_out_of(alloc, &folder.top, &loaded.policy.outcomes)?;
+    let heads = heads_in_files(alloc, &folder.files, &left_out)?;
     Ok(LeftOutHeads {
-        base: loaded.folder.base,
+        base: folder.base,
         heads,
     })
 }

@@ -9,4 +9,4 @@ mod telling;
 pub use fitting::may_fit;
 pub use heads::{Head, heads_of};
 pub use left_out::{LeftOutHead, LeftOutHeads, heads_left_out};
-pub use telling::{push_unsure_names, push_unsure_starts};
+pub use telling::{push_unsure_names, push_unsure_profile, push_unsure_starts};

@@ -3,7 +3,8 @@
 ghost use Rattle.std.specs.Prelude.{◌≡◌, ◌++◌, IfOk, OnOk, None, flat_map, option_map};
 ghost use Rattle.aatry_report.specs.SeenRecord.{seen_record};
 ghost use Rattle.aatry_uncertain.specs.SeenHeads.{all_left_out, seen_left_out};
-ghost use Rattle.aatry_uncertain.specs.Told.{by_attachment, name_lines, name_text, start_lines, start_text, unsure_line, unsure_record, unsure_text, with_pattern};
+ghost use Rattle.aatry_uncertain.specs.Told.{by_attachment, name_lines, name_text, profile_text, start_lines, start_text};
+ghost use Rattle.aatry_uncertain.specs.Told.{unsure_line, unsure_record, unsure_text, with_pattern};
 
 use crate::fitting::may_fit;
 use crate::left_out::{LeftOutHead, LeftOutHeads};
@@ -149,7 +150,25 @@ pub fn push_unsure_starts(
     push_starts(teller, left_out.base.as_bytes(), path, &left_out.heads, out)
 }
 
-// Appends what is told of a profile of a file that is left out to a text, if it has this name.
+/// Appends what is told of a profile of a file that is left out to a text, whatever it is attached to, by the path of its folder: a line
+/// `uncertain: FILE is left out, with the profile NAME`, or a record of the kind `uncertain`, with `file` and `name`.
+///
+/// # Errors
+///
+/// Where memory runs out. A beginning may have been appended then.
+pub fn push_unsure_profile(
+    teller: Teller,
+    base: &[u8],
+    left_out: LeftOutHead<'_>,
+    out: &mut Vec<u8>,
+) -> Result<(), AllocError>
+    ensures { OnOk result (out.new.items ≡ out.old.items ++ profile_text teller.form base.now (seen_left_out left_out.entry)) }
+{
+    let file = path_below(teller.alloc, base, left_out.file.as_bytes())?;
+    push_unsure(teller, &file, left_out.head.name, None, out)
+}
+
+// The same, if it has this name.
 fn push_name(
     teller: Teller,
     base: &[u8],
@@ -162,8 +181,7 @@ fn push_name(
     if left_out.head.name != name {
         return Ok(());
     }
-    let file = path_below(teller.alloc, base, left_out.file.as_bytes())?;
-    push_unsure(teller, &file, left_out.head.name, None, out)
+    push_unsure_profile(teller, base, left_out, out)
 }
 
 // The same of each.
@@ -185,7 +203,7 @@ fn push_names(
 }
 
 /// Appends what is told of the profiles of files that are left out to a text which have the name of the profile in a full name, as far as their heads can
-/// be read: a line `uncertain: FILE is left out, with the profile NAME`, or a record of the kind `uncertain`, with `file` and `name`.
+/// be read (`push_unsure_profile`).
 ///
 /// # Errors
 ///

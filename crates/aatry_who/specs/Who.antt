@@ -16,6 +16,7 @@ use Rattle.aatry_report.specs.declared.form.Form.{Form}
 use Rattle.aatry_requests.specs.AskedWords.{letting_question}
 use Rattle.aatry_who.specs.Letting.{who_lines}
 use Rattle.aatry_who.specs.Sought.{sought_in}
+use Rattle.aatry_who.specs.Unsure.{unsure_in}
 
 -- who lets through what a question asks for, and by which rules
 abbrev pub let_by : Form → Folder → Question → List ℕ
@@ -25,11 +26,12 @@ let_by form folder question = who_lines form (sought_in folder question) (policy
 abbrev pub is_let : List ℕ → Bool
 is_let text = not (is_empty text)
 
--- The words ask a question of nobody in particular, and a text tells the files that are left out, at length or not, and who would be let through.
+-- The words ask a question of nobody in particular, and a text tells the files that are left out, at length or not, who would be let through, and of
+-- whom that can't be told.
 abbrev pub IsWhoTold : Form → Bool → Folder → List (List ℕ) → List ℕ → Bool → Type 0
 IsWhoTold form verbose folder words text found =
     (question : Question) × (letting_question words ≡ Ok question)
-    × (text ≡ left_out_in form verbose folder ++ let_by form folder question)
+    × (text ≡ left_out_in form verbose folder ++ let_by form folder question ++ unsure_in form folder)
     × (found ≡ is_let (let_by form folder question))
 
 -- The files at the top of the folder, with all that lies below it, were asked for by a language: the text tells who would be let through, and it is

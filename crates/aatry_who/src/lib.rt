@@ -4,6 +4,7 @@
 mod laws;
 mod letting;
 mod sought;
+mod unsure;
 mod who;
 
 pub use laws::whom_who_tells;

@@ -1,16 +1,18 @@
 //! Who would be let through by the policy of a folder.
 
-ghost use Rattle.std.specs.Prelude.{◌≡◌, ◌⊎◌, Bool, IfErr, IfOk, map, string_bytes};
+ghost use Rattle.std.specs.Prelude.{◌≡◌, ◌++◌, ◌⊎◌, Bool, IfErr, IfOk, OnOk, map, string_bytes};
 ghost use Rattle.aa_set_commands.specs.Question.{seen_question};
 ghost use Rattle.aaset_start.specs.Gathering.{texts_of};
 ghost use Rattle.aatry_folder.specs.Reports.{failed_by, seen_report};
 ghost use Rattle.aatry_folder.specs.declared.fault.Fault.TheVariants as fault;
-ghost use Rattle.aatry_policy.specs.Folders.{left_out_note, loaded_in, origins_in, seen_folder};
+ghost use Rattle.aatry_policy.specs.Folders.{left_out_note, loaded_in, origins_in, outcomes_in, seen_folder};
 ghost use Rattle.aatry_requests.specs.AskedWords.{AskNothing, letting_words};
 ghost use Rattle.aatry_who.specs.Ends.{IsEndOfWho};
+ghost use Rattle.aatry_who.specs.Unsure.{unsure_in};
 ghost use Rattle.aatry_who.specs.Who.{IsWhoTold, IsWhoToldBelow, is_let, let_by};
 
 use crate::letting::who_lines;
+use crate::unsure::push_unsure_in;
 use aa_profile_parsing::Language;
 use aa_set_commands::Question;
 use aaset_start::FileSystem;
@@ -43,6 +45,26 @@ fn let_by(
     who_lines(teller, &by_parts(loaded.folder, &parts), &set, question)
 }
 
+// Appends the same to a text, and of whom it can't be told; and says whether somebody lets it through.
+fn push_let_by(
+    teller: Teller,
+    loaded: &LoadedFolder<'_>,
+    question: &Question<'_>,
+    out: &mut Vec<u8>,
+) -> Result<bool, AllocError>
+    requires set { loaded.now.policy.manager ≡ loaded_in (seen_folder loaded.now.folder.now) }
+    requires outcomes { loaded.now.policy.outcomes.items ≡ outcomes_in (seen_folder loaded.now.folder.now) }
+    requires origins { loaded.now.policy.origins.items ≡ origins_in (seen_folder loaded.now.folder.now) }
+    ensures told { OnOk result (out.new.items ≡ out.old.items ++ let_by teller.form (seen_folder loaded.now.folder.now) (seen_question question.entry.now)
+        ++ unsure_in teller.form (seen_folder loaded.now.folder.now)) }
+    ensures found { IfOk result (λ found. found ≡ is_let (let_by teller.form (seen_folder loaded.now.folder.now) (seen_question question.entry.now))) }
+{
+    let own = let_by(teller, loaded, question)?;
+    out.extend_from_slice(&own)?;
+    push_unsure_in(teller, loaded, out)?;
+    Ok(is_let(&own))
+}
+
 // The same of a folder that was read, by words, with what is told of the files that are left out before it, and what is noted of them.
 fn told_of(teller: Teller, folder: &PolicyFolder<'_>, words: &[String]) -> Result<Report, Fault>
     ensures told { IfOk result (λ report. (found : Bool) × IsWhoTold teller.form teller.verbose (seen_folder folder.now) (map string_bytes words.now) report.text.items found
@@ -56,9 +78,8 @@ fn told_of(teller: Teller, folder: &PolicyFolder<'_>, words: &[String]) -> Resul
     };
     let mut report = Report::new(teller.alloc);
     let loaded = load_folder(teller, folder, &mut report)?;
-    let own = let_by(teller, &loaded, &question)?;
-    report.text.extend_from_slice(&own)?;
-    report.failed = failed_by(is_let(&own));
+    let found = push_let_by(teller, &loaded, &question, &mut report.text)?;
+    report.failed = failed_by(found);
     Ok(report)
 }
 
@@ -68,7 +89,8 @@ fn told_of(teller: Teller, folder: &PolicyFolder<'_>, words: &[String]) -> Resul
 /// each, with its full name and what it is answered where it asks: `allow` or, in complain mode, `complain`, and of the start of a program under what
 /// that runs, or `complain null`; and below one that allows it the rules that allow something of it (`aatry_why_lines::push_allowing`). Where one is in
 /// mode unconfined, none of its rules is asked, and all is let through: it is told with `unconfined`, or likewise under what the program runs. They stand
-/// in the order of the set, children and hats behind their profile. One failed where nobody is told.
+/// in the order of the set, children and hats behind their profile. One failed where nobody is told. Behind all stand the profiles of files that are left out, of
+/// which it can't be told whether they would be let through (`push_unsure_in`).
 ///
 /// As records the lines are of the kind `let`, with the members `name` and `answer`, and `leads_to` and `on` of a program that is started
 /// (`aatry_why::put_started`); and of the kind `rule`.

@@ -4,6 +4,7 @@ pub mod How
 pub mod Laws
 pub mod Meant
 pub mod Sources
+pub mod Targets
 pub mod Transitions
 pub mod Unasked
 pub mod Uncertain

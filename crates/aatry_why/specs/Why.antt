@@ -121,12 +121,16 @@ has_answer entries question = is_ok (answered entries question)
 abbrev pub sources_in : Folder → Question → Sources
 sources_in folder question = record { below = below folder; origin = asked_origin (origins_in folder) question }
 
+-- what the policy set of a folder answers, with the rules behind the answer, and the profiles of files that are left out on which that could hang
+abbrev pub asked_text : Form → Folder → Question → List ℕ
+asked_text form folder question = answered_text form (sources_in folder question) (policy_in folder) question ++ uncertain_in form folder question
+
 -- The words ask a question of the policy set of a folder, and a text tells the files that are left out, at length or not, what is answered, and on which
 -- profiles of files that are left out that could hang.
 abbrev pub IsWhyTold : Form → Bool → Folder → List (List ℕ) → List ℕ → Bool → Type 0
 IsWhyTold form verbose folder words text found =
     (question : Question) × (asked_by words ≡ Some question)
-    × (text ≡ left_out_in form verbose folder ++ answered_text form (sources_in folder question) (policy_in folder) question ++ uncertain_in form folder question)
+    × (text ≡ left_out_in form verbose folder ++ asked_text form folder question)
     × (found ≡ has_answer (policy_in folder) question)
 
 -- The question was asked of the files at the top of the folder, with all that lies below it, by a language: the text tells its answer and the rules

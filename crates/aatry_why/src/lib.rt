@@ -10,6 +10,7 @@ mod meant;
 mod records;
 mod replies;
 mod sources;
+mod targets;
 mod transition;
 mod unasked;
 mod uncertain;

@@ -1,30 +1,27 @@
 //! What an answer could hang on of files that are left out.
 
-ghost use Rattle.std.specs.Prelude.{◌≡◌, ◌++◌, IfOk, IfSome, OnOk};
+ghost use Rattle.std.specs.Prelude.{◌≡◌, ◌++◌, IfSome, OnOk};
 ghost use Rattle.std.specs.Option.{option_map};
 ghost use Rattle.aa_decide.specs.SeenExec.{IsIn, seen_asker};
 ghost use Rattle.aa_decide_slots.specs.Slots.{filled};
 ghost use Rattle.aa_explain.specs.Leads.{seen_lead};
 ghost use Rattle.aa_set_commands.specs.Question.{seen_question};
-ghost use Rattle.aatry_policy.specs.Folders.{loaded_in, outcomes_in, seen_folder};
 ghost use Rattle.aatry_uncertain.specs.SeenHeads.{all_left_out};
 ghost use Rattle.aatry_why.specs.How.{confinement_of};
-ghost use Rattle.aatry_why.specs.Uncertain.{asks_profiles, hangs_by_lead, hangs_confined, hangs_on_attachment, is_open_target};
-ghost use Rattle.aatry_why.specs.Uncertain.{uncertain_by, uncertain_in, uncertain_start};
-ghost use Rattle.aa_set_answers.specs.Answers.{who_asks};
-ghost use Rattle.aa_set_answers.specs.Askers.{asker};
+ghost use Rattle.aatry_why.specs.Uncertain.{asks_profiles, attached_lines, is_open_target, uncertain_confined, uncertain_exec, uncertain_lead};
+ghost use Rattle.aatry_why.specs.Uncertain.{uncertain_of, uncertain_start};
 
+use crate::targets::push_targets;
 use aa_bytes::{SharedBytes, begins_with_byte};
 use aa_decide::{Asker, Confinement, IndexedSlots};
 use aa_explain::{Lead, lead_of};
 use aa_profile_access::Destination;
 use aa_set_answers::find_asker;
 use aa_set_commands::Question;
-use aatry_policy::LoadedFolder;
 use aatry_report::Teller;
 use aatry_requests::who_asks;
-use aatry_uncertain::{LeftOutHeads, heads_left_out, push_unsure_names, push_unsure_starts};
-use std::alloc::{AllocError, Global};
+use aatry_uncertain::{LeftOutHeads, push_unsure_names, push_unsure_starts};
+use std::alloc::AllocError;
 
 // Whether a profile comes to a target by what the path is attached to.
 fn is_open_target(target: &Option<SharedBytes>) -> bool
@@ -46,56 +43,96 @@ fn asks_profiles(target: &Option<SharedBytes>, destination: Destination) -> bool
     }
 }
 
-// Whether where the rules lead hangs on that.
-fn hangs_by_lead(lead: Option<Lead<'_>>, slots: &IndexedSlots<'_>) -> bool
-    ensures { result ≡ hangs_by_lead (option_map (seen_lead slots.now) lead.entry) }
+// Appends what is told of profiles that are left out to a text, to which a path may be attached, where such a profile is looked for.
+fn push_attached(
+    teller: Teller,
+    left_out: &LeftOutHeads<'_>,
+    path: &[u8],
+    asked: bool,
+    out: &mut Vec<u8>,
+) -> Result<(), AllocError>
+    ensures { OnOk result (out.new.items
+        ≡ out.old.items ++ attached_lines teller.form left_out.now.base.now (all_left_out left_out.now.heads.items) path.now asked) }
 {
-    match lead {
-        None => false,
-        Some(lead) => asks_profiles(&lead.transition.target, lead.transition.word.destination()),
+    if !asked {
+        return Ok(());
     }
+    push_unsure_starts(teller, left_out, path, out)
 }
 
-// Whether it does for who asks by a loaded profile.
-fn hangs_confined(
-    alloc: Global,
+// Appends what is told of those to a text on which it hangs where the rules lead, if they lead somewhere.
+fn push_lead(
+    teller: Teller,
     slots: &IndexedSlots<'_>,
+    left_out: &LeftOutHeads<'_>,
+    path: &[u8],
+    lead: Option<Lead<'_>>,
+    out: &mut Vec<u8>,
+) -> Result<(), AllocError>
+    ensures { OnOk result (out.new.items ≡ out.old.items ++ uncertain_lead teller.form left_out.now.base.now (filled slots.now)
+        (all_left_out left_out.now.heads.items) path.now (option_map (seen_lead slots.now) lead.entry)) }
+{
+    let Some(lead) = lead else {
+        return Ok(());
+    };
+    let target = &lead.transition.target;
+    let destination = lead.transition.word.destination();
+    push_attached(
+        teller,
+        left_out,
+        path,
+        asks_profiles(target, destination),
+        out,
+    )?;
+    push_targets(teller, slots, left_out, target, destination, out)
+}
+
+// The same by what confines who starts the program.
+fn push_confined(
+    teller: Teller,
+    slots: &IndexedSlots<'_>,
+    left_out: &LeftOutHeads<'_>,
     asker: Asker<'_>,
     owned: bool,
     path: &[u8],
-) -> Result<bool, AllocError>
+    out: &mut Vec<u8>,
+) -> Result<(), AllocError>
     requires { IsIn slots.now asker }
-    ensures { IfOk result (λ hangs.
-        hangs ≡ hangs_confined owned path.now (filled slots.now) (seen_asker asker.entry) (confinement_of (seen_asker asker.entry))) }
+    ensures { OnOk result (out.new.items ≡ out.old.items ++ uncertain_confined teller.form left_out.now.base.now (filled slots.now)
+        (all_left_out left_out.now.heads.items) owned path.now (seen_asker asker.entry) (confinement_of (seen_asker asker.entry))) }
 {
     match asker.entry.confinement(asker.child) {
-        Confinement::Unconfined | Confinement::ByName => Ok(true),
+        Confinement::Unconfined | Confinement::ByName => {
+            push_unsure_starts(teller, left_out, path, out)
+        }
         Confinement::By { .. } => {
-            let lead = lead_of(alloc, slots, asker, owned, path)?;
-            Ok(hangs_by_lead(lead, slots))
+            let lead = lead_of(teller.alloc, slots, asker, owned, path)?;
+            push_lead(teller, slots, left_out, path, lead, out)
         }
     }
 }
 
-// Whether under what a program runs hangs on which profile its path is attached to, by who starts it.
-fn hangs_on_attachment(
-    alloc: Global,
+// The same by who starts it.
+fn push_exec(
+    teller: Teller,
     slots: &IndexedSlots<'_>,
+    left_out: &LeftOutHeads<'_>,
     asker: Option<Asker<'_>>,
     owned: bool,
     path: &[u8],
-) -> Result<bool, AllocError>
+    out: &mut Vec<u8>,
+) -> Result<(), AllocError>
     requires { IfSome asker (IsIn slots.now) }
-    ensures { IfOk result (λ hangs.
-        hangs ≡ hangs_on_attachment (filled slots.now) (option_map seen_asker asker.entry) owned path.now) }
+    ensures { OnOk result (out.new.items ≡ out.old.items ++ uncertain_exec teller.form left_out.now.base.now (filled slots.now)
+        (all_left_out left_out.now.heads.items) owned path.now (option_map seen_asker asker.entry)) }
 {
     match asker {
-        None => Ok(true),
-        Some(asker) => hangs_confined(alloc, slots, asker, owned, path),
+        None => push_unsure_starts(teller, left_out, path, out),
+        Some(asker) => push_confined(teller, slots, left_out, asker, owned, path, out),
     }
 }
 
-// Appends what is told of profiles that are left out to a text, to which the path of a start may be attached, by who asks.
+// The same of a question by who asks it; of any other than for the start of a program, nothing.
 fn push_start(
     teller: Teller,
     slots: &IndexedSlots<'_>,
@@ -105,64 +142,36 @@ fn push_start(
     out: &mut Vec<u8>,
 ) -> Result<(), AllocError>
     requires { IfSome asker (IsIn slots.now) }
-    ensures { OnOk result (out.new.items ≡ out.old.items
-        ++ uncertain_start teller.form left_out.now.base.now (filled slots.now) (all_left_out left_out.now.heads.items)
-        (option_map seen_asker asker.entry) (seen_question question.entry.now)) }
+    ensures { OnOk result (out.new.items ≡ out.old.items ++ uncertain_start teller.form left_out.now.base.now (filled slots.now)
+        (all_left_out left_out.now.heads.items) (option_map seen_asker asker.entry) (seen_question question.entry.now)) }
 {
     match question {
         Question::Exec { owned, path, .. } => {
-            if hangs_on_attachment(teller.alloc, slots, asker, *owned, path)? {
-                push_unsure_starts(teller, left_out, path, out)
-            } else {
-                Ok(())
-            }
+            push_exec(teller, slots, left_out, asker, *owned, path, out)
         }
         _ => Ok(()),
     }
 }
 
-// The same by who asks, or of those that have the name, where nobody of it is loaded.
-fn push_by(
-    teller: Teller,
-    slots: &IndexedSlots<'_>,
-    left_out: &LeftOutHeads<'_>,
-    question: &Question<'_>,
-    out: &mut Vec<u8>,
-) -> Result<(), AllocError>
-    ensures { OnOk result (out.new.items ≡ out.old.items
-        ++ uncertain_by teller.form left_out.now.base.now (filled slots.now) (all_left_out left_out.now.heads.items) (seen_question question.entry.now)
-        (asker (filled slots.now) (who_asks (seen_question question.entry.now)))) }
-{
-    match find_asker(slots, who_asks(question)) {
-        None => push_unsure_names(teller, left_out, who_asks(question), out),
-        Some(asker) => push_start(teller, slots, left_out, asker, question, out),
-    }
-}
-
-/// Appends what is told of profiles to a text that are in files of a loaded folder that are left out, and on which the answer to a question could hang,
-/// as far as their heads can be read: those to which the path may be attached, where it is asked for the start of a program, and under what that runs
-/// hangs on it; and where nobody of the name is loaded who asks, those of the name.
+/// Appends what is told of profiles of files that are left out to a text, on which the answer of a policy set to a question could hang, as far as their
+/// heads can be read. Where it is asked for the start of a program: those to which the path may be attached, where under what that runs hangs on it, and
+/// those that have a name which the target names, where nobody of it is loaded. And where nobody of the name is loaded who asks, those of the name.
 ///
 /// # Errors
 ///
 /// Where memory runs out. A beginning may have been appended then.
 pub fn push_uncertain(
     teller: Teller,
-    loaded: &LoadedFolder<'_>,
+    slots: &IndexedSlots<'_>,
+    left_out: &LeftOutHeads<'_>,
     question: &Question<'_>,
     out: &mut Vec<u8>,
 ) -> Result<(), AllocError>
-    requires set { loaded.now.policy.manager ≡ loaded_in (seen_folder loaded.now.folder.now) }
-    requires outcomes { loaded.now.policy.outcomes.items ≡ outcomes_in (seen_folder loaded.now.folder.now) }
-    ensures { OnOk result (out.new.items
-        ≡ out.old.items ++ uncertain_in teller.form (seen_folder loaded.now.folder.now) (seen_question question.entry.now)) }
+    ensures { OnOk result (out.new.items ≡ out.old.items ++ uncertain_of teller.form left_out.now.base.now (filled slots.now)
+        (all_left_out left_out.now.heads.items) (seen_question question.entry.now)) }
 {
-    let left_out = heads_left_out(teller.alloc, loaded)?;
-    push_by(
-        teller,
-        &loaded.policy.manager.policy_set().slots(),
-        &left_out,
-        question,
-        out,
-    )
+    match find_asker(slots, who_asks(question)) {
+        None => push_unsure_names(teller, left_out, who_asks(question), out),
+        Some(asker) => push_start(teller, slots, left_out, asker, question, out),
+    }
 }

@@ -12,11 +12,13 @@ ghost use Rattle.aatry_folder.specs.declared.fault.Fault.TheVariants as fault;
 ghost use Rattle.aatry_policy.specs.Folders.{left_out_note, loaded_in, origins_in, policy_in, seen_folder};
 ghost use Rattle.aatry_requests.specs.AskedWords.{AskNothing};
 ghost use Rattle.aatry_requests.specs.Questions.{rule_request};
+ghost use Rattle.aatry_uncertain.specs.LeftOutHeads.{heads_left_out};
+ghost use Rattle.aatry_uncertain.specs.SeenHeads.{all_left_out};
 ghost use Rattle.aatry_why.specs.Ends.{IsEndOfWhy};
 ghost use Rattle.aatry_why.specs.How.{confinement_of};
 ghost use Rattle.aatry_why.specs.Meant.{meant_name};
 ghost use Rattle.aatry_why.specs.Sources.{seen_sources};
-ghost use Rattle.aatry_why.specs.Why.{IsWhyTold, IsWhyToldBelow, answered_text, confined_reasons, has_answer, how_of, reasons, refused_text, replied_text, sources_in};
+ghost use Rattle.aatry_why.specs.Why.{IsWhyTold, IsWhyToldBelow, answered_text, asked_text, confined_reasons, has_answer, how_of, reasons, refused_text, replied_text, sources_in};
 
 use crate::how::push_how;
 use crate::meant::meant_name;
@@ -36,6 +38,7 @@ use aatry_folder::{Fault, Folders, PolicyFolder, Report, failed_by, policy_below
 use aatry_policy::{LoadedFolder, load_folder};
 use aatry_report::Teller;
 use aatry_requests::{asked_by, rule_request, who_asks};
+use aatry_uncertain::{LeftOutHeads, heads_left_out};
 use aatry_why_lines::push_why;
 use std::alloc::{AllocError, Global};
 
@@ -185,13 +188,9 @@ pub fn push_answer(
     }
 }
 
-/// Appends the answer of the policy of a loaded folder to a question to a text, with the rules behind it, as `why` tells them, and says whether there
-/// is an answer. What the policy remembers of the question changes nothing of it.
-///
-/// # Errors
-///
-/// Where memory runs out. A beginning may have been appended then.
-pub fn push_asked(
+// Appends the answer of the policy of a loaded folder to a question to a text, with the rules behind it, and says whether there is an answer. What the
+// policy remembers of the question changes nothing of it.
+fn push_own(
     teller: Teller,
     loaded: &mut LoadedFolder<'_>,
     question: &Question<'_>,
@@ -216,6 +215,38 @@ pub fn push_asked(
     push_answer(teller, &sources, &loaded.policy.manager, question, out)
 }
 
+/// Appends the answer of the policy of a loaded folder to a question to a text, with the rules behind it, and behind these the profiles of its files that
+/// are left out on which that could hang, as `why` tells them; and says whether there is an answer. What the policy remembers of the question changes
+/// nothing of it.
+///
+/// # Errors
+///
+/// Where memory runs out. A beginning may have been appended then.
+pub fn push_asked(
+    teller: Teller,
+    loaded: &mut LoadedFolder<'_>,
+    left_out: &LeftOutHeads<'_>,
+    question: &Question<'_>,
+    out: &mut Vec<u8>,
+) -> Result<bool, AllocError>
+    requires asked { IsWellFormed question.now }
+    requires set { loaded.old.policy.manager ≡ loaded_in (seen_folder loaded.old.folder.now) }
+    requires origins { loaded.old.policy.origins.items ≡ origins_in (seen_folder loaded.old.folder.now) }
+    requires base { left_out.now.base.now ≡ (seen_folder loaded.old.folder.now).base }
+    requires heads { all_left_out left_out.now.heads.items ≡ heads_left_out (seen_folder loaded.old.folder.now) }
+    ensures told { OnOk result (out.new.items
+        ≡ out.old.items ++ asked_text teller.form (seen_folder loaded.old.folder.now) (seen_question question.entry.now)) }
+    ensures found { IfOk result (λ found. found ≡ has_answer (policy_in (seen_folder loaded.old.folder.now)) (seen_question question.entry.now)) }
+    ensures folder { loaded.new.folder.now ≡ loaded.old.folder.now }
+    ensures manager { loaded.new.policy.manager ≡ loaded.old.policy.manager }
+    ensures places { loaded.new.policy.origins.items ≡ loaded.old.policy.origins.items }
+{
+    let found = push_own(teller, loaded, question, out)?;
+    let slots = loaded.policy.manager.policy_set().slots();
+    push_uncertain(teller, &slots, left_out, question, out)?;
+    Ok(found)
+}
+
 // The same of a folder that was read, by words, with what is told of the files that are left out before it, and what is noted of them.
 fn told_of(teller: Teller, folder: &PolicyFolder<'_>, words: &[String]) -> Result<Report, Fault>
     ensures told { IfOk result (λ report. (found : Bool) × IsWhyTold teller.form teller.verbose (seen_folder folder.now) (map string_bytes words.now) report.text.items found
@@ -228,10 +259,14 @@ fn told_of(teller: Teller, folder: &PolicyFolder<'_>, words: &[String]) -> Resul
     };
     let mut report = Report::new(teller.alloc);
     let mut loaded = load_folder(teller, folder, &mut report)?;
-    let mut uncertain = Vec::new(teller.alloc);
-    push_uncertain(teller, &loaded, &asked.question(), &mut uncertain)?;
-    let found = push_asked(teller, &mut loaded, &asked.question(), &mut report.text)?;
-    report.text.append(&mut uncertain)?;
+    let left_out = heads_left_out(teller.alloc, &loaded)?;
+    let found = push_asked(
+        teller,
+        &mut loaded,
+        &left_out,
+        &asked.question(),
+        &mut report.text,
+    )?;
     report.failed = failed_by(found);
     Ok(report)
 }

@@ -2,7 +2,7 @@ use Rattle.std.proofs.Common.{◌≡◌, ◌∙◌, List, ℕ, ap, subst}
 use Rattle.aa_glob_paths.specs.TooMany.{AreMoreTextsThan}
 use Rattle.aa_explain_paths.specs.Meant.{unasked_patterns}
 use Rattle.aa_explain_paths.specs.SeenAsked.{seen_asked}
-use Rattle.aa_explain_paths.specs.code.Telling.{telling_patterns}
+use Rattle.aa_explain_paths.specs.Telling.{telling_patterns}
 use Rattle.aa_explain_paths.proofs.BreakingLemmas.{answer-standing}
 use Rattle.aa_explain_paths.proofs.asking.ask_all_paths.Goals as goal
 

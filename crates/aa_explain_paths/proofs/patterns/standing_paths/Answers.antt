@@ -2,7 +2,7 @@ use Rattle.std.proofs.Common.{◌≡◌, ◌≤◌, ◌∙◌, ap, arith, length
 use Rattle.aa_glob_paths.proofs.PathLemmas.{some_weaker}
 use Rattle.aa_glob_paths.specs.AllPaths.{TellAllPaths}
 use Rattle.aa_explain_paths.proofs.TellingLemmas.{length-telling}
-use Rattle.aa_explain_paths.specs.code.Telling.{all_classes, telling_patterns}
+use Rattle.aa_explain_paths.specs.Telling.{all_classes, telling_patterns}
 use Rattle.aa_explain_paths.proofs.patterns.standing_paths.Goals as goal
 
 pub outcomes-requires : goal.outcomes-requires

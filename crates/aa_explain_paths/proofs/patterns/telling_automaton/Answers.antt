@@ -1,6 +1,6 @@
 use Rattle.std.proofs.Common.{◌++◌, []}
 use Rattle.aa_profile_data.specs.FileRules.{file_patterns}
-use Rattle.aa_explain_paths.specs.code.Telling.{telling_patterns}
+use Rattle.aa_explain_paths.specs.Telling.{telling_patterns}
 use Rattle.aa_explain_paths.proofs.patterns.telling_automaton.Goals as goal
 
 pub returns : goal.returns

@@ -54,3 +54,6 @@ returns-in-Diff g c =
 
 pub returns-in-Session : goal.returns-in-Session
 returns-in-Session g c = rw c.in-Session.is (c.have_session.ensures, refl)
+
+pub returns-in-Paths : goal.returns-in-Paths
+returns-in-Paths g c = rw c.in-Paths.is (c.tell_paths.ensures, refl)

@@ -3,4 +3,12 @@ use Rattle.aatry_test.proofs.comparing.push_last.Goals as goal
 
 pub returns : goal.returns
 returns c =
-    rw (c.in_ok-push.ensures.items, c.in_ok-push_number-2.ensures, c.in_ok-push_number.ensures, c.outcome_words.ensures, c.in_ok-push_shown.ensures) (simp append_assoc)
+    rw (
+      c.in_ok-push.ensures.items,
+      c.in_ok-push_count-2.ensures,
+      c.in_ok-push_count.ensures,
+      c.in_ok-push_number-2.ensures,
+      c.in_ok-push_number.ensures,
+      c.outcome_words.ensures,
+      c.in_ok-push_shown.ensures,
+    ) (simp append_assoc)

@@ -1,0 +1,3 @@
+mod LeadLemmas
+mod ReadingLemmas
+mod VariableLemmas

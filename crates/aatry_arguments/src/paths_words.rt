@@ -1,0 +1,194 @@
+//! Reading of the words behind `never` and `always`: but for what these alone have, as those behind `check` are read.
+ghost use Rattle.std.specs.Prelude.{◌≡◌, IfOk, map, option_map, string_bytes};
+ghost use Rattle.aa_options.specs.Given.{IsGivenFor};
+ghost use Rattle.aa_options.specs.Options.{asked_then};
+ghost use Rattle.aatry_arguments.specs.AskingWords.{asked_words};
+ghost use Rattle.aatry_arguments.specs.Given.{meant_asking, meant_paths};
+ghost use Rattle.aatry_arguments.specs.PathsWords.{asked_limited, asked_paths, limit_of, limited_by, limited_in, paths_of};
+ghost use Rattle.aatry_arguments.specs.SeenValues.{seen_value};
+ghost use Rattle.aatry_arguments.specs.code.PathsLimited.{seen_limited};
+
+use crate::arguments::{AllPaths, Asking};
+use crate::asking_words::asked_words;
+use crate::flags::{is_given, without_flag};
+use crate::values::{NamedOption, WithValue, value_of};
+use aa_options::ArgumentFault;
+use aatry_times::number_of;
+use std::alloc::{AllocError, Global};
+
+// The flag that asks for names alone.
+const NAMES: &str = "--names";
+
+// The option that takes how many sets are to be looked at.
+const LIMIT: NamedOption = NamedOption {
+    word: "--limit",
+    opening: "--limit=",
+};
+
+// How many are, where no word says it.
+const USUAL_LIMIT: usize = 262_144;
+
+// What help says of `never`.
+const NEVER_HELP: &str = "\
+Tells whether nothing of some access is let to any file of a pattern, or a path that says otherwise
+
+Usage: aatry never [OPTIONS] ACCESS OWNED PATTERN [WHO]..
+
+Arguments:
+  ACCESS   One or more of the letters r w a l k m x, none twice
+  OWNED    owner where the task owns the file, other where it doesn't, any for both
+  PATTERN  A pattern as a rule has it, as '/etc/**', with the variables of tunables/global
+  [WHO]..  Profiles, children or hats, by their full names; all, where none is given
+
+Options:
+  -b <DIR>     The folder of policy, /etc/apparmor.d unless it is given
+  --names      Tells no rules, but one line for each WHO
+  --limit <N>  How many sets of states are looked at, at most, for each WHO; 262144 if none is given
+  --verbose    Tells each file first that is left out, and why
+  --json       Tells in records of JSON, one a line
+  -h, --help   Prints help
+
+All files below DIR are read, as check reads them; those at its top that are refused are left out,
+and how many these are stands on standard error. All paths that PATTERN matches are asked about but
+those that the kernel never asks about, with // in them or a part . or .. ; a folder's path ends
+with /. The rules are asked as in enforce mode; where none is asked, all is let. For each WHO a
+line is told:
+  never   None of the letters is let, of no path. So many kinds of paths stand for all
+  no      This path says otherwise, and no shorter one does. Below stand the rules that let it
+  many    There are too many different paths for the limit, so nothing is known
+  absent  Nobody has the name
+
+Exit status:
+  0  Each line begins with never, or help was asked for
+  1  A line begins with no or absent
+  2  The arguments or PATTERN are bad, or DIR, or a file or folder below it, can't be read
+  3  No line begins so, but one with many; or writing failed, or memory ran out
+";
+
+// What help says of `always`.
+const ALWAYS_HELP: &str = "\
+Tells whether all of some access is let to each file of a pattern, or a path that says otherwise
+
+Usage: aatry always [OPTIONS] ACCESS OWNED PATTERN [WHO]..
+
+Arguments:
+  ACCESS   One or more of the letters r w a l k m x, none twice
+  OWNED    owner where the task owns the file, other where it doesn't, any for both
+  PATTERN  A pattern as a rule has it, as '/srv/www/**', with the variables of tunables/global
+  [WHO]..  Profiles, children or hats, by their full names; all, where none is given
+
+Options:
+  -b <DIR>     The folder of policy, /etc/apparmor.d unless it is given
+  --names      Tells no rules, but one line for each WHO
+  --limit <N>  How many sets of states are looked at, at most, for each WHO; 262144 if none is given
+  --verbose    Tells each file first that is left out, and why
+  --json       Tells in records of JSON, one a line
+  -h, --help   Prints help
+
+All files below DIR are read, as check reads them; those at its top that are refused are left out,
+and how many these are stands on standard error. All paths that PATTERN matches are asked about but
+those that the kernel never asks about, with // in them or a part . or .. ; a folder's path ends
+with /. The rules are asked as in enforce mode; where none is asked, all is let. For each WHO a
+line is told:
+  always  All of the letters are let, of each path. So many kinds of paths stand for all
+  no      This path says otherwise, and no shorter one does. Below stand the rules behind that
+  many    There are too many different paths for the limit, so nothing is known
+  absent  Nobody has the name
+
+Exit status:
+  0  Each line begins with always, or help was asked for
+  1  A line begins with no or absent
+  2  The arguments or PATTERN are bad, or DIR, or a file or folder below it, can't be read
+  3  No line begins so, but one with many; or writing failed, or memory ran out
+";
+
+// The limit that words name, and the other words.
+#[derive(Drop)]
+pub struct PathsLimited {
+    pub limit: usize,
+    pub words: Vec<String>,
+}
+
+// The limit that a word names, where there is one; none where it names none.
+fn limit_of(word: &Option<Vec<u8>>) -> Option<usize>
+    ensures { result ≡ limit_of (option_map (λ word. word.items) word.now) }
+{
+    match word {
+        None => Some(USUAL_LIMIT),
+        Some(word) => Some(number_of(word)? as usize),
+    }
+}
+
+// The limit by what words say of it.
+fn limited_by(read: Option<WithValue>) -> Option<PathsLimited>
+    ensures { option_map seen_limited result ≡ limited_by (option_map seen_value read) }
+{
+    let WithValue { value, words } = read?;
+    let limit = limit_of(&value)?;
+    Some(PathsLimited { limit, words })
+}
+
+// What words name.
+fn limited_in(alloc: Global, words: &[String]) -> Result<Option<PathsLimited>, AllocError>
+    ensures { IfOk result (λ limited. option_map seen_limited limited ≡ limited_in (map string_bytes words.now)) }
+{
+    Ok(limited_by(value_of(alloc, LIMIT, words)?))
+}
+
+// What help says of the command.
+fn help_of(always: bool) -> &'static str {
+    if always { ALWAYS_HELP } else { NEVER_HELP }
+}
+
+// What words ask without those that `never` and `always` alone have.
+fn paths_by(
+    alloc: Global,
+    words: &[String],
+    always: bool,
+    names: bool,
+    limit: usize,
+) -> Result<AllPaths, ArgumentFault>
+    ensures { IsGivenFor meant_paths (asked_then (paths_of always names limit) (asked_words (map string_bytes words.now))) result }
+{
+    match asked_words(alloc, words, help_of(always)) {
+        Ok(asking) => Ok(AllPaths {
+            asking,
+            always,
+            names,
+            limit,
+        }),
+        Err(fault) => Err(fault),
+    }
+}
+
+// What words ask, of which these name the limit.
+fn paths_limited(
+    alloc: Global,
+    always: bool,
+    limited: PathsLimited,
+) -> Result<AllPaths, ArgumentFault>
+    ensures { IsGivenFor meant_paths (asked_limited always (seen_limited limited)) result }
+{
+    let PathsLimited { limit, words } = limited;
+    match without_flag(alloc, NAMES, &words) {
+        Ok(others) => paths_by(alloc, &others, always, is_given(NAMES, &words), limit),
+        Err(_) => Err(ArgumentFault::Memory),
+    }
+}
+
+/// What words behind `never`, or `always`, ask.
+///
+/// # Errors
+///
+/// - `Bad` where `--limit` has no value, or one that isn't a number of digits below 253,402,300,800.
+/// - Those of `who`, of the words without the options that these commands alone have.
+#[tactic(auto, unfolding(crate::specs::PathsWords::asked_paths))]
+pub fn paths_of(alloc: Global, words: &[String], always: bool) -> Result<AllPaths, ArgumentFault>
+    ensures { IsGivenFor meant_paths (asked_paths always (map string_bytes words.now)) result }
+{
+    match limited_in(alloc, words) {
+        Ok(Some(limited)) => paths_limited(alloc, always, limited),
+        Ok(None) => Err(ArgumentFault::Bad),
+        Err(_) => Err(ArgumentFault::Memory),
+    }
+}

@@ -1,0 +1,93 @@
+-- What profiles, children and hats are answered that a question about all paths asks about (docs/aatry.md).
+use Rattle.std.specs.Prelude.{◌≡◌, ℕ, ◌-◌, Bool, true, false, if◌then◌else◌, List, [], ◌∷◌, Option, None, Some, codes, map}
+use Rattle.std.specs.Option.{option_map}
+use Rattle.aa_explain_paths.specs.Answers.{Asked, IsAnswer}
+use Rattle.aa_explain_paths.specs.declared.question.Claim.{Claim}
+use Rattle.aa_explain_paths.specs.declared.question.PathAnswer.{PathAnswer}
+use Rattle.aa_profile_access.specs.Access.{all_letters}
+use Rattle.aa_profile_data.specs.declared.profile.Mode.{Mode}
+use Rattle.aa_profile_data.specs.declared.profile.Mode.TheVariants as mode
+use Rattle.aa_profile_data.specs.declared.profile.Rank.TheVariants.{Loose}
+use Rattle.aa_profile_data.specs.declared.profile.Rule.{Rule}
+use Rattle.aa_profile_data.specs.declared.profile.Rule.TheVariants.{File}
+use Rattle.std.specs.List.{All}
+use Rattle.aatry_policy.specs.Parts.{Part, part_of}
+use Rattle.aatry_policy.specs.SeenProfiles.{seen_part}
+use Rattle.aatry_claims.specs.Words.{PathWords}
+use Rattle.aatry_claims.specs.declared.found.Finding.{Finding}
+use Rattle.aatry_claims.specs.declared.found.Finding.TheVariants.{Absent, ByRules}
+use Rattle.aatry_claims.specs.declared.found.Found.{Found as CodeFound}
+
+-- who is asked about, the rules that are asked, and what is answered
+pub record Found : Type 0 where
+  pub name : List ℕ
+  pub part : Option Part
+  pub rules : List Rule
+  pub finding : Finding
+
+abbrev pub seen_found : CodeFound → Found
+seen_found found = record {
+  name = found.name.now;
+  part = option_map (λ part. seen_part part.now) found.part;
+  rules = found.rules.now;
+  finding = found.finding;
+}
+
+-- the rules of who is in a mode are asked; they aren't where it is disabled, which is no mode
+abbrev pub asks_rules : Option Mode → Bool
+asks_rules (Some mode.Enforce) = true
+asks_rules (Some mode.Complain) = true
+asks_rules (Some mode.Unconfined) = false
+asks_rules None = false
+
+-- a question that words ask, with these patterns
+abbrev pub asked_of : Claim → PathWords → List (List ℕ) → Asked
+asked_of claim words patterns = record { claim = claim; letters = words.letters; whose = words.whose; patterns = patterns }
+
+-- the rule that lets all of each file
+abbrev pub every_rule : Rule
+every_rule = File (record {
+  pattern = codes "/{**,}";
+  access = record { 0 = all_letters - 1 };
+  exec = None;
+  rank = Loose;
+  link = None;
+  owner = false;
+  deny = false;
+  audit = false;
+})
+
+-- the rules that are asked of a part: where its own aren't, all is let
+abbrev pub rules_asked : Part → List Rule
+rules_asked part = if asks_rules part.section.mode then part.section.rules else every_rule ∷ []
+
+-- by the rules of a part the answer is right; where there is none, that is the answer
+abbrev pub IsFoundBy : Asked → ℕ → Option Part → List Rule → Finding → Type 0
+IsFoundBy asked limit None rules finding = finding ≡ Absent
+IsFoundBy asked limit (Some part) rules finding =
+    (rules ≡ rules_asked part) × (answer : PathAnswer) × (finding ≡ ByRules answer) × IsAnswer (rules_asked part) asked limit answer
+
+-- What is found is of the first part of the name, if there is one, and right.
+pub record IsFound (asked : Asked) (limit : ℕ) (parts : List Part) (found : Found) : Type 0 where
+  pub part : found.part ≡ part_of parts found.name
+  pub right : IsFoundBy asked limit found.part found.rules found.finding
+
+-- the names of parts, and of those of whom something is found
+abbrev pub part_names : List Part → List (List ℕ)
+part_names parts = map (λ part. part.name) parts
+
+abbrev pub found_names : List Found → List (List ℕ)
+found_names found = map (λ found. found.name) found
+
+-- the names of those who are asked about: where words name nobody, of all parts
+abbrev pub names_or : List (List ℕ) → List Part → List (List ℕ)
+names_or [] parts = part_names parts
+names_or (name ∷ names) parts = name ∷ names
+
+abbrev pub AreAllFound : Asked → ℕ → List Part → List Found → Type 0
+AreAllFound asked limit parts found = All (IsFound asked limit parts) found
+
+-- what is found is of those of these names, in their order, and right
+pub record AreFound (asked : Asked) (limit : ℕ) (parts : List Part) (names : List (List ℕ)) (found : List Found) : Type 0 where
+  pub each : AreAllFound asked limit parts found
+  pub named : found_names found ≡ names

@@ -1,0 +1,211 @@
+//! What profiles, children and hats are answered that a question about all paths asks about.
+
+ghost use Rattle.std.specs.Prelude.{◌≡◌, ◌++◌, ◌∷◌, [], IfOk, OnOk, Some, map};
+ghost use Rattle.aa_explain_paths.specs.SeenAsked.{seen_asked};
+ghost use Rattle.aatry_claims.specs.Found.{AreAllFound, AreFound, IsFound, IsFoundBy, asks_rules, every_rule, found_names, names_or, part_names, rules_asked, seen_found};
+ghost use Rattle.aatry_policy.specs.SeenProfiles.{seen_part};
+
+use aa_explain_paths::{PathAnswer, PathQuestion, ask_all_paths};
+use aa_glob_pattern::Pattern;
+use aa_profile_access::Perms;
+use aa_profile_data::{FileRule, Mode, Rank, Rule};
+use aatry_policy::{Part, part_of};
+use bitflags::Flags;
+use std::alloc::{AllocError, Global};
+
+/// What somebody is answered.
+#[derive(Drop)]
+pub enum Finding {
+    /// Nobody has the name.
+    Absent,
+    /// What the rules say of all paths.
+    ByRules(PathAnswer),
+}
+
+/// Who is asked about, and what is found.
+#[derive(Drop)]
+pub struct Found<'a> {
+    /// The full name.
+    pub name: &'a [u8],
+    /// The profile, child or hat of that name, if there is one.
+    pub part: Option<&'a Part<'a>>,
+    /// The rules that are asked: where its own aren't, since its mode is unconfined or it is disabled, one that lets all. None where it isn't there.
+    pub rules: &'a [Rule],
+    /// What is answered.
+    pub finding: Finding,
+}
+
+/// What is asked, and of whom it may be.
+#[derive(Clone, Copy)]
+pub struct Inquiry<'a, 'q> {
+    /// The question.
+    pub question: PathQuestion<'q>,
+    /// How many sets of states are looked at, at most, for each who is asked about.
+    pub limit: usize,
+    /// The profiles, children and hats that there are.
+    pub parts: &'a [Part<'a>],
+    /// The rule that lets all (`every_rule`), alone.
+    pub all: &'a [Rule],
+}
+
+/// Whether the rules of who is in a mode are asked.
+pub fn asks_rules(mode: Option<Mode>) -> bool
+    ensures { result ≡ asks_rules mode }
+{
+    match mode {
+        Some(Mode::Enforce | Mode::Complain) => true,
+        Some(Mode::Unconfined) | None => false,
+    }
+}
+
+/// The rule that lets all of each file.
+///
+/// # Errors
+///
+/// Where memory runs out.
+pub fn every_rule(alloc: Global) -> Result<Rule, AllocError>
+    ensures { IfOk result (λ rule. rule ≡ every_rule) }
+{
+    let pattern = match Pattern::read(alloc, b"/{**,}") {
+        Ok(pattern) => pattern,
+        // It reads, so memory alone can be wanting.
+        Err(_) => return Err(AllocError),
+    };
+    Ok(Rule::File(FileRule {
+        pattern,
+        access: Perms::from_bits_retain(127),
+        exec: None,
+        rank: Rank::Loose,
+        link: None,
+        owner: false,
+        deny: false,
+        audit: false,
+    }))
+}
+
+// The rules that are asked of a part: its own, or those that let all.
+fn rules_asked<'a>(part: &'a Part<'a>, all: &'a [Rule]) -> &'a [Rule]
+    requires { all.now ≡ every_rule ∷ [] }
+    ensures { result.now ≡ rules_asked (seen_part part.now) }
+{
+    if asks_rules(part.section.mode) {
+        part.section.rules
+    } else {
+        all
+    }
+}
+
+// What a part is answered, which has a name.
+fn found_by<'a>(
+    alloc: Global,
+    inquiry: Inquiry<'a, '_>,
+    part: &'a Part<'a>,
+    name: &'a [u8],
+) -> Result<Found<'a>, AllocError>
+    requires { inquiry.all.now ≡ every_rule ∷ [] }
+    ensures part { IfOk result (λ found. (seen_found found).part ≡ Some (seen_part part.now)) }
+    ensures right { IfOk result (λ found. IsFoundBy (seen_asked inquiry.entry.question) inquiry.entry.limit (Some (seen_part part.now)) (seen_found found).rules found.finding) }
+    ensures name { IfOk result (λ found. (seen_found found).name ≡ name.now) }
+{
+    let rules = rules_asked(part, inquiry.all);
+    let answer = ask_all_paths(alloc, rules, inquiry.question, inquiry.limit)?;
+    Ok(Found {
+        name,
+        part: Some(part),
+        rules,
+        finding: Finding::ByRules(answer),
+    })
+}
+
+// What who has a name is answered.
+fn found_of<'a>(
+    alloc: Global,
+    inquiry: Inquiry<'a, '_>,
+    name: &'a [u8],
+) -> Result<Found<'a>, AllocError>
+    requires { inquiry.all.now ≡ every_rule ∷ [] }
+    ensures found { IfOk result (λ found. IsFound (seen_asked inquiry.entry.question) inquiry.entry.limit (map seen_part inquiry.entry.parts.now) (seen_found found)) }
+    ensures name { IfOk result (λ found. (seen_found found).name ≡ name.now) }
+{
+    match part_of(inquiry.parts, name) {
+        None => Ok(Found {
+            name,
+            part: None,
+            rules: &[],
+            finding: Finding::Absent,
+        }),
+        Some(part) => found_by(alloc, inquiry, part, name),
+    }
+}
+
+// Appends what who has a name is answered to others.
+fn push_found<'a>(
+    alloc: Global,
+    inquiry: Inquiry<'a, '_>,
+    name: &'a [u8],
+    out: &mut Vec<Found<'a>>,
+) -> Result<(), AllocError>
+    requires { inquiry.all.now ≡ every_rule ∷ [] }
+    ensures names { OnOk result (found_names (map seen_found out.new.items) ≡ found_names (map seen_found out.old.items) ++ name.now ∷ []) }
+    ensures found { AreAllFound (seen_asked inquiry.entry.question) inquiry.entry.limit (map seen_part inquiry.entry.parts.now) (map seen_found out.old.items)
+        → OnOk result (AreAllFound (seen_asked inquiry.entry.question) inquiry.entry.limit (map seen_part inquiry.entry.parts.now) (map seen_found out.new.items)) }
+{
+    let found = found_of(alloc, inquiry, name)?;
+    out.push(found)?;
+    Ok(())
+}
+
+// What those are answered whom words name.
+fn find_named<'a>(
+    alloc: Global,
+    inquiry: Inquiry<'a, '_>,
+    whom: &'a [&'a [u8]],
+) -> Result<Vec<Found<'a>>, AllocError>
+    requires { inquiry.all.now ≡ every_rule ∷ [] }
+    ensures { IfOk result (λ found. AreFound (seen_asked inquiry.entry.question) inquiry.entry.limit (map seen_part inquiry.entry.parts.now)
+        (map (λ word. word.now) whom.now) (map seen_found found.items)) }
+{
+    let mut found = Vec::new(alloc);
+    let mut rest = whom;
+    while let [name, behind @ ..] = rest {
+        push_found(alloc, inquiry, name, &mut found)?;
+        rest = behind;
+    }
+    Ok(found)
+}
+
+// What all parts are answered.
+fn find_all<'a>(alloc: Global, inquiry: Inquiry<'a, '_>) -> Result<Vec<Found<'a>>, AllocError>
+    requires { inquiry.all.now ≡ every_rule ∷ [] }
+    ensures { IfOk result (λ found. AreFound (seen_asked inquiry.entry.question) inquiry.entry.limit (map seen_part inquiry.entry.parts.now)
+        (part_names (map seen_part inquiry.entry.parts.now)) (map seen_found found.items)) }
+{
+    let mut found = Vec::new(alloc);
+    let mut rest = inquiry.parts;
+    while let [part, behind @ ..] = rest {
+        push_found(alloc, inquiry, part.name.as_slice(), &mut found)?;
+        rest = behind;
+    }
+    Ok(found)
+}
+
+/// What those are answered whom words name, in their order, or all parts, where words name nobody.
+///
+/// # Errors
+///
+/// Where memory runs out.
+pub fn find<'a>(
+    alloc: Global,
+    inquiry: Inquiry<'a, '_>,
+    whom: &'a [&'a [u8]],
+) -> Result<Vec<Found<'a>>, AllocError>
+    requires { inquiry.all.now ≡ every_rule ∷ [] }
+    ensures { IfOk result (λ found. AreFound (seen_asked inquiry.entry.question) inquiry.entry.limit (map seen_part inquiry.entry.parts.now)
+        (names_or (map (λ word. word.now) whom.now) (map seen_part inquiry.entry.parts.now)) (map seen_found found.items)) }
+{
+    if whom.is_empty() {
+        find_all(alloc, inquiry)
+    } else {
+        find_named(alloc, inquiry, whom)
+    }
+}

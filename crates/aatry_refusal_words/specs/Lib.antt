@@ -1,0 +1,3 @@
+pub mod FlagFaults
+pub mod Naming
+pub mod TokensAt

@@ -1,0 +1,45 @@
+-- What is wrong with a file that is refused, in words that name the flag or the name at the place.
+use Rattle.std.specs.Prelude.{ℕ, List, ◌++◌, codes, Option, None, Some}
+use Rattle.std.specs.Option.{option_map}
+use Rattle.aa_profile_errors.specs.declared.profile_error.ProfileRefusal.{ProfileRefusal}
+use Rattle.aa_profile_errors.specs.declared.profile_error.ProfileRefusal.TheVariants.{Grammar}
+use Rattle.aa_profile_parsing.specs.declared.fault.GrammarRefusal.TheVariants.{BadFlag, BadName}
+use Rattle.aa_profile_parsing.specs.declared.language.Language.{Language}
+use Rattle.aa_text_files.specs.Files.{File, bytes_at}
+use Rattle.aa_text_files.specs.declared.text_error.Place.{Place}
+use Rattle.aatry_refusal_words.specs.FlagFaults.{unknown_flag}
+use Rattle.aatry_refusal_words.specs.TokensAt.{text_at}
+use Rattle.aatry_report.specs.Shown.{shown}
+
+-- words, and a text as it is shown, between backquotes
+abbrev pub named : List ℕ → List ℕ → List ℕ
+named words text = words ++ codes " `" ++ shown text ++ codes "`"
+
+-- what is wrong with the flags of a token: one isn't there, or two modes stand beside each other
+abbrev pub flag_words : Language → List ℕ → List ℕ
+flag_words language text = elim (unknown_flag language text) [
+  | Some flag ↦ named (codes "there is no flag") flag
+  | None ↦ codes "two modes stand beside each other"
+]
+
+-- what is wrong with a name that can't stand
+abbrev pub name_words : List ℕ → List ℕ
+name_words text = named (codes "no profile, child, hat or target can be named") text
+
+-- the same of the token at a place, if one begins there
+abbrev pub flag_words_at : Language → List File → Place → Option (List ℕ)
+flag_words_at language files place = option_map (flag_words language) (text_at (bytes_at files place.file) place.at)
+
+abbrev pub name_words_at : List File → Place → Option (List ℕ)
+name_words_at files place = option_map name_words (text_at (bytes_at files place.file) place.at)
+
+-- what is wrong by a refusal at a place, where that is for a flag or a name
+abbrev pub naming_words : Language → List File → ProfileRefusal → Place → Option (List ℕ)
+naming_words language files (Grammar BadFlag) place = flag_words_at language files place
+naming_words language files (Grammar BadName) place = name_words_at files place
+naming_words language files _ place = None
+
+-- the same by a refusal that may have a place
+abbrev pub naming_words_of : Language → List File → ProfileRefusal → Option Place → Option (List ℕ)
+naming_words_of language files refusal None = None
+naming_words_of language files refusal (Some place) = naming_words language files refusal place

@@ -1,0 +1,9 @@
+//! What is wrong with a file of policy that is refused, in words that name the flag or the name at the place.
+#![tactic(auto)]
+
+mod flags;
+mod naming;
+mod tokens;
+mod words;
+
+pub use words::words_of;

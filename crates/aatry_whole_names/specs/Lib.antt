@@ -1,0 +1,3 @@
+pub mod Asked
+pub mod SeenPaths
+pub mod WholeNames
