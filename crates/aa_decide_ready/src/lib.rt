@@ -6,6 +6,6 @@ mod ready;
 mod section;
 
 pub use aa_glob_front::Steps;
-pub use part::{picked, with_files};
+pub use part::{file_places, picked, with_files};
 pub use ready::Ready;
 pub use section::ReadySection;

@@ -83,8 +83,12 @@ fn files_of(alloc: Global, rules: &[Rule]) -> Result<Automaton, AllocError>
     Ok(added.finish())
 }
 
-// The places of the file rules among some rules, in rising order.
-fn file_places(alloc: Global, rules: &[Rule]) -> Result<Vec<usize>, AllocError>
+/// The places of the file rules among some rules, in rising order.
+///
+/// # Errors
+///
+/// Where memory runs out.
+pub fn file_places(alloc: Global, rules: &[Rule]) -> Result<Vec<usize>, AllocError>
     ensures { IfOk result (λ places. places.items ≡ places_from 0 rules.now) }
 {
     let mut places = Vec::new(alloc);

@@ -4,14 +4,14 @@ ghost use Rattle.std.specs.Prelude.{◌≡◌, Some, Err, IfOk, true, false, map
 ghost use Rattle.std.specs.List.{list_any};
 ghost use Rattle.aa_explain_conflicts.specs.EarlierRules.{earlier_in, earlier_in_file, earlier_rule, earlier_with, place_of_conflict, refused_at};
 ghost use Rattle.aa_profile.specs.FileReading.{file_profiles_in, profiles_in};
-ghost use Rattle.aa_profile.specs.code.FileReadingProgress.{has_no_value};
+ghost use Rattle.aa_profile.specs.Assignments.{has_no_value};
 ghost use Rattle.aa_profile_grammar.specs.SeenFiles.{seen_assignment, seen_file, seen_profile};
 ghost use Rattle.aa_profile_parsing.specs.SeenTokens.{seen_tokens};
 ghost use Rattle.aa_profile_patterns.specs.PatternTokens.{of_profiles};
 ghost use Rattle.aa_profile_patterns.specs.Patterns.{have_expansions};
 
-use crate::assignments::assign_all;
 use crate::sections::earlier_in_profiles;
+use aa_profile::assign_all;
 use aa_profile_errors::{ProfileError, ProfileRefusal};
 use aa_profile_grammar::{File, read_file};
 use aa_profile_making::read_profiles;

@@ -1,7 +1,6 @@
 //! Where a file of policy has the rule that another of its rules is refused for.
 #![tactic(auto)]
 
-mod assignments;
 mod conflicts;
 mod earlier;
 mod sections;

@@ -1,5 +1,5 @@
 -- The first path that says otherwise, of those that stand for all, is one of the shortest of all that do.
-use Rattle.std.proofs.Common.{◌≡◌, ◌≢◌, ℕ, suc, ◌<◌, ◌≤◌, Bool, true, false, not, ◌&&◌, ◌==◌, if◌then◌else◌, List, [], ◌∷◌, ◌++◌, length, map, refl, sym, ◌∙◌, ap, subst, inl, inr, arith}
+use Rattle.std.proofs.Common.{◌≡◌, ◌≢◌, ℕ, suc, ◌≤◌, Bool, true, false, not, ◌&&◌, ◌==◌, if◌then◌else◌, List, [], ◌∷◌, ◌++◌, length, refl, sym, ◌∙◌, ap, subst, inl, inr, arith}
 use Rattle.std.proofs.lemmas.Bool.{and_from, and_parts, true≢false}
 use Rattle.std.specs.List.{list_any}
 use Rattle.std.specs.Prelude.{AllPairs, Contains, None, Option, Some}
@@ -12,11 +12,11 @@ use Rattle.aa_glob_paths.specs.declared.outcome.Outcome.{Outcome}
 use Rattle.aa_profile_access.specs.Access.{common}
 use Rattle.aa_profile_data.specs.FileRules.{file_patterns}
 use Rattle.aa_profile_data.specs.declared.profile.Rule.{Rule}
-use Rattle.aa_explain_paths.specs.Answers.{Asked, HoldsOfAll, IsAnswer, IsBreaking, IsShortestBreaking}
+use Rattle.aa_explain_paths.specs.Answers.{Asked, Breaking, HoldsOfAll, IsAnswer, IsBreaking, IsShortestBreaking, breaking_by, seen_breaking}
 use Rattle.aa_explain_paths.specs.Claims.{breaks, breaks_for, is_allow, owners, single_letters}
 use Rattle.aa_explain_paths.specs.Laws.{AreAnsweredAlike}
-use Rattle.aa_explain_paths.specs.Meant.{is_matched, is_meant, unasked_patterns}
-use Rattle.aa_explain_paths.specs.code.Breaking.{AreTooMany, FailsAt, HoldsOf, answer_of, first_break, says_otherwise, seen_answer}
+use Rattle.aa_explain_paths.specs.Meant.{is_matched, unasked_patterns}
+use Rattle.aa_explain_paths.specs.code.Breaking.{answer_of, breaking_at, first_break, says_otherwise, seen_answer}
 use Rattle.aa_explain_paths.specs.Telling.{all_classes, telling_patterns}
 use Rattle.aa_explain_paths.specs.declared.question.Claim.{Claim}
 use Rattle.aa_explain_paths.specs.declared.question.Claim.TheVariants.{Always, Never}
@@ -50,6 +50,17 @@ first-among test (one ∷ os) path some = by (test one.path.items) refl some (fi
     by true is some later =
         let same : one.path.items ≡ path = cc in (one, Contains-first one os, same, ap test (sym same) ∙ is)
     by false is some later = let there = later some in (there.0, Contains-later one os there.0 there.1, there.2, there.3)
+
+-- a path that doesn't say otherwise is passed over
+pub passed-over : (rules : List Rule) (asked : Asked) (unasked : List (List ℕ)) (o : Outcome) (os : List Outcome)
+    → breaking_at rules asked unasked o.path.items ≡ None
+    → first_break (says_otherwise rules asked unasked) (o ∷ os) ≡ first_break (says_otherwise rules asked unasked) os
+passed-over rules asked unasked o os none = by (says_otherwise rules asked unasked o.path.items) refl none
+  where
+    by : (b : Bool) → says_otherwise rules asked unasked o.path.items ≡ b → (if b then Some (breaking_by rules asked o.path.items) else None) ≡ None
+        → first_break (says_otherwise rules asked unasked) (o ∷ os) ≡ first_break (says_otherwise rules asked unasked) os
+    by true is some = absurd cc
+    by false is some = rw is refl
 
 abbrev ByLength : List Outcome → Type 0
 ByLength os = AllPairs (λ one later. length one.path.items ≤ length later.path.items) os
@@ -145,16 +156,19 @@ module _ (rules : List Rule) (asked : Asked) where
               omega (arith, least, there.3);
         }
 
-    pub answer-right : (limit : ℕ) (answer : PathAnswer) → seen_answer answer ≡ answer_of (length outcomes) (first_break test outcomes)
+    pub answer-right : (limit : ℕ) (answer : PathAnswer) → seen_answer answer ≡ answer_of rules asked (length outcomes) (first_break test outcomes)
         → IsAnswer rules asked limit answer
     answer-right limit answer seen = by answer (first_break test outcomes) refl seen
       where
-        by : (answer : PathAnswer) (found : Option (List ℕ)) → first_break test outcomes ≡ found → seen_answer answer ≡ answer_of (length outcomes) found
+        by : (answer : PathAnswer) (found : Option (List ℕ)) → first_break test outcomes ≡ found → seen_answer answer ≡ answer_of rules asked (length outcomes) found
             → IsAnswer rules asked limit answer
         by (Holds count) None is seen = let same : count ≡ length outcomes = cc in (holds is, record { outcomes = outcomes; told = told; counted = same })
         by (Holds count) (Some path) is seen = absurd cc
         by (Fails own) None is seen = absurd cc
-        by (Fails own) (Some path) is seen = let same : own.items ≡ path = cc in fails own.items (is ∙ ap Some (sym same))
+        by (Fails own) (Some path) is seen =
+            let told : seen_breaking own ≡ breaking_by rules asked path = cc in
+            let same : own.path.items ≡ path = ap (λ (b : Breaking). b.path) told in
+            (fails own.path.items (is ∙ ap Some (sym same)), told ∙ ap (breaking_by rules asked) (sym same))
         by TooMany None is seen = absurd cc
         by TooMany (Some path) is seen = absurd cc
 
@@ -162,9 +176,9 @@ module _ (rules : List Rule) (asked : Asked) where
 pub answer-standing : OutcomesStandForAll → (rules : List Rule) (asked : Asked) (one other : List (List ℕ)) (outcomes : List Outcome)
     → one ≡ unasked_patterns → other ≡ unasked_patterns
     → TellAllPaths (telling_patterns rules asked.patterns one) (all_classes rules asked.patterns one) outcomes → (limit : ℕ) (answer : PathAnswer)
-    → seen_answer answer ≡ answer_of (length outcomes) (first_break (says_otherwise rules asked other) outcomes) → IsAnswer rules asked limit answer
+    → seen_answer answer ≡ answer_of rules asked (length outcomes) (first_break (says_otherwise rules asked other) outcomes) → IsAnswer rules asked limit answer
 answer-standing law rules asked one other outcomes first second told limit answer seen =
     let told_all = subst (λ u. TellAllPaths (telling_patterns rules asked.patterns u) (all_classes rules asked.patterns u) outcomes) first told in
     let stand = law (telling_patterns rules asked.patterns unasked_patterns) (all_classes rules asked.patterns unasked_patterns) outcomes told_all in
     answer-right rules asked outcomes told_all stand limit answer
-    (subst (λ u. seen_answer answer ≡ answer_of (length outcomes) (first_break (says_otherwise rules asked u) outcomes)) second seen)
+    (subst (λ u. seen_answer answer ≡ answer_of rules asked (length outcomes) (first_break (says_otherwise rules asked u) outcomes)) second seen)

@@ -1,13 +1,14 @@
 -- What a question about all paths is answered.
-use Rattle.std.specs.Prelude.{◌≡◌, ℕ, ◌≤◌, Bool, true, false, List, length}
+use Rattle.std.specs.Prelude.{◌≡◌, ℕ, ◌≤◌, Bool, true, List, length}
 use Rattle.aa_glob_nfa.specs.Graphs.{AreBytes}
 use Rattle.aa_glob_paths.specs.AllPaths.{TellAllPaths}
 use Rattle.aa_glob_paths.specs.TooMany.{AreMoreTextsThan}
 use Rattle.aa_glob_paths.specs.declared.outcome.Outcome.{Outcome}
 use Rattle.aa_profile_data.specs.declared.profile.Rule.{Rule}
-use Rattle.aa_explain_paths.specs.Claims.{breaks_for}
+use Rattle.aa_explain_paths.specs.Claims.{breaking_letters, breaks_for, first_owner}
 use Rattle.aa_explain_paths.specs.Meant.{is_meant, unasked_patterns}
 use Rattle.aa_explain_paths.specs.Telling.{all_classes, telling_patterns}
+use Rattle.aa_explain_paths.specs.declared.question.Breaking.{Breaking as CodeBreaking}
 use Rattle.aa_explain_paths.specs.declared.question.Claim.{Claim}
 use Rattle.aa_explain_paths.specs.declared.question.PathAnswer.{PathAnswer}
 use Rattle.aa_explain_paths.specs.declared.question.PathAnswer.TheVariants.{Fails, Holds, TooMany}
@@ -35,6 +36,20 @@ pub record IsShortestBreaking (rules : List Rule) (asked : Asked) (path : List �
   pub breaking : IsBreaking rules asked path
   pub shortest : (other : List ℕ) → IsBreaking rules asked other → length path ≤ length other
 
+-- a path that says otherwise, the first of the owners whose file does, and the letters by which it does
+pub record Breaking : Type 0 where
+  pub path : List ℕ
+  pub owned : Bool
+  pub letters : ℕ
+
+abbrev pub seen_breaking : CodeBreaking → Breaking
+seen_breaking breaking = record { path = breaking.path.items; owned = breaking.owned; letters = breaking.letters.0 }
+
+abbrev pub breaking_by : List Rule → Asked → List ℕ → Breaking
+breaking_by rules asked path =
+    let owned = first_owner asked.claim rules asked.letters asked.whose path in
+    record { path = path; owned = owned; letters = breaking_letters asked.claim rules asked.letters path owned }
+
 -- There are so many kinds of paths that a pattern of the question matches: paths are of one kind where the same patterns match them, of the rules, of the
 -- question, and of the paths that the kernel never asks about.
 pub record AreKinds (rules : List Rule) (asked : Asked) (count : ℕ) : Type 0 where
@@ -45,5 +60,6 @@ pub record AreKinds (rules : List Rule) (asked : Asked) (count : ℕ) : Type 0 w
 -- The answer is right. That there are too many paths is told only where more texts than the limit are read differently by the same patterns.
 abbrev pub IsAnswer : List Rule → Asked → ℕ → PathAnswer → Type 0
 IsAnswer rules asked limit (Holds count) = HoldsOfAll rules asked × AreKinds rules asked count
-IsAnswer rules asked limit (Fails path) = IsShortestBreaking rules asked path.items
+IsAnswer rules asked limit (Fails breaking) =
+    IsShortestBreaking rules asked breaking.path.items × (seen_breaking breaking ≡ breaking_by rules asked breaking.path.items)
 IsAnswer rules asked limit TooMany = AreMoreTextsThan (telling_patterns rules asked.patterns unasked_patterns) limit

@@ -1,53 +1,112 @@
 //! Claims about all paths, decided.
 
-ghost use Rattle.std.specs.Prelude.{◌≡◌, IfOk, length};
-ghost use Rattle.aa_explain_paths.specs.Answers.{IsAnswer};
+ghost use Rattle.std.specs.Prelude.{◌≡◌, IfOk, length, option_map};
+ghost use Rattle.std.specs.List.{All};
+ghost use Rattle.aa_glob_paths.specs.AllPaths.{IsOutcome};
+ghost use Rattle.aa_profile_data.specs.FileRules.{places_from};
+ghost use Rattle.aa_explain_paths.specs.Answers.{IsAnswer, seen_breaking};
+ghost use Rattle.aa_explain_paths.specs.Matched.{AreMatched};
 ghost use Rattle.aa_explain_paths.specs.SeenAsked.{seen_asked};
-ghost use Rattle.aa_explain_paths.specs.code.Breaking.{answer_of, first_break, says_otherwise, seen_answer};
+ghost use Rattle.aa_explain_paths.specs.Telling.{all_classes, telling_patterns};
+ghost use Rattle.aa_explain_paths.specs.code.Breaking.{answer_of, breaking_at, breaking_with, first_break, says_otherwise, seen_answer};
 
-use crate::letting::breaks_for;
+use crate::letting::{breaking_letters, breaks_for, first_owner};
+use crate::matched::MatchedRules;
 use crate::patterns::{is_matched, standing_paths, unasked_patterns};
-use crate::question::{PathAnswer, PathQuestion};
+use crate::question::{Breaking, PathAnswer, PathQuestion};
+use aa_decide_ready::{file_places, picked};
 use aa_glob_paths::{Outcome, outcomes_stand_for_all};
 use aa_glob_pattern::Pattern;
-use aa_profile_data::Rule;
+use aa_profile_access::Perms;
+use aa_profile_data::{Rule, which_rules_match};
 use std::alloc::{AllocError, Global};
 
 // Whether the kernel may ask about a path that says otherwise.
 fn says_otherwise(
-    rules: &[Rule],
     question: PathQuestion<'_>,
     unasked: &[Pattern],
-    path: &[u8],
+    matched: MatchedRules<'_>,
 ) -> bool
-    ensures { result ≡ says_otherwise rules.now (seen_asked question.entry) unasked.now path.now }
+    requires { AreMatched matched }
+    ensures { result ≡ says_otherwise matched.entry.rules.now (seen_asked question.entry) unasked.now matched.entry.path.now }
 {
-    !is_matched(unasked, path)
-        && breaks_for(
-            question.claim,
-            rules,
-            question.letters,
-            question.whose,
+    !is_matched(unasked, matched.path)
+        && breaks_for(question.claim, matched, question.letters, question.whose)
+}
+
+// Whose file of a path says otherwise, and by which letters, if the kernel may ask about that path and it does.
+fn broken_by(
+    question: PathQuestion<'_>,
+    unasked: &[Pattern],
+    matched: MatchedRules<'_>,
+) -> Option<(bool, Perms)>
+    requires { AreMatched matched }
+    ensures { option_map (λ told. breaking_with matched.entry.path.now told.0 told.1.0) result
+        ≡ breaking_at matched.entry.rules.now (seen_asked question.entry) unasked.now matched.entry.path.now }
+{
+    if !says_otherwise(question, unasked, matched) {
+        return None;
+    }
+    let owned = first_owner(question.claim, matched, question.letters, question.whose);
+    let letters = breaking_letters(question.claim, matched, question.letters, owned);
+    Some((owned, letters))
+}
+
+// The path of an outcome, if it says otherwise, by the rules that match it: no pattern of a rule is tried.
+fn breaking_at(
+    alloc: Global,
+    rules: &[Rule],
+    numbers: &[usize],
+    question: PathQuestion<'_>,
+    unasked: &[Pattern],
+    outcome: Outcome,
+) -> Result<Option<Breaking>, AllocError>
+    requires numbers { numbers.now ≡ places_from 0 rules.now }
+    requires outcome { IsOutcome (telling_patterns rules.now question.patterns.now unasked.now) (all_classes rules.now question.patterns.now unasked.now) outcome }
+    ensures { IfOk result (λ found. option_map seen_breaking found ≡ breaking_at rules.now (seen_asked question.entry) unasked.now outcome.path.items) }
+{
+    which_rules_match();
+    let Outcome {
+        places: found,
+        path,
+    } = outcome;
+    let places = picked(alloc, numbers, &found)?;
+    let matched = MatchedRules {
+        rules,
+        places: &places,
+        path: &path,
+    };
+    match broken_by(question, unasked, matched) {
+        None => Ok(None),
+        Some((owned, letters)) => Ok(Some(Breaking {
             path,
-        )
+            owned,
+            letters,
+        })),
+    }
 }
 
 // The answer by paths that stand for all: the first of them that says otherwise, if one does.
 fn answer_by(
+    alloc: Global,
     rules: &[Rule],
     question: PathQuestion<'_>,
     unasked: &[Pattern],
     found: Vec<Outcome>,
-) -> PathAnswer
-    ensures { seen_answer result ≡ answer_of (length found.items) (first_break (says_otherwise rules.now (seen_asked question.entry) unasked.now) found.items) }
+) -> Result<PathAnswer, AllocError>
+    requires { All (IsOutcome (telling_patterns rules.now question.patterns.now unasked.now) (all_classes rules.now question.patterns.now unasked.now)) found.items }
+    ensures { IfOk result (λ answer. seen_answer answer ≡ answer_of rules.now (seen_asked question.entry) (length found.items)
+        (first_break (says_otherwise rules.now (seen_asked question.entry) unasked.now) found.items)) }
 {
+    let numbers = file_places(alloc, rules)?;
     let count = found.len();
     for outcome in found {
-        if says_otherwise(rules, question, unasked, &outcome.path) {
-            return PathAnswer::Fails(outcome.path);
+        match breaking_at(alloc, rules, &numbers, question, unasked, outcome)? {
+            Some(breaking) => return Ok(PathAnswer::Fails(breaking)),
+            None => {}
         }
     }
-    PathAnswer::Holds(count)
+    Ok(PathAnswer::Holds(count))
 }
 
 /// Whether what is claimed holds of all paths of any bytes that patterns match, as far as the kernel may ask about them: by what some rules let of the files
@@ -58,7 +117,7 @@ fn answer_by(
 /// No path of those that are meant is passed over: each is matched by the same patterns as one of those that are looked at, which is no longer. Where more
 /// than `limit` sets of states of the patterns' automaton were to be looked at for that, `TooMany` is told.
 ///
-/// It takes time and memory for each of these sets and each of its states, and time for each rule and each of the paths that stand for all.
+/// It takes time and memory for each of these sets and each of its states, and time for each of the paths that stand for all and each rule that matches it.
 ///
 /// # Errors
 ///
@@ -76,6 +135,6 @@ pub fn ask_all_paths(
     let found = standing_paths(alloc, rules, question.patterns, &unasked, limit)?;
     match found {
         None => Ok(PathAnswer::TooMany),
-        Some(paths) => Ok(answer_by(rules, question, &unasked, paths)),
+        Some(paths) => answer_by(alloc, rules, question, &unasked, paths),
     }
 }

@@ -1,94 +1,120 @@
-//! What rules let of a file, whatever its path.
+//! What rules let of a file, by those that match its path.
 
-ghost use Rattle.std.specs.Prelude.{◌≡◌};
+ghost use Rattle.std.specs.Prelude.{◌≡◌, false};
+ghost use Rattle.aa_decide_rules.specs.Verdict.{verdict};
+ghost use Rattle.aa_decide_rules.specs.declared.verdict.Mediation.TheVariants.{Enforcing};
+ghost use Rattle.aa_profile_access.specs.Request.{ForFile};
+ghost use Rattle.aa_explain_paths.specs.Matched.{AreMatched};
 ghost use Rattle.aa_explain_paths.specs.Claims.{are_let, breaking_letters, breaks, breaks_for, first_owner, is_let, let_letters, some_is_let, with_let};
 
+use crate::matched::MatchedRules;
 use crate::question::{Claim, Whose};
-use aa_decide_audit::Answer;
-use aa_decide_rules::{Mediation, rules_verdict};
+use aa_decide_audit::{Answer, Verdict};
+use aa_decide_rules::{Mediation, found_verdict, what_matching_rules_decide};
 use aa_profile_access::{Perms, Request};
-use aa_profile_data::Rule;
 use bitflags::Flags;
 
-// Whether rules let all these letters of a file.
-fn are_let(rules: &[Rule], letters: Perms, owned: bool, path: &[u8]) -> bool
-    ensures { result ≡ are_let rules.now letters.0 owned path.now }
+// What rules say in enforce mode of these letters of a file.
+fn verdict_on(matched: MatchedRules<'_>, letters: Perms, owned: bool) -> Verdict
+    requires { AreMatched matched }
+    ensures { result ≡ verdict Enforcing false matched.entry.rules.now (ForFile letters.0 owned matched.entry.path.now) }
 {
+    what_matching_rules_decide();
     let request = Request::File {
         needs: letters,
         owned,
-        path,
+        path: matched.path,
     };
-    let verdict = rules_verdict(Mediation::Enforcing, false, rules, &request);
+    found_verdict(
+        Mediation::Enforcing,
+        false,
+        matched.rules,
+        matched.places,
+        &request,
+        owned,
+    )
+}
+
+// Whether rules let all these letters of a file.
+fn are_let(matched: MatchedRules<'_>, letters: Perms, owned: bool) -> bool
+    requires { AreMatched matched }
+    ensures { result ≡ are_let matched.entry.rules.now letters.0 owned matched.entry.path.now }
+{
+    let verdict = verdict_on(matched, letters, owned);
     matches!(verdict.answer, Answer::Allow)
 }
 
 // Whether a letter is among some, and rules let it.
-fn is_let(rules: &[Rule], letters: Perms, owned: bool, path: &[u8], letter: Perms) -> bool
-    ensures { result ≡ is_let rules.now letters.0 owned path.now letter.0 }
+fn is_let(matched: MatchedRules<'_>, letters: Perms, owned: bool, letter: Perms) -> bool
+    requires { AreMatched matched }
+    ensures { result ≡ is_let matched.entry.rules.now letters.0 owned matched.entry.path.now letter.0 }
 {
-    letters.intersects(letter) && are_let(rules, letter, owned, path)
+    letters.intersects(letter) && are_let(matched, letter, owned)
 }
 
 // Whether rules let one of these letters of a file.
-fn some_is_let(rules: &[Rule], letters: Perms, owned: bool, path: &[u8]) -> bool
-    ensures { result ≡ some_is_let rules.now letters.0 owned path.now }
+fn some_is_let(matched: MatchedRules<'_>, letters: Perms, owned: bool) -> bool
+    requires { AreMatched matched }
+    ensures { result ≡ some_is_let matched.entry.rules.now letters.0 owned matched.entry.path.now }
 {
-    is_let(rules, letters, owned, path, Perms::READ)
-        || is_let(rules, letters, owned, path, Perms::WRITE)
-        || is_let(rules, letters, owned, path, Perms::APPEND)
-        || is_let(rules, letters, owned, path, Perms::LINK)
-        || is_let(rules, letters, owned, path, Perms::LOCK)
-        || is_let(rules, letters, owned, path, Perms::MAP)
-        || is_let(rules, letters, owned, path, Perms::EXEC)
+    is_let(matched, letters, owned, Perms::READ)
+        || is_let(matched, letters, owned, Perms::WRITE)
+        || is_let(matched, letters, owned, Perms::APPEND)
+        || is_let(matched, letters, owned, Perms::LINK)
+        || is_let(matched, letters, owned, Perms::LOCK)
+        || is_let(matched, letters, owned, Perms::MAP)
+        || is_let(matched, letters, owned, Perms::EXEC)
 }
 
-/// Whether a path says otherwise than is claimed of it, by what rules let of a file of the task's user, or of another's. It takes no memory.
-pub fn breaks(claim: Claim, rules: &[Rule], letters: Perms, path: &[u8], owned: bool) -> bool
-    ensures { result ≡ breaks claim rules.now letters.0 path.now owned }
+// Whether a path says otherwise than is claimed of it, by what rules let of a file of the task's user, or of another's.
+fn breaks(claim: Claim, matched: MatchedRules<'_>, letters: Perms, owned: bool) -> bool
+    requires { AreMatched matched }
+    ensures { result ≡ breaks claim matched.entry.rules.now letters.0 matched.entry.path.now owned }
 {
     match claim {
-        Claim::Never => some_is_let(rules, letters, owned, path),
-        Claim::Always => !are_let(rules, letters, owned, path),
+        Claim::Never => some_is_let(matched, letters, owned),
+        Claim::Always => !are_let(matched, letters, owned),
     }
 }
 
 /// The same of whosever file is meant. It takes no memory.
-pub fn breaks_for(claim: Claim, rules: &[Rule], letters: Perms, whose: Whose, path: &[u8]) -> bool
-    ensures { result ≡ breaks_for claim rules.now letters.0 whose path.now }
+pub fn breaks_for(claim: Claim, matched: MatchedRules<'_>, letters: Perms, whose: Whose) -> bool
+    requires { AreMatched matched }
+    ensures { result ≡ breaks_for claim matched.entry.rules.now letters.0 whose matched.entry.path.now }
 {
     match whose {
-        Whose::Owner => breaks(claim, rules, letters, path, true),
-        Whose::Other => breaks(claim, rules, letters, path, false),
+        Whose::Owner => breaks(claim, matched, letters, true),
+        Whose::Other => breaks(claim, matched, letters, false),
         Whose::Any => {
-            breaks(claim, rules, letters, path, false) || breaks(claim, rules, letters, path, true)
+            breaks(claim, matched, letters, false) || breaks(claim, matched, letters, true)
         }
     }
 }
 
 /// Whether the task's user owns the file of a path that says otherwise than is claimed (`ask_all_paths`): where another's does, too, not. It takes no memory.
-pub fn first_owner(claim: Claim, rules: &[Rule], letters: Perms, whose: Whose, path: &[u8]) -> bool
-    ensures { result ≡ first_owner claim rules.now letters.0 whose path.now }
+pub fn first_owner(claim: Claim, matched: MatchedRules<'_>, letters: Perms, whose: Whose) -> bool
+    requires { AreMatched matched }
+    ensures { result ≡ first_owner claim matched.entry.rules.now letters.0 whose matched.entry.path.now }
 {
     match whose {
         Whose::Owner => true,
         Whose::Other => false,
-        Whose::Any => !breaks(claim, rules, letters, path, false),
+        Whose::Any => !breaks(claim, matched, letters, false),
     }
 }
 
 // A set with a letter more, if that is among some, and rules let it.
 fn with_let(
     set: Perms,
-    rules: &[Rule],
+    matched: MatchedRules<'_>,
     letters: Perms,
     owned: bool,
-    path: &[u8],
     letter: Perms,
 ) -> Perms
-    ensures { result.0 ≡ with_let rules.now letters.0 owned path.now set.0 letter.0 }
+    requires { AreMatched matched }
+    ensures { result.0 ≡ with_let matched.entry.rules.now letters.0 owned matched.entry.path.now set.0 letter.0 }
 {
-    if is_let(rules, letters, owned, path, letter) {
+    if is_let(matched, letters, owned, letter) {
         set.union(letter)
     } else {
         set
@@ -96,31 +122,32 @@ fn with_let(
 }
 
 // Those of these letters of a file that rules let.
-fn let_letters(rules: &[Rule], letters: Perms, owned: bool, path: &[u8]) -> Perms
-    ensures { result.0 ≡ let_letters rules.now letters.0 owned path.now }
+fn let_letters(matched: MatchedRules<'_>, letters: Perms, owned: bool) -> Perms
+    requires { AreMatched matched }
+    ensures { result.0 ≡ let_letters matched.entry.rules.now letters.0 owned matched.entry.path.now }
 {
     let mut set = Perms::empty();
-    set = with_let(set, rules, letters, owned, path, Perms::READ);
-    set = with_let(set, rules, letters, owned, path, Perms::WRITE);
-    set = with_let(set, rules, letters, owned, path, Perms::APPEND);
-    set = with_let(set, rules, letters, owned, path, Perms::LINK);
-    set = with_let(set, rules, letters, owned, path, Perms::LOCK);
-    set = with_let(set, rules, letters, owned, path, Perms::MAP);
-    with_let(set, rules, letters, owned, path, Perms::EXEC)
+    set = with_let(set, matched, letters, owned, Perms::READ);
+    set = with_let(set, matched, letters, owned, Perms::WRITE);
+    set = with_let(set, matched, letters, owned, Perms::APPEND);
+    set = with_let(set, matched, letters, owned, Perms::LINK);
+    set = with_let(set, matched, letters, owned, Perms::LOCK);
+    set = with_let(set, matched, letters, owned, Perms::MAP);
+    with_let(set, matched, letters, owned, Perms::EXEC)
 }
 
 /// The letters by which the file of a path says otherwise than is claimed of it: those that are let, where none is to be; or else those that aren't. It
 /// takes no memory.
 pub fn breaking_letters(
     claim: Claim,
-    rules: &[Rule],
+    matched: MatchedRules<'_>,
     letters: Perms,
-    path: &[u8],
     owned: bool,
 ) -> Perms
-    ensures { result.0 ≡ breaking_letters claim rules.now letters.0 path.now owned }
+    requires { AreMatched matched }
+    ensures { result.0 ≡ breaking_letters claim matched.entry.rules.now letters.0 matched.entry.path.now owned }
 {
-    let set = let_letters(rules, letters, owned, path);
+    let set = let_letters(matched, letters, owned);
     match claim {
         Claim::Never => set,
         Claim::Always => letters.difference(set),

@@ -10,7 +10,7 @@ use Rattle.aa_bytes.specs.ByteMaps.{in_map}
 use Rattle.aa_bytes.specs.ByteSets.{is_inside}
 use Rattle.aa_bytes.specs.declared.byte_map.ByteMap.{ByteMap}
 use Rattle.aa_glob_nfa.specs.Entries.{stays_at, takes_byte}
-use Rattle.aa_glob_nfa.specs.Graphs.{entry_of, Graph, Reaches}
+use Rattle.aa_glob_nfa.specs.Graphs.{entry_of, Graph, Leads, Reaches}
 use Rattle.aa_glob_nfa.specs.Graphs.Reaches.{begins, comes, takes, stays}
 use Rattle.aa_glob_nfa.specs.OfTables.{graph_of}
 use Rattle.aa_glob_nfa.specs.Tables.{entry_behind, no_bytes, set_of, State, state_at}
@@ -24,19 +24,25 @@ use Rattle.aa_glob_nfa.proofs.TableLemmas.{entry_of-graph_in, length-entries_in}
 use Rattle.aa_glob_sets.specs.Alike.{AreAlike, printed, StandForPrinted}
 use Rattle.aa_glob_sets.specs.code.Apart.{GetsLike, GetsLikeEach, HasOwnBytes, HaveAlike}
 
-pub alike-turned : (g : Graph) (c d : ℕ) → AreAlike g c d → AreAlike g d c
-alike-turned g c d alike r = (sym (alike r).0, sym (alike r).1)
+-- from the states that are reached behind a text two bytes lead into the same states, and leave the same of them as they are
+abbrev pub LeadSame : Graph → List ℕ → ℕ → ℕ → Type 0
+LeadSame g past c d =
+    (q : ℕ) → Reaches g past q
+    → ((r : ℕ) → Leads g q r → takes_byte (entry_of g r) c ≡ takes_byte (entry_of g r) d) × (stays_at (entry_of g q) c ≡ stays_at (entry_of g q) d)
 
--- what is reached behind a byte is reached behind one like it
-pub reached-alike : (g : Graph) (c d : ℕ) → AreAlike g c d → {text : List ℕ} {r : ℕ} → Reaches g text r → (past : List ℕ) → text ≡ c ∷ past → Reaches g (d ∷ past) r
-reached-alike g c d alike begins past is = absurd (let none = ap length is in omega (arith, none))
-reached-alike g c d alike (comes at leads free) past is = comes (reached-alike g c d alike at past is) leads free
-reached-alike g c d alike (takes {past = text} {q = q} {r = r} {c = e} at leads taken) past is =
-    takes (subst (λ t. Reaches g t q) (ap (drop 1) is) at) leads
-    (sym (alike r).0 ∙ ap (takes_byte (entry_of g r)) (sym (ap (λ l. get_or l 0 0) is)) ∙ taken)
-reached-alike g c d alike (stays {past = text} {r = r} {c = e} at stay) past is =
-    stays (subst (λ t. Reaches g t r) (ap (drop 1) is) at)
-    (sym (alike r).1 ∙ ap (stays_at (entry_of g r)) (sym (ap (λ l. get_or l 0 0) is)) ∙ stay)
+pub same-turned : (g : Graph) (past : List ℕ) (c d : ℕ) → LeadSame g past c d → LeadSame g past d c
+same-turned g past c d same q at = (λ r leads. sym ((same q at).0 r leads), sym (same q at).1)
+
+-- what is reached behind one of them is reached behind the other
+pub reached-same : (g : Graph) (past : List ℕ) (c d : ℕ) → LeadSame g past c d → {text : List ℕ} {r : ℕ} → Reaches g text r → text ≡ c ∷ past → Reaches g (d ∷ past) r
+reached-same g past c d same begins is = absurd (let none = ap length is in omega (arith, none))
+reached-same g past c d same (comes at leads free) is = comes (reached-same g past c d same at is) leads free
+reached-same g past c d same (takes {past = text} {q = q} {r = r} {c = e} at leads taken) is =
+    let here = subst (λ t. Reaches g t q) (ap (drop 1) is) at in
+    takes here leads (sym ((same q here).0 r leads) ∙ ap (takes_byte (entry_of g r)) (sym (ap (λ l. get_or l 0 0) is)) ∙ taken)
+reached-same g past c d same (stays {past = text} {r = r} {c = e} at stay) is =
+    let here = subst (λ t. Reaches g t r) (ap (drop 1) is) at in
+    stays here (sym (same r here).1 ∙ ap (stays_at (entry_of g r)) (sym (ap (λ l. get_or l 0 0) is)) ∙ stay)
 
 -- no byte is in the set without any
 abbrev four_zeros : List ℕ

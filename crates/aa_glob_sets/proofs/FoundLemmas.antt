@@ -7,8 +7,8 @@ use Rattle.std.proofs.lemmas.List.Quantifiers.{all_pairs_push}
 use Rattle.std.specs.Prelude.{All, Contains, slice_index_or}
 use Rattle.aa_glob_nfa.specs.Graphs.{Graph, Reaches}
 use Rattle.aa_glob_front.specs.Runs.{IsWhole, LeadsTo}
-use Rattle.aa_glob_sets.proofs.AlikeLemmas.{alike-turned, reached-alike}
-use Rattle.aa_glob_sets.specs.Alike.{AreAlike, StandForAll}
+use Rattle.aa_glob_sets.proofs.AlikeLemmas.{LeadSame, reached-same, same-turned}
+use Rattle.aa_glob_sets.specs.Alike.{AreAlikeFrom, StandForAllFrom}
 use Rattle.aa_glob_sets.specs.Found.{AreFound, ComesOfEarlier, FoundSet, IsStateSet, no_set, origin_at, set_at}
 use Rattle.aa_glob_sets.specs.Reachable.{IsFollowed, IsOver}
 use Rattle.aa_glob_sets.specs.code.Closing.{AreMore, ComeOfUpTo, Grows, HasPlaced, IsClosedBefore, IsFollowedBehind, IsFollowedByAll}
@@ -150,24 +150,28 @@ followed-next g wanted old new n bytes i d low within grows before here c among 
       | inr last ↦ subst (IsFollowed g wanted new n) last here
     ]
 
--- behind a byte like another the same set lives
-leads-alike : (g : Graph) (from to : List ℕ) (c d : ℕ) → AreAlike g c d → LeadsTo g from c to → LeadsTo g from d to
+-- behind a byte that is like another from a set the same set lives
+leads-alike : (g : Graph) (from to : List ℕ) (c d : ℕ) → AreAlikeFrom g from c d → LeadsTo g from c to → LeadsTo g from d to
 leads-alike g from to c d alike leads past whole =
     let behind = leads past whole in
+    let same : LeadSame g past c d = λ q at. alike q (whole.each q at) in
     record {
-      reached = All-weaker (Reaches g (c ∷ past)) (Reaches g (d ∷ past)) (λ r at. reached-alike g c d alike at past refl) to behind.reached;
-      each = λ r at. behind.each r (reached-alike g d c (alike-turned g c d alike) at past refl);
+      reached = All-weaker (Reaches g (c ∷ past)) (Reaches g (d ∷ past)) (λ r at. reached-same g past c d same at refl) to behind.reached;
+      each = λ r at. behind.each r (reached-same g past d c (same-turned g past c d same) at refl);
     }
 
-followed-alike : (g : Graph) (wanted : List Bool) (found : List FoundSet) (n c d : ℕ) → AreAlike g c d → IsFollowed g wanted found n c → IsFollowed g wanted found n d
+followed-alike : (g : Graph) (wanted : List Bool) (found : List FoundSet) (n c d : ℕ) → AreAlikeFrom g (set_at found n) c d → IsFollowed g wanted found n c
+    → IsFollowed g wanted found n d
 followed-alike g wanted found n c d alike (inl next) =
     inl (next.0, next.1, next.2, leads-alike g (set_at found n) (set_at found next.0) c d alike next.3)
 followed-alike g wanted found n c d alike (inr over) =
-    inr (λ past whole lives. over past whole (lives.0, reached-alike g d c (alike-turned g c d alike) lives.1 past refl, lives.2))
+    inr (λ past whole lives.
+    let same : LeadSame g past c d = λ q at. alike q (whole.each q at) in
+    over past whole (lives.0, reached-same g past d c (same-turned g past c d same) lives.1 refl, lives.2))
 
--- bytes that stand for all
-pub followed-all : (g : Graph) (wanted : List Bool) (found : List FoundSet) (n : ℕ) (bytes : List ℕ) → StandForAll g bytes → IsFollowedBehind g wanted found n bytes
-    → IsFollowedByAll g wanted found n
+-- bytes that stand for all behind the texts of a set
+pub followed-all : (g : Graph) (wanted : List Bool) (found : List FoundSet) (n : ℕ) (bytes : List ℕ) → StandForAllFrom g (set_at found n) bytes
+    → IsFollowedBehind g wanted found n bytes → IsFollowedByAll g wanted found n
 followed-all g wanted found n bytes stand followed c is_byte =
     let like = stand c is_byte in
     followed-alike g wanted found n like.0 c like.2 (followed like.0 like.1)

@@ -4,4 +4,5 @@ pub mod LiveLemmas
 pub mod PlaceLemmas
 pub mod RisingLemmas
 pub mod TextLemmas
+pub mod ToldLemmas
 pub mod WantedLemmas

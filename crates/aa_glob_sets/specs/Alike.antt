@@ -1,7 +1,7 @@
 -- Bytes that no state tells apart.
 use Rattle.std.specs.Prelude.{◌≡◌, ℕ, ◌^◌, ◌<◌, List, Contains, codes}
 use Rattle.aa_glob_nfa.specs.Entries.{stays_at, takes_byte}
-use Rattle.aa_glob_nfa.specs.Graphs.{entry_of, Graph}
+use Rattle.aa_glob_nfa.specs.Graphs.{entry_of, Graph, Leads}
 
 -- two bytes lead into the same states, and leave the same states as they are
 abbrev pub AreAlike : Graph → ℕ → ℕ → Type 0
@@ -11,6 +11,16 @@ AreAlike g c d =
 -- each byte has one like it among some
 abbrev pub StandForAll : Graph → List ℕ → Type 0
 StandForAll g bytes = (c : ℕ) → c < 2 ^ 8 → (b : ℕ) × Contains bytes b × AreAlike g b c
+
+-- from each state of a set two bytes lead into the same states, and leave it as it is, or don't
+abbrev pub AreAlikeFrom : Graph → List ℕ → ℕ → ℕ → Type 0
+AreAlikeFrom g set c d =
+    (q : ℕ) → Contains set q
+    → ((r : ℕ) → Leads g q r → takes_byte (entry_of g r) c ≡ takes_byte (entry_of g r) d) × (stays_at (entry_of g q) c ≡ stays_at (entry_of g q) d)
+
+-- each byte has one like it from a set among some
+abbrev pub StandForAllFrom : Graph → List ℕ → List ℕ → Type 0
+StandForAllFrom g set bytes = (c : ℕ) → c < 2 ^ 8 → (b : ℕ) × Contains bytes b × AreAlikeFrom g set b c
 
 -- the bytes that can be printed, in the order in which texts are written with them: letters and digits first, and those that shells read otherwise last
 abbrev pub printed : List ℕ

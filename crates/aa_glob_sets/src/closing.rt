@@ -2,8 +2,8 @@
 
 ghost use Rattle.std.specs.Prelude.{◌≡◌, ◌<◌, ℕ, [], length, IfOk, IfSome, None, OnOk};
 ghost use Rattle.aa_glob_nfa.specs.OfTables.{AreSound, AreSorted, graph_of};
-ghost use Rattle.aa_glob_sets.specs.Alike.{StandForAll};
-ghost use Rattle.aa_glob_sets.specs.Found.{AreFound};
+ghost use Rattle.aa_glob_sets.specs.Alike.{StandForAll, StandForAllFrom};
+ghost use Rattle.aa_glob_sets.specs.Found.{AreFound, set_at};
 ghost use Rattle.aa_glob_sets.specs.Reachable.{AreMoreThan, AreReachable, IsFollowed, IsKeptBack};
 ghost use Rattle.aa_glob_sets.specs.code.Closing.{AreMore, ComeOfUpTo, IsFollowedByAll};
 
@@ -11,6 +11,7 @@ use crate::bytes::bytes_for_all;
 use crate::lives::{first_set, next_set, some_matter};
 use crate::origin::Origin;
 use crate::sets::Sets;
+use crate::told::bytes_for_set;
 use aa_glob_nfa::Tables;
 use std::alloc::{AllocError, Global};
 
@@ -53,8 +54,33 @@ fn follow_byte(
     }
 }
 
-// The same behind each of some bytes, which stand for all.
+// The same behind each of some bytes, which stand for all behind the texts of the set.
 fn follow_each(
+    alloc: Global,
+    tables: &Tables,
+    wanted: &[bool],
+    bytes: &[u8],
+    sets: &mut Sets,
+    from: usize,
+) -> Result<(), AllocError>
+    requires sound { AreSound tables.now }
+    requires sorted { AreSorted tables.now }
+    requires wanted { length wanted.now ≡ length tables.now.states }
+    requires found { AreFound (graph_of tables.now) (length tables.now.states) sets.old }
+    requires up_to { ComeOfUpTo sets.old from }
+    requires within { from < length sets.old }
+    requires bytes { StandForAllFrom (graph_of tables.now) (set_at sets.old from) bytes.now }
+    ensures more { OnOk result (AreMore (graph_of tables.now) (length tables.now.states) from sets.old sets.new) }
+    ensures followed { OnOk result (IsFollowedByAll (graph_of tables.now) wanted.now sets.new from) }
+{
+    for byte in bytes {
+        follow_byte(alloc, tables, wanted, sets, from, *byte)?;
+    }
+    Ok(())
+}
+
+// The same behind all bytes, by bytes that stand for all.
+fn follow_all(
     alloc: Global,
     tables: &Tables,
     wanted: &[bool],
@@ -72,16 +98,14 @@ fn follow_each(
     ensures more { OnOk result (AreMore (graph_of tables.now) (length tables.now.states) from sets.old sets.new) }
     ensures followed { OnOk result (IsFollowedByAll (graph_of tables.now) wanted.now sets.new from) }
 {
-    for byte in bytes {
-        follow_byte(alloc, tables, wanted, sets, from, *byte)?;
-    }
-    Ok(())
+    let own = bytes_for_set(alloc, tables, bytes, sets.set(from))?;
+    follow_each(alloc, tables, wanted, &own, sets, from)
 }
 
 /// The sets of states that live behind texts of bytes, as far as a state among them matters, in the order of the lengths of these texts; none where
 /// they are more than a limit. `wanted` tells of each state whether it matters.
 ///
-/// It takes time for each set, each of its states and each byte that states tell apart from others, and memory for each set and each of its states.
+/// It takes time for each set, each of its states and each byte that they tell apart from others, and memory for each set and each of its states.
 ///
 /// # Errors
 ///
@@ -107,7 +131,7 @@ pub fn reachable(
         if sets.len() > limit {
             return Ok(None);
         }
-        follow_each(alloc, tables, wanted, &bytes, &mut sets, at)?;
+        follow_all(alloc, tables, wanted, &bytes, &mut sets, at)?;
         at += 1;
     }
     Ok(Some(sets))

@@ -71,6 +71,8 @@ impl Sets {
         if self.sets.contains_key(set.as_slice()) {
             return Ok(());
         }
+        let mut set = set;
+        set.shrink_to_fit();
         self.sets.insert(set, origin)?;
         Ok(())
     }

@@ -11,7 +11,7 @@ use Rattle.aa_profile_grammar.specs.Preamble.{Assignment, assignment, behind_ver
 use Rattle.aa_profile_parsing.specs.GrammarError.{told}
 use Rattle.aa_profile_parsing.specs.declared.language.Language.{Language}
 use Rattle.aa_profile_parsing.specs.declared.grammar_error.GrammarError.{GrammarError}
-use Rattle.aa_profile.specs.code.FileReadingProgress.{has_no_value}
+use Rattle.aa_profile.specs.Assignments.{has_no_value}
 use Rattle.aa_text_tokens.specs.declared.cut.TokenKind.{TokenKind}
 use Rattle.aa_text_tokens.specs.declared.cut.TokenKind.TheVariants.{Include, Assign, Value, Quoted, Word, Comma, OpenBrace, CloseBrace}
 use Rattle.aa_profile_grammar.specs.Sequences.{row, rows, skipped}

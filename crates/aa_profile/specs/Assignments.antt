@@ -1,8 +1,9 @@
 -- The variables of a file: what its assignments define, and which of them can't be worked out (docs/policy.md, "Variables").
-use Rattle.std.specs.Prelude.{ℕ, if◌then◌else◌, List, [], ◌∷◌, ◌++◌, map, find, Option, None, Some, Result, Ok, Err}
+use Rattle.std.specs.Prelude.{ℕ, Bool, if◌then◌else◌, List, [], ◌∷◌, ◌++◌, map, find, Option, None, Some, Result, Ok, Err}
 use Rattle.std.specs.List.{flat_map}
 use Rattle.std.specs.Option.{option_map}
 use Rattle.std.specs.Str.{bytes_eq}
+use Rattle.aa_bytes.specs.Texts.{is_empty}
 use Rattle.aa_text_variables.specs.Expansions.{is_cyclic}
 use Rattle.aa_text_splicing.specs.Splicing.{Placed}
 use Rattle.aa_text_variables.specs.Variables.{Variable, after_append, after_define, names_undefined}
@@ -20,6 +21,10 @@ assigned variables assignment =
     if assignment.append
     then after_append variables (text_of assignment.sign) (map text_of assignment.values)
     else after_define variables (text_of assignment.sign) (map text_of assignment.values)
+
+-- an assignment has no value
+abbrev pub has_no_value : Assignment → Bool
+has_no_value assignment = is_empty assignment.values
 
 -- the variables after assignments in order, or the first refusal, at its assignment
 abbrev pub all_assigned : List Variable → List Assignment → Result (List Variable) ProfileError

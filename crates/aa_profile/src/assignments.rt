@@ -5,9 +5,9 @@ ghost use Rattle.std.specs.List.{list_any};
 ghost use Rattle.std.specs.Option.{option_map};
 ghost use Rattle.aa_text_variables.specs.Variables.{names_undefined};
 ghost use Rattle.aa_text_files.specs.declared.text_error.TextRefusal.TheVariants as text;
-ghost use Rattle.aa_profile.specs.Assignments.{all_assigned, assigned, cycle, first_of, first_undefined, naming, undefined_name, variables_of};
+ghost use Rattle.aa_profile.specs.Assignments.{all_assigned, assigned, cycle, first_of, first_undefined, has_no_value, naming, undefined_name, variables_of};
 ghost use Rattle.aa_profile.specs.Refusals.{IsRefusalOf};
-ghost use Rattle.aa_profile.specs.code.FileReadingProgress.{first_undefined_value, has_no_value};
+ghost use Rattle.aa_profile.specs.code.FileReadingProgress.{first_undefined_value};
 ghost use Rattle.aa_profile_patterns.specs.Patterns.{have_expansions};
 ghost use Rattle.aa_profile_patterns.specs.Refusals.{IsRefusal};
 ghost use Rattle.aa_profile_grammar.specs.SeenFiles.{seen_assignment};
@@ -54,8 +54,13 @@ fn assign(
     }
 }
 
-// The variables after assignments in order.
-fn assign_all(alloc: Global, assignments: &[Assignment<'_>]) -> Result<Variables, ProfileError>
+/// The variables after assignments in order, whatever these name.
+///
+/// # Errors
+///
+/// - `Redefined` and `AppendUndefined`, at the first assignment that is refused so.
+/// - `Memory`: memory ran out.
+pub fn assign_all(alloc: Global, assignments: &[Assignment<'_>]) -> Result<Variables, ProfileError>
     requires { list_any has_no_value (map seen_assignment assignments.now) ≡ false }
     ensures ok { IfOk result (λ variables. all_assigned [] (map seen_assignment assignments.now) ≡ Ok variables) }
     ensures refused { IsRefusalOf (all_assigned [] (map seen_assignment assignments.now)) result }

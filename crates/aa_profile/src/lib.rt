@@ -15,6 +15,7 @@ pub use aa_profile_data::{
 pub use aa_profile_errors::{ProfileError, ProfileRefusal};
 pub use aa_profile_parsing::{GrammarRefusal, Language};
 pub use aa_profile_patterns::{MOST_RULES, ProfilePlaces, SectionPlaces};
+pub use assignments::assign_all;
 pub use file_profiles::FileProfiles;
 pub use laws::{
     how_profiles_are_named, what_language_3_has_not, when_conflicts_are_refused,

@@ -10,7 +10,7 @@ ghost use Rattle.aa_profile_data.specs.Profile.{are_distinct};
 ghost use Rattle.aa_profile.specs.FilePlaces.{file_places, file_places_in, places_in};
 ghost use Rattle.aa_profile.specs.FileReading.{file_profiles, file_profiles_in, profiles_in, profiles_with};
 ghost use Rattle.aa_profile.specs.Refusals.{IsRefusalOf};
-ghost use Rattle.aa_profile.specs.code.FileReadingProgress.{has_no_value};
+ghost use Rattle.aa_profile.specs.Assignments.{has_no_value};
 ghost use Rattle.aa_profile_patterns.specs.PatternTokens.{of_profiles};
 ghost use Rattle.aa_profile_patterns.specs.Patterns.{have_expansions};
 ghost use Rattle.aa_profile_patterns.specs.Places.{places_of_profile};

@@ -3,8 +3,7 @@ use Rattle.std.proofs.Common.{◌≡◌, ℕ, zero, suc, Bool, true, false, List
 use Rattle.std.specs.List.{onto_first}
 use Rattle.aa_bytes.specs.Texts.{begins_with}
 use Rattle.std.specs.Prelude.{if◌then◌else◌, is_none}
-use Rattle.aa_profile_access.specs.code.StackParts.{parts_of_rest}
-use Rattle.aa_profile_access.specs.Stacks.{parts_behind, parts_of, stack_of_names}
+use Rattle.aa_profile_access.specs.Stacks.{parts_behind, parts_of, parts_of_rest, stack_of_names}
 
 -- parts, with a text put before the first
 abbrev pub onto : List ℕ → List (List ℕ) → List (List ℕ)

@@ -18,6 +18,11 @@ parts_behind zero (b ∷ bs) = if begins_with (codes "//&") (b ∷ bs) then [] �
 abbrev pub parts_of : List ℕ → List (List ℕ)
 parts_of text = parts_behind zero text
 
+-- the parts behind a `//&`, if there is one
+abbrev pub parts_of_rest : Option (List ℕ) → List (List ℕ)
+parts_of_rest None = []
+parts_of_rest (Some rest) = parts_of rest
+
 -- names with `//&` between them, or one alone: each is a full name
 abbrev pub are_full_names : List ℕ → Bool
 are_full_names text = list_all is_full_name (parts_of text)

@@ -1,3 +1,2 @@
--- What is about the code: how far the text of an access, or of a stack, is read.
+-- What is about the code: how far the text of an access is read.
 pub mod Beginnings
-pub mod StackParts

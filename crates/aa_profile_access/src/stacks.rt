@@ -3,8 +3,7 @@
 ghost use Rattle.std.specs.Prelude.{◌≡◌, ◌<◌, ◌∷◌, IfSome, length};
 ghost use Rattle.std.specs.Option.{option_map};
 ghost use Rattle.aa_profile_access.specs.SeenStacks.{seen_stack};
-ghost use Rattle.aa_profile_access.specs.Stacks.{are_full_names, is_name_or_stack_of, is_open_stack, parts_of, stack_of, stack_of_names};
-ghost use Rattle.aa_profile_access.specs.code.StackParts.{parts_of_rest};
+ghost use Rattle.aa_profile_access.specs.Stacks.{are_full_names, is_name_or_stack_of, is_open_stack, parts_of, parts_of_rest, stack_of, stack_of_names};
 
 use crate::exec_word::Destination;
 use crate::full_name::is_full_name;

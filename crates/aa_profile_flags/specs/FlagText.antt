@@ -36,6 +36,11 @@ spaced (token ∷ tokens) = text_of token ++ space ∷ spaced tokens
 abbrev pub words_of : List ℕ → List (List ℕ)
 words_of text = filter (λ word. not (is_empty word)) (slice_split separates text)
 
+-- the words behind a separator, if there is one, the empty ones among them
+abbrev pub words_of_rest : Option (List ℕ) → List (List ℕ)
+words_of_rest None = []
+words_of_rest (Some rest) = slice_split separates rest
+
 -- a word stands among others
 abbrev pub has_word : List ℕ → List (List ℕ) → Bool
 has_word word words = list_any (λ other. bytes_eq other word) words

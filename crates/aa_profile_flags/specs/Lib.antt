@@ -4,4 +4,3 @@ pub mod Flags
 pub mod IdleFlags
 pub mod KeptFlags
 pub mod NarrowFlags
-pub mod code

@@ -6,7 +6,7 @@ ghost use Rattle.std.specs.List.{prefix_len, slice_split};
 ghost use Rattle.aa_text_splicing.specs.SeenTokens.{seen_spliced};
 ghost use Rattle.aa_profile_parsing.specs.Readings.{IsFault};
 ghost use Rattle.aa_profile_parsing.specs.SeenTokens.{seen_tokens};
-ghost use Rattle.aa_profile_flags.specs.code.FlagWords.{words_of_rest};
+ghost use Rattle.aa_profile_flags.specs.FlagText.{words_of_rest};
 ghost use Rattle.aa_profile_flags.specs.Flags.{behind_keyword, behind_sign, finished, flags, is_idle, is_idle_in_all, listed, mode_flag, opened};
 ghost use Rattle.aa_profile_flags.specs.Flags.{refusal_of_word, same_mode, separates, unflagged, wider_mode_flag, with_flag, with_flags, with_item};
 ghost use Rattle.aa_profile_flags.specs.Flags.{with_mode, with_token, with_word};

@@ -1,6 +1,6 @@
 -- Each abstraction of a folder, read as a profile reads it: by a file of its own that includes it, and ahead of that the variables that stock policy's
 -- profiles begin with (docs/aatry.md, "`aatry log`").
-use Rattle.std.specs.Prelude.{ℕ, Bool, ◌&&◌, ◌||◌, not, if◌then◌else◌, List, [], ◌∷◌, ◌++◌, Option, None, Some, Result, Ok, Err, codes, flat_map, fold}
+use Rattle.std.specs.Prelude.{ℕ, Bool, false, ◌&&◌, ◌||◌, not, if◌then◌else◌, List, [], ◌∷◌, ◌++◌, Option, None, Some, Result, Ok, Err, codes, flat_map, fold}
 use Rattle.aa_bytes.specs.Texts.{begins_with}
 use Rattle.aa_profile.specs.FileReading.{file_profiles_in}
 use Rattle.aa_profile_data.specs.declared.profile.Profile.{Profile}
@@ -8,9 +8,14 @@ use Rattle.aa_profile_errors.specs.declared.profile_error.ProfileError.{ProfileE
 use Rattle.aa_profile_parsing.specs.declared.language.Language.{Language}
 use Rattle.aa_text_files.specs.Files.{File, has_file, is_bad_file, is_folder_name}
 
--- a file is an abstraction: it lies below that folder
+-- A name leads through a folder of additions, one whose own name ends in `.d`: what lies in `base.d/` is put in by `base`, and isn't to be included by itself.
+abbrev pub is_addition : List ℕ → Bool
+is_addition [] = false
+is_addition (b ∷ bs) = begins_with (codes ".d/") (b ∷ bs) || is_addition bs
+
+-- a file is an abstraction: it lies below that folder, and is no addition
 abbrev pub is_abstraction : List ℕ → Bool
-is_abstraction name = begins_with (codes "abstractions/") name && not (is_folder_name name)
+is_abstraction name = begins_with (codes "abstractions/") name && not (is_folder_name name) && not (is_addition name)
 
 -- the file with which stock policy's profiles begin
 abbrev pub tunables : List ℕ

@@ -156,7 +156,8 @@ fn all_letting(
 }
 
 /// The abstractions of a folder's files that let any of some requests by their own rules, those first that have the fewest rules. Each is read by a language
-/// as a profile reads it that includes it, and ahead of it `tunables/global`, where the folder has that; one that is refused so is passed over.
+/// as a profile reads it that includes it, and ahead of it `tunables/global`, where the folder has that; one that is refused so is passed over. What lies in a
+/// folder of additions, as `abstractions/base.d/`, is none.
 ///
 /// # Errors
 ///

@@ -1,7 +1,7 @@
 //! Each abstraction of a folder, read as a profile reads it: by a file of its own that includes it.
 
 ghost use Rattle.std.specs.Prelude.{◌≡◌, ◌++◌, ◌∷◌, [], true, IfOk, IfSome, Ok, OnOk, option_map};
-ghost use Rattle.aatry_abstractions.specs.Probes.{abstraction, is_abstraction, only_profile, preamble, probe, probe_name, probe_of, probe_text, probed, probes, with_file, with_files};
+ghost use Rattle.aatry_abstractions.specs.Probes.{abstraction, is_abstraction, is_addition, only_profile, preamble, probe, probe_name, probe_of, probe_text, probed, probes, with_file, with_files};
 ghost use Rattle.aa_profile.specs.FileReading.{file_profiles_in};
 ghost use Rattle.aa_profile_data.specs.Conflicts.{profile_agrees};
 ghost use Rattle.aa_text_files.specs.Files.{bytes_at, name_at};
@@ -16,11 +16,25 @@ use std::alloc::{AllocError, Global};
 // The file with which stock policy's profiles begin.
 const TUNABLES: &[u8] = b"tunables/global";
 
-/// Whether a file is an abstraction, by its name. It takes no memory.
+// Whether a name leads through a folder of additions, as `base.d/` has them for `base`.
+fn is_addition(name: &[u8]) -> bool
+    ensures { result ≡ is_addition name.now }
+{
+    let mut rest = name;
+    while let [_, behind @ ..] = rest {
+        if begins_with(b".d/", rest) {
+            return true;
+        }
+        rest = behind;
+    }
+    false
+}
+
+/// Whether a file is an abstraction, by its name: what lies in a folder of additions, as `abstractions/base.d/x`, is none. It takes no memory.
 pub fn is_abstraction(name: &[u8]) -> bool
     ensures { result ≡ is_abstraction name.now }
 {
-    begins_with(b"abstractions/", name) && !Files::is_folder(name)
+    begins_with(b"abstractions/", name) && !Files::is_folder(name) && !is_addition(name)
 }
 
 /// Appends the include of the variables that stock policy's profiles begin with to a text, where the folder has them.

@@ -18,18 +18,16 @@ use Rattle.aatry_claims.specs.declared.found.Finding.{Finding}
 use Rattle.aatry_claims.specs.declared.found.Finding.TheVariants.{Absent, ByRules}
 use Rattle.aatry_claims.specs.declared.found.Found.{Found as CodeFound}
 
--- who is asked about, the rules that are asked, and what is answered
+-- who is asked about, and what is answered
 pub record Found : Type 0 where
   pub name : List ℕ
   pub part : Option Part
-  pub rules : List Rule
   pub finding : Finding
 
 abbrev pub seen_found : CodeFound → Found
 seen_found found = record {
   name = found.name.now;
   part = option_map (λ part. seen_part part.now) found.part;
-  rules = found.rules.now;
   finding = found.finding;
 }
 
@@ -61,16 +59,16 @@ every_rule = File (record {
 abbrev pub rules_asked : Part → List Rule
 rules_asked part = if asks_rules part.section.mode then part.section.rules else every_rule ∷ []
 
--- by the rules of a part the answer is right; where there is none, that is the answer
-abbrev pub IsFoundBy : Asked → ℕ → Option Part → List Rule → Finding → Type 0
-IsFoundBy asked limit None rules finding = finding ≡ Absent
-IsFoundBy asked limit (Some part) rules finding =
-    (rules ≡ rules_asked part) × (answer : PathAnswer) × (finding ≡ ByRules answer) × IsAnswer (rules_asked part) asked limit answer
+-- By the rules of a part the answer is right, and so are the letters and the owner that it has of a path that says otherwise. Where there is none, that is
+-- the answer.
+abbrev pub IsFoundBy : Asked → ℕ → Option Part → Finding → Type 0
+IsFoundBy asked limit None finding = finding ≡ Absent
+IsFoundBy asked limit (Some part) finding = (answer : PathAnswer) × (finding ≡ ByRules answer) × IsAnswer (rules_asked part) asked limit answer
 
 -- What is found is of the first part of the name, if there is one, and right.
 pub record IsFound (asked : Asked) (limit : ℕ) (parts : List Part) (found : Found) : Type 0 where
   pub part : found.part ≡ part_of parts found.name
-  pub right : IsFoundBy asked limit found.part found.rules found.finding
+  pub right : IsFoundBy asked limit found.part found.finding
 
 -- the names of parts, and of those of whom something is found
 abbrev pub part_names : List Part → List (List ℕ)

@@ -1,5 +1,5 @@
 -- The patterns that the pattern of a question stands for (docs/aatry.md).
-use Rattle.std.specs.Prelude.{ℕ, Bool, not, ◌&&◌, ◌∷◌, [], ◌++◌, if◌then◌else◌, List, Option, None, Some, codes}
+use Rattle.std.specs.Prelude.{ℕ, Bool, not, ◌&&◌, [], ◌++◌, if◌then◌else◌, List, Option, None, codes}
 use Rattle.std.specs.Option.{option_map}
 use Rattle.aa_bytes.specs.Texts.{has_byte}
 use Rattle.aa_profile.specs.FileReading.{file_profiles_in}

@@ -2,6 +2,7 @@
 use Rattle.std.specs.Prelude.{ℕ, Bool, true, false, List, [], ◌∷◌, ◌++◌, Option, None, Some, codes}
 use Rattle.std.specs.Fmt.{decimal}
 use Rattle.aa_bytes.specs.Bytes.{line_feed}
+use Rattle.aa_explain_paths.specs.Answers.{Breaking, seen_breaking}
 use Rattle.aa_explain_paths.specs.declared.question.Claim.{Claim}
 use Rattle.aa_explain_paths.specs.declared.question.Claim.TheVariants.{Always, Never}
 use Rattle.aa_explain_paths.specs.declared.question.PathAnswer.{PathAnswer}
@@ -10,7 +11,7 @@ use Rattle.aa_profile_data.specs.declared.profile.Mode.{Mode}
 use Rattle.aa_profile_data.specs.declared.profile.Mode.TheVariants as mode
 use Rattle.aatry_policy.specs.Parts.{Part}
 use Rattle.aatry_report.specs.Shown.{shown}
-use Rattle.aatry_claims.specs.Claimed.{Breaking, Claimed, breaking_of}
+use Rattle.aatry_claims.specs.Claimed.{Claimed}
 use Rattle.aatry_claims.specs.Found.{Found}
 use Rattle.aatry_claims.specs.Letters.{letter_words}
 use Rattle.aatry_claims.specs.declared.found.Finding.{Finding}
@@ -24,7 +25,7 @@ claim_word Always = codes "always"
 -- the word of what rules say
 abbrev pub rules_word : Claim → PathAnswer → List ℕ
 rules_word claim (Holds count) = claim_word claim
-rules_word claim (Fails path) = codes "no"
+rules_word claim (Fails breaking) = codes "no"
 rules_word claim TooMany = codes "many"
 
 -- the word of an answer
@@ -67,19 +68,15 @@ breaking_sentence claim name breaking =
     shown name ++ breaking_may claim ++ letter_words breaking.letters (breaking_between claim) ++ codes " " ++ shown breaking.path ++ codes " ("
     ++ owner_word breaking.owned ++ codes ")"
 
-abbrev pub broken_sentence : Claim → List ℕ → Option Breaking → List ℕ
-broken_sentence claim name None = []
-broken_sentence claim name (Some breaking) = breaking_sentence claim name breaking
-
-unfoldable pub rules_sentence : Claimed → List ℕ → Option Breaking → PathAnswer → List ℕ
-rules_sentence claimed name breaking (Holds count) = holds_sentence claimed name count
-rules_sentence claimed name breaking (Fails path) = broken_sentence claimed.claim name breaking
-rules_sentence claimed name breaking TooMany = shown name ++ codes " has too many different paths: see --limit"
+unfoldable pub rules_sentence : Claimed → List ℕ → PathAnswer → List ℕ
+rules_sentence claimed name (Holds count) = holds_sentence claimed name count
+rules_sentence claimed name (Fails breaking) = breaking_sentence claimed.claim name (seen_breaking breaking)
+rules_sentence claimed name TooMany = shown name ++ codes " has too many different paths: see --limit"
 
 -- the sentence of a finding
-unfoldable pub sentence : Claimed → List ℕ → Option Breaking → Finding → List ℕ
-sentence claimed name breaking Absent = codes "nobody has the name " ++ shown name
-sentence claimed name breaking (ByRules answer) = rules_sentence claimed name breaking answer
+unfoldable pub sentence : Claimed → List ℕ → Finding → List ℕ
+sentence claimed name Absent = codes "nobody has the name " ++ shown name
+sentence claimed name (ByRules answer) = rules_sentence claimed name answer
 
 -- what is said of the mode in which somebody is, where that isn't enforce mode: none where it is disabled
 abbrev pub mode_words : Option Mode → List ℕ
@@ -95,13 +92,12 @@ mode_note (Some part) = mode_words part.section.mode
 -- the line of who was asked about
 unfoldable pub found_line : Claimed → Found → List ℕ
 found_line claimed found =
-    answer_word claimed.claim found.finding ++ codes ": " ++ sentence claimed found.name (breaking_of claimed found.rules found.finding) found.finding
-    ++ mode_note found.part ++ line_feed ∷ []
+    answer_word claimed.claim found.finding ++ codes ": " ++ sentence claimed found.name found.finding ++ mode_note found.part ++ line_feed ∷ []
 
 -- what is claimed holds of who was asked about
 abbrev pub rules_hold : PathAnswer → Bool
 rules_hold (Holds count) = true
-rules_hold (Fails path) = false
+rules_hold (Fails breaking) = false
 rules_hold TooMany = false
 
 abbrev pub is_held : Finding → Bool
@@ -112,5 +108,5 @@ is_held (ByRules answer) = rules_hold answer
 abbrev pub is_undecided : Finding → Bool
 is_undecided (ByRules TooMany) = true
 is_undecided (ByRules (Holds count)) = false
-is_undecided (ByRules (Fails path)) = false
+is_undecided (ByRules (Fails breaking)) = false
 is_undecided Absent = false

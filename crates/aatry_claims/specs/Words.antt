@@ -1,6 +1,6 @@
 -- The words of a question about all paths: ACCESS OWNED PATTERN [WHO..] (docs/aatry.md).
-use Rattle.std.specs.Prelude.{ℕ, Bool, not, ◌==◌, if◌then◌else◌, List, [], ◌∷◌, Option, None, Some, codes, map}
-use Rattle.std.specs.Option.{option_and_then, option_map}
+use Rattle.std.specs.Prelude.{ℕ, not, ◌==◌, if◌then◌else◌, List, [], ◌∷◌, Option, None, Some, codes, map}
+use Rattle.std.specs.Option.{option_and_then}
 use Rattle.std.specs.Str.{bytes_eq}
 use Rattle.aa_explain_paths.specs.declared.question.Whose.{Whose}
 use Rattle.aa_explain_paths.specs.declared.question.Whose.TheVariants.{Any, Other, Owner}

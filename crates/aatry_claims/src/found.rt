@@ -29,9 +29,7 @@ pub struct Found<'a> {
     pub name: &'a [u8],
     /// The profile, child or hat of that name, if there is one.
     pub part: Option<&'a Part<'a>>,
-    /// The rules that are asked: where its own aren't, since its mode is unconfined or it is disabled, one that lets all. None where it isn't there.
-    pub rules: &'a [Rule],
-    /// What is answered.
+    /// What is answered by the rules that are asked: where its own aren't, since its mode is unconfined or it is disabled, by one that lets all.
     pub finding: Finding,
 }
 
@@ -104,7 +102,7 @@ fn found_by<'a>(
 ) -> Result<Found<'a>, AllocError>
     requires { inquiry.all.now ≡ every_rule ∷ [] }
     ensures part { IfOk result (λ found. (seen_found found).part ≡ Some (seen_part part.now)) }
-    ensures right { IfOk result (λ found. IsFoundBy (seen_asked inquiry.entry.question) inquiry.entry.limit (Some (seen_part part.now)) (seen_found found).rules found.finding) }
+    ensures right { IfOk result (λ found. IsFoundBy (seen_asked inquiry.entry.question) inquiry.entry.limit (Some (seen_part part.now)) found.finding) }
     ensures name { IfOk result (λ found. (seen_found found).name ≡ name.now) }
 {
     let rules = rules_asked(part, inquiry.all);
@@ -112,7 +110,6 @@ fn found_by<'a>(
     Ok(Found {
         name,
         part: Some(part),
-        rules,
         finding: Finding::ByRules(answer),
     })
 }
@@ -131,7 +128,6 @@ fn found_of<'a>(
         None => Ok(Found {
             name,
             part: None,
-            rules: &[],
             finding: Finding::Absent,
         }),
         Some(part) => found_by(alloc, inquiry, part, name),

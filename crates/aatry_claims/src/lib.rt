@@ -9,7 +9,7 @@ mod patterns;
 mod sentences;
 mod words;
 
-pub use breaking::{Breaking, Claimed, breaking_of};
+pub use breaking::{Claimed, breaking_of};
 pub use found::{Finding, Found, Inquiry, asks_rules, every_rule, find};
 pub use lines::{is_held, is_undecided, push_line};
 pub use patterns::asked_patterns;

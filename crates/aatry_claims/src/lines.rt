@@ -6,7 +6,7 @@ ghost use Rattle.aatry_claims.specs.SeenClaimed.{seen_claimed};
 ghost use Rattle.aatry_claims.specs.Sentences.{found_line, is_held, is_undecided, mode_note, mode_words, rules_hold};
 ghost use Rattle.aatry_policy.specs.SeenProfiles.{seen_part};
 
-use crate::breaking::{Claimed, breaking_of};
+use crate::breaking::Claimed;
 use crate::found::{Finding, Found};
 use crate::sentences::{answer_word, push_sentence};
 use aa_explain_paths::PathAnswer;
@@ -49,10 +49,9 @@ pub fn push_line(
 ) -> Result<(), AllocError>
     ensures { OnOk result (out.new.items ≡ out.old.items ++ found_line (seen_claimed claimed.entry) (seen_found found.now)) }
 {
-    let breaking = breaking_of(claimed, found.rules, &found.finding);
     out.extend_from_slice(answer_word(claimed.claim, &found.finding).as_bytes())?;
     out.extend_from_slice(b": ")?;
-    push_sentence(claimed, found.name, breaking, &found.finding, out)?;
+    push_sentence(claimed, found.name, &found.finding, out)?;
     push_mode_note(found.part, out)?;
     out.push(b'\n')?;
     Ok(())

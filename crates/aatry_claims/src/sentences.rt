@@ -1,13 +1,14 @@
 //! What is told of those who are asked about, in sentences.
 
-ghost use Rattle.std.specs.Prelude.{◌≡◌, ◌++◌, OnOk, option_map};
-ghost use Rattle.aatry_claims.specs.SeenClaimed.{seen_breaking, seen_claimed};
-ghost use Rattle.aatry_claims.specs.Sentences.{answer_word, breaking_between, breaking_may, breaking_sentence, broken_sentence, claim_word, holds_between, holds_sentence, holds_which, owner_word, rules_sentence, rules_word, sentence};
+ghost use Rattle.std.specs.Prelude.{◌≡◌, ◌++◌, OnOk};
+ghost use Rattle.aa_explain_paths.specs.Answers.{seen_breaking};
+ghost use Rattle.aatry_claims.specs.SeenClaimed.{seen_claimed};
+ghost use Rattle.aatry_claims.specs.Sentences.{answer_word, breaking_between, breaking_may, breaking_sentence, claim_word, holds_between, holds_sentence, holds_which, owner_word, rules_sentence, rules_word, sentence};
 
-use crate::breaking::{Breaking, Claimed};
+use crate::breaking::Claimed;
 use crate::found::Finding;
 use crate::letters::push_letter_words;
-use aa_explain_paths::{Claim, PathAnswer};
+use aa_explain_paths::{Breaking, Claim, PathAnswer};
 use aatry_report::{push_number, push_shown};
 use std::alloc::AllocError;
 
@@ -114,35 +115,20 @@ fn breaking_between(claim: Claim) -> &'static str
 fn push_breaking(
     claim: Claim,
     name: &[u8],
-    breaking: Breaking<'_>,
+    breaking: &Breaking,
     out: &mut Vec<u8>,
 ) -> Result<(), AllocError>
-    ensures { OnOk result (out.new.items ≡ out.old.items ++ breaking_sentence claim name.now (seen_breaking breaking.entry)) }
+    ensures { OnOk result (out.new.items ≡ out.old.items ++ breaking_sentence claim name.now (seen_breaking breaking.now)) }
 {
     push_shown(out, name)?;
     out.extend_from_slice(breaking_may(claim).as_bytes())?;
     push_letter_words(breaking.letters, breaking_between(claim), out)?;
     out.extend_from_slice(b" ")?;
-    push_shown(out, breaking.path)?;
+    push_shown(out, &breaking.path)?;
     out.extend_from_slice(b" (")?;
     out.extend_from_slice(owner_word(breaking.owned).as_bytes())?;
     out.extend_from_slice(b")")?;
     Ok(())
-}
-
-// The same, if there is one.
-fn push_broken(
-    claim: Claim,
-    name: &[u8],
-    breaking: Option<Breaking<'_>>,
-    out: &mut Vec<u8>,
-) -> Result<(), AllocError>
-    ensures { OnOk result (out.new.items ≡ out.old.items ++ broken_sentence claim name.now (option_map seen_breaking breaking.entry)) }
-{
-    match breaking {
-        None => Ok(()),
-        Some(breaking) => push_breaking(claim, name, breaking, out),
-    }
 }
 
 // Appends the sentence of what rules say to a text.
@@ -150,16 +136,14 @@ fn push_broken(
 fn push_by_rules(
     claimed: Claimed<'_>,
     name: &[u8],
-    breaking: Option<Breaking<'_>>,
     answer: &PathAnswer,
     out: &mut Vec<u8>,
 ) -> Result<(), AllocError>
-    ensures { OnOk result (out.new.items
-        ≡ out.old.items ++ rules_sentence (seen_claimed claimed.entry) name.now (option_map seen_breaking breaking.entry) answer.now) }
+    ensures { OnOk result (out.new.items ≡ out.old.items ++ rules_sentence (seen_claimed claimed.entry) name.now answer.now) }
 {
     match answer {
         PathAnswer::Holds(count) => push_holds(claimed, name, *count, out),
-        PathAnswer::Fails(_) => push_broken(claimed.claim, name, breaking, out),
+        PathAnswer::Fails(breaking) => push_breaking(claimed.claim, name, breaking, out),
         PathAnswer::TooMany => {
             push_shown(out, name)?;
             out.extend_from_slice(b" has too many different paths: see --limit")
@@ -176,18 +160,16 @@ fn push_by_rules(
 pub fn push_sentence(
     claimed: Claimed<'_>,
     name: &[u8],
-    breaking: Option<Breaking<'_>>,
     finding: &Finding,
     out: &mut Vec<u8>,
 ) -> Result<(), AllocError>
-    ensures { OnOk result (out.new.items
-        ≡ out.old.items ++ sentence (seen_claimed claimed.entry) name.now (option_map seen_breaking breaking.entry) finding.now) }
+    ensures { OnOk result (out.new.items ≡ out.old.items ++ sentence (seen_claimed claimed.entry) name.now finding.now) }
 {
     match finding {
         Finding::Absent => {
             out.extend_from_slice(b"nobody has the name ")?;
             push_shown(out, name)
         }
-        Finding::ByRules(answer) => push_by_rules(claimed, name, breaking, answer, out),
+        Finding::ByRules(answer) => push_by_rules(claimed, name, answer, out),
     }
 }

@@ -1,7 +1,7 @@
 //! The words of a question about all paths.
 
-ghost use Rattle.std.specs.Prelude.{◌≡◌, ◌<◌, IfSome, map, option_map};
-ghost use Rattle.aatry_claims.specs.Words.{letter_of, letters_from, letters_of, path_words, seen_words, whose_of, with_letter};
+ghost use Rattle.std.specs.Prelude.{◌≡◌, ◌<◌, map, option_map};
+ghost use Rattle.aatry_claims.specs.Words.{letter_of, letters_of, path_words, seen_words, whose_of, with_letter};
 
 use aa_explain_paths::Whose;
 use aa_profile_access::Perms;

@@ -1,3 +1,4 @@
+pub mod Apart
 pub mod Below
 pub mod Ends
 pub mod Log
@@ -6,4 +7,3 @@ pub mod Prefixed
 pub mod Requests
 pub mod Rules
 pub mod Summary
-pub mod Unreadable

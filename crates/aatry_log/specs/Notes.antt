@@ -16,10 +16,34 @@ note_line number one several = if number == 0 then [] else codes "aatry: " ++ nu
 abbrev pub unreadable_note : ℕ → List ℕ
 unreadable_note number = note_line number (codes "1 line can't be read") (codes " lines can't be read")
 
+-- how many of them are written by `ausearch -i`
+abbrev pub interpreted_note : ℕ → List ℕ
+interpreted_note number =
+    note_line number (codes "1 of them is written by ausearch -i, of which none is read: use ausearch --raw")
+    (codes " of them are written by ausearch -i, of which none is read: use ausearch --raw")
+
+-- how many requests are for files of which the kernel knew no whole path
+abbrev pub disconnected_note : ℕ → List ℕ
+disconnected_note number =
+    note_line number (codes "1 request is for a file of which the kernel knew no whole path (disconnected): see the flag attach_disconnected")
+    (codes " requests are for files of which the kernel knew no whole path (disconnected): see the flag attach_disconnected")
+
+-- how many requests are of learning profiles
+abbrev pub learning_note : ℕ → List ℕ
+learning_note number =
+    note_line number (codes "1 request is of a learning profile NAME//null-PATH: in complain mode NAME started PATH, with no rule for that")
+    (codes " requests are of learning profiles NAME//null-PATH: in complain mode NAME started PATH, with no rule for that")
+
+-- what is noted of lines that stand apart
+abbrev pub apart_note : LogRequests → List ℕ
+apart_note logs =
+    unreadable_note logs.unreadable.count ++ interpreted_note logs.interpreted ++ disconnected_note logs.disconnected.count
+    ++ learning_note logs.learning.count
+
 -- how many questions are asked by nobody who is loaded
 abbrev pub nobody_note : ℕ → List ℕ
 nobody_note number = note_line number (codes "1 question is of nobody here") (codes " questions are of nobody here")
 
 -- what is noted of logs
 abbrev pub logs_note : LogRequests → ℕ → List ℕ
-logs_note logs nobody = unreadable_note logs.requests.unreadable ++ nobody_note nobody
+logs_note logs nobody = apart_note logs ++ nobody_note nobody

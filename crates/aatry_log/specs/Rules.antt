@@ -2,11 +2,11 @@
 use Rattle.std.specs.Prelude.{◌≡◌, ℕ, Bool, true, false, List, ◌++◌, codes}
 use Rattle.aatry_arguments.specs.LogWords.{LogTellingAsked}
 use Rattle.aatry_folder.specs.Reports.{Report, failed_by}
+use Rattle.aatry_log.specs.Apart.{apart_text}
 use Rattle.aatry_log.specs.Log.{IsLogTold, passes}
 use Rattle.aatry_log.specs.Notes.{logs_note}
 use Rattle.aatry_log.specs.Prefixed.{prefixed_text}
 use Rattle.aatry_log.specs.Summary.{summary_line}
-use Rattle.aatry_log.specs.Unreadable.{unreadable_text}
 use Rattle.aatry_log_rules.specs.Told.{AreRulesTold}
 use Rattle.aatry_logs.specs.LogRequests.{LogRequests}
 use Rattle.aatry_policy.specs.Folders.{Folder, left_out_in, left_out_note}
@@ -17,13 +17,13 @@ abbrev pub aside : Form → List ℕ → List ℕ
 aside form text = prefixed_text form (codes "# ") text
 
 -- A report tells the rules with which the requests of logs are allowed that lack something of a folder, with wider ones where these are asked for, and on
--- lines as comments what is left out before them, and behind them the first lines that can't be read, and what sums up. It notes what is noted of logs, and
+-- lines as comments what is left out before them, and behind them the first lines that stand apart, and what sums up. It notes what is noted of logs, and
 -- one failed where they don't pass.
 pub record AreLogRulesTold (telling : LogTellingAsked) (form : Form) (verbose : Bool) (folder : Folder) (logs : LogRequests) (report : Report) : Type 0 where
   pub rules : List ℕ
   pub nobody : ℕ
   pub told : AreRulesTold form telling.globs folder logs.requests.tallies (aside form (left_out_in form verbose folder)) rules nobody
-  pub text_is : report.text ≡ rules ++ aside form (unreadable_text form logs.unreadable ++ summary_line form logs nobody)
+  pub text_is : report.text ≡ rules ++ aside form (apart_text form logs ++ summary_line form logs nobody)
   pub noted : report.notes ≡ left_out_note folder ++ logs_note logs nobody
   pub counted : report.failed ≡ failed_by (passes telling.strict logs nobody)
 

@@ -1,6 +1,7 @@
 //! The command `log`: the requests of logs, each with what the policy of a folder answers to it now, and the rules behind the answer.
 #![tactic(auto)]
 
+mod apart;
 mod below;
 mod heads;
 mod notes;
@@ -9,6 +10,5 @@ mod requests;
 mod rules;
 mod summary;
 mod telling;
-mod unreadable;
 
 pub use below::log_folder;

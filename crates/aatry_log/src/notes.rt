@@ -1,7 +1,8 @@
 //! What is noted of logs beside what is told of them.
 
 ghost use Rattle.std.specs.Prelude.{◌≡◌, ◌++◌, OnOk};
-ghost use Rattle.aatry_log.specs.Notes.{logs_note, nobody_note, note_line, number_words, unreadable_note};
+ghost use Rattle.aatry_log.specs.Notes.{apart_note, disconnected_note, interpreted_note, learning_note, logs_note, nobody_note, note_line, number_words};
+ghost use Rattle.aatry_log.specs.Notes.{unreadable_note};
 ghost use Rattle.aatry_logs.specs.LogRequests.{seen_logs};
 
 use aatry_logs::LogRequests;
@@ -48,6 +49,52 @@ fn push_unreadable_note(number: u64, out: &mut Vec<u8>) -> Result<(), AllocError
     )
 }
 
+// Appends how many of them are written by `ausearch -i` to a text.
+fn push_interpreted_note(number: u64, out: &mut Vec<u8>) -> Result<(), AllocError>
+    ensures { OnOk result (out.new.items ≡ out.old.items ++ interpreted_note number) }
+{
+    push_note_line(
+        number,
+        b"1 of them is written by ausearch -i, of which none is read: use ausearch --raw",
+        b" of them are written by ausearch -i, of which none is read: use ausearch --raw",
+        out,
+    )
+}
+
+// Appends how many requests are for files of which the kernel knew no whole path to a text.
+fn push_disconnected_note(number: u64, out: &mut Vec<u8>) -> Result<(), AllocError>
+    ensures { OnOk result (out.new.items ≡ out.old.items ++ disconnected_note number) }
+{
+    push_note_line(
+        number,
+        b"1 request is for a file of which the kernel knew no whole path (disconnected): see the flag attach_disconnected",
+        b" requests are for files of which the kernel knew no whole path (disconnected): see the flag attach_disconnected",
+        out,
+    )
+}
+
+// Appends how many requests are of learning profiles to a text.
+fn push_learning_note(number: u64, out: &mut Vec<u8>) -> Result<(), AllocError>
+    ensures { OnOk result (out.new.items ≡ out.old.items ++ learning_note number) }
+{
+    push_note_line(
+        number,
+        b"1 request is of a learning profile NAME//null-PATH: in complain mode NAME started PATH, with no rule for that",
+        b" requests are of learning profiles NAME//null-PATH: in complain mode NAME started PATH, with no rule for that",
+        out,
+    )
+}
+
+// Appends what is noted of lines that stand apart to a text.
+fn push_apart_note(logs: &LogRequests<'_>, out: &mut Vec<u8>) -> Result<(), AllocError>
+    ensures { OnOk result (out.new.items ≡ out.old.items ++ apart_note (seen_logs logs.now)) }
+{
+    push_unreadable_note(logs.unreadable.count, out)?;
+    push_interpreted_note(logs.interpreted, out)?;
+    push_disconnected_note(logs.disconnected.count, out)?;
+    push_learning_note(logs.learning.count, out)
+}
+
 // Appends how many questions are asked by nobody who is loaded to a text.
 fn push_nobody_note(number: u64, out: &mut Vec<u8>) -> Result<(), AllocError>
     ensures { OnOk result (out.new.items ≡ out.old.items ++ nobody_note number) }
@@ -60,8 +107,9 @@ fn push_nobody_note(number: u64, out: &mut Vec<u8>) -> Result<(), AllocError>
     )
 }
 
-/// Appends what is noted of logs to a text: a line with how many of their lines can't be read, and one with how many questions are asked by nobody who is
-/// loaded, each where there is one.
+/// Appends what is noted of logs to a text: a line with how many of their lines can't be read, one with how many of these `ausearch -i` wrote, one each with
+/// how many requests are for files of which the kernel knew no whole path, and of learning profiles, and one with how many questions are asked by nobody
+/// who is loaded, each where there is one.
 ///
 /// # Errors
 ///
@@ -73,6 +121,6 @@ pub fn push_logs_note(
 ) -> Result<(), AllocError>
     ensures { OnOk result (out.new.items ≡ out.old.items ++ logs_note (seen_logs logs.now) nobody) }
 {
-    push_unreadable_note(logs.requests.unreadable, out)?;
+    push_apart_note(logs, out)?;
     push_nobody_note(nobody as u64, out)
 }

@@ -3,17 +3,17 @@
 ghost use Rattle.std.specs.Prelude.{◌≡◌, ◌++◌, IfOk, OnOk};
 ghost use Rattle.aatry_arguments.specs.Given.{meant_telling};
 ghost use Rattle.aatry_folder.specs.Reports.{seen_report};
+ghost use Rattle.aatry_log.specs.Apart.{apart_text};
 ghost use Rattle.aatry_log.specs.Rules.{AreLogRulesTold, aside};
 ghost use Rattle.aatry_log.specs.Summary.{summary_line};
-ghost use Rattle.aatry_log.specs.Unreadable.{unreadable_text};
 ghost use Rattle.aatry_logs.specs.LogRequests.{seen_logs};
 ghost use Rattle.aatry_policy.specs.Folders.{seen_folder};
 
+use crate::apart::push_apart;
 use crate::notes::push_logs_note;
 use crate::prefixing::push_prefixed;
 use crate::summary::push_summary;
 use crate::telling::passes;
-use crate::unreadable::push_unreadable;
 use aatry_arguments::LogTelling;
 use aatry_folder::{PolicyFolder, Report, failed_by};
 use aatry_log_rules::push_rules;
@@ -38,10 +38,10 @@ fn push_behind(
     out: &mut Vec<u8>,
 ) -> Result<(), AllocError>
     ensures { OnOk result (out.new.items
-        ≡ out.old.items ++ aside teller.form (unreadable_text teller.form (seen_logs logs.now).unreadable ++ summary_line teller.form (seen_logs logs.now) nobody)) }
+        ≡ out.old.items ++ aside teller.form (apart_text teller.form (seen_logs logs.now) ++ summary_line teller.form (seen_logs logs.now) nobody)) }
 {
     let mut behind = Vec::new(teller.alloc);
-    push_unreadable(teller, &logs.unreadable, &mut behind)?;
+    push_apart(teller, logs, &mut behind)?;
     push_summary(teller, logs, nobody, &mut behind)?;
     push_aside(teller.form, &behind, out)
 }
@@ -65,9 +65,9 @@ fn remember_all(
 }
 
 /// The rules with which the requests of logs are allowed that lack something of a folder of policy that was read, told in a form
-/// (`aatry_log_rules::push_rules`). Before them stand the files that are left out, where they are told, and behind them the first lines that can't be read,
-/// and what sums up; on lines as comments, so that what isn't one is a rule. It notes what `log` notes, and
-/// one failed where `log` has it so. Wider rules are offered beside them where these are asked for.
+/// (`aatry_log_rules::push_rules`). Before them stand the files that are left out, where they are told, and behind them the first lines that stand apart
+/// from the questions, as `log` tells them, and what sums up; on lines as comments, so that what isn't one is a rule. It notes what `log` notes, and one
+/// failed where `log` has it so. Wider rules are offered beside them where these are asked for.
 ///
 /// # Errors
 ///

@@ -6,10 +6,10 @@ ghost use Rattle.aatry_log.specs.Log.{IsLogTold, passes};
 ghost use Rattle.aatry_logs.specs.LogRequests.{seen_logs};
 ghost use Rattle.aatry_policy.specs.Folders.{seen_folder};
 
+use crate::apart::push_apart;
 use crate::notes::push_logs_note;
 use crate::requests::push_requests;
 use crate::summary::push_summary;
-use crate::unreadable::push_unreadable;
 use aatry_folder::{PolicyFolder, Report, failed_by};
 use aatry_logs::LogRequests;
 use aatry_policy::load_folder;
@@ -27,8 +27,10 @@ pub fn passes(strict: bool, logs: &LogRequests<'_>, nobody: usize) -> bool
 /// What the requests of logs come to, asked of a folder of policy that was read, told in a form. First come the files that are left out, where they
 /// are told, and it is noted how many they are (`aatry_policy::load_folder`). Then comes each request once, those first that came most often: a line
 /// with how often it came, when and what it asks, and below it what the policy answers now, with the rules behind the answer and the one that is
-/// missing, and the profiles of files that are left out on which it could hang, as `why` tells them. Then come the first lines that can't be read, and at the end stands what sums up. It is noted how many lines can't be
-/// read, and how many questions are of nobody who is there. Where the logs are taken strictly, one failed where there is such a line or question.
+/// missing, and the profiles of files that are left out on which it could hang, as `why` tells them. Then come the first lines that stand apart from
+/// the questions: that can't be read, of which the kernel knew no whole path, or of learning profiles. At the end stands what sums up. It is noted how
+/// many such lines there are, and how many questions are of nobody who is there. Where the logs are taken strictly, one failed where a line can't be
+/// read or there is such a question.
 ///
 /// # Errors
 ///
@@ -51,7 +53,7 @@ pub fn log(
         &logs.requests.tallies,
         &mut report.text,
     )?;
-    push_unreadable(teller, &logs.unreadable, &mut report.text)?;
+    push_apart(teller, logs, &mut report.text)?;
     push_summary(teller, logs, nobody, &mut report.text)?;
     push_logs_note(logs, nobody, &mut report.notes)?;
     report.failed = failed_by(passes(strict, logs, nobody));

@@ -1,3 +1,4 @@
+pub mod MessageLemmas
 mod PairLemmas
 mod QuoteLemmas
 mod SeveralLemmas

@@ -25,8 +25,8 @@ use Rattle.aa_profile_tables.specs.Names.{name_or_none}
 use Rattle.aa_set_commands.specs.Question.{OfAccess, OfExec, is_path, type_number}
 use Rattle.aa_set_lines.specs.Lines.{is_line_feed, lines}
 use Rattle.aatry_log_lines.specs.Laws.{CanBeLogged, as_logged}
-use Rattle.aatry_log_lines.specs.Lines.{Asks, Told, asked_by, asker_of, has_asked_class, is_local, is_of_host, owned_in, request_told, sockets_told, told_as, told_by, told_by_message, told_of}
-use Rattle.aatry_log_lines.specs.Messages.{message_in}
+use Rattle.aatry_log_lines.specs.Lines.{Asks, Told, asked_by, asked_of, asker_of, file_told, has_asked_class, is_disconnected, is_local, is_of_host, owned_in, request_told, sockets_told, told_as, told_by, told_by_message, told_of}
+use Rattle.aatry_log_lines.specs.Messages.{NoMessage, message_in}
 use Rattle.aatry_log_lines.specs.LoggedQuestions.{path_question}
 use Rattle.aatry_kernel_words.specs.Masks.{needs_of_mask}
 use Rattle.aatry_log_lines.specs.Pairs.{is_gap, value_among, value_of, words}
@@ -198,7 +198,7 @@ file-words tag mask needs path fit =
 -- ---- what the words tell
 
 -- the word of the answer tells of a request
-answer-tells : (tag : Tag) (line : List ℕ) → told_as line (quoted_text (quoted (tag_word tag))) ≡ request_told line
+answer-tells : (tag : Tag) (line : List ℕ) → told_as line (quoted (tag_word tag)) (quoted_text (quoted (tag_word tag))) ≡ request_told line
 answer-tells Denied line = refl
 answer-tells Allowed line = refl
 answer-tells Audit line = refl
@@ -213,6 +213,8 @@ record FileValues (line : List ℕ) (tag : Tag) (asker path : List ℕ) (needs :
   family : value_of (codes "family=") line ≡ None
   requested : value_of (codes "requested_mask=") line ≡ Some (quoted (letters_of needs))
   name : value_of (codes "name=") line ≡ Some (written_text path)
+  info : value_of (codes "info=") line ≡ None
+  process : value_of (codes "pid=") line ≡ None
   user : value_of (codes "fsuid=") line ≡ None
   owner : value_of (codes "ouid=") line ≡ None
 
@@ -228,6 +230,8 @@ file-values line Denied operation asker path needs mask ws = record {
   family = ap (value_among (codes "family=")) ws;
   requested = ap (value_among (codes "requested_mask=")) ws;
   name = ap (value_among (codes "name=")) ws;
+  info = ap (value_among (codes "info=")) ws;
+  process = ap (value_among (codes "pid=")) ws;
   user = ap (value_among (codes "fsuid=")) ws;
   owner = ap (value_among (codes "ouid=")) ws;
 }
@@ -240,6 +244,8 @@ file-values line Allowed operation asker path needs mask ws = record {
   family = ap (value_among (codes "family=")) ws;
   requested = ap (value_among (codes "requested_mask=")) ws;
   name = ap (value_among (codes "name=")) ws;
+  info = ap (value_among (codes "info=")) ws;
+  process = ap (value_among (codes "pid=")) ws;
   user = ap (value_among (codes "fsuid=")) ws;
   owner = ap (value_among (codes "ouid=")) ws;
 }
@@ -252,12 +258,15 @@ file-values line Audit operation asker path needs mask ws = record {
   family = ap (value_among (codes "family=")) ws;
   requested = ap (value_among (codes "requested_mask=")) ws;
   name = ap (value_among (codes "name=")) ws;
+  info = ap (value_among (codes "info=")) ws;
+  process = ap (value_among (codes "pid=")) ws;
   user = ap (value_among (codes "fsuid=")) ws;
   owner = ap (value_among (codes "ouid=")) ws;
 }
 
 -- a line on a file asks for its path by its mask
-file-told : (line : List ℕ) (tag : Tag) (asker path : List ℕ) (needs : ℕ) → FileValues line tag asker path needs → IsBytes asker → IsBytes path
+file-told : (line : List ℕ) (tag : Tag) (asker path : List ℕ) (needs : ℕ) → FileValues line tag asker path needs → IsBytes asker
+    → IsBytes path
     → list_all is_shown (letters_of needs) ≡ true → told_by_message line ≡ told_of (path_question asker (letters_of needs) false path)
 file-told line tag asker path needs values who fit shown =
     let answer = values.answer in
@@ -268,13 +277,15 @@ file-told line tag asker path needs values who fit shown =
     let family = values.family in
     let requested = values.requested in
     let name = values.name in
+    let info = values.info in
+    let process = values.process in
     let user = values.user in
     let owner = values.owner in
     let letters = quoted-back (letters_of needs) shown in
     let own = written-back path fit in
     let asked = written-back asker who in
     rw (told_by_message, answer) (answer-tells tag line
-    ∙ rw (request_told, is_of_host, has_asked_class, namespace, kind, asker_of, profile, asked_by, capname, family, requested, name, letters, own, asked, owned_in, user, owner) refl)
+    ∙ rw (request_told, is_of_host, has_asked_class, namespace, kind, asker_of, profile, asked_by, asked, process, asked_of, capname, family, requested, file_told, name, is_disconnected, info, letters, own, asked, owned_in, user, owner) refl)
 
 -- the question for a path by the letters of a request
 path-asked : (asker path : List ℕ) (needs : ℕ) → 0 < needs → needs < asked_letters → is_path path ≡ true
@@ -309,24 +320,26 @@ capability-told line tag operation asker number who within ws =
     let kind = values.2 in
     let profile = values.3 in
     let capname = values.4 in
+    let process = values.5 in
     let name = quoted-back (name_or_none (capability_name number)) (capability-shown number within) in
     let asked = written-back asker who in
     let read = capability-read number within in
     rw (told_by_message, answer) (answer-tells tag line
-    ∙ rw (request_told, is_of_host, has_asked_class, namespace, kind, asker_of, profile, asked_by, capname, name, asked, read) refl)
+    ∙ rw (request_told, is_of_host, has_asked_class, namespace, kind, asker_of, profile, asked_by, asked, process, asked_of, capname, name, asked, read) refl)
   where
     values_of : (tag : Tag)
         → words line ≡ answer_of tag ∷ (codes "operation=" ++ operation) ∷ (codes "profile=" ++ written_text asker) ∷ (codes "capability=" ++ decimal number)
         ∷ (codes "capname=" ++ quoted (name_or_none (capability_name number))) ∷ []
         → (value_of (codes "apparmor=") line ≡ Some (quoted (tag_word tag))) × (value_of (codes "namespace=") line ≡ None)
         × (value_of (codes "class=") line ≡ None) × (value_of (codes "profile=") line ≡ Some (written_text asker))
-        × (value_of (codes "capname=") line ≡ Some (quoted (name_or_none (capability_name number))))
+        × (value_of (codes "capname=") line ≡ Some (quoted (name_or_none (capability_name number)))) × (value_of (codes "pid=") line ≡ None)
     values_of Denied ws = (
       ap (value_among (codes "apparmor=")) ws,
       ap (value_among (codes "namespace=")) ws,
       ap (value_among (codes "class=")) ws,
       ap (value_among (codes "profile=")) ws,
       ap (value_among (codes "capname=")) ws,
+      ap (value_among (codes "pid=")) ws,
     )
     values_of Allowed ws = (
       ap (value_among (codes "apparmor=")) ws,
@@ -334,6 +347,7 @@ capability-told line tag operation asker number who within ws =
       ap (value_among (codes "class=")) ws,
       ap (value_among (codes "profile=")) ws,
       ap (value_among (codes "capname=")) ws,
+      ap (value_among (codes "pid=")) ws,
     )
     values_of Audit ws = (
       ap (value_among (codes "apparmor=")) ws,
@@ -341,6 +355,7 @@ capability-told line tag operation asker number who within ws =
       ap (value_among (codes "class=")) ws,
       ap (value_among (codes "profile=")) ws,
       ap (value_among (codes "capname=")) ws,
+      ap (value_among (codes "pid=")) ws,
     )
 
 abbrev sockets_behind : ℕ → ℕ → List ℕ
@@ -380,6 +395,7 @@ sockets-told line tag asker domain kind who in_domains in_kinds ws =
     let family = values.5 in
     let sort = values.6 in
     let operation = values.7 in
+    let process = values.8 in
     let domain_text = quoted-back (name_or_none (domain_name domain)) (domain-shown domain in_domains) in
     let kind_text = quoted-back (name_or_none (kind_name kind)) (kind-shown kind in_kinds) in
     let asked = written-back asker who in
@@ -387,7 +403,7 @@ sockets-told line tag asker domain kind who in_domains in_kinds ws =
     let kind_found = type-read kind in_kinds in
     let own = own-asks line (quoted (name_or_none (domain_name domain))) operation in
     rw (told_by_message, answer) (answer-tells tag line
-    ∙ rw (request_told, is_of_host, has_asked_class, namespace, class, asker_of, profile, asked_by, capname, family, sockets_told, own, sort, domain_text, kind_text, asked, domain_found, kind_found) refl)
+    ∙ rw (request_told, is_of_host, has_asked_class, namespace, class, asker_of, profile, asked_by, asked, process, asked_of, capname, family, sockets_told, own, sort, domain_text, kind_text, asked, domain_found, kind_found) refl)
   where
     values_of : (tag : Tag)
         → words line ≡ answer_of tag ∷ (codes "operation=" ++ quoted (codes "net")) ∷ (codes "profile=" ++ written_text asker)
@@ -396,7 +412,7 @@ sockets-told line tag asker domain kind who in_domains in_kinds ws =
         × (value_of (codes "class=") line ≡ None) × (value_of (codes "profile=") line ≡ Some (written_text asker)) × (value_of (codes "capname=") line ≡ None)
         × (value_of (codes "family=") line ≡ Some (quoted (name_or_none (domain_name domain))))
         × (value_of (codes "sock_type=") line ≡ Some (quoted (name_or_none (kind_name kind))))
-        × (value_of (codes "operation=") line ≡ Some (quoted (codes "net")))
+        × (value_of (codes "operation=") line ≡ Some (quoted (codes "net"))) × (value_of (codes "pid=") line ≡ None)
     values_of Denied ws = (
       ap (value_among (codes "apparmor=")) ws,
       ap (value_among (codes "namespace=")) ws,
@@ -406,6 +422,7 @@ sockets-told line tag asker domain kind who in_domains in_kinds ws =
       ap (value_among (codes "family=")) ws,
       ap (value_among (codes "sock_type=")) ws,
       ap (value_among (codes "operation=")) ws,
+      ap (value_among (codes "pid=")) ws,
     )
     values_of Allowed ws = (
       ap (value_among (codes "apparmor=")) ws,
@@ -416,6 +433,7 @@ sockets-told line tag asker domain kind who in_domains in_kinds ws =
       ap (value_among (codes "family=")) ws,
       ap (value_among (codes "sock_type=")) ws,
       ap (value_among (codes "operation=")) ws,
+      ap (value_among (codes "pid=")) ws,
     )
     values_of Audit ws = (
       ap (value_among (codes "apparmor=")) ws,
@@ -426,6 +444,7 @@ sockets-told line tag asker domain kind who in_domains in_kinds ws =
       ap (value_among (codes "family=")) ws,
       ap (value_among (codes "sock_type=")) ws,
       ap (value_among (codes "operation=")) ws,
+      ap (value_among (codes "pid=")) ws,
     )
 
 -- ---- each is one line
@@ -493,14 +512,14 @@ sockets-no_feed domain kind in_domains in_kinds =
     (quoted-no_gap (name_or_none (kind_name kind)) (all_shown-no_gap (name_or_none (kind_name kind)) (kind-shown kind in_kinds))))
 
 -- a text that is one line tells what the line tells, which is no record
-one-line : (line : List ℕ) (told : Told) → list_any is_line_feed line ≡ false → message_in line ≡ None → told_by_message line ≡ told
+one-line : (line : List ℕ) (told : Told) → list_any is_line_feed line ≡ false → message_in line ≡ NoMessage → told_by_message line ≡ told
     → map told_by (lines (line ++ line_feed ∷ [])) ≡ told ∷ []
 one-line line told none no_record is =
     ap (map told_by) (ap lines (sym (append-nil (line ++ line_feed ∷ []))) ∙ lines-ended line [] none)
     ∙ ap (λ told. told ∷ []) (rw (told_by, no_record) is)
 
 -- each begins with the word of the answer
-no-record : (tag : Tag) (operation asker behind : List ℕ) → message_in (beginning tag operation asker ++ behind) ≡ None
+no-record : (tag : Tag) (operation asker behind : List ℕ) → message_in (beginning tag operation asker ++ behind) ≡ NoMessage
 no-record tag operation asker behind = refl
 
 -- ---- whole lines

@@ -1,7 +1,7 @@
 -- What a line of a log tells: what it asks, if it asks something, when that came, and whether the line is passed over.
-use Rattle.std.specs.Prelude.{ℕ, Bool, List, Option, None, Some}
-use Rattle.aatry_log_lines.specs.Lines.{Told, seen_line, told_by_message}
-use Rattle.aatry_log_lines.specs.Messages.{message_in}
+use Rattle.std.specs.Prelude.{ℕ, Bool, false, List, Option, None}
+use Rattle.aatry_log_lines.specs.Lines.{Told, Unreadable, seen_line, told_by_message}
+use Rattle.aatry_log_lines.specs.Messages.{Broken, NoMessage, Whole, message_in}
 use Rattle.aatry_log_lines.specs.Selections.{Selection, is_passed_over}
 use Rattle.aatry_log_lines.specs.Stamps.{time_in}
 use Rattle.aatry_log_lines.specs.declared.entries.LogEntry.{LogEntry}
@@ -20,6 +20,11 @@ abbrev pub entry_of : Selection → List ℕ → Entry
 entry_of selection message =
     record { told = told_by_message message; time = time_in message; is_passed_over = is_passed_over selection message }
 
+-- that of a line that can't be read: nothing of what it asks, nor when, nor whether it is asked for
+abbrev pub unreadable_entry : Entry
+unreadable_entry = record { told = Unreadable; time = None; is_passed_over = false }
+
 -- that of a line: by its message, where it is a record of the journal, and else by the line itself
 abbrev pub entry_by : Selection → List ℕ → Entry
-entry_by selection line = elim (message_in line) [ None ↦ entry_of selection line | Some message ↦ entry_of selection message ]
+entry_by selection line =
+    elim (message_in line) [ NoMessage ↦ entry_of selection line | Whole message ↦ entry_of selection message | Broken ↦ unreadable_entry ]

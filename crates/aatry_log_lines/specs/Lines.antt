@@ -1,30 +1,39 @@
 -- What a line of the kernel's log tells of. It says so by its pair of the key `apparmor`: that a request was denied, allowed in complain mode or
 -- audited, or that policy was loaded, or the like.
-use Rattle.std.specs.Prelude.{ℕ, Bool, true, false, not, ◌&&◌, ◌||◌, if◌then◌else◌, List, ◌∷◌, Option, None, Some, codes, option_and_then}
+use Rattle.std.specs.Prelude.{ℕ, Bool, true, false, is_some, not, ◌&&◌, ◌||◌, if◌then◌else◌, List, [], ◌∷◌, Option, None, Some, codes, option_and_then}
 use Rattle.std.specs.Str.{bytes_eq}
+use Rattle.aa_bytes.specs.Bytes.{quote}
 use Rattle.aa_bytes.specs.Quoting.{quoted}
+use Rattle.aa_bytes.specs.Texts.{begins_with, is_empty}
 use Rattle.aa_profile_access.specs.Stacks.{parts_of}
 use Rattle.aa_set_commands.specs.Question.{Question}
 use Rattle.aatry_log_lines.specs.LoggedQuestions.{capability_asked, file_asked, seen_logged, sockets_asked}
-use Rattle.aatry_log_lines.specs.Messages.{message_in}
+use Rattle.aatry_log_lines.specs.Messages.{Broken, NoMessage, Whole, message_in}
 use Rattle.aatry_log_lines.specs.Pairs.{value_of}
 use Rattle.aatry_log_lines.specs.Values.{quoted_text, text_of}
 use Rattle.aatry_log_lines.specs.declared.lines.LogLine.{LogLine}
 use Rattle.aatry_log_lines.specs.declared.lines.LogLine.TheVariants as line
 
--- a request, as a question asks it; one that no question asks, as for a signal or a mount; no request; or what can't be read
+-- A request, as a question asks it; one that no question asks, as for a signal or a mount; one for a file of which the kernel knew no whole path, or one
+-- of a learning profile, which no question asks either; no request; what can't be read; or a request that can't be read since its values are interpreted.
 pub data Told : Type 0 where
   Asks : (question : Question) → Told
   OtherRequest : Told
+  Disconnected : Told
+  Learning : Told
   NoRequest : Told
   Unreadable : Told
+  Interpreted : Told
 
 -- a line of the code
 abbrev pub seen_line : LogLine → Told
 seen_line (line.Asks question) = Asks (seen_logged question)
 seen_line line.OtherRequest = OtherRequest
+seen_line line.Disconnected = Disconnected
+seen_line line.Learning = Learning
 seen_line line.NoRequest = NoRequest
 seen_line line.Unreadable = Unreadable
+seen_line line.Interpreted = Interpreted
 
 -- the words that say how a request came out
 abbrev pub tells_request : List ℕ → Bool
@@ -87,6 +96,28 @@ ownership _ _ = None
 abbrev pub owned_in : List ℕ → Option Bool
 owned_in line = ownership (value_of (codes "fsuid=") line) (value_of (codes "ouid=") line)
 
+-- The kernel's own words say that it knew no whole path, since the file lies below no place that is mounted where it looks from:
+-- `info="Failed name lookup - disconnected path"`. The name of such a line is the part that it knew.
+abbrev pub has_word : List ℕ → List ℕ → Bool
+has_word word line = elim (value_of word line) [ None ↦ false | Some rest ↦ is_empty rest ]
+
+abbrev pub is_disconnected : List ℕ → Bool
+is_disconnected line = elim (value_of (codes "info=") line) [
+  | None ↦ false
+  | Some value ↦ bytes_eq value (quote ∷ codes "Failed") && has_word (codes "disconnected") line
+]
+
+-- A name is that of a learning profile. In complain mode the kernel runs a program that no rule of NAME lets start under one, which it calls
+-- `NAME//null-PATH`, by the program's path, or as older ones do `NAME//null-1f`, by a number; and so a hat or a profile that isn't there and is changed to.
+abbrev pub is_learning : List ℕ → Bool
+is_learning [] = false
+is_learning (b ∷ bs) = begins_with (codes "//null-") (b ∷ bs) || is_learning bs
+
+-- the same of a name that may not be read, in a line that tells of a process: the kernel names that of each request, and no line of `aaset` names one
+abbrev pub is_of_learning : List ℕ → Option (List ℕ) → Bool
+is_of_learning line None = false
+is_of_learning line (Some name) = is_some (value_of (codes "pid=") line) && is_learning name
+
 -- Sockets of the family unix are decided by `unix` rules, which no question asks. A line that `aaset` tells has the operation `net`, which no kernel's
 -- has, and asks.
 abbrev pub is_local : List ℕ → List ℕ → Bool
@@ -104,18 +135,18 @@ told_of (Some question) = Asks question
 -- what a line tells of that has the pairs of a file: its mask and its name
 abbrev pub file_told : List ℕ → Option (List ℕ) → List ℕ → Option (List ℕ) → Told
 file_told line who mask None = OtherRequest
-file_told line who mask (Some name) = told_of (file_asked who (quoted_text mask) (owned_in line) (text_of name))
+file_told line who mask (Some name) =
+    if is_disconnected line then Disconnected else told_of (file_asked who (quoted_text mask) (owned_in line) (text_of name))
 
 -- what a line tells of that has the family of a socket
 abbrev pub sockets_told : List ℕ → Option (List ℕ) → List ℕ → Told
 sockets_told line who family =
     if is_local line family then OtherRequest else told_of (sockets_asked who (quoted_text family) (quoted_at (codes "sock_type=") line))
 
--- What a line tells of that tells of a request of one. Which kind it is, its keys say: a capability's name, a socket's family, or the mask and the name
--- of a file.
-abbrev pub asked_by : List ℕ → Asker → Told
-asked_by line Several = OtherRequest
-asked_by line (One who) = elim (value_of (codes "capname=") line) [
+-- What a line tells of that tells of a request of one that is no learning profile. Which kind it is, its keys say: a capability's name, a socket's family,
+-- or the mask and the name of a file.
+abbrev pub asked_of : List ℕ → Option (List ℕ) → Told
+asked_of line who = elim (value_of (codes "capname=") line) [
   | Some name ↦ told_of (capability_asked who (quoted_text name))
   | None ↦ elim (value_of (codes "family=") line) [
     | Some family ↦ sockets_told line who family
@@ -126,14 +157,24 @@ asked_by line (One who) = elim (value_of (codes "capname=") line) [
   ]
 ]
 
+-- what a line tells of that tells of a request of somebody
+abbrev pub asked_by : List ℕ → Asker → Told
+asked_by line Several = OtherRequest
+asked_by line (One who) = if is_of_learning line who then Learning else asked_of line who
+
 -- what a line tells of that tells of a request
 abbrev pub request_told : List ℕ → Told
 request_told line = if is_of_host line && has_asked_class line then asked_by line (asker_of line) else OtherRequest
 
--- the same by the word of its pair of `apparmor`
-abbrev pub told_as : List ℕ → Option (List ℕ) → Told
-told_as line None = Unreadable
-told_as line (Some word) = if tells_request word then request_told line else (if tells_else word then NoRequest else Unreadable)
+-- What a line tells of whose pair of `apparmor` has a value without quotes. `ausearch -i` writes all values so, and names as they are, with blanks and all:
+-- where such a name ends can't be told, so a request is read of no such line.
+abbrev pub told_interpreted : List ℕ → Told
+told_interpreted word = if tells_request word then Interpreted else (if tells_else word then NoRequest else Unreadable)
+
+-- the same by the value of its pair of `apparmor`, and the word between its quotes
+abbrev pub told_as : List ℕ → List ℕ → Option (List ℕ) → Told
+told_as line value None = told_interpreted value
+told_as line value (Some word) = if tells_request word then request_told line else (if tells_else word then NoRequest else Unreadable)
 
 -- What a line of a program tells of that asks the kernel what policy is and decides itself, as the bus of messages does: a request of another kind. All
 -- of it stands behind `msg='`.
@@ -144,7 +185,7 @@ told_as_program (Some word) = if tells_request word then OtherRequest else (if t
 -- what a message tells of
 abbrev pub told_by_message : List ℕ → Told
 told_by_message message = elim (value_of (codes "apparmor=") message) [
-  | Some value ↦ told_as message (quoted_text value)
+  | Some value ↦ told_as message value (quoted_text value)
   | None ↦ elim (value_of (codes "msg='apparmor=") message) [
     | Some value ↦ told_as_program (quoted_text value)
     | None ↦ NoRequest
@@ -153,4 +194,4 @@ told_by_message message = elim (value_of (codes "apparmor=") message) [
 
 -- what a line tells of: its message, where it is a record of the journal, and else the line itself
 abbrev pub told_by : List ℕ → Told
-told_by line = elim (message_in line) [ None ↦ told_by_message line | Some message ↦ told_by_message message ]
+told_by line = elim (message_in line) [ NoMessage ↦ told_by_message line | Whole message ↦ told_by_message message | Broken ↦ Unreadable ]

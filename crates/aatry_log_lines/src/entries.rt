@@ -1,11 +1,11 @@
 //! What lines of a log tell, and when.
 
 ghost use Rattle.std.specs.Prelude.{◌≡◌, IfOk};
-ghost use Rattle.aatry_log_lines.specs.Entries.{entry_by, entry_of, seen_entry};
+ghost use Rattle.aatry_log_lines.specs.Entries.{entry_by, entry_of, seen_entry, unreadable_entry};
 ghost use Rattle.aatry_log_lines.specs.Selections.{seen_selection};
 
 use crate::lines::{LogLine, told_by_message};
-use crate::messages::message_in;
+use crate::messages::{Message, message_in};
 use crate::selections::{Selection, is_passed_over};
 use crate::stamps::time_in;
 use std::alloc::{AllocError, Global};
@@ -22,6 +22,17 @@ pub struct LogEntry<'a> {
 }
 
 impl<'a> LogEntry<'a> {
+    /// That of a line that can't be read: nothing is known of what it asks, nor when it came, nor whether it is asked for. It takes no memory.
+    pub fn unreadable() -> LogEntry<'a>
+        ensures { seen_entry result ≡ unreadable_entry }
+    {
+        LogEntry {
+            told: LogLine::Unreadable,
+            time: None,
+            is_passed_over: false,
+        }
+    }
+
     /// The same, that borrows from no line.
     ///
     /// # Errors
@@ -73,7 +84,8 @@ pub fn entry_by<'a>(
     ensures { IfOk result (λ entry. seen_entry entry ≡ entry_by (seen_selection selection.entry) line.now) }
 {
     match message_in(alloc, line)? {
-        Some(message) => entry_of(alloc, selection, &message)?.into_owned(alloc),
-        None => entry_of(alloc, selection, line),
+        Message::NoMessage => entry_of(alloc, selection, line),
+        Message::Whole(message) => entry_of(alloc, selection, &message)?.into_owned(alloc),
+        Message::Broken => Ok(LogEntry::unreadable()),
     }
 }

@@ -2,9 +2,10 @@
 
 ghost use Rattle.std.specs.Prelude.{◌≡◌, codes, option_map, IfOk};
 ghost use Rattle.aa_profile_access.specs.Stacks.{parts_of};
-ghost use Rattle.aatry_log_lines.specs.Lines.{One, are_several, asked_by, asker_of, has_asked_class, is_local, is_of_host, labelled, owned_in};
+ghost use Rattle.aatry_log_lines.specs.Lines.{One, are_several, asked_by, asked_of, asker_of, has_asked_class, has_word, is_disconnected, is_learning};
+ghost use Rattle.aatry_log_lines.specs.Lines.{is_local, is_of_host, is_of_learning, labelled, owned_in};
 ghost use Rattle.aatry_log_lines.specs.Lines.{file_told, quoted_at, request_told, seen_line, sockets_told, tells_else, tells_request, text_at};
-ghost use Rattle.aatry_log_lines.specs.Lines.{told_as_program, told_by, told_by_message, told_of};
+ghost use Rattle.aatry_log_lines.specs.Lines.{told_as_program, told_by, told_by_message, told_interpreted, told_of};
 ghost use Rattle.aatry_log_lines.specs.code.Askers.{seen_asker};
 ghost use Rattle.aatry_log_lines.specs.LoggedQuestions.{seen_logged};
 ghost use Rattle.aatry_log_lines.specs.Pairs.{value_of};
@@ -12,9 +13,10 @@ ghost use Rattle.aatry_log_lines.specs.Values.{seen_text};
 
 use crate::asked::LoggedQuestion;
 use crate::logged_questions::{capability_asked, file_asked, sockets_asked};
-use crate::messages::message_in;
+use crate::messages::{Message, message_in};
 use crate::pairs::value_of;
 use crate::values::{LoggedText, quoted_text, text_of};
+use aa_bytes::begins_with;
 use aa_profile_access::first_member;
 use std::alloc::{AllocError, Global};
 
@@ -25,11 +27,17 @@ pub enum LogLine<'a> {
     Asks(LoggedQuestion<'a>),
     /// A request of a kind that no question asks, as for a signal or a mount.
     OtherRequest,
+    /// A request for a file of which the kernel knew no whole path, as its words `disconnected path` say.
+    Disconnected,
+    /// A request of a learning profile, as of `NAME//null-PATH`: of a program at PATH that NAME started in complain mode, where no rule of NAME lets it.
+    Learning,
     /// No request: it says nothing of AppArmor, or that policy was loaded, or the like.
     NoRequest,
     /// Something of AppArmor that can't be read: a value is missing or in no known form, or is no word that is known there, or the path or the mask
     /// is none that a question can have.
     Unreadable,
+    /// A request that can't be read, since its values are written without quotes, as `ausearch -i` does.
+    Interpreted,
 }
 
 // Whether a word says how a request came out.
@@ -140,6 +148,50 @@ fn owned_in(line: &[u8]) -> Option<bool>
     }
 }
 
+// Whether a word stands in a line, where no other that begins with it stands before.
+fn has_word(line: &[u8], word: &[u8]) -> bool
+    ensures { result ≡ has_word word.now line.now }
+{
+    match value_of(line, word) {
+        Some(rest) => rest.is_empty(),
+        None => false,
+    }
+}
+
+// Whether a line says that the kernel knew no whole path.
+fn is_disconnected(line: &[u8]) -> bool
+    ensures { result ≡ is_disconnected line.now }
+{
+    match value_of(line, b"info=") {
+        Some(value) => value == b"\"Failed".as_slice() && has_word(line, b"disconnected"),
+        None => false,
+    }
+}
+
+// Whether a name is that of a learning profile.
+fn is_learning(name: &[u8]) -> bool
+    ensures { result ≡ is_learning name.now }
+{
+    let mut rest = name;
+    while let [_, behind @ ..] = rest {
+        if begins_with(b"//null-", rest) {
+            return true;
+        }
+        rest = behind;
+    }
+    false
+}
+
+// Whether who asks in a line is a learning profile.
+fn is_of_learning(line: &[u8], who: &Option<LoggedText<'_>>) -> bool
+    ensures { result ≡ is_of_learning line.now (option_map seen_text who.now) }
+{
+    match who {
+        Some(name) => value_of(line, b"pid=").is_some() && is_learning(name.as_slice()),
+        None => false,
+    }
+}
+
 // Whether a line is of a socket that `unix` rules decide.
 fn is_local(line: &[u8], family: &[u8]) -> bool
     ensures { result ≡ is_local line.now family.now }
@@ -176,6 +228,9 @@ fn file_told<'a>(
     let Some(name) = value_of(line, b"name=") else {
         return Ok(LogLine::OtherRequest);
     };
+    if is_disconnected(line) {
+        return Ok(LogLine::Disconnected);
+    }
     let path = text_of(alloc, name)?;
     Ok(told_of(file_asked(who, quoted_text(mask), owned_in(line), path)))
 }
@@ -191,13 +246,13 @@ fn sockets_told<'a>(line: &'a [u8], who: Option<LoggedText<'a>>, family: &[u8]) 
     told_of(sockets_asked(who, quoted_text(family), sort))
 }
 
-// What a line tells of that tells of a request of one.
-fn asked_by_one<'a>(
+// What a line tells of that tells of a request of one that is no learning profile.
+fn asked_of<'a>(
     alloc: Global,
     line: &'a [u8],
     who: Option<LoggedText<'a>>,
 ) -> Result<LogLine<'a>, AllocError>
-    ensures { IfOk result (λ told. seen_line told ≡ asked_by line.now (One (option_map seen_text who.entry))) }
+    ensures { IfOk result (λ told. seen_line told ≡ asked_of line.now (option_map seen_text who.entry)) }
 {
     if let Some(name) = value_of(line, b"capname=") {
         return Ok(told_of(capability_asked(who, quoted_text(name))));
@@ -209,6 +264,20 @@ fn asked_by_one<'a>(
         Some(mask) => file_told(alloc, line, who, mask),
         None => Ok(LogLine::OtherRequest),
     }
+}
+
+// What a line tells of that tells of a request of one.
+fn asked_by_one<'a>(
+    alloc: Global,
+    line: &'a [u8],
+    who: Option<LoggedText<'a>>,
+) -> Result<LogLine<'a>, AllocError>
+    ensures { IfOk result (λ told. seen_line told ≡ asked_by line.now (One (option_map seen_text who.entry))) }
+{
+    if is_of_learning(line, &who) {
+        return Ok(LogLine::Learning);
+    }
+    asked_of(alloc, line, who)
 }
 
 // What a line tells of that tells of a request.
@@ -235,6 +304,19 @@ fn told_as_program<'a>(word: Option<&[u8]>) -> LogLine<'a>
     }
 }
 
+// What a line tells of whose pair of `apparmor` has a value without quotes.
+fn told_interpreted<'a>(word: &[u8]) -> LogLine<'a>
+    ensures { seen_line result ≡ told_interpreted word.now }
+{
+    if tells_request(word) {
+        LogLine::Interpreted
+    } else if tells_else(word) {
+        LogLine::NoRequest
+    } else {
+        LogLine::Unreadable
+    }
+}
+
 // What a message tells of.
 pub fn told_by_message(alloc: Global, message: &[u8]) -> Result<LogLine<'_>, AllocError>
     ensures { IfOk result (λ told. seen_line told ≡ told_by_message message.now) }
@@ -248,7 +330,8 @@ pub fn told_by_message(alloc: Global, message: &[u8]) -> Result<LogLine<'_>, All
     match quoted_text(value) {
         Some(word) if tells_request(word) => request_told(alloc, message),
         Some(word) if tells_else(word) => Ok(LogLine::NoRequest),
-        _ => Ok(LogLine::Unreadable),
+        Some(_) => Ok(LogLine::Unreadable),
+        None => Ok(told_interpreted(value)),
     }
 }
 
@@ -264,8 +347,11 @@ impl<'a> LogLine<'a> {
         match self {
             LogLine::Asks(question) => Ok(LogLine::Asks(question.into_owned(alloc)?)),
             LogLine::OtherRequest => Ok(LogLine::OtherRequest),
+            LogLine::Disconnected => Ok(LogLine::Disconnected),
+            LogLine::Learning => Ok(LogLine::Learning),
             LogLine::NoRequest => Ok(LogLine::NoRequest),
             LogLine::Unreadable => Ok(LogLine::Unreadable),
+            LogLine::Interpreted => Ok(LogLine::Interpreted),
         }
     }
 }
@@ -281,7 +367,8 @@ pub fn told_by(alloc: Global, line: &[u8]) -> Result<LogLine<'_>, AllocError>
     ensures { IfOk result (λ told. seen_line told ≡ told_by line.now) }
 {
     match message_in(alloc, line)? {
-        Some(message) => told_by_message(alloc, &message)?.into_owned(alloc),
-        None => told_by_message(alloc, line),
+        Message::NoMessage => told_by_message(alloc, line),
+        Message::Whole(message) => told_by_message(alloc, &message)?.into_owned(alloc),
+        Message::Broken => Ok(LogLine::Unreadable),
     }
 }

@@ -12,11 +12,10 @@ use Rattle.aa_set_lines.specs.Lines.{is_line_feed, lines}
 use Rattle.aatry_input.specs.Inputs.{GivesLine, kept}
 use Rattle.aatry_log_lines.proofs.LineLemmas.{lines-ended, lines-last}
 use Rattle.aatry_log_lines.specs.Selections.{Selection}
-use Rattle.aatry_logs.specs.Entries.{asked_for, entry_in_log, passes_over}
+use Rattle.aatry_logs.specs.Apart.{longest_text}
+use Rattle.aatry_logs.specs.Entries.{entry_in_log}
 use Rattle.aatry_logs.specs.Inputs.{AreAllLines, AreGiven}
-use Rattle.aatry_logs.specs.LogRequests.{LogRequests, passed_with, with_entry, with_line, with_lines}
-use Rattle.aatry_logs.specs.Unreadable.{longest_text, noted}
-use Rattle.aatry_requests.specs.Gathering.{with_told_at}
+use Rattle.aatry_logs.specs.LogRequests.{LogRequests, with_entry, with_kept, with_line, with_lines}
 use Rattle.aatry_requests.specs.Tallies.{one_more as one_later}
 
 -- of what waited and what was left, a line that ends stands first
@@ -120,12 +119,7 @@ kept_adds : (selection : Selection) (file : Option (List ℕ)) (so_far : LogRequ
     → with_line selection file so_far (kept line) ≡ with_line selection file so_far line
 kept_adds selection file so_far line =
     ap (with_entry file (kept line) so_far) (kept_tells selection line)
-    ∙ ap (λ front. record {
-      requests = with_told_at so_far.requests (asked_for (entry_in_log selection line)) (entry_in_log selection line).time;
-      unreadable = noted so_far.unreadable (record { file = file; line = one_later so_far.line; text = front }) (asked_for (entry_in_log selection line));
-      passed_over = passed_with (passes_over (entry_in_log selection line)) so_far.passed_over;
-      line = one_later so_far.line;
-    }) (kept_front line)
+    ∙ ap (λ front. with_kept so_far (record { file = file; line = one_later so_far.line; text = front }) (entry_in_log selection line)) (kept_front line)
 
 -- what one line more adds
 pub one_more_adds : (selection : Selection) (file : Option (List ℕ)) (so_far now : LogRequests) (given : List (List ℕ)) (held line : List ℕ) → held ≡ kept line

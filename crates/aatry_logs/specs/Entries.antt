@@ -1,13 +1,9 @@
 -- What lines of a log tell, of which those can't be read that are longer than a line may be.
-use Rattle.std.specs.Prelude.{ℕ, Bool, true, false, nat_lt, ◌&&◌, if◌then◌else◌, List, None, length}
+use Rattle.std.specs.Prelude.{ℕ, Bool, true, false, nat_lt, ◌&&◌, if◌then◌else◌, List, length}
 use Rattle.aa_set_lines.specs.Limits.{longest_line}
-use Rattle.aatry_log_lines.specs.Entries.{Entry, entry_by}
-use Rattle.aatry_log_lines.specs.Lines.{Asks, NoRequest, OtherRequest, Told, Unreadable}
+use Rattle.aatry_log_lines.specs.Entries.{Entry, entry_by, unreadable_entry}
+use Rattle.aatry_log_lines.specs.Lines.{Asks, Disconnected, Interpreted, Learning, NoRequest, OtherRequest, Told, Unreadable}
 use Rattle.aatry_log_lines.specs.Selections.{Selection}
-
--- what such a line tells: nothing of what it asks, nor when, nor whether it is asked for
-abbrev pub unreadable_entry : Entry
-unreadable_entry = record { told = Unreadable; time = None; is_passed_over = false }
 
 -- what a line of a log tells
 abbrev pub entry_in_log : Selection → List ℕ → Entry
@@ -17,8 +13,11 @@ entry_in_log selection line = if nat_lt longest_line (length line) then unreadab
 abbrev pub tells_something : Told → Bool
 tells_something (Asks question) = true
 tells_something OtherRequest = true
+tells_something Disconnected = true
+tells_something Learning = true
 tells_something NoRequest = false
 tells_something Unreadable = true
+tells_something Interpreted = true
 
 -- a line that tells something is passed over
 abbrev pub passes_over : Entry → Bool

@@ -1,8 +1,8 @@
+pub mod Apart
 pub mod Compressed
 pub mod Ends
 pub mod Entries
 pub mod Gathered
 pub mod Inputs
 pub mod LogRequests
-pub mod Unreadable
 pub mod code

@@ -1,19 +1,24 @@
 -- What is gathered of logs, line by line.
-use Rattle.std.specs.Prelude.{ℕ, Bool, if◌then◌else◌, List, [], Option, fold}
+use Rattle.std.specs.Prelude.{ℕ, Bool, if◌then◌else◌, List, Option, fold}
 use Rattle.aatry_log_lines.specs.Entries.{Entry}
+use Rattle.aatry_log_lines.specs.Lines.{Told}
 use Rattle.aatry_log_lines.specs.Selections.{Selection}
+use Rattle.aatry_logs.specs.Apart.{KeptLine, LinesApart, apart_with, is_disconnected, is_interpreted, is_learning, is_unreadable, kept_line, none_apart, seen_apart}
 use Rattle.aatry_logs.specs.Entries.{asked_for, entry_in_log, passes_over}
-use Rattle.aatry_logs.specs.Unreadable.{UnreadableLine, noted, seen_lines, unreadable_line}
 use Rattle.aatry_logs.specs.declared.log_requests.LogRequests.{LogRequests as CodeRequests}
 use Rattle.aatry_requests.specs.Gathering.{Gathered, seen_requests, with_told_at}
 use Rattle.aatry_requests.specs.Gathering as requests
 use Rattle.aatry_requests.specs.Tallies.{one_more}
 
--- The requests of those lines that are asked for; the first lines that can't be read; how many lines that tell something are passed over; and the number
--- of the last line, in its log.
+-- The requests of those lines that are asked for; of these, the lines that can't be read, and how many of them can't since they are interpreted; those of
+-- which the kernel knew no whole path, and those of learning profiles; how many lines that tell something are passed over; and the number of the last line,
+-- in its log.
 pub record LogRequests : Type 0 where
   pub requests : Gathered
-  pub unreadable : List UnreadableLine
+  pub unreadable : LinesApart
+  pub interpreted : ℕ
+  pub disconnected : LinesApart
+  pub learning : LinesApart
   pub passed_over : ℕ
   pub line : ℕ
 
@@ -21,31 +26,54 @@ pub record LogRequests : Type 0 where
 abbrev pub seen_logs : CodeRequests → LogRequests
 seen_logs logs = record {
   requests = seen_requests logs.requests;
-  unreadable = seen_lines logs.unreadable.items;
+  unreadable = seen_apart logs.unreadable;
+  interpreted = logs.interpreted;
+  disconnected = seen_apart logs.disconnected;
+  learning = seen_apart logs.learning;
   passed_over = logs.passed_over;
   line = logs.line;
 }
 
 -- nothing so far
 abbrev pub nothing : LogRequests
-nothing = record { requests = requests.nothing; unreadable = []; passed_over = 0; line = 0 }
+nothing = record {
+  requests = requests.nothing;
+  unreadable = none_apart;
+  interpreted = 0;
+  disconnected = none_apart;
+  learning = none_apart;
+  passed_over = 0;
+  line = 0;
+}
 
 -- a further log begins
 abbrev pub begun : LogRequests → LogRequests
 begun so_far = record so_far { line = 0 }
 
--- one more is passed over, if this one is
-abbrev pub passed_with : Bool → ℕ → ℕ
-passed_with passes count = if passes then one_more count else count
+-- one more, if this is one
+abbrev pub one_more_if : Bool → ℕ → ℕ
+one_more_if is_one count = if is_one then one_more count else count
 
--- one more line of a log, which tells this
-abbrev pub with_entry : Option (List ℕ) → List ℕ → LogRequests → Entry → LogRequests
-with_entry file line so_far entry = record {
+-- the same with a line, of which this is kept, among those that stand apart, by what it tells
+abbrev pub with_apart : LogRequests → KeptLine → Told → LogRequests
+with_apart so_far kept told = record so_far {
+  unreadable = apart_with (is_unreadable told) so_far.unreadable kept;
+  interpreted = one_more_if (is_interpreted told) so_far.interpreted;
+  disconnected = apart_with (is_disconnected told) so_far.disconnected kept;
+  learning = apart_with (is_learning told) so_far.learning kept;
+}
+
+-- one more line of a log, of which this is kept, and which tells this
+abbrev pub with_kept : LogRequests → KeptLine → Entry → LogRequests
+with_kept so_far kept entry = record (with_apart so_far kept (asked_for entry)) {
   requests = with_told_at so_far.requests (asked_for entry) entry.time;
-  unreadable = noted so_far.unreadable (unreadable_line file (one_more so_far.line) line) (asked_for entry);
-  passed_over = passed_with (passes_over entry) so_far.passed_over;
+  passed_over = one_more_if (passes_over entry) so_far.passed_over;
   line = one_more so_far.line;
 }
+
+-- the same by the line
+abbrev pub with_entry : Option (List ℕ) → List ℕ → LogRequests → Entry → LogRequests
+with_entry file line so_far entry = with_kept so_far (kept_line file (one_more so_far.line) line) entry
 
 -- one more line of a log
 abbrev pub with_line : Selection → Option (List ℕ) → LogRequests → List ℕ → LogRequests

@@ -4,22 +4,11 @@ ghost use Rattle.std.specs.Prelude.{◌≡◌, IfOk, if◌then◌else◌};
 ghost use Rattle.aatry_log_lines.specs.Entries.{seen_entry};
 ghost use Rattle.aatry_log_lines.specs.Lines.{NoRequest, seen_line};
 ghost use Rattle.aatry_log_lines.specs.Selections.{seen_selection};
-ghost use Rattle.aatry_logs.specs.Entries.{entry_in_log, passes_over, tells_something, unreadable_entry};
+ghost use Rattle.aatry_logs.specs.Entries.{entry_in_log, passes_over, tells_something};
 
 use aa_set_lines::LONGEST_LINE;
 use aatry_log_lines::{LogEntry, LogLine, Selection, entry_by};
 use std::alloc::{AllocError, Global};
-
-// What a line tells that is longer than a line may be.
-fn unreadable_entry<'a>() -> LogEntry<'a>
-    ensures { seen_entry result ≡ unreadable_entry }
-{
-    LogEntry {
-        told: LogLine::Unreadable,
-        time: None,
-        is_passed_over: false,
-    }
-}
 
 /// What a line of a log tells, by what is asked for. It can't be read where it has more than 65,536 bytes.
 ///
@@ -34,7 +23,7 @@ pub fn entry_in_log<'a>(
     ensures { IfOk result (λ entry. seen_entry entry ≡ entry_in_log (seen_selection selection.entry) line.now) }
 {
     if line.len() > LONGEST_LINE {
-        return Ok(unreadable_entry());
+        return Ok(LogEntry::unreadable());
     }
     entry_by(alloc, selection, line)
 }
@@ -45,7 +34,8 @@ fn tells_something(told: &LogLine<'_>) -> bool
 {
     match told {
         LogLine::NoRequest => false,
-        LogLine::Asks(_) | LogLine::OtherRequest | LogLine::Unreadable => true,
+        LogLine::Asks(_) | LogLine::OtherRequest | LogLine::Disconnected => true,
+        LogLine::Learning | LogLine::Unreadable | LogLine::Interpreted => true,
     }
 }
 

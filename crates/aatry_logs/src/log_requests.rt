@@ -2,12 +2,14 @@
 
 ghost use Rattle.std.specs.Prelude.{◌≡◌, OnOk, option_map};
 ghost use Rattle.aatry_log_lines.specs.Entries.{seen_entry};
+ghost use Rattle.aatry_log_lines.specs.Lines.{seen_line};
 ghost use Rattle.aatry_log_lines.specs.Selections.{seen_selection};
-ghost use Rattle.aatry_logs.specs.LogRequests.{begun, nothing, passed_with, seen_logs, with_entry, with_line};
+ghost use Rattle.aatry_logs.specs.Apart.{kept_line};
+ghost use Rattle.aatry_logs.specs.LogRequests.{begun, nothing, one_more_if, seen_logs, with_apart, with_entry, with_line};
 
+use crate::apart::{LinesApart, is_disconnected, is_interpreted, is_learning, is_unreadable, note};
 use crate::entries::{asked_for, entry_in_log, passes_over};
-use crate::unreadable::{UnreadableLine, note};
-use aatry_log_lines::{LogEntry, Selection};
+use aatry_log_lines::{LogEntry, LogLine, Selection};
 use aatry_requests::Requests;
 use std::alloc::{AllocError, Global};
 
@@ -16,19 +18,25 @@ use std::alloc::{AllocError, Global};
 pub struct LogRequests<'a> {
     /// The requests of those lines that are asked for.
     pub requests: Requests<'a>,
-    /// The first lines that can't be read, ten at most.
-    pub unreadable: Vec<UnreadableLine>,
+    /// Of these lines those that can't be read.
+    pub unreadable: LinesApart,
+    /// How many of them can't since their values are interpreted, as `ausearch -i` does.
+    pub interpreted: u64,
+    /// The lines that tell of a file of which the kernel knew no whole path.
+    pub disconnected: LinesApart,
+    /// Those that tell of a request of a learning profile.
+    pub learning: LinesApart,
     /// How many lines are passed over that tell something of AppArmor's requests.
     pub passed_over: u64,
     // The number of the last line, in its log.
     line: u64,
 }
 
-// One more, if this one is passed over.
-fn passed_with(passes: bool, count: u64) -> u64
-    ensures { result ≡ passed_with passes count }
+// One more, if this is one.
+fn one_more_if(is_one: bool, count: u64) -> u64
+    ensures { result ≡ one_more_if is_one count }
 {
-    if passes {
+    if is_one {
         count.saturating_add(1)
     } else {
         count
@@ -42,7 +50,10 @@ impl<'a> LogRequests<'a> {
     {
         LogRequests {
             requests: Requests::new(alloc),
-            unreadable: Vec::new(alloc),
+            unreadable: LinesApart::new(alloc),
+            interpreted: 0,
+            disconnected: LinesApart::new(alloc),
+            learning: LinesApart::new(alloc),
             passed_over: 0,
             line: 0,
         }
@@ -53,6 +64,45 @@ impl<'a> LogRequests<'a> {
         ensures { seen_logs self.new ≡ begun (seen_logs self.old) }
     {
         self.line = 0;
+    }
+
+    // The last line of a log, if it stands apart from the questions, by what it tells.
+    fn note_apart(
+        &mut self,
+        alloc: Global,
+        file: Option<&str>,
+        line: &[u8],
+        told: &LogLine<'_>,
+    ) -> Result<(), AllocError>
+        ensures { OnOk result (seen_logs self.new
+            ≡ with_apart (seen_logs self.old) (kept_line (option_map (λ path. path.now) file.entry) self.old.line line.now) (seen_line told.now)) }
+    {
+        let number = self.line;
+        note(
+            alloc,
+            is_unreadable(told),
+            file,
+            number,
+            line,
+            &mut self.unreadable,
+        )?;
+        self.interpreted = one_more_if(is_interpreted(told), self.interpreted);
+        note(
+            alloc,
+            is_disconnected(told),
+            file,
+            number,
+            line,
+            &mut self.disconnected,
+        )?;
+        note(
+            alloc,
+            is_learning(told),
+            file,
+            number,
+            line,
+            &mut self.learning,
+        )
     }
 
     // One more line of a log, which tells this.
@@ -67,14 +117,14 @@ impl<'a> LogRequests<'a> {
             ≡ with_entry (option_map (λ path. path.now) file.entry) line.now (seen_logs self.old) (seen_entry entry.entry)) }
     {
         self.line = self.line.saturating_add(1);
-        self.passed_over = passed_with(passes_over(&entry), self.passed_over);
+        self.passed_over = one_more_if(passes_over(&entry), self.passed_over);
         let LogEntry {
             told,
             time,
             is_passed_over,
         } = entry;
         let told = asked_for(told, is_passed_over);
-        note(alloc, file, self.line, line, &told, &mut self.unreadable)?;
+        self.note_apart(alloc, file, line, &told)?;
         self.requests.note(alloc, told, time)
     }
 

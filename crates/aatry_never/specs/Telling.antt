@@ -1,15 +1,17 @@
 -- What is told of those who are asked about (docs/aatry.md, "`aatry never` and `aatry always`").
-use Rattle.std.specs.Prelude.{ℕ, Bool, true, false, not, ◌&&◌, if◌then◌else◌, List, [], ◌∷◌, ◌++◌, Option, None, Some, codes, flat_map}
+use Rattle.std.specs.Prelude.{ℕ, Bool, true, false, not, ◌&&◌, if◌then◌else◌, List, [], ◌++◌, Option, None, Some, codes, flat_map}
 use Rattle.std.specs.List.{list_any}
 use Rattle.serde_json.specs.Data.{Members}
+use Rattle.aa_explain_paths.specs.Answers.{Breaking, seen_breaking}
 use Rattle.aa_explain_paths.specs.declared.question.Claim.{Claim}
 use Rattle.aa_explain_paths.specs.declared.question.Claim.TheVariants.{Always, Never}
+use Rattle.aa_explain_paths.specs.declared.question.PathAnswer.{PathAnswer}
 use Rattle.aa_explain_paths.specs.declared.question.PathAnswer.TheVariants.{Fails, Holds, TooMany}
 use Rattle.aa_profile_access.specs.Access.{letters_of}
 use Rattle.aa_profile_access.specs.Request.{ForFile}
 use Rattle.aa_profile_data.specs.declared.profile.Mode.{Mode}
 use Rattle.aa_profile_data.specs.declared.profile.Mode.TheVariants as mode
-use Rattle.aatry_claims.specs.Claimed.{Breaking, Claimed, breaking_of}
+use Rattle.aatry_claims.specs.Claimed.{Claimed, breaking_of}
 use Rattle.aatry_claims.specs.Found.{Found, asks_rules}
 use Rattle.aatry_claims.specs.Sentences.{answer_word, found_line, is_held, is_undecided, owner_word}
 use Rattle.aatry_claims.specs.declared.found.Finding.{Finding}
@@ -30,17 +32,19 @@ mode_word (Some mode.Unconfined) = codes "unconfined"
 mode_word None = codes "disabled"
 
 -- the members of a record on a path that says otherwise
-abbrev pub with_breaking : Option Breaking → Members → Members
-with_breaking None members = members
-with_breaking (Some breaking) members =
+abbrev pub with_breaking : Breaking → Members → Members
+with_breaking breaking members =
     with_text (codes "owned") (owner_word breaking.owned) (with_text (codes "letters") (letters_of breaking.letters) (with_text (codes "path") breaking.path members))
 
--- how many kinds of paths were looked at, where what is claimed holds
-abbrev pub with_count : Finding → Members → Members
-with_count (ByRules (Holds count)) members = with_number (codes "kinds") count members
-with_count (ByRules (Fails path)) members = members
-with_count (ByRules TooMany) members = members
-with_count Absent members = members
+-- those on what rules say: where what is claimed holds, how many kinds of paths were looked at
+abbrev pub with_answer : PathAnswer → Members → Members
+with_answer (Holds count) members = with_number (codes "kinds") count members
+with_answer (Fails breaking) members = with_breaking (seen_breaking breaking) members
+with_answer TooMany members = members
+
+abbrev pub with_finding : Finding → Members → Members
+with_finding Absent members = members
+with_finding (ByRules answer) members = with_answer answer members
 
 abbrev pub with_mode : Option Part → Members → Members
 with_mode None members = members
@@ -49,8 +53,8 @@ with_mode (Some part) members = with_text (codes "mode") (mode_word part.section
 -- the record of who was asked about
 unfoldable pub found_record : Claimed → Found → Members
 found_record claimed found =
-    with_mode found.part (with_breaking (breaking_of claimed found.rules found.finding) (with_count found.finding
-    (with_text (codes "answer") (answer_word claimed.claim found.finding) (with_text (codes "who") found.name (record_of (codes "paths"))))))
+    with_mode found.part (with_finding found.finding
+    (with_text (codes "answer") (answer_word claimed.claim found.finding) (with_text (codes "who") found.name (record_of (codes "paths")))))
 
 -- what is told of it
 abbrev pub found_text : Form → Claimed → Found → List ℕ
@@ -89,7 +93,7 @@ rule_lines form below claim part breaking = []
 abbrev pub told : Form → Bool → PolicyFiles → Claimed → Found → List ℕ
 told form names below claimed found =
     found_text form claimed found
-    ++ (if names then [] else rule_lines form below claimed.claim found.part (breaking_of claimed found.rules found.finding))
+    ++ (if names then [] else rule_lines form below claimed.claim found.part (breaking_of found.finding))
 
 -- the same of all of them
 abbrev pub all_told : Form → Bool → PolicyFiles → Claimed → List Found → List ℕ

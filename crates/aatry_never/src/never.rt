@@ -6,7 +6,7 @@ ghost use Rattle.aatry_folder.specs.declared.fault.Fault.TheVariants as fault;
 ghost use Rattle.aatry_never.specs.Ends.{AskNoPaths, IsEndOfPaths};
 ghost use Rattle.aatry_never.specs.Never.{IsClaimTold, IsPathsTold, IsPathsToldBelow, claim_of, seen_paths_report};
 ghost use Rattle.aatry_claims.specs.SeenClaimed.{seen_claimed};
-ghost use Rattle.aatry_policy.specs.Folders.{left_out_note, loaded_in, origins_in, seen_folder};
+ghost use Rattle.aatry_policy.specs.Folders.{loaded_in, origins_in, seen_folder};
 
 use crate::telling::{has_undecided, is_refuted, push_all};
 use aa_explain_paths::{Claim, PathQuestion};

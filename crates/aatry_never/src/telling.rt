@@ -1,20 +1,21 @@
 //! What is told of those who are asked about.
 
-ghost use Rattle.std.specs.Prelude.{◌≡◌, ◌++◌, [], IfOk, OnOk, map, option_map};
+ghost use Rattle.std.specs.Prelude.{◌≡◌, ◌++◌, IfOk, OnOk, map, option_map};
+ghost use Rattle.aa_explain_paths.specs.Answers.{seen_breaking};
 ghost use Rattle.aatry_claims.specs.Found.{seen_found};
-ghost use Rattle.aatry_claims.specs.SeenClaimed.{seen_breaking, seen_claimed};
+ghost use Rattle.aatry_claims.specs.SeenClaimed.{seen_claimed};
 ghost use Rattle.aatry_folder.specs.PolicyFiles.{seen_files};
 ghost use Rattle.aatry_never.specs.Telling.{all_told, asked_lines, breaking_lines, found_record, found_text, has_undecided, is_lacking, is_refuted};
-ghost use Rattle.aatry_never.specs.Telling.{mode_word, rule_lines, told, with_breaking, with_count, with_mode, written_of};
+ghost use Rattle.aatry_never.specs.Telling.{mode_word, rule_lines, told, with_answer, with_breaking, with_finding, with_mode, written_of};
 ghost use Rattle.aatry_policy.specs.SeenProfiles.{seen_part};
 ghost use Rattle.aatry_report.specs.SeenRecord.{seen_record};
 ghost use Rattle.aatry_why_lines.specs.Written.{seen_rules};
 
-use aa_explain_paths::{Claim, PathAnswer};
+use aa_explain_paths::{Breaking, Claim, PathAnswer};
 use aa_explain_rules::AskedRules;
 use aa_profile_data::Mode;
 use aatry_claims::{
-    Breaking, Claimed, Finding, Found, answer_word, asks_rules, breaking_of, is_held, is_undecided,
+    Claimed, Finding, Found, answer_word, asks_rules, breaking_of, is_held, is_undecided,
     owner_word, push_line,
 };
 use aatry_folder::PolicyFiles;
@@ -35,31 +36,35 @@ fn mode_word(mode: Option<Mode>) -> &'static str
     }
 }
 
-// Puts a path that says otherwise into a record, if there is one.
-fn put_breaking(
-    alloc: Global,
-    breaking: Option<Breaking<'_>>,
-    into: &mut Record,
-) -> Result<(), AllocError>
-    ensures { OnOk result (seen_record into.new ≡ with_breaking (option_map seen_breaking breaking.entry) (seen_record into.old)) }
+// Puts a path that says otherwise into a record.
+fn put_breaking(alloc: Global, breaking: &Breaking, into: &mut Record) -> Result<(), AllocError>
+    ensures { OnOk result (seen_record into.new ≡ with_breaking (seen_breaking breaking.now) (seen_record into.old)) }
 {
-    let Some(breaking) = breaking else {
-        return Ok(());
-    };
     let mut letters = Vec::new(alloc);
     breaking.letters.push_letters(&mut letters)?;
-    into.put_text(alloc, "path", breaking.path)?;
+    into.put_text(alloc, "path", &breaking.path)?;
     into.put_text(alloc, "letters", &letters)?;
     into.put_text(alloc, "owned", owner_word(breaking.owned).as_bytes())
 }
 
-// Puts how many kinds of paths were looked at into a record, where what is claimed holds.
-fn put_count(alloc: Global, finding: &Finding, into: &mut Record) -> Result<(), AllocError>
-    ensures { OnOk result (seen_record into.new ≡ with_count finding.now (seen_record into.old)) }
+// Puts what rules say into a record: how many kinds of paths were looked at, where what is claimed holds.
+fn put_answer(alloc: Global, answer: &PathAnswer, into: &mut Record) -> Result<(), AllocError>
+    ensures { OnOk result (seen_record into.new ≡ with_answer answer.now (seen_record into.old)) }
+{
+    match answer {
+        PathAnswer::Holds(count) => into.put_number(alloc, "kinds", *count),
+        PathAnswer::Fails(breaking) => put_breaking(alloc, breaking, into),
+        PathAnswer::TooMany => Ok(()),
+    }
+}
+
+// The same, where they are asked.
+fn put_finding(alloc: Global, finding: &Finding, into: &mut Record) -> Result<(), AllocError>
+    ensures { OnOk result (seen_record into.new ≡ with_finding finding.now (seen_record into.old)) }
 {
     match finding {
-        Finding::ByRules(PathAnswer::Holds(count)) => into.put_number(alloc, "kinds", *count),
-        Finding::ByRules(PathAnswer::Fails(_) | PathAnswer::TooMany) | Finding::Absent => Ok(()),
+        Finding::Absent => Ok(()),
+        Finding::ByRules(answer) => put_answer(alloc, answer, into),
     }
 }
 
@@ -82,7 +87,6 @@ fn found_record(
 ) -> Result<Record, AllocError>
     ensures { IfOk result (λ made. seen_record made ≡ found_record (seen_claimed claimed.entry) (seen_found found.now)) }
 {
-    let breaking = breaking_of(claimed, found.rules, &found.finding);
     let mut made = Record::new(alloc, "paths")?;
     made.put_text(alloc, "who", found.name)?;
     made.put_text(
@@ -90,8 +94,7 @@ fn found_record(
         "answer",
         answer_word(claimed.claim, &found.finding).as_bytes(),
     )?;
-    put_count(alloc, &found.finding, &mut made)?;
-    put_breaking(alloc, breaking, &mut made)?;
+    put_finding(alloc, &found.finding, &mut made)?;
     put_mode(alloc, found.part, &mut made)?;
     Ok(made)
 }
@@ -142,11 +145,11 @@ fn push_asked_rules(
     below: PolicyFiles<'_>,
     claim: Claim,
     part: &Part<'_>,
-    breaking: Breaking<'_>,
+    breaking: &Breaking,
     out: &mut Vec<u8>,
 ) -> Result<(), AllocError>
     ensures { OnOk result (out.new.items ≡ out.old.items
-        ++ asked_lines teller.form (seen_files below.entry) claim (seen_part part.now) (seen_breaking breaking.entry)) }
+        ++ asked_lines teller.form (seen_files below.entry) claim (seen_part part.now) (seen_breaking breaking.now)) }
 {
     let written = written_of(below, part);
     push_why(
@@ -165,11 +168,11 @@ fn push_breaking_rules(
     below: PolicyFiles<'_>,
     claim: Claim,
     part: &Part<'_>,
-    breaking: Breaking<'_>,
+    breaking: &Breaking,
     out: &mut Vec<u8>,
 ) -> Result<(), AllocError>
     ensures { OnOk result (out.new.items ≡ out.old.items
-        ++ breaking_lines teller.form (seen_files below.entry) claim (seen_part part.now) (seen_breaking breaking.entry)) }
+        ++ breaking_lines teller.form (seen_files below.entry) claim (seen_part part.now) (seen_breaking breaking.now)) }
 {
     if !asks_rules(part.section.mode) {
         return Ok(());
@@ -183,11 +186,12 @@ fn push_rules(
     below: PolicyFiles<'_>,
     claim: Claim,
     part: Option<&Part<'_>>,
-    breaking: Option<Breaking<'_>>,
+    breaking: Option<&Breaking>,
     out: &mut Vec<u8>,
 ) -> Result<(), AllocError>
     ensures { OnOk result (out.new.items ≡ out.old.items
-        ++ rule_lines teller.form (seen_files below.entry) claim (option_map (λ part. seen_part part.now) part.entry) (option_map seen_breaking breaking.entry)) }
+        ++ rule_lines teller.form (seen_files below.entry) claim (option_map (λ part. seen_part part.now) part.entry)
+        (option_map (λ breaking. seen_breaking breaking.now) breaking.entry)) }
 {
     match (part, breaking) {
         (Some(part), Some(breaking)) => {
@@ -213,8 +217,14 @@ fn push_told(
     if names {
         return Ok(());
     }
-    let breaking = breaking_of(claimed, found.rules, &found.finding);
-    push_rules(teller, below, claimed.claim, found.part, breaking, out)
+    push_rules(
+        teller,
+        below,
+        claimed.claim,
+        found.part,
+        breaking_of(&found.finding),
+        out,
+    )
 }
 
 /// Appends what is told of all who were asked about to a text: a line for each, or a record, and below it the rules behind a path that says otherwise, as

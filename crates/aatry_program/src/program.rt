@@ -10,6 +10,7 @@ ghost use Rattle.aatry_never.specs.Ends.{IsEndOfPaths};
 ghost use Rattle.aatry_never.specs.Never.{IsPathsToldBelow, claim_of};
 ghost use Rattle.aatry_program.specs.Questions.{IsEndOf, IsToldBelow};
 ghost use Rattle.aatry_program.specs.Status.{status_of};
+ghost use Rattle.aatry_folder.specs.declared.fault.Fault.TheVariants.{BadArguments};
 
 use crate::disk::Disk;
 use crate::questions::{Inquiry, inquire, inquiry_fault};
@@ -23,6 +24,7 @@ use aatry_arguments::{AllPaths, ArgumentFault, Asking, Call, Command, Session, c
 use aatry_check::check_folder;
 use aatry_diff::diff_folders;
 use aatry_folder::{Fault, Folders, Report};
+use aatry_hints::misspelled;
 use aatry_log::log_folder;
 use aatry_never::{PathsReport, paths_fault, paths_folder};
 use aatry_report::Teller;
@@ -277,9 +279,30 @@ fn perform<F: Folders, D: FileSystem, T: FileStore, S: Source, W: Sink, E: Sink>
     }
 }
 
+// The words behind the program's own name.
+fn behind(words: &[String]) -> &[String]
+    ensures { map string_bytes result.now ≡ drop 1 (map string_bytes words.now) }
+{
+    match words {
+        [_, behind @ ..] => behind,
+        [] => words,
+    }
+}
+
+// Reports bad arguments, and gives the exit status; where they have a word that may have been meant for a command, a line tells that.
+fn report_words<E: Sink>(alloc: Global, words: &[String], errors: &mut E) -> u8
+    ensures { result ≡ status_of BadArguments }
+{
+    match misspelled(alloc, behind(words)) {
+        Ok(Some(line)) => report_line(errors, &line, &Fault::BadArguments),
+        _ => report(alloc, errors, &Fault::BadArguments),
+    }
+}
+
 // Shows what was asked for in the place of a command, or reports why there is none.
 fn show_fault<S, W: Sink, E: Sink>(
     alloc: Global,
+    words: &[String],
     fault: ArgumentFault,
     streams: &mut Streams<S, W, E>,
 ) -> u8
@@ -289,7 +312,7 @@ fn show_fault<S, W: Sink, E: Sink>(
         ArgumentFault::Help(text) | ArgumentFault::Version(text) => {
             show(alloc, text.as_bytes(), 0, streams)
         }
-        ArgumentFault::Bad => report(alloc, &mut streams.errors, &Fault::BadArguments),
+        ArgumentFault::Bad => report_words(alloc, words, &mut streams.errors),
         ArgumentFault::Memory => report(alloc, &mut streams.errors, &Fault::NoMemory),
     }
 }
@@ -309,7 +332,7 @@ fn do_asked<F: Folders, D: FileSystem, T: FileStore, S: Source, W: Sink, E: Sink
 {
     match call_of(alloc, words) {
         Ok(call) => perform(alloc, call, disk, prompt, streams),
-        Err(fault) => show_fault(alloc, fault, streams),
+        Err(fault) => show_fault(alloc, words, fault, streams),
     }
 }
 

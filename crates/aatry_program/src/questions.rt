@@ -1,15 +1,16 @@
 //! Commands that ask a folder of policy a question by words, and what is wrong with words that ask none.
 
-ghost use Rattle.std.specs.Prelude.{IfErr, IfOk, IsSome, map, string_bytes};
+ghost use Rattle.std.specs.Prelude.{◌≡◌, IfErr, IfOk, IfSome, IsSome, map, option_map, string_bytes};
 ghost use Rattle.aaset_start.specs.Gathering.{texts_of};
 ghost use Rattle.aatry_folder.specs.Reports.{seen_report};
-ghost use Rattle.aatry_program.specs.Questions.{IsEndOf, IsToldBelow, words_asking};
+ghost use Rattle.aatry_program.specs.Questions.{IsEndOf, IsToldBelow, hint_of, words_asking};
 ghost use Rattle.aatry_requests.specs.AskedWords.{AskNothing, letting_words};
 
 use aa_profile_parsing::Language;
 use aaset_start::FileSystem;
 use aatry_arguments::Asking;
 use aatry_folder::{Fault, Folders, Report};
+use aatry_hints::cut_line;
 use aatry_questions::{QuestionFault, push_letting_fault, push_words_fault};
 use aatry_report::Teller;
 use aatry_requests::{letting_fault, words_fault};
@@ -80,8 +81,8 @@ fn who_fault(alloc: Global, words: &[String]) -> Result<Option<Vec<u8>>, AllocEr
     line_of(alloc, Inquiry::Who, found)
 }
 
-// The line that tells what is wrong with the words of either command.
-pub fn inquiry_fault(
+// The line that tells what is wrong with the words of either command, by what is.
+fn words_line(
     alloc: Global,
     inquiry: Inquiry,
     words: &[String],
@@ -92,6 +93,47 @@ pub fn inquiry_fault(
         Inquiry::Why => why_fault(alloc, words),
         Inquiry::Who => who_fault(alloc, words),
     }
+}
+
+// The line that tells what was meant by words behind a command that ask no question, if it shows: `who` takes no line of a log.
+fn hint_of(inquiry: Inquiry, words: &[String]) -> Option<&'static [u8]>
+    ensures { option_map (λ line. line.now) result ≡ hint_of inquiry (map string_bytes words.now) }
+{
+    match inquiry {
+        Inquiry::Why => cut_line(words),
+        Inquiry::Who => None,
+    }
+}
+
+// A line, in place of which a hint stands, if there is one.
+fn hinted(
+    alloc: Global,
+    line: Option<Vec<u8>>,
+    hint: Option<&[u8]>,
+) -> Result<Option<Vec<u8>>, AllocError>
+    ensures line { IfOk result (λ told. IsSome told → IsSome line) }
+    ensures hint { IfOk result (λ told. IfSome told (λ told. IfSome hint.entry (λ hint. told.items ≡ hint.now))) }
+{
+    let Some(line) = line else {
+        return Ok(None);
+    };
+    match hint {
+        Some(hint) => Ok(Some(Vec::from_slice(alloc, hint)?)),
+        None => Ok(Some(line)),
+    }
+}
+
+// The line that tells what is wrong with the words of either command: of those of a log's line, into which a shell cut it, what to do with that.
+pub fn inquiry_fault(
+    alloc: Global,
+    inquiry: Inquiry,
+    words: &[String],
+) -> Result<Option<Vec<u8>>, AllocError>
+    ensures asked { IfOk result (λ line. IsSome line → AskNothing (words_asking inquiry (map string_bytes words.now))) }
+    ensures hint { IfOk result (λ line. IfSome line (λ line. IfSome (hint_of inquiry (map string_bytes words.now)) (λ hint. line.items ≡ hint))) }
+{
+    let line = words_line(alloc, inquiry, words)?;
+    hinted(alloc, line, hint_of(inquiry, words))
 }
 
 // What either command comes to.

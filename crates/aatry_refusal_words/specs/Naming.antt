@@ -1,12 +1,15 @@
--- What is wrong with a file that is refused, in words that name the flag or the name at the place.
-use Rattle.std.specs.Prelude.{ℕ, List, ◌++◌, codes, Option, None, Some}
+-- What is wrong with a file that is refused, in words that go by what stands at the place: a flag, a name, or an include by a whole path.
+use Rattle.std.specs.Prelude.{ℕ, List, ◌++◌, codes, if◌then◌else◌, Option, None, Some}
 use Rattle.std.specs.Option.{option_map}
+use Rattle.aa_bytes.specs.Bytes.{slash}
+use Rattle.aa_bytes.specs.Texts.{begins_with_byte}
 use Rattle.aa_profile_errors.specs.declared.profile_error.ProfileRefusal.{ProfileRefusal}
-use Rattle.aa_profile_errors.specs.declared.profile_error.ProfileRefusal.TheVariants.{Grammar}
+use Rattle.aa_profile_errors.specs.declared.profile_error.ProfileRefusal.TheVariants.{Grammar, Text}
 use Rattle.aa_profile_parsing.specs.declared.fault.GrammarRefusal.TheVariants.{BadFlag, BadName}
 use Rattle.aa_profile_parsing.specs.declared.language.Language.{Language}
 use Rattle.aa_text_files.specs.Files.{File, bytes_at}
 use Rattle.aa_text_files.specs.declared.text_error.Place.{Place}
+use Rattle.aa_text_files.specs.declared.text_error.TextRefusal.TheVariants.{NoFile}
 use Rattle.aatry_refusal_words.specs.FlagFaults.{unknown_flag}
 use Rattle.aatry_refusal_words.specs.TokensAt.{text_at}
 use Rattle.aatry_report.specs.Shown.{shown}
@@ -33,10 +36,24 @@ flag_words_at language files place = option_map (flag_words language) (text_at (
 abbrev pub name_words_at : List File → Place → Option (List ℕ)
 name_words_at files place = option_map name_words (text_at (bytes_at files place.file) place.at)
 
--- what is wrong by a refusal at a place, where that is for a flag or a name
+-- what is wrong with an include of a name that nothing has, where that is a whole path: whatever lies there on the disk, nothing outside of the folder is read
+abbrev pub include_words : List ℕ → Option (List ℕ)
+include_words name =
+    if begins_with_byte slash name then Some (codes "nothing below the folder has this name, and nothing outside of it is read") else None
+
+-- the same of the name that is asked for at a place, if a token begins there
+abbrev pub include_words_by : Option (List ℕ) → Option (List ℕ)
+include_words_by None = None
+include_words_by (Some name) = include_words name
+
+abbrev pub include_words_at : List File → Place → Option (List ℕ)
+include_words_at files place = include_words_by (text_at (bytes_at files place.file) place.at)
+
+-- what is wrong by a refusal at a place, where that is for a flag, a name or an include by a whole path
 abbrev pub naming_words : Language → List File → ProfileRefusal → Place → Option (List ℕ)
 naming_words language files (Grammar BadFlag) place = flag_words_at language files place
 naming_words language files (Grammar BadName) place = name_words_at files place
+naming_words language files (Text NoFile) place = include_words_at files place
 naming_words language files _ place = None
 
 -- the same by a refusal that may have a place

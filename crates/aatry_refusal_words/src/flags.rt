@@ -4,7 +4,7 @@ ghost use Rattle.std.specs.Prelude.{◌≡◌, ◌<◌, ◌≤◌, ◌∷◌, no
 ghost use Rattle.std.specs.List.{prefix_len, slice_split};
 ghost use Rattle.std.specs.Option.{option_map};
 ghost use Rattle.aa_profile_flags.specs.Flags.{separates};
-ghost use Rattle.aa_profile_flags.specs.code.FlagWords.{words_of_rest};
+ghost use Rattle.aa_profile_flags.specs.FlagText.{words_of_rest};
 ghost use Rattle.aa_profile_parsing.specs.SeenTokens.{seen_tokens};
 ghost use Rattle.aa_text_splicing.specs.SeenTokens.{seen_spliced};
 ghost use Rattle.aatry_refusal_words.specs.FlagFaults.{are_read, first_unknown, flag_list, is_flag, is_unknown, list_of, token_of, unknown_flag, behind_parenthesis};

@@ -1,4 +1,4 @@
-//! What is wrong with a file of policy that is refused, in words that name the flag or the name at the place.
+//! What is wrong with a file of policy that is refused, in words that go by what stands at the place.
 #![tactic(auto)]
 
 mod flags;

@@ -1,14 +1,15 @@
-//! What is wrong with what stands at a place, in words that name it.
+//! What is wrong with what stands at a place, in words that go by it.
 
 ghost use Rattle.std.specs.Prelude.{◌≡◌, ◌++◌, IfOk, OnOk, codes};
 ghost use Rattle.std.specs.Option.{option_map};
-ghost use Rattle.aatry_refusal_words.specs.Naming.{flag_words, flag_words_at, name_words, name_words_at, named, naming_words};
+ghost use Rattle.aatry_refusal_words.specs.Naming.{flag_words, flag_words_at, include_words, include_words_at, name_words, name_words_at, named, naming_words};
 
 use crate::flags::unknown_flag;
 use crate::tokens::text_at;
+use aa_bytes::begins_with_byte;
 use aa_profile_errors::ProfileRefusal;
 use aa_profile_parsing::{GrammarRefusal, Language};
-use aa_text_files::{Files, Place};
+use aa_text_files::{Files, Place, TextRefusal};
 use aatry_report::push_shown;
 use std::alloc::{AllocError, Global};
 
@@ -66,7 +67,33 @@ fn name_words_at(alloc: Global, files: &Files, place: Place) -> Result<Option<Ve
     }
 }
 
-/// What is wrong with a file by a refusal at a place, in words that name the flag or the name there; none where the refusal is for neither.
+// What is wrong with an include of a name that nothing has, in words, where that is a whole path.
+fn include_words(alloc: Global, name: &[u8]) -> Result<Option<Vec<u8>>, AllocError>
+    ensures { IfOk result (λ found. option_map (λ words. words.items) found ≡ include_words name.now) }
+{
+    if !begins_with_byte(b'/', name) {
+        return Ok(None);
+    }
+    let words = b"nothing below the folder has this name, and nothing outside of it is read";
+    Ok(Some(Vec::from_slice(alloc, words)?))
+}
+
+// What is wrong with the include at a place, in words, where it asks for a whole path.
+fn include_words_at(
+    alloc: Global,
+    files: &Files,
+    place: Place,
+) -> Result<Option<Vec<u8>>, AllocError>
+    ensures { IfOk result (λ found. option_map (λ words. words.items) found ≡ include_words_at files.now place) }
+{
+    match text_at(alloc, files.bytes_at(place.file), place.at)? {
+        None => Ok(None),
+        Some(name) => include_words(alloc, name),
+    }
+}
+
+/// What is wrong with a file by a refusal at a place, in words that name the flag or the name there, or tell where an include by a whole path is looked up;
+/// none where the refusal is for none of these.
 ///
 /// # Errors
 ///
@@ -85,6 +112,7 @@ pub fn naming_words(
             flag_words_at(alloc, language, files, place)
         }
         ProfileRefusal::Grammar(GrammarRefusal::BadName) => name_words_at(alloc, files, place),
+        ProfileRefusal::Text(TextRefusal::NoFile) => include_words_at(alloc, files, place),
         _ => Ok(None),
     }
 }

@@ -28,7 +28,8 @@ fn naming_words_of(
 }
 
 /// What is wrong with a file of policy that is refused by a language, in words, as `aatry_report::words_of` has them; but those on a flag or a name tell
-/// which: `files` has it at the place. What of that isn't UTF-8 is told as U+FFFD.
+/// which: `files` has it at the place. What of that isn't UTF-8 is told as U+FFFD. Those on an include by a whole path that nothing has say that only what
+/// lies below the folder is read.
 ///
 /// # Errors
 ///

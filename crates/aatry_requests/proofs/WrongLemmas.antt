@@ -4,7 +4,7 @@ use Rattle.std.specs.Prelude.{IsSome, None, Ok, Err, Option, Result, Some}
 use Rattle.std.specs.Result.{result_ok}
 use Rattle.aa_set_commands.specs.Question.{Question}
 use Rattle.aa_set_commands.specs.declared.refusal.Refusal.{Refusal}
-use Rattle.aatry_log_lines.specs.Lines.{Asks, NoRequest, OtherRequest, Told, Unreadable, told_by}
+use Rattle.aatry_log_lines.specs.Lines.{Asks, Disconnected, Interpreted, Learning, NoRequest, OtherRequest, Told, Unreadable, told_by}
 use Rattle.aatry_questions.specs.Faults.{Agree, Found}
 use Rattle.aatry_questions.specs.Meant.{meant_fault, question_meant}
 use Rattle.aatry_questions.specs.declared.misspelled.QuestionFault.{QuestionFault}
@@ -24,8 +24,11 @@ line_asks_nothing : (line : Told) (told : Option QuestionFault) → TellsAny (li
 line_asks_nothing (Asks question) (Some told) tells some = absurd tells
 line_asks_nothing (Asks question) None tells some = absurd (cc)
 line_asks_nothing OtherRequest told tells some = refl
+line_asks_nothing Disconnected told tells some = refl
+line_asks_nothing Learning told tells some = refl
 line_asks_nothing NoRequest told tells some = refl
 line_asks_nothing Unreadable told tells some = refl
+line_asks_nothing Interpreted told tells some = refl
 
 pub asks_nothing : ((words : List (List ℕ)) → Agree (meant_fault words) (question_meant words)) → (words : List (List ℕ)) (told : Option QuestionFault)
     → TellsAny (words_fault words) told → IsSome told → AskNothing words

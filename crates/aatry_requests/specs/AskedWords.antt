@@ -3,7 +3,7 @@ use Rattle.std.specs.Prelude.{◌≡◌, ℕ, if◌then◌else◌, List, [], ◌
 use Rattle.std.specs.Result.{result_ok}
 use Rattle.aa_set_commands.specs.Question.{Question}
 use Rattle.aa_set_commands.specs.declared.refusal.Refusal.{Refusal}
-use Rattle.aatry_log_lines.specs.Lines.{Asks, NoRequest, OtherRequest, Told, Unreadable, told_by}
+use Rattle.aatry_log_lines.specs.Lines.{Asks, Disconnected, Interpreted, Learning, NoRequest, OtherRequest, Told, Unreadable, told_by}
 use Rattle.aatry_questions.specs.Faults.{kind_of}
 use Rattle.aatry_questions.specs.Meant.{question_meant}
 
@@ -11,8 +11,11 @@ use Rattle.aatry_questions.specs.Meant.{question_meant}
 abbrev pub asked_in : Told → Option Question
 asked_in (Asks question) = Some question
 asked_in OtherRequest = None
+asked_in Disconnected = None
+asked_in Learning = None
 asked_in NoRequest = None
 asked_in Unreadable = None
+asked_in Interpreted = None
 
 -- The question that words ask, if they ask one: a word alone as a line of a log, and more of them, which are at least three, as what they mean.
 abbrev pub asked_by : List (List ℕ) → Option Question

@@ -1,7 +1,7 @@
 -- What is gathered from a source's lines.
 use Rattle.std.specs.Prelude.{ℕ, List, [], Option, None, fold}
 use Rattle.aa_set_lines.specs.Lines.{lines}
-use Rattle.aatry_log_lines.specs.Lines.{Asks, NoRequest, OtherRequest, Told, Unreadable}
+use Rattle.aatry_log_lines.specs.Lines.{Asks, Disconnected, Interpreted, Learning, NoRequest, OtherRequest, Told, Unreadable}
 use Rattle.aatry_requests.specs.Sources.{told_in}
 use Rattle.aatry_requests.specs.Tallies.{Tally, counted_with, one_more}
 use Rattle.aatry_requests.specs.declared.requests.Requests.{Requests}
@@ -28,13 +28,24 @@ nothing = record { tallies = []; lines = 0; asked = 0; others = 0; unreadable = 
 abbrev pub with_line : Gathered → Gathered
 with_line so_far = record so_far { lines = one_more so_far.lines }
 
+-- one more that tells of a request that no question asks
+abbrev pub with_other : Gathered → Gathered
+with_other so_far = record (with_line so_far) { others = one_more so_far.others }
+
+-- one more that can't be read
+abbrev pub with_unreadable : Gathered → Gathered
+with_unreadable so_far = record (with_line so_far) { unreadable = one_more so_far.unreadable }
+
 -- one more line that tells of this, at a time, where that is known
 abbrev pub with_told_at : Gathered → Told → Option ℕ → Gathered
 with_told_at so_far (Asks question) time =
     record (with_line so_far) { tallies = counted_with question time so_far.tallies; asked = one_more so_far.asked }
-with_told_at so_far OtherRequest time = record (with_line so_far) { others = one_more so_far.others }
+with_told_at so_far OtherRequest time = with_other so_far
+with_told_at so_far Disconnected time = with_other so_far
+with_told_at so_far Learning time = with_other so_far
 with_told_at so_far NoRequest time = with_line so_far
-with_told_at so_far Unreadable time = record (with_line so_far) { unreadable = one_more so_far.unreadable }
+with_told_at so_far Unreadable time = with_unreadable so_far
+with_told_at so_far Interpreted time = with_unreadable so_far
 
 -- the same where no time is looked at
 abbrev pub with_told : Gathered → Told → Gathered

@@ -1,6 +1,6 @@
 -- What is wrong with words that ask no question.
 use Rattle.std.specs.Prelude.{ℕ, ⊤, if◌then◌else◌, List, [], ◌∷◌, Option, None, Some}
-use Rattle.aatry_log_lines.specs.Lines.{Asks, NoRequest, OtherRequest, Told, Unreadable, told_by}
+use Rattle.aatry_log_lines.specs.Lines.{Asks, Disconnected, Interpreted, Learning, NoRequest, OtherRequest, Told, Unreadable, told_by}
 use Rattle.aatry_questions.specs.Faults.{Found, first_fault, found}
 use Rattle.aatry_questions.specs.Meant.{meant_fault}
 use Rattle.aatry_questions.specs.Misspelled.{Tells, misspells_kind}
@@ -12,8 +12,11 @@ use Rattle.aatry_requests.specs.AskedWords.{letting_words}
 abbrev pub line_fault : Told → Option Found
 line_fault (Asks question) = None
 line_fault OtherRequest = Some (found OtherLine [])
+line_fault Disconnected = Some (found OtherLine [])
+line_fault Learning = Some (found OtherLine [])
 line_fault NoRequest = Some (found LineWithoutRequest [])
 line_fault Unreadable = Some (found UnreadableLine [])
+line_fault Interpreted = Some (found UnreadableLine [])
 
 -- What is wrong with words, if they ask no question: with a word alone as a line of a log, and with more of them by what they mean.
 abbrev pub words_fault : List (List ℕ) → Option Found

@@ -50,7 +50,8 @@ fn asked_in_line(alloc: Global, line: &[u8]) -> Result<Option<LoggedQuestion<'_>
 {
     match told_by(alloc, line)? {
         LogLine::Asks(question) => Ok(Some(question)),
-        LogLine::OtherRequest | LogLine::NoRequest | LogLine::Unreadable => Ok(None),
+        LogLine::OtherRequest | LogLine::Disconnected | LogLine::Learning => Ok(None),
+        LogLine::NoRequest | LogLine::Unreadable | LogLine::Interpreted => Ok(None),
     }
 }
 

@@ -61,9 +61,13 @@ impl<'a> Requests<'a> {
                 self.asked = self.asked.saturating_add(1);
                 self.tallies.count(alloc, question, time)?;
             }
-            LogLine::OtherRequest => self.others = self.others.saturating_add(1),
+            LogLine::OtherRequest | LogLine::Disconnected | LogLine::Learning => {
+                self.others = self.others.saturating_add(1);
+            }
             LogLine::NoRequest => {}
-            LogLine::Unreadable => self.unreadable = self.unreadable.saturating_add(1),
+            LogLine::Unreadable | LogLine::Interpreted => {
+                self.unreadable = self.unreadable.saturating_add(1);
+            }
         }
         Ok(())
     }

@@ -21,9 +21,9 @@ fn line_fault(alloc: Global, line: &[u8]) -> Result<Option<WordFault<'static>>, 
 {
     let wrong = match told_by(alloc, line)? {
         LogLine::Asks(_) => return Ok(None),
-        LogLine::OtherRequest => Wrong::OtherLine,
+        LogLine::OtherRequest | LogLine::Disconnected | LogLine::Learning => Wrong::OtherLine,
         LogLine::NoRequest => Wrong::LineWithoutRequest,
-        LogLine::Unreadable => Wrong::UnreadableLine,
+        LogLine::Unreadable | LogLine::Interpreted => Wrong::UnreadableLine,
     };
     Ok(Some(WordFault { wrong, word: b"" }))
 }

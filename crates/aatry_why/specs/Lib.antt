@@ -1,3 +1,4 @@
+pub mod Asks
 pub mod AttachmentLines
 pub mod Ends
 pub mod How

@@ -31,6 +31,7 @@ use Rattle.aa_text_files.specs.Files.{File}
 use Rattle.aatry_policy.specs.LeftOut.{refusal_text}
 use Rattle.aatry_requests.specs.AskedWords.{asked_by}
 use Rattle.aatry_requests.specs.Questions.{rule_request}
+use Rattle.aatry_why.specs.Asks.{asks_of}
 use Rattle.aatry_why.specs.How.{confinement_of, how_lines}
 use Rattle.aatry_why.specs.Meant.{meant_name}
 use Rattle.aatry_why.specs.Unasked.{unasked_lines}
@@ -125,12 +126,12 @@ sources_in folder question = record { below = below folder; origin = asked_origi
 abbrev pub asked_text : Form → Folder → Question → List ℕ
 asked_text form folder question = answered_text form (sources_in folder question) (policy_in folder) question ++ uncertain_in form folder question
 
--- The words ask a question of the policy set of a folder, and a text tells the files that are left out, at length or not, what is answered, and on which
--- profiles of files that are left out that could hang.
+-- The words ask a question of the policy set of a folder, and a text tells the files that are left out, at length or not, of the line of a log which
+-- question that is, what is answered, and on which profiles of files that are left out that could hang.
 abbrev pub IsWhyTold : Form → Bool → Folder → List (List ℕ) → List ℕ → Bool → Type 0
 IsWhyTold form verbose folder words text found =
     (question : Question) × (asked_by words ≡ Some question)
-    × (text ≡ left_out_in form verbose folder ++ asked_text form folder question)
+    × (text ≡ left_out_in form verbose folder ++ asks_of form words question ++ asked_text form folder question)
     × (found ≡ has_answer (policy_in folder) question)
 
 -- The question was asked of the files at the top of the folder, with all that lies below it, by a language: the text tells its answer and the rules

@@ -2,6 +2,7 @@
 //! start of a program where the rules lead, and what its path may be attached to.
 #![tactic(auto)]
 
+mod asks;
 mod attachment;
 mod destinations;
 mod how;

@@ -20,6 +20,7 @@ ghost use Rattle.aatry_why.specs.Meant.{meant_name};
 ghost use Rattle.aatry_why.specs.Sources.{seen_sources};
 ghost use Rattle.aatry_why.specs.Why.{IsWhyTold, IsWhyToldBelow, answered_text, asked_text, confined_reasons, has_answer, how_of, reasons, refused_text, replied_text, sources_in};
 
+use crate::asks::push_asks;
 use crate::how::push_how;
 use crate::meant::meant_name;
 use crate::replies::{is_lacking, push_refused, push_reply};
@@ -259,14 +260,10 @@ fn told_of(teller: Teller, folder: &PolicyFolder<'_>, words: &[String]) -> Resul
     };
     let mut report = Report::new(teller.alloc);
     let mut loaded = load_folder(teller, folder, &mut report)?;
+    let question = asked.question();
+    push_asks(teller, words, &question, &mut report.text)?;
     let left_out = heads_left_out(teller.alloc, &loaded)?;
-    let found = push_asked(
-        teller,
-        &mut loaded,
-        &left_out,
-        &asked.question(),
-        &mut report.text,
-    )?;
+    let found = push_asked(teller, &mut loaded, &left_out, &question, &mut report.text)?;
     report.failed = failed_by(found);
     Ok(report)
 }
@@ -274,7 +271,8 @@ fn told_of(teller: Teller, folder: &PolicyFolder<'_>, words: &[String]) -> Resul
 /// What the policy of a folder, read by a language, answers to a question, and the rules behind the answer, told in a
 /// form. The question is that of the words, as behind `ask`; or, where they are one word, that of a line of a log
 /// (`aatry_requests::asked_by`). Reads the folder as `aatry_folder::policy_below` does. First come the files that are left out, where they are told,
-/// and it is noted how many they are (`aatry_policy::load_folder`). Then comes what `ask` would be answered, and behind it the rules, each with the
+/// and it is noted how many they are (`aatry_policy::load_folder`). Of a line of a log the question comes then, in the words in which it could be asked.
+/// Then comes what `ask` would be answered, and behind it the rules, each with the
 /// place where it is written (`aatry_why_lines`); where something isn't allowed, the rule that is missing and the nearest ones too; and of the start
 /// of a program where its transition leads and what its path may be attached to. Where who asks is in mode unconfined, it is told in place of rules
 /// that none is asked. Where nobody of the name is loaded, the refusal is told, and one failed; and the loaded name that may have been meant, if one is near.
@@ -283,6 +281,7 @@ fn told_of(teller: Teller, folder: &PolicyFolder<'_>, words: &[String]) -> Resul
 /// As records, the reply is one of the kind `answer`, with the texts `answer` and `audit`, the line that logs it, which
 /// is empty where none does; and a refusal is one of the kind `refused`, with `number` and `refusal`, and with `near`,
 /// the name that may have been meant, where one is near. That no rule is asked is one of the kind `mode`, with `mode`.
+/// The question of a line of a log is one of the kind `request`, with `question`.
 ///
 /// # Errors
 ///

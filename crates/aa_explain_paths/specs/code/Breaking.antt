@@ -2,7 +2,7 @@
 use Rattle.std.specs.Prelude.{ℕ, Bool, not, ◌&&◌, if◌then◌else◌, List, [], ◌∷◌, Option, None, Some}
 use Rattle.aa_glob_paths.specs.declared.outcome.Outcome.{Outcome}
 use Rattle.aa_profile_data.specs.declared.profile.Rule.{Rule}
-use Rattle.aa_explain_paths.specs.Answers.{Asked}
+use Rattle.aa_explain_paths.specs.Answers.{Asked, Breaking, breaking_by, seen_breaking}
 use Rattle.aa_explain_paths.specs.Claims.{breaks_for}
 use Rattle.aa_explain_paths.specs.Meant.{is_matched}
 use Rattle.aa_explain_paths.specs.declared.question.PathAnswer.{PathAnswer}
@@ -20,15 +20,23 @@ first_break test (outcome ∷ outcomes) = if test outcome.path.items then Some o
 -- an answer, as definitions see it
 pub data SeenAnswer : Type 0 where
   HoldsOf : (count : ℕ) → SeenAnswer
-  FailsAt : (path : List ℕ) → SeenAnswer
+  FailsAt : (breaking : Breaking) → SeenAnswer
   AreTooMany : SeenAnswer
 
 abbrev pub seen_answer : PathAnswer → SeenAnswer
 seen_answer (Holds count) = HoldsOf count
-seen_answer (Fails path) = FailsAt path.items
+seen_answer (Fails breaking) = FailsAt (seen_breaking breaking)
 seen_answer TooMany = AreTooMany
 
+-- what is told of a path, by whose file of it says otherwise and by which letters
+abbrev pub breaking_with : List ℕ → Bool → ℕ → Breaking
+breaking_with path owned letters = record { path = path; owned = owned; letters = letters }
+
+-- what is told of a path, if it says otherwise
+abbrev pub breaking_at : List Rule → Asked → List (List ℕ) → List ℕ → Option Breaking
+breaking_at rules asked unasked path = if says_otherwise rules asked unasked path then Some (breaking_by rules asked path) else None
+
 -- the answer where so many paths stand for all, and this is the first that says otherwise, if one does
-abbrev pub answer_of : ℕ → Option (List ℕ) → SeenAnswer
-answer_of count None = HoldsOf count
-answer_of count (Some path) = FailsAt path
+abbrev pub answer_of : List Rule → Asked → ℕ → Option (List ℕ) → SeenAnswer
+answer_of rules asked count None = HoldsOf count
+answer_of rules asked count (Some path) = FailsAt (breaking_by rules asked path)

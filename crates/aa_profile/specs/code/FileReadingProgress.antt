@@ -1,6 +1,5 @@
 -- How far the reading of a file has come, told by what is there.
-use Rattle.std.specs.Prelude.{Bool, List, [], ◌∷◌, Option, None, Some}
-use Rattle.aa_bytes.specs.Texts.{is_empty}
+use Rattle.std.specs.Prelude.{List, [], ◌∷◌, Option, None, Some}
 use Rattle.aa_text_variables.specs.Variables.{Variable}
 use Rattle.aa_text_files.specs.declared.text_error.Place.{Place}
 use Rattle.aa_profile.specs.Assignments.{first_undefined}
@@ -14,7 +13,3 @@ first_undefined_value variables (assignment ∷ assignments) = elim (first_undef
   | Some token ↦ Some (place_of token)
   | None ↦ first_undefined_value variables assignments
 ]
-
--- an assignment has no value
-abbrev pub has_no_value : Assignment → Bool
-has_no_value assignment = is_empty assignment.values

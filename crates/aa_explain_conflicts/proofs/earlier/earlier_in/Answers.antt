@@ -13,7 +13,7 @@ pub earlier_with-requires-clause-expand : goal.earlier_with-requires-clause-expa
 earlier_with-requires-clause-expand c =
     let assignments = map seen_assignment c.args.file.now.assignments.items in
     let patterns = of_profiles (map seen_profile c.args.file.now.profiles.items) in
-    let assigned : all_assigned [] assignments ≡ Ok c.in_ok-variables.variables = rw c.deref-2.ensures.value at c.in_ok-variables.ensures in
+    let assigned : all_assigned [] assignments ≡ Ok c.in_ok-variables.variables = rw c.deref-2.ensures.value at c.in_ok-variables.ensures.ok in
     let none = variables-made c.args.language (seen_file c.args.file.now) c.in_ok-variables.variables c.args.place assigned c.requires.refused in
     let tokens : seen_tokens c.deref-3.result.now ≡ patterns =
     ap seen_tokens c.deref-3.ensures.value ∙ c.in_ok-patterns.ensures ∙ ap (λ profiles. of_profiles (map seen_profile profiles)) c.deref.ensures.value
@@ -25,7 +25,7 @@ pub returns : goal.returns
 returns c =
     let assignments = map seen_assignment c.args.file.now.assignments.items in
     let patterns = of_profiles (map seen_profile c.args.file.now.profiles.items) in
-    let assigned : all_assigned [] assignments ≡ Ok c.in_ok-variables.variables = rw c.deref-2.ensures.value at c.in_ok-variables.ensures in
+    let assigned : all_assigned [] assignments ≡ Ok c.in_ok-variables.variables = rw c.deref-2.ensures.value at c.in_ok-variables.ensures.ok in
     let none = variables-made c.args.language (seen_file c.args.file.now) c.in_ok-variables.variables c.args.place assigned c.requires.refused in
     let own : variables_of assignments patterns ≡ Ok c.in_ok-variables.variables = rw (variables_of, assigned, none.0, none.1) refl in
     let same : earlier_in c.args.language (seen_file c.args.file.now) c.args.place ≡ earlier_with c.args.language c.in_ok-variables.variables (seen_file c.args.file.now) c.args.place = rw (earlier_in, own) refl in

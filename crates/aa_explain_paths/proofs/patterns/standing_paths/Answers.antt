@@ -1,4 +1,4 @@
-use Rattle.std.proofs.Common.{◌≡◌, ◌≤◌, ◌∙◌, ap, arith, length, subst, sym}
+use Rattle.std.proofs.Common.{◌≡◌, ◌∙◌, ap, arith, length, subst}
 use Rattle.aa_glob_paths.proofs.PathLemmas.{some_weaker}
 use Rattle.aa_glob_paths.specs.AllPaths.{TellAllPaths}
 use Rattle.aa_explain_paths.proofs.TellingLemmas.{length-telling}

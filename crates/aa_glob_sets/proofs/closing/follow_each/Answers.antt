@@ -1,6 +1,8 @@
-use Rattle.std.proofs.Common.{◌≤◌, length, subst, arith}
+use Rattle.std.proofs.Common.{◌≤◌, length, subst, sym, arith}
 use Rattle.std.proofs.lemmas.List.{take_all}
 use Rattle.aa_glob_nfa.specs.OfTables.{graph_of}
+use Rattle.aa_glob_sets.specs.Alike.{StandForAllFrom}
+use Rattle.aa_glob_sets.specs.Found.{FoundSet}
 use Rattle.aa_glob_sets.specs.code.Closing.{IsFollowedBehind}
 use Rattle.aa_glob_sets.proofs.FoundLemmas.{followed-all, followed-next, grows-then}
 use Rattle.aa_glob_sets.proofs.closing.follow_each.Goals as goal
@@ -22,5 +24,6 @@ pub returns-clause-followed : goal.returns-clause-followed
 returns-clause-followed c =
     let g = graph_of c.args.tables.now in
     let end : length c.args.bytes.now ≤ c.loop-byte.byte-index = omega arith in
-    followed-all g c.args.wanted.now c.loop-byte.sets c.args.from c.args.bytes.now c.requires.bytes
+    let stand = subst (λ (f : FoundSet). StandForAllFrom g f.set c.args.bytes.now) (sym (c.loop-byte.invariant.more.grows.same c.args.from c.requires.within)) c.requires.bytes in
+    followed-all g c.args.wanted.now c.loop-byte.sets c.args.from c.args.bytes.now stand
     (subst (IsFollowedBehind g c.args.wanted.now c.loop-byte.sets c.args.from) (take_all c.loop-byte.byte-index c.args.bytes.now end) c.loop-byte.invariant.followed)

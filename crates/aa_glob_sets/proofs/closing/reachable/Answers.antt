@@ -7,17 +7,17 @@ use Rattle.aa_glob_sets.proofs.FoundLemmas.{closed-next}
 use Rattle.aa_glob_sets.proofs.TextLemmas.{closed-reachable, more-than}
 use Rattle.aa_glob_sets.proofs.closing.reachable.Goals as goal
 
-pub follow_each-requires-clause-bytes : goal.follow_each-requires-clause-bytes
-follow_each-requires-clause-bytes c = subst (StandForAll (graph_of c.args.tables.now)) (sym c.deref.ensures.value) c.in_ok-bytes.ensures.all
+pub follow_all-requires-clause-bytes : goal.follow_all-requires-clause-bytes
+follow_all-requires-clause-bytes c = subst (StandForAll (graph_of c.args.tables.now)) (sym c.deref.ensures.value) c.in_ok-bytes.ensures.all
 
 pub loop-at-preserved : goal.loop-at-preserved
 loop-at-preserved c =
-    let here = c.in_ok-follow_each.ensures in
+    let here = c.in_ok-follow_all.ensures in
     let at = c.loop-at.at in
     record {
       found = here.more.found;
-      up_to = All-weaker (λ (f : FoundSet). f.origin.from ≤ at) (λ (f : FoundSet). f.origin.from ≤ at + 1) (λ f low. omega (arith, low)) c.follow_each.new.sets here.more.up_to;
-      closed = closed-next (graph_of c.args.tables.now) c.args.wanted.now c.loop-at.sets c.follow_each.new.sets at (omega arith) here.more.grows
+      up_to = All-weaker (λ (f : FoundSet). f.origin.from ≤ at) (λ (f : FoundSet). f.origin.from ≤ at + 1) (λ f low. omega (arith, low)) c.follow_all.new.sets here.more.up_to;
+      closed = closed-next (graph_of c.args.tables.now) c.args.wanted.now c.loop-at.sets c.follow_all.new.sets at (omega arith) here.more.grows
           c.loop-at.invariant.closed here.followed;
     }
 

@@ -1,7 +1,6 @@
 use Rattle.std.proofs.Common.{◌≡◌, [], drop, false, map}
 use Rattle.std.specs.List.{list_any}
-use Rattle.aa_profile.specs.Assignments.{all_assigned}
-use Rattle.aa_profile.specs.code.FileReadingProgress.{has_no_value}
+use Rattle.aa_profile.specs.Assignments.{all_assigned, has_no_value}
 use Rattle.aa_profile_grammar.specs.SeenFiles.{seen_assignment}
 use Rattle.aa_profile.proofs.assignments.assign_all.Given as goal
 

@@ -1,8 +1,7 @@
 use Rattle.std.proofs.Common.{◌≡◌, true, false, List, ◌∷◌, ℕ, Option, None, Some, sym}
 use Rattle.std.specs.Option.{is_some, option_map}
 use Rattle.std.specs.Borrow.{Bor}
-use Rattle.aa_profile_access.specs.Stacks.{parts_of, stack_of_names}
-use Rattle.aa_profile_access.specs.code.StackParts.{parts_of_rest}
+use Rattle.aa_profile_access.specs.Stacks.{parts_of, parts_of_rest, stack_of_names}
 use Rattle.aa_profile_access.proofs.StackLemmas.{stack-of_parts}
 use Rattle.aa_profile_access.proofs.stacks.stack_of_names.Goals as goal
 

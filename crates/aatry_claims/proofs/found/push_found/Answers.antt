@@ -3,7 +3,7 @@ use Rattle.std.specs.List.{All}
 use Rattle.std.proofs.lemmas.List.Elements.{All-push}
 use Rattle.std.proofs.lemmas.List.{map-append}
 use Rattle.aa_explain_paths.specs.SeenAsked.{seen_asked}
-use Rattle.aatry_claims.specs.Found.{AreAllFound, Found, IsFound, seen_found}
+use Rattle.aatry_claims.specs.Found.{Found, IsFound, seen_found}
 use Rattle.aatry_policy.specs.SeenProfiles.{seen_part}
 use Rattle.aatry_claims.proofs.found.push_found.Goals as goal
 

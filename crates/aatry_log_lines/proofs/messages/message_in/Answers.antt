@@ -5,7 +5,7 @@ use Rattle.std.proofs.lemmas.Str.{IsUtf8-from_is_utf8, is_utf8-from_IsUtf8}
 use Rattle.serde_json.specs.Read.{read}
 use Rattle.aa_bytes.specs.Bytes.{opening_brace}
 use Rattle.aa_bytes.specs.Texts.{begins_with_byte}
-use Rattle.aatry_log_lines.specs.Messages.{message_in}
+use Rattle.aatry_log_lines.specs.Messages.{NoMessage, message_in}
 use Rattle.aatry_log_lines.proofs.messages.message_in.Goals as goal
 
 pub returns-in-Ok : goal.returns-in-Ok
@@ -22,7 +22,7 @@ returns-in_default c = by (is_utf8 c.args.line.now) refl
     begins : begins_with_byte opening_brace c.args.line.now ≡ true
     begins = sym c.begins_with_byte.ensures.value ∙ c.if-not-begins_with_byte.false
 
-    by : (whole : Bool) → is_utf8 c.args.line.now ≡ whole → None ≡ message_in c.args.line.now
+    by : (whole : Bool) → is_utf8 c.args.line.now ≡ whole → NoMessage ≡ message_in c.args.line.now
     by false e = rw (message_in, begins, e) refl
     by true e =
         let unread : read c.args.line.now ≡ None =

@@ -22,7 +22,7 @@ returns-in-Ok-Some g c =
     let written = g.W.Sink.written c.args.streams.now.output in
     let output = output_of written written (g.W.Sink.failed c.args.streams.now.output) in
     let asked = c.args.asked in
-    let told = (rw c.in-Ok-Some.field-0-is at c.in-Ok-Some.ensures) refl in
+    let told = (rw c.in-Ok-Some.field-0-is at c.in-Ok-Some.ensures.asked) refl in
     let nothing = subst (λ words. AskNothing (words_asking c.args.inquiry (map string_bytes words))) c.deref.ensures.value told in
     words_told c.args.inquiry c.args.teller.form c.args.teller.verbose c.args.language folders known (string_bytes asked.base) (texts_of asked.words) output c.report_line.result
     nothing refl c.report_line.ensures

@@ -1,0 +1,132 @@
+//! What is told of words that ask nothing, where it shows what was meant.
+
+ghost use Rattle.std.specs.Prelude.{◌≡◌, IfOk, map, option_map, string_bytes};
+ghost use Rattle.std.specs.List.{list_any};
+ghost use Rattle.aatry_hints.specs.Hints.{command_meant, command_word, cut_line, is_cut_line, is_pair, misspelled, misspelled_by, no_command_told, other_than};
+
+use aa_bytes::begins_with;
+use aatry_near::nearest_text;
+use aatry_report::push_shown;
+use std::alloc::{AllocError, Global};
+
+// The commands.
+const COMMANDS: [&str; 9] = [
+    "check", "why", "log", "who", "never", "always", "diff", "session", "test",
+];
+
+// What is told of words into which a shell cut the line of a log.
+const CUT_LINE: &[u8] =
+    b"aatry: a line of a log is one word, in quotes: aatry why 'LINE'; or pipe it into aatry log\n";
+
+// Whether one of some words is the pair by which a line of a log tells of a request.
+fn has_pair(words: &[String]) -> bool
+    ensures { result ≡ list_any is_pair (map string_bytes words.now) }
+{
+    let mut rest = words;
+    while let [word, behind @ ..] = rest {
+        if begins_with(b"apparmor=", word.as_bytes()) {
+            return true;
+        }
+        rest = behind;
+    }
+    false
+}
+
+// Whether words are those of a line of a log, into which a shell cut it.
+fn is_cut_line(words: &[String]) -> bool
+    ensures { result ≡ is_cut_line (map string_bytes words.now) }
+{
+    match words {
+        [] => false,
+        [_] => false,
+        [_, _, ..] => has_pair(words),
+    }
+}
+
+/// The line that is told of words behind `why` that ask no question, where they are those of a line of a log, into which a shell cut it. It takes no memory.
+pub fn cut_line(words: &[String]) -> Option<&'static [u8]>
+    ensures { option_map (λ line. line.now) result ≡ cut_line (map string_bytes words.now) }
+{
+    if is_cut_line(words) {
+        Some(CUT_LINE)
+    } else {
+        None
+    }
+}
+
+// The first of some words that is no option.
+fn command_word(words: &[String]) -> Option<&[u8]>
+    ensures { option_map (λ word. word.now) result ≡ command_word (map string_bytes words.now) }
+{
+    let mut rest = words;
+    while let [word, behind @ ..] = rest {
+        let bytes = word.as_bytes();
+        if !begins_with(b"-", bytes) {
+            return Some(bytes);
+        }
+        rest = behind;
+    }
+    None
+}
+
+// A name that was found for a word, if that is another.
+fn other_than<'a>(word: &[u8], found: Option<&'a [u8]>) -> Option<&'a [u8]>
+    ensures { option_map (λ name. name.now) result ≡ other_than word.now (option_map (λ name. name.now) found.entry) }
+{
+    match found {
+        Some(name) if name == word => None,
+        Some(name) => Some(name),
+        None => None,
+    }
+}
+
+// The line that is told of a word in the place of a command, if one may have been meant by it.
+fn no_command_told(
+    alloc: Global,
+    word: &[u8],
+    near: Option<&[u8]>,
+) -> Result<Option<Vec<u8>>, AllocError>
+    ensures { IfOk result (λ line. option_map (λ line. line.items) line ≡ no_command_told word.now (option_map (λ name. name.now) near.entry)) }
+{
+    let Some(near) = near else {
+        return Ok(None);
+    };
+    let mut line = Vec::from_slice(alloc, b"aatry: no command is called ")?;
+    push_shown(&mut line, word)?;
+    line.extend_from_slice(b": did you mean ")?;
+    push_shown(&mut line, near)?;
+    line.extend_from_slice(b"?\n")?;
+    Ok(Some(line))
+}
+
+// The command that a word may have been meant for, where it is none.
+fn command_meant(alloc: Global, word: &[u8]) -> Result<Option<&'static [u8]>, AllocError>
+    ensures { IfOk result (λ found. option_map (λ name. name.now) found ≡ command_meant word.now) }
+{
+    let found = nearest_text(alloc, word, &COMMANDS)?;
+    Ok(other_than(word, found))
+}
+
+// The line that is told of a word in the place of a command, if there is one.
+fn misspelled_by(alloc: Global, word: Option<&[u8]>) -> Result<Option<Vec<u8>>, AllocError>
+    ensures { IfOk result (λ line. option_map (λ line. line.items) line ≡ misspelled_by (option_map (λ word. word.now) word.entry)) }
+{
+    match word {
+        None => Ok(None),
+        Some(word) => {
+            let near = command_meant(alloc, word)?;
+            no_command_told(alloc, word, near)
+        }
+    }
+}
+
+/// The line that is told of the words of a start behind the program's own name, where the one in the place of a command is none and near to one.
+///
+/// # Errors
+///
+/// Where memory runs out.
+pub fn misspelled(alloc: Global, words: &[String]) -> Result<Option<Vec<u8>>, AllocError>
+    ensures { IfOk result (λ line. option_map (λ line. line.items) line ≡ misspelled (map string_bytes words.now)) }
+{
+    misspelled_by(alloc, command_word(words))
+}
