@@ -1,5 +1,5 @@
 -- The first path that says otherwise, of those that stand for all, is one of the shortest of all that do.
-use Rattle.std.proofs.Common.{◌≡◌, ◌≢◌, ℕ, suc, ◌≤◌, Bool, true, false, not, ◌&&◌, ◌==◌, if◌then◌else◌, List, [], ◌∷◌, ◌++◌, length, refl, sym, ◌∙◌, ap, subst, inl, inr, arith}
+use Rattle.std.proofs.Common.{◌≡◌, ℕ, suc, ◌≤◌, Bool, true, false, not, ◌&&◌, ◌==◌, if◌then◌else◌, List, [], ◌∷◌, length, refl, sym, ◌∙◌, ap, subst, inl, inr, arith}
 use Rattle.std.proofs.lemmas.Bool.{and_from, and_parts, true≢false}
 use Rattle.std.specs.List.{list_any}
 use Rattle.std.specs.Prelude.{AllPairs, Contains, None, Option, Some}
@@ -10,10 +10,9 @@ use Rattle.aa_glob_paths.specs.AllPaths.{IsOutcome, TellAllPaths}
 use Rattle.aa_glob_paths.specs.Laws.{AreMatchedAlike, OutcomesStandForAll, StandForAllPaths, paths_of}
 use Rattle.aa_glob_paths.specs.declared.outcome.Outcome.{Outcome}
 use Rattle.aa_profile_access.specs.Access.{common}
-use Rattle.aa_profile_data.specs.FileRules.{file_patterns}
 use Rattle.aa_profile_data.specs.declared.profile.Rule.{Rule}
-use Rattle.aa_explain_paths.specs.Answers.{Asked, Breaking, HoldsOfAll, IsAnswer, IsBreaking, IsShortestBreaking, breaking_by, seen_breaking}
-use Rattle.aa_explain_paths.specs.Claims.{breaks, breaks_for, is_allow, owners, single_letters}
+use Rattle.aa_explain_paths.specs.Answers.{Asked, Breaking, HoldsOfAll, IsAnswerBy, IsBreaking, IsShortestBreaking, breaking_by, seen_breaking}
+use Rattle.aa_explain_paths.specs.Claims.{breaks, is_allow, owners, single_letters}
 use Rattle.aa_explain_paths.specs.Laws.{AreAnsweredAlike}
 use Rattle.aa_explain_paths.specs.Meant.{is_matched, unasked_patterns}
 use Rattle.aa_explain_paths.specs.code.Breaking.{answer_of, breaking_at, first_break, says_otherwise, seen_answer}
@@ -22,7 +21,7 @@ use Rattle.aa_explain_paths.specs.declared.question.Claim.{Claim}
 use Rattle.aa_explain_paths.specs.declared.question.Claim.TheVariants.{Always, Never}
 use Rattle.aa_explain_paths.specs.declared.question.PathAnswer.{PathAnswer}
 use Rattle.aa_explain_paths.specs.declared.question.PathAnswer.TheVariants.{Fails, Holds, TooMany}
-use Rattle.aa_explain_paths.proofs.TellingLemmas.{behind-alike, files-among, matched-alike, matched-wanted, outcome-matched}
+use Rattle.aa_explain_paths.proofs.TellingLemmas.{files-among, matched-told, outcome-asked, outcome-matched}
 use Rattle.aa_explain_paths.proofs.VerdictLemmas.{verdicts-alike}
 
 -- where the first that passes a test is none, none passes it
@@ -52,13 +51,13 @@ first-among test (one ∷ os) path some = by (test one.path.items) refl some (fi
     by false is some later = let there = later some in (there.0, Contains-later one os there.0 there.1, there.2, there.3)
 
 -- a path that doesn't say otherwise is passed over
-pub passed-over : (rules : List Rule) (asked : Asked) (unasked : List (List ℕ)) (o : Outcome) (os : List Outcome)
-    → breaking_at rules asked unasked o.path.items ≡ None
-    → first_break (says_otherwise rules asked unasked) (o ∷ os) ≡ first_break (says_otherwise rules asked unasked) os
-passed-over rules asked unasked o os none = by (says_otherwise rules asked unasked o.path.items) refl none
+pub passed-over : (rules : List Rule) (asked : Asked) (o : Outcome) (os : List Outcome)
+    → breaking_at rules asked o.path.items ≡ None
+    → first_break (says_otherwise rules asked) (o ∷ os) ≡ first_break (says_otherwise rules asked) os
+passed-over rules asked o os none = by (says_otherwise rules asked o.path.items) refl none
   where
-    by : (b : Bool) → says_otherwise rules asked unasked o.path.items ≡ b → (if b then Some (breaking_by rules asked o.path.items) else None) ≡ None
-        → first_break (says_otherwise rules asked unasked) (o ∷ os) ≡ first_break (says_otherwise rules asked unasked) os
+    by : (b : Bool) → says_otherwise rules asked o.path.items ≡ b → (if b then Some (breaking_by rules asked o.path.items) else None) ≡ None
+        → first_break (says_otherwise rules asked) (o ∷ os) ≡ first_break (says_otherwise rules asked) os
     by true is some = absurd cc
     by false is some = rw is refl
 
@@ -88,6 +87,10 @@ first-shortest test (one ∷ os) path rise some o at passes =
       | inr more ↦ later some o more passes
     ]
 
+not-true : (b : Bool) → not b ≡ true → b ≡ false
+not-true false h = refl
+not-true true h = absurd cc
+
 module _ (rules : List Rule) (asked : Asked) where
   abbrev all : List (List ℕ)
   all = telling_patterns rules asked.patterns unasked_patterns
@@ -96,7 +99,7 @@ module _ (rules : List Rule) (asked : Asked) where
   classes = all_classes rules asked.patterns unasked_patterns
 
   abbrev test : List ℕ → Bool
-  test = says_otherwise rules asked unasked_patterns
+  test = says_otherwise rules asked
 
   -- paths with the same verdicts say otherwise alike
   breaks-alike : (path other : List ℕ) → AreAnsweredAlike rules path other → (claim : Claim) (owned : Bool)
@@ -108,9 +111,8 @@ module _ (rules : List Rule) (asked : Asked) where
   -- so do paths that the same patterns match
   test-alike : (path other : List ℕ) → AreMatchedAlike all path other → test path ≡ test other
   test-alike path other alike =
-      let unasked = matched-alike unasked_patterns path other (behind-alike (file_patterns rules ++ asked.patterns) unasked_patterns path other alike) in
       let verdicts = verdicts-alike all rules path other (files-among rules asked.patterns unasked_patterns) alike in
-      λ i. not (unasked i) && list_any (λ owned. breaks-alike path other verdicts asked.claim owned i) (owners asked.whose)
+      λ i. list_any (λ owned. breaks-alike path other verdicts asked.claim owned i) (owners asked.whose)
 
   module _ (outcomes : List Outcome) (told : TellAllPaths all classes outcomes) (stand : StandForAllPaths all classes (paths_of outcomes)) where
     -- a path that says otherwise has an outcome whose path does, and is no longer
@@ -118,12 +120,11 @@ module _ (rules : List Rule) (asked : Asked) where
         → (o : Outcome) × Contains outcomes o × (test o.path.items ≡ true) × (length o.path.items ≤ length path)
     standing path breaking =
         let meant = and_parts (is_matched asked.patterns path) (not (is_matched unasked_patterns path)) breaking.meant in
-        let there = stand path breaking.bytes (matched-wanted rules asked.patterns unasked_patterns path meant.0) in
-        let o = Contains-map_cases (λ (o : Outcome). o.path.items) outcomes there.0 there.1 in
-        let passes = and_from (not (is_matched unasked_patterns path)) (breaks_for asked.claim rules asked.letters asked.whose path) meant.1 breaking.breaks in (
+        let there = stand path breaking.bytes (matched-told rules asked.patterns unasked_patterns path meant.0 (not-true (is_matched unasked_patterns path) meant.1)) in
+        let o = Contains-map_cases (λ (o : Outcome). o.path.items) outcomes there.0 there.1 in (
           o.0,
           o.1,
-          ap test o.2 ∙ sym (test-alike path there.0 there.2.alike) ∙ passes,
+          ap test o.2 ∙ sym (test-alike path there.0 there.2.alike) ∙ breaking.breaks,
           subst (λ l. length l ≤ length path) (sym o.2) there.2.no_longer,
         )
 
@@ -131,13 +132,12 @@ module _ (rules : List Rule) (asked : Asked) where
     outcome-breaks : (o : Outcome) → Contains outcomes o → test o.path.items ≡ true → IsBreaking rules asked o.path.items
     outcome-breaks o at passes =
         let is = All-contains (IsOutcome all classes) outcomes o told.each_outcome at in
-        let parts = and_parts (not (is_matched unasked_patterns o.path.items)) (breaks_for asked.claim rules asked.letters asked.whose o.path.items) passes in
         record {
           bytes = is.bytes;
           meant =
               and_from (is_matched asked.patterns o.path.items) (not (is_matched unasked_patterns o.path.items))
-              (outcome-matched rules asked.patterns unasked_patterns o is) parts.0;
-          breaks = parts.1;
+              (outcome-matched rules asked.patterns unasked_patterns o is) (ap not (outcome-asked rules asked.patterns unasked_patterns o is));
+          breaks = passes;
         }
 
     holds : first_break test outcomes ≡ None → HoldsOfAll rules asked
@@ -157,11 +157,11 @@ module _ (rules : List Rule) (asked : Asked) where
         }
 
     pub answer-right : (limit : ℕ) (answer : PathAnswer) → seen_answer answer ≡ answer_of rules asked (length outcomes) (first_break test outcomes)
-        → IsAnswer rules asked limit answer
+        → IsAnswerBy rules rules asked limit answer
     answer-right limit answer seen = by answer (first_break test outcomes) refl seen
       where
         by : (answer : PathAnswer) (found : Option (List ℕ)) → first_break test outcomes ≡ found → seen_answer answer ≡ answer_of rules asked (length outcomes) found
-            → IsAnswer rules asked limit answer
+            → IsAnswerBy rules rules asked limit answer
         by (Holds count) None is seen = let same : count ≡ length outcomes = cc in (holds is, record { outcomes = outcomes; told = told; counted = same })
         by (Holds count) (Some path) is seen = absurd cc
         by (Fails own) None is seen = absurd cc
@@ -173,12 +173,10 @@ module _ (rules : List Rule) (asked : Asked) where
         by TooMany (Some path) is seen = absurd cc
 
 -- the answer by paths that stand for all, with the patterns of the paths that the kernel never asks about
-pub answer-standing : OutcomesStandForAll → (rules : List Rule) (asked : Asked) (one other : List (List ℕ)) (outcomes : List Outcome)
-    → one ≡ unasked_patterns → other ≡ unasked_patterns
-    → TellAllPaths (telling_patterns rules asked.patterns one) (all_classes rules asked.patterns one) outcomes → (limit : ℕ) (answer : PathAnswer)
-    → seen_answer answer ≡ answer_of rules asked (length outcomes) (first_break (says_otherwise rules asked other) outcomes) → IsAnswer rules asked limit answer
-answer-standing law rules asked one other outcomes first second told limit answer seen =
-    let told_all = subst (λ u. TellAllPaths (telling_patterns rules asked.patterns u) (all_classes rules asked.patterns u) outcomes) first told in
-    let stand = law (telling_patterns rules asked.patterns unasked_patterns) (all_classes rules asked.patterns unasked_patterns) outcomes told_all in
-    answer-right rules asked outcomes told_all stand limit answer
-    (subst (λ u. seen_answer answer ≡ answer_of rules asked (length outcomes) (first_break (says_otherwise rules asked u) outcomes)) second seen)
+pub answer-standing : OutcomesStandForAll → (rules : List Rule) (asked : Asked) (outcomes : List Outcome)
+    → TellAllPaths (telling_patterns rules asked.patterns unasked_patterns) (all_classes rules asked.patterns unasked_patterns) outcomes
+    → (limit : ℕ) (answer : PathAnswer)
+    → seen_answer answer ≡ answer_of rules asked (length outcomes) (first_break (says_otherwise rules asked) outcomes) → IsAnswerBy rules rules asked limit answer
+answer-standing law rules asked outcomes told limit answer seen =
+    let stand = law (telling_patterns rules asked.patterns unasked_patterns) (all_classes rules asked.patterns unasked_patterns) outcomes told in
+    answer-right rules asked outcomes told stand limit answer seen

@@ -1,5 +1,5 @@
 -- The patterns that tell paths apart, by their places and classes.
-use Rattle.std.proofs.Common.{◌≡◌, ◌≢◌, ◌⊎◌, ◌||◌, ℕ, zero, suc, ◌+◌, ◌-◌, ◌<◌, ◌≤◌, Bool, true, false, List, [], ◌∷◌, ◌++◌, length, refl, sym, ◌∙◌, ap, inl, inr, arith, length-append}
+use Rattle.std.proofs.Common.{◌≡◌, ◌⊎◌, ◌||◌, ℕ, zero, suc, ◌+◌, ◌-◌, ◌<◌, ◌≤◌, Bool, true, false, List, [], ◌∷◌, ◌++◌, length, refl, sym, ◌∙◌, ap, inl, inr, arith, length-append}
 use Rattle.std.proofs.lemmas.Bool.{cases_lt, or_left, or_right, true≢false}
 use Rattle.std.proofs.lemmas.List.{get_or-append_right, get_or-replicate, get_or_append_left, get_or_past, length-replicate}
 use Rattle.std.proofs.lemmas.Option.{slice_get_within}
@@ -8,8 +8,9 @@ use Rattle.aa_glob_front.proofs.RunLemmas.{slice_get-append}
 use Rattle.aa_glob_nfa.proofs.ListLemmas.{Contains-cons_cases}
 use Rattle.aa_glob_pairs.specs.Graphs.{class_at}
 use Rattle.aa_glob_paths.specs.AllPaths.{IsOutcome}
-use Rattle.aa_glob_paths.specs.Laws.{AreMatchedAlike, IsMatchedByWanted}
+use Rattle.aa_glob_paths.specs.Laws.{IsMatchedByClass, IsToldOf}
 use Rattle.aa_glob_paths.specs.declared.outcome.Outcome.{Outcome}
+use Rattle.aa_glob_sets.specs.Settled.{passed_over_class}
 use Rattle.aa_glob_sets.specs.Wanted.{wanted_class}
 use Rattle.aa_glob_syntax.specs.Matching.{matches}
 use Rattle.aa_glob_syntax.specs.Patterns.{IsPatternAt}
@@ -78,18 +79,6 @@ at-matched (p ∷ ps) path zero pattern at is =
 at-matched (p ∷ ps) path (suc place) pattern at is =
     or_right (matches (items_of p) path) (is_matched ps path) (at-matched ps path place pattern at is)
 
--- patterns that match two paths alike, each by itself, do so together
-pub matched-alike : (ps : List (List ℕ)) (path other : List ℕ) → AreMatchedAlike ps path other → is_matched ps path ≡ is_matched ps other
-matched-alike [] path other alike = refl
-matched-alike (p ∷ ps) path other alike =
-    let here = alike 0 p refl in
-    let later = matched-alike ps path other (λ place pattern at. alike (suc place) pattern at) in
-    λ i. here i || later i
-
--- those behind others match alike where all do
-pub behind-alike : (ps qs : List (List ℕ)) (path other : List ℕ) → AreMatchedAlike (ps ++ qs) path other → AreMatchedAlike qs path other
-behind-alike ps qs path other alike place pattern at = alike (length ps + place) pattern (behind-at ps qs place ∙ at)
-
 -- the class of a pattern that is wanted
 pub wanted-class : (n w u k : ℕ) → k < w → class_at (classes_of n w u) (n + k) ≡ wanted_class
 wanted-class n w u k low =
@@ -101,19 +90,64 @@ wanted-class n w u k low =
     let within : n + k < length (others ++ wanted) = omega (arith, low, both, front, long) in
     let same : (n + k) - n ≡ k = omega arith in
     let low_enough : n ≤ n + k = omega arith in
-    get_or_append_left (others ++ wanted) (replicate u other_class) other_class (n + k) within
+    get_or_append_left (others ++ wanted) (replicate u passed_over_class) other_class (n + k) within
     ∙ get_or-append_right others wanted n (n + k) other_class front low_enough
     ∙ ap (class_at wanted) same ∙ get_or-replicate w k wanted_class other_class low
 
--- what stands in a list of the class of others is that class
-none-wanted : (n i : ℕ) → class_at (replicate n other_class) i ≡ other_class
-none-wanted n i = elim (cases_lt i n) [
-  | inl low ↦ get_or-replicate n i other_class other_class low
+-- what stands in a list of one class is that class, and none stands behind it
+same-or-other : (class n i : ℕ) → (class_at (replicate n class) i ≡ class) ⊎ (class_at (replicate n class) i ≡ other_class)
+same-or-other class n i = elim (cases_lt i n) [
+  | inl low ↦ inl (get_or-replicate n i class other_class low)
   | inr high ↦
-      let long : length (replicate n other_class) ≡ n = length-replicate n other_class in
-      let past : length (replicate n other_class) ≤ i = omega (arith, high, long) in
-      get_or_past (replicate n other_class) i other_class past
+      let long : length (replicate n class) ≡ n = length-replicate n class in
+      let past : length (replicate n class) ≤ i = omega (arith, high, long) in
+      inr (get_or_past (replicate n class) i other_class past)
 ]
+
+-- of the class of others each is
+none-wanted : (n i : ℕ) → class_at (replicate n other_class) i ≡ other_class
+none-wanted n i = elim (same-or-other other_class n i) [ inl same ↦ same | inr other ↦ other ]
+
+-- the class of a pattern that is passed over
+passed-class : (n w u k : ℕ) → k < u → class_at (classes_of n w u) (n + w + k) ≡ passed_over_class
+passed-class n w u k low =
+    let others : List ℕ = replicate n other_class in
+    let wanted : List ℕ = replicate w wanted_class in
+    let last : List ℕ = replicate u passed_over_class in
+    let front : length (others ++ wanted) ≡ n + w = omega (arith, length-append others wanted, length-replicate n other_class, length-replicate w wanted_class) in
+    let same : (n + w + k) - (n + w) ≡ k = omega arith in
+    let low_enough : n + w ≤ n + w + k = omega arith in
+    get_or-append_right (others ++ wanted) last (n + w) (n + w + k) other_class front low_enough
+    ∙ ap (class_at last) same ∙ get_or-replicate u k passed_over_class other_class low
+
+-- no pattern before those has that class
+only-passed : (n w u p : ℕ) → class_at (classes_of n w u) p ≡ passed_over_class → n + w ≤ p
+only-passed n w u p passed =
+    let others : List ℕ = replicate n other_class in
+    let mine : List ℕ = replicate w wanted_class in
+    let last : List ℕ = replicate u passed_over_class in
+    let front : length others ≡ n = length-replicate n other_class in
+    let long : length mine ≡ w = length-replicate w wanted_class in
+    let both : length (others ++ mine) ≡ length others + length mine = length-append others mine in
+    elim (cases_lt p (n + w)) [
+      | inr high ↦ omega (arith, high)
+      | inl low ↦
+          let within : p < length (others ++ mine) = omega (arith, low, both, front, long) in
+          let whole : passed_over_class ≡ class_at (others ++ mine) p = sym passed ∙ get_or_append_left (others ++ mine) last other_class p within in
+          elim (cases_lt p n) [
+            | inl early ↦
+                let low_front : p < length others = omega (arith, early, front) in
+                let none : passed_over_class ≡ other_class = whole ∙ get_or_append_left others mine other_class p low_front ∙ none-wanted n p in
+                absurd (omega (arith, none))
+            | inr late ↦
+                let late_enough : n ≤ p = omega (arith, late) in
+                let there : passed_over_class ≡ class_at mine (p - n) = whole ∙ get_or-append_right others mine n p other_class front late_enough in
+                elim (same-or-other wanted_class w (p - n)) [
+                  | inl same ↦ absurd (let none : passed_over_class ≡ wanted_class = there ∙ same in omega (arith, none))
+                  | inr other ↦ absurd (let none : passed_over_class ≡ other_class = there ∙ other in omega (arith, none))
+                ]
+          ]
+    ]
 
 -- no other pattern has that class
 pub only-wanted : (n w u p : ℕ) → class_at (classes_of n w u) p ≡ wanted_class → (n ≤ p) × (p < n + w)
@@ -129,17 +163,19 @@ only-wanted n w u p wanted =
           let within : p < length (others ++ mine) = omega (arith, low, whole) in
           let low_front : p < length others = omega (arith, low, front) in
           let none : wanted_class ≡ other_class =
-          sym wanted ∙ get_or_append_left (others ++ mine) (replicate u other_class) other_class p within
+          sym wanted ∙ get_or_append_left (others ++ mine) (replicate u passed_over_class) other_class p within
           ∙ get_or_append_left others mine other_class p low_front ∙ none-wanted n p in
           absurd (omega (arith, none))
       | inr high ↦ elim (cases_lt p (n + w)) [
         | inl within ↦ (omega (arith, high), within)
         | inr past ↦
             let behind : n + w ≤ p = omega (arith, past) in
-            let none : wanted_class ≡ other_class =
-            sym wanted ∙ get_or-append_right (others ++ mine) (replicate u other_class) (n + w) p other_class whole behind
-            ∙ none-wanted u (p - (n + w)) in
-            absurd (omega (arith, none))
+            let there : wanted_class ≡ class_at (replicate u passed_over_class) (p - (n + w)) =
+            sym wanted ∙ get_or-append_right (others ++ mine) (replicate u passed_over_class) (n + w) p other_class whole behind in
+            elim (same-or-other passed_over_class u (p - (n + w))) [
+              | inl passed ↦ absurd (let none : wanted_class ≡ passed_over_class = there ∙ passed in omega (arith, none))
+              | inr other ↦ absurd (let none : wanted_class ≡ other_class = there ∙ other in omega (arith, none))
+            ]
       ]
     ]
 
@@ -153,19 +189,19 @@ length-telling rules patterns unasked =
     let u = length unasked in
     let others : List ℕ = replicate n other_class in
     let mine : List ℕ = replicate w wanted_class in
-    let last : List ℕ = replicate u other_class in
+    let last : List ℕ = replicate u passed_over_class in
     let one : length ((files ++ patterns) ++ unasked) ≡ length (files ++ patterns) + u = length-append (files ++ patterns) unasked in
     let two : length (files ++ patterns) ≡ n + w = length-append files patterns in
     let three : length ((others ++ mine) ++ last) ≡ length (others ++ mine) + length last = length-append (others ++ mine) last in
     let four : length (others ++ mine) ≡ length others + length mine = length-append others mine in
     let five : length others ≡ n = length-replicate n other_class in
     let six : length mine ≡ w = length-replicate w wanted_class in
-    let seven : length last ≡ u = length-replicate u other_class in
+    let seven : length last ≡ u = length-replicate u passed_over_class in
     omega (arith, one, two, three, four, five, six, seven)
 
 module _ (rules : List Rule) (patterns unasked : List (List ℕ)) where
   -- a path that one of the patterns that are asked about matches is matched by a wanted one
-  pub matched-wanted : (path : List ℕ) → is_matched patterns path ≡ true → IsMatchedByWanted (telling_patterns rules patterns unasked) (all_classes rules patterns unasked) path
+  matched-wanted : (path : List ℕ) → is_matched patterns path ≡ true → IsMatchedByClass wanted_class (telling_patterns rules patterns unasked) (all_classes rules patterns unasked) path
   matched-wanted path some =
       let there = matched-at patterns path some in
       let files = file_patterns rules in
@@ -178,11 +214,49 @@ module _ (rules : List Rule) (patterns unasked : List (List ℕ)) where
         there.3,
       )
 
+  -- how many patterns stand before those of paths that aren't asked about
+  before : length (file_patterns rules ++ patterns) ≡ length (file_patterns rules) + length patterns
+  before = length-append (file_patterns rules) patterns
+
+  -- a pattern that is passed over is one of those
+  passed-unasked : (path : List ℕ) → IsMatchedByClass passed_over_class (telling_patterns rules patterns unasked) (all_classes rules patterns unasked) path
+      → is_matched unasked path ≡ true
+  passed-unasked path matched =
+      let front = file_patterns rules ++ patterns in
+      let behind = only-passed (length (file_patterns rules)) (length patterns) (length unasked) matched.0 matched.3 in
+      let same : length front + (matched.0 - length front) ≡ matched.0 = omega (arith, behind, before) in
+      at-matched unasked path (matched.0 - length front) matched.1
+      (sym (behind-at front unasked (matched.0 - length front)) ∙ ap (slice_get (front ++ unasked)) same ∙ matched.2) matched.4
+
+  -- what is told of a path that one of the patterns matches that are asked about, and that the kernel may ask about
+  pub matched-told : (path : List ℕ) → is_matched patterns path ≡ true → is_matched unasked path ≡ false
+      → IsToldOf (telling_patterns rules patterns unasked) (all_classes rules patterns unasked) path
+  matched-told path some none = record {
+    wanted = matched-wanted path some;
+    not_passed_over = λ matched. true≢false (sym (passed-unasked path matched) ∙ none);
+  }
+
+  -- the kernel may ask about the path of each outcome
+  pub outcome-asked : (o : Outcome) → IsOutcome (telling_patterns rules patterns unasked) (all_classes rules patterns unasked) o → is_matched unasked o.path.items ≡ false
+  outcome-asked o is = by (is_matched unasked o.path.items) refl
+    where
+      by : (b : Bool) → is_matched unasked o.path.items ≡ b → b ≡ false
+      by false none = refl
+      by true some =
+          let there = matched-at unasked o.path.items some in
+          let files = file_patterns rules in
+          let low = slice_get_within unasked there.0 there.1 there.2 in
+          let place : ℕ = length files + length patterns + there.0 in
+          let same : place ≡ length (files ++ patterns) + there.0 = omega (arith, before) in
+          let at : slice_get (telling_patterns rules patterns unasked) place ≡ Some there.1 =
+          ap (slice_get (telling_patterns rules patterns unasked)) same ∙ behind-at (files ++ patterns) unasked there.0 ∙ there.2 in
+          absurd (is.told.none_passed_over (place, (is.matching place).1 (there.1, at, there.3), passed-class (length files) (length patterns) (length unasked) there.0 low))
+
   -- one of them matches the path of each outcome
   pub outcome-matched : (o : Outcome) → IsOutcome (telling_patterns rules patterns unasked) (all_classes rules patterns unasked) o → is_matched patterns o.path.items ≡ true
   outcome-matched o is =
       let files = file_patterns rules in
-      let wanted = is.wanted in
+      let wanted = is.told.wanted in
       let found = (is.matching wanted.0).0 wanted.1 in
       let bounds = only-wanted (length files) (length patterns) (length unasked) wanted.0 wanted.2 in
       let wide : wanted.0 < length (files ++ patterns) = omega (arith, bounds.1, length-append files patterns) in

@@ -7,6 +7,7 @@ use Rattle.aa_glob_paths.specs.declared.outcome.Outcome.{Outcome}
 use Rattle.aa_profile_data.specs.declared.profile.Rule.{Rule}
 use Rattle.aa_explain_paths.specs.Claims.{breaking_letters, breaks_for, first_owner}
 use Rattle.aa_explain_paths.specs.Meant.{is_meant, unasked_patterns}
+use Rattle.aa_explain_paths.specs.Relevant.{relevant_rules}
 use Rattle.aa_explain_paths.specs.Telling.{all_classes, telling_patterns}
 use Rattle.aa_explain_paths.specs.declared.question.Breaking.{Breaking as CodeBreaking}
 use Rattle.aa_explain_paths.specs.declared.question.Claim.{Claim}
@@ -50,16 +51,21 @@ breaking_by rules asked path =
     let owned = first_owner asked.claim rules asked.letters asked.whose path in
     record { path = path; owned = owned; letters = breaking_letters asked.claim rules asked.letters path owned }
 
--- There are so many kinds of paths that a pattern of the question matches: paths are of one kind where the same patterns match them, of the rules, of the
--- question, and of the paths that the kernel never asks about.
+-- There are so many kinds of paths that a pattern of the question matches, and that the kernel may ask about: paths are of one kind where the same patterns
+-- match them, of some rules and of the question.
 pub record AreKinds (rules : List Rule) (asked : Asked) (count : ℕ) : Type 0 where
   pub outcomes : List Outcome
   pub told : TellAllPaths (telling_patterns rules asked.patterns unasked_patterns) (all_classes rules asked.patterns unasked_patterns) outcomes
   pub counted : count ≡ length outcomes
 
--- The answer is right. That there are too many paths is told only where more texts than the limit are read differently by the same patterns.
-abbrev pub IsAnswer : List Rule → Asked → ℕ → PathAnswer → Type 0
-IsAnswer rules asked limit (Holds count) = HoldsOfAll rules asked × AreKinds rules asked count
-IsAnswer rules asked limit (Fails breaking) =
+-- The answer by some rules is right, where the patterns of `telling` tell paths apart: rules that let the same of each path that is meant. That there are
+-- too many paths is told only where more texts than the limit are read differently by these patterns.
+abbrev pub IsAnswerBy : List Rule → List Rule → Asked → ℕ → PathAnswer → Type 0
+IsAnswerBy telling rules asked limit (Holds count) = HoldsOfAll rules asked × AreKinds telling asked count
+IsAnswerBy telling rules asked limit (Fails breaking) =
     IsShortestBreaking rules asked breaking.path.items × (seen_breaking breaking ≡ breaking_by rules asked breaking.path.items)
-IsAnswer rules asked limit TooMany = AreMoreTextsThan (telling_patterns rules asked.patterns unasked_patterns) limit
+IsAnswerBy telling rules asked limit TooMany = AreMoreTextsThan (telling_patterns telling asked.patterns unasked_patterns) limit
+
+-- the answer by some rules is right, where the patterns of those that can decide tell paths apart
+abbrev pub IsAnswer : List Rule → Asked → ℕ → PathAnswer → Type 0
+IsAnswer rules asked limit answer = IsAnswerBy (relevant_rules asked.letters asked.whose rules) rules asked limit answer

@@ -1,20 +1,21 @@
 -- The patterns that tell paths apart, and their classes.
 use Rattle.std.specs.Prelude.{ℕ, List, ◌++◌, length, replicate}
+use Rattle.aa_glob_sets.specs.Settled.{passed_over_class}
 use Rattle.aa_glob_sets.specs.Wanted.{wanted_class}
 use Rattle.aa_profile_data.specs.FileRules.{file_patterns}
 use Rattle.aa_profile_data.specs.declared.profile.Rule.{Rule}
 
--- those of the rules on files, behind them those that are wanted, and the others
+-- those of the rules on files, behind them those that are wanted, and those that are passed over
 abbrev pub telling_patterns : List Rule → List (List ℕ) → List (List ℕ) → List (List ℕ)
 telling_patterns rules patterns unasked = (file_patterns rules ++ patterns) ++ unasked
 
--- the class of the patterns that aren't wanted
+-- the class of the patterns of rules
 abbrev pub other_class : ℕ
 other_class = 0
 
 -- the classes of so many of each
 abbrev pub classes_of : ℕ → ℕ → ℕ → List ℕ
-classes_of rules wanted unasked = (replicate rules other_class ++ replicate wanted wanted_class) ++ replicate unasked other_class
+classes_of rules wanted unasked = (replicate rules other_class ++ replicate wanted wanted_class) ++ replicate unasked passed_over_class
 
 -- the classes of all patterns that tell paths apart
 abbrev pub all_classes : List Rule → List (List ℕ) → List (List ℕ) → List ℕ

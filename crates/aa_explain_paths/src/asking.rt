@@ -4,47 +4,31 @@ ghost use Rattle.std.specs.Prelude.{◌≡◌, IfOk, length, option_map};
 ghost use Rattle.std.specs.List.{All};
 ghost use Rattle.aa_glob_paths.specs.AllPaths.{IsOutcome};
 ghost use Rattle.aa_profile_data.specs.FileRules.{places_from};
-ghost use Rattle.aa_explain_paths.specs.Answers.{IsAnswer, seen_breaking};
+ghost use Rattle.aa_explain_paths.specs.Answers.{IsAnswer, IsAnswerBy, seen_breaking};
 ghost use Rattle.aa_explain_paths.specs.Matched.{AreMatched};
+ghost use Rattle.aa_explain_paths.specs.Meant.{unasked_patterns};
 ghost use Rattle.aa_explain_paths.specs.SeenAsked.{seen_asked};
 ghost use Rattle.aa_explain_paths.specs.Telling.{all_classes, telling_patterns};
 ghost use Rattle.aa_explain_paths.specs.code.Breaking.{answer_of, breaking_at, breaking_with, first_break, says_otherwise, seen_answer};
 
 use crate::letting::{breaking_letters, breaks_for, first_owner};
 use crate::matched::MatchedRules;
-use crate::patterns::{is_matched, standing_paths, unasked_patterns};
+use crate::patterns::{standing_paths, unasked_patterns};
 use crate::question::{Breaking, PathAnswer, PathQuestion};
+use crate::relevant::relevant_rules;
 use aa_decide_ready::{file_places, picked};
 use aa_glob_paths::{Outcome, outcomes_stand_for_all};
-use aa_glob_pattern::Pattern;
 use aa_profile_access::Perms;
 use aa_profile_data::{Rule, which_rules_match};
 use std::alloc::{AllocError, Global};
 
-// Whether the kernel may ask about a path that says otherwise.
-fn says_otherwise(
-    question: PathQuestion<'_>,
-    unasked: &[Pattern],
-    matched: MatchedRules<'_>,
-) -> bool
-    requires { AreMatched matched }
-    ensures { result ≡ says_otherwise matched.entry.rules.now (seen_asked question.entry) unasked.now matched.entry.path.now }
-{
-    !is_matched(unasked, matched.path)
-        && breaks_for(question.claim, matched, question.letters, question.whose)
-}
-
-// Whose file of a path says otherwise, and by which letters, if the kernel may ask about that path and it does.
-fn broken_by(
-    question: PathQuestion<'_>,
-    unasked: &[Pattern],
-    matched: MatchedRules<'_>,
-) -> Option<(bool, Perms)>
+// Whose file of a path says otherwise, and by which letters, if it does.
+fn broken_by(question: PathQuestion<'_>, matched: MatchedRules<'_>) -> Option<(bool, Perms)>
     requires { AreMatched matched }
     ensures { option_map (λ told. breaking_with matched.entry.path.now told.0 told.1.0) result
-        ≡ breaking_at matched.entry.rules.now (seen_asked question.entry) unasked.now matched.entry.path.now }
+        ≡ breaking_at matched.entry.rules.now (seen_asked question.entry) matched.entry.path.now }
 {
-    if !says_otherwise(question, unasked, matched) {
+    if !breaks_for(question.claim, matched, question.letters, question.whose) {
         return None;
     }
     let owned = first_owner(question.claim, matched, question.letters, question.whose);
@@ -58,12 +42,11 @@ fn breaking_at(
     rules: &[Rule],
     numbers: &[usize],
     question: PathQuestion<'_>,
-    unasked: &[Pattern],
     outcome: Outcome,
 ) -> Result<Option<Breaking>, AllocError>
     requires numbers { numbers.now ≡ places_from 0 rules.now }
-    requires outcome { IsOutcome (telling_patterns rules.now question.patterns.now unasked.now) (all_classes rules.now question.patterns.now unasked.now) outcome }
-    ensures { IfOk result (λ found. option_map seen_breaking found ≡ breaking_at rules.now (seen_asked question.entry) unasked.now outcome.path.items) }
+    requires outcome { IsOutcome (telling_patterns rules.now question.patterns.now unasked_patterns) (all_classes rules.now question.patterns.now unasked_patterns) outcome }
+    ensures { IfOk result (λ found. option_map seen_breaking found ≡ breaking_at rules.now (seen_asked question.entry) outcome.path.items) }
 {
     which_rules_match();
     let Outcome {
@@ -76,7 +59,7 @@ fn breaking_at(
         places: &places,
         path: &path,
     };
-    match broken_by(question, unasked, matched) {
+    match broken_by(question, matched) {
         None => Ok(None),
         Some((owned, letters)) => Ok(Some(Breaking {
             path,
@@ -91,17 +74,16 @@ fn answer_by(
     alloc: Global,
     rules: &[Rule],
     question: PathQuestion<'_>,
-    unasked: &[Pattern],
     found: Vec<Outcome>,
 ) -> Result<PathAnswer, AllocError>
-    requires { All (IsOutcome (telling_patterns rules.now question.patterns.now unasked.now) (all_classes rules.now question.patterns.now unasked.now)) found.items }
+    requires { All (IsOutcome (telling_patterns rules.now question.patterns.now unasked_patterns) (all_classes rules.now question.patterns.now unasked_patterns)) found.items }
     ensures { IfOk result (λ answer. seen_answer answer ≡ answer_of rules.now (seen_asked question.entry) (length found.items)
-        (first_break (says_otherwise rules.now (seen_asked question.entry) unasked.now) found.items)) }
+        (first_break (says_otherwise rules.now (seen_asked question.entry)) found.items)) }
 {
     let numbers = file_places(alloc, rules)?;
     let count = found.len();
     for outcome in found {
-        match breaking_at(alloc, rules, &numbers, question, unasked, outcome)? {
+        match breaking_at(alloc, rules, &numbers, question, outcome)? {
             Some(breaking) => return Ok(PathAnswer::Fails(breaking)),
             None => {}
         }
@@ -109,13 +91,32 @@ fn answer_by(
     Ok(PathAnswer::Holds(count))
 }
 
+// The answer by the rules that can decide.
+fn ask_relevant(
+    alloc: Global,
+    relevant: &[Rule],
+    question: PathQuestion<'_>,
+    limit: usize,
+) -> Result<PathAnswer, AllocError>
+    ensures { IfOk result (IsAnswerBy relevant.now relevant.now (seen_asked question.entry) limit) }
+{
+    outcomes_stand_for_all();
+    let unasked = unasked_patterns(alloc)?;
+    let found = standing_paths(alloc, relevant, question.patterns, &unasked, limit)?;
+    match found {
+        None => Ok(PathAnswer::TooMany),
+        Some(paths) => answer_by(alloc, relevant, question, paths),
+    }
+}
+
 /// Whether what is claimed holds of all paths of any bytes that patterns match, as far as the kernel may ask about them: by what some rules let of the files
 /// of these paths in enforce mode (`aa_decide_rules::rules_verdict`). A folder's path ends with `/`, and is a path. The kernel asks about none with two
 /// slashes together, and none with a part `.` or `..`. Where a path says otherwise, it is one of the shortest that do. Where it holds, it is told of how many
-/// kinds of paths.
+/// kinds of those that it may ask about.
 ///
-/// No path of those that are meant is passed over: each is matched by the same patterns as one of those that are looked at, which is no longer. Where more
-/// than `limit` sets of states of the patterns' automaton were to be looked at for that, `TooMany` is told.
+/// No path of those that are meant is left out: each is matched by the same patterns as one of those that are looked at, which is no longer. Only the
+/// patterns of rules that can decide are asked: those that cover one of the letters, of a file that is meant. Where more than `limit` sets of states of the
+/// patterns' automaton were to be looked at for that, `TooMany` is told.
 ///
 /// It takes time and memory for each of these sets and each of its states, and time for each of the paths that stand for all and each rule that matches it.
 ///
@@ -130,11 +131,6 @@ pub fn ask_all_paths(
 ) -> Result<PathAnswer, AllocError>
     ensures { IfOk result (IsAnswer rules.now (seen_asked question.entry) limit) }
 {
-    outcomes_stand_for_all();
-    let unasked = unasked_patterns(alloc)?;
-    let found = standing_paths(alloc, rules, question.patterns, &unasked, limit)?;
-    match found {
-        None => Ok(PathAnswer::TooMany),
-        Some(paths) => answer_by(alloc, rules, question, &unasked, paths),
-    }
+    let relevant = relevant_rules(alloc, rules, question.letters, question.whose)?;
+    ask_relevant(alloc, &relevant, question, limit)
 }

@@ -1,7 +1,7 @@
 //! The patterns by which paths are told apart.
 
 ghost use Rattle.std.specs.Prelude.{◌≡◌, ◌++◌, IfOk, IfSome, None, OnOk, length, replicate};
-ghost use Rattle.aa_explain_paths.specs.Meant.{is_matched, unasked_patterns};
+ghost use Rattle.aa_explain_paths.specs.Meant.{unasked_patterns};
 ghost use Rattle.aa_explain_paths.specs.Telling.{all_classes, telling_patterns};
 ghost use Rattle.aa_glob_automaton.specs.Automata.{IsAutomatonOf};
 ghost use Rattle.aa_glob_paths.specs.AllPaths.{TellAllPaths};
@@ -10,7 +10,7 @@ ghost use Rattle.aa_profile_data.specs.FileRules.{file_patterns};
 
 use aa_decide_ready::with_files;
 use aa_glob_automaton::{Automaton, AutomatonBuilder};
-use aa_glob_paths::{Outcome, WANTED, outcomes};
+use aa_glob_paths::{Outcome, PASSED_OVER, WANTED, outcomes};
 use aa_glob_pattern::Pattern;
 use aa_profile_data::Rule;
 use std::alloc::{AllocError, Global};
@@ -39,20 +39,6 @@ pub fn unasked_patterns(alloc: Global) -> Result<Vec<Pattern>, AllocError>
     patterns.push(fixed(alloc, b"/{,**}//{,**}")?)?;
     patterns.push(fixed(alloc, b"/{,**/}.{,.}{,/{,**}}")?)?;
     Ok(patterns)
-}
-
-/// Whether one of some patterns matches a path. It takes no memory.
-pub fn is_matched(patterns: &[Pattern], path: &[u8]) -> bool
-    ensures { result ≡ is_matched patterns.now path.now }
-{
-    let mut rest = patterns;
-    while let [pattern, behind @ ..] = rest {
-        if pattern.matches(path) {
-            return true;
-        }
-        rest = behind;
-    }
-    false
 }
 
 // The automaton of the patterns of the rules on files among some, behind these of more patterns, and of some more behind those.
@@ -108,12 +94,12 @@ fn telling_classes(
     let mut classes = Vec::new(alloc);
     push_class(&mut classes, 0, file_count(rules))?;
     push_class(&mut classes, WANTED, patterns.len())?;
-    push_class(&mut classes, 0, unasked.len())?;
+    push_class(&mut classes, PASSED_OVER, unasked.len())?;
     Ok(classes)
 }
 
-/// Paths that stand for all that one of some patterns matches, by these, the patterns of the rules on files among some, and some more; none where they are
-/// too many.
+/// Paths that stand for all that one of some patterns matches, and none of some more, by all these and the patterns of the rules on files among some; none
+/// where they are too many.
 ///
 /// # Errors
 ///

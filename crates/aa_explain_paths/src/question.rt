@@ -67,7 +67,7 @@ impl Breaking {
 /// What a question about all paths is answered.
 #[derive(Drop)]
 pub enum PathAnswer {
-    /// What is claimed holds of each path. So many paths stand for all: no two of them are matched by the same patterns of rules.
+    /// What is claimed holds of each path. So many paths stand for all that the kernel may ask about: no two of them are matched by the same patterns.
     Holds(usize),
     /// This path says otherwise, and no shorter one does.
     Fails(Breaking),

@@ -1,6 +1,6 @@
 //! The states that live at one place of a text.
 
-ghost use Rattle.std.specs.Prelude.{◌≡◌, ℕ, ◌*◌, ◌<◌, ◌≤◌, not, ◌&&◌, [], length, All, IfOk, OnOk, slice_get, Some};
+ghost use Rattle.std.specs.Prelude.{◌≡◌, ℕ, ◌*◌, ◌<◌, ◌≤◌, not, ◌&&◌, ◌||◌, [], length, All, IfOk, OnOk, slice_get, Some};
 ghost use Rattle.aa_bytes.specs.Bits.{has_bit};
 ghost use Rattle.aa_glob_front.specs.Fronts.{AreDistinct, IsLive, is_in, with_state};
 ghost use Rattle.aa_glob_front.specs.code.Marks.{AreMarked};
@@ -138,14 +138,31 @@ impl Front {
         Ok(())
     }
 
-    // Takes all states out. What was never put in isn't touched.
-    pub(crate) fn clear(&mut self)
+    /// Takes all states out. What was never put in isn't touched, and the memory stays.
+    pub fn clear(&mut self)
         ensures { self.new ≡ record self.old { states = [] } }
     {
         if !self.members.is_empty() {
             clear_bits(&mut self.members, &self.states);
         }
         self.states.clear();
+    }
+
+    /// Puts these states, which are below its number, none twice, in place of those that it has. Its memory serves for them, as far as it reaches.
+    ///
+    /// # Errors
+    ///
+    /// Where memory runs out. Which states there are then is not said.
+    pub fn fill(&mut self, states: &[u32]) -> Result<(), AllocError>
+        requires { IsLive self.old.room states.now }
+        ensures { OnOk result (self.new ≡ record { states = states.now; room = self.old.room }) }
+    {
+        self.clear();
+        self.states.extend_from_slice(states)?;
+        if !self.members.is_empty() {
+            set_bits(&mut self.members, states);
+        }
+        Ok(())
     }
 }
 
@@ -167,10 +184,18 @@ fn marked(alloc: Global, room: usize, states: &[u32]) -> Result<Vec<u64>, AllocE
     ensures { IfOk result (λ members. AreMarked states.now room members.items) }
 {
     let mut members = vec![in alloc; 0u64; room / 64 + 1]?;
-    for state in states {
-        set_bit(&mut members, *state as usize);
-    }
+    set_bits(&mut members, states);
     Ok(members)
+}
+
+// Sets the bits of some numbers.
+fn set_bits(members: &mut [u64], states: &[u32])
+    requires { All (λ r. r < 64 * length members.old) states.now }
+    ensures { (r : ℕ) → has_bit members.new r ≡ (is_in r states.now || has_bit members.old r) }
+{
+    for state in states {
+        set_bit(members, *state as usize);
+    }
 }
 
 // Clears the bits of some numbers.

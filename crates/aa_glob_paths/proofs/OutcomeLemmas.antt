@@ -1,24 +1,25 @@
 -- Outcomes of sets, one after the other.
-use Rattle.std.proofs.Common.{◌≡◌, ◌≢◌, ℕ, ◌+◌, ◌≤◌, ◌<◌, ◌==◌, List, [], ◌∷◌, ◌++◌, length, get_or, reverse, sym, ◌∙◌, ap, subst, inl, inr, arith, eq-eqb, eqb-true}
-use Rattle.std.proofs.lemmas.Bool.{cases_eq, true≢false}
+use Rattle.std.proofs.Common.{◌≡◌, ◌≢◌, ℕ, ◌+◌, ◌≤◌, ◌<◌, ◌==◌, List, [], ◌∷◌, ◌++◌, length, get_or, reverse, refl, sym, ◌∙◌, ap, subst, inl, inr, arith, eq-eqb, eqb-true}
+use Rattle.std.proofs.lemmas.Bool.{and_parts, cases_eq, true≢false}
 use Rattle.std.proofs.lemmas.List.Folds.{Any-from_list_any, list_any-from_Any}
 use Rattle.std.proofs.lemmas.List.{length-reverse, map-append}
 use Rattle.std.proofs.lemmas.List.Elements.{All-contains, All-map, All-push, All-weaker, Contains-append_left, Contains-get_or, Contains-push}
 use Rattle.std.proofs.lemmas.List.Quantifiers.{all_pairs_push}
-use Rattle.std.specs.Prelude.{All, Contains, false, is_some, true}
+use Rattle.std.specs.Prelude.{All, Bool, Contains, false, is_some, not, true, ◌&&◌}
 use Rattle.aa_glob_nfa.specs.Graphs.{Graph}
 use Rattle.aa_glob_nfa.proofs.ListLemmas.{Contains-map}
 use Rattle.aa_glob_sets.specs.Found.{AreByLength, FoundSet, IsFoundBehind, set_at}
 use Rattle.aa_glob_sets.specs.Laws.{EndIn}
+use Rattle.aa_glob_sets.specs.Settled.{passed_over_class}
 use Rattle.aa_glob_sets.specs.Wanted.{wanted_class}
 use Rattle.aa_glob_nfa.specs.OfTables.{graph_of}
 use Rattle.aa_glob_nfa.specs.declared.tables.Tables.{Tables}
 use Rattle.aa_glob_pairs.specs.Graphs.{class_at}
 use Rattle.aa_glob_pairs.specs.Pairs.{AreClassed}
-use Rattle.aa_glob_paths.specs.AllPaths.{IsWanted}
+use Rattle.aa_glob_paths.specs.AllPaths.{AreTold}
 use Rattle.aa_glob_paths.proofs.PathLemmas.{same-ends}
 use Rattle.aa_glob_sets.proofs.PlaceLemmas.{kept_at, key-kept, none-kept}
-use Rattle.aa_glob_paths.specs.code.AllTexts.{AreOutcomesBefore, has_wanted, HasSetOf, IsFoundBy, IsOfEarlier}
+use Rattle.aa_glob_paths.specs.code.AllTexts.{AreOutcomesBefore, are_told, has_class, HasSetOf, IsFoundBy, IsOfEarlier}
 use Rattle.aa_glob_paths.specs.code.Kept.{Entry, kept_outcomes, outcome_of}
 use Rattle.aa_glob_paths.specs.declared.outcome.Outcome.{Outcome}
 
@@ -34,37 +35,62 @@ earlier-on : (found : List FoundSet) (number : ℕ) (outcomes : List Outcome) �
 earlier-on found number outcomes all =
     All-weaker (IsOfEarlier found number) (IsOfEarlier found (number + 1)) (λ o at. (at.0, omega (arith, at.1), at.2)) outcomes all
 
--- a set has an outcome, where a pattern that is wanted ends in it
-abbrev HasIfWanted : Graph → List ℕ → List FoundSet → List Outcome → ℕ → Type 0
-HasIfWanted g classes found outcomes n = (places : List ℕ) → EndIn g (set_at found n) places → IsWanted classes places → HasSetOf g found outcomes n
+-- a set has an outcome, where a pattern that is wanted ends in it, and none that is passed over
+abbrev HasIfTold : Graph → List ℕ → List FoundSet → List Outcome → ℕ → Type 0
+HasIfTold g classes found outcomes n = (places : List ℕ) → EndIn g (set_at found n) places → AreTold classes places → HasSetOf g found outcomes n
 
 each-on : (g : Graph) (classes : List ℕ) (found : List FoundSet) (number : ℕ) (old new : List Outcome)
-    → ((n : ℕ) (places : List ℕ) → n < number → EndIn g (set_at found n) places → IsWanted classes places → HasSetOf g found old n)
-    → ((o : Outcome) → Contains old o → Contains new o) → HasIfWanted g classes found new number
-    → (n : ℕ) (places : List ℕ) → n < number + 1 → EndIn g (set_at found n) places → IsWanted classes places → HasSetOf g found new n
+    → ((n : ℕ) (places : List ℕ) → n < number → EndIn g (set_at found n) places → AreTold classes places → HasSetOf g found old n)
+    → ((o : Outcome) → Contains old o → Contains new o) → HasIfTold g classes found new number
+    → (n : ℕ) (places : List ℕ) → n < number + 1 → EndIn g (set_at found n) places → AreTold classes places → HasSetOf g found new n
 each-on g classes found number old new before keeps here n places low ends want = elim (cases_eq n number) [
-  | inl same ↦ subst (HasIfWanted g classes found new) (sym same) here places ends want
+  | inl same ↦ subst (HasIfTold g classes found new) (sym same) here places ends want
   | inr other ↦ let early = before n places (omega (arith, low, other)) ends want in (early.0, keeps early.0 early.1, early.2, early.3)
 ]
 
--- the test tells whether one is wanted
-pub is-wanted : (classes places : List ℕ) → has_wanted classes places ≡ true → IsWanted classes places
-is-wanted classes places is =
-    let any = Any-from_list_any (λ p. class_at classes p == wanted_class) places is in
-    (any.1, (any.0, any.2, any.3), eqb-true (class_at classes any.1) wanted_class any.4)
+-- the test tells whether one is of a class
+of-class : (classes : List ℕ) (class : ℕ) (places : List ℕ) → has_class classes class places ≡ true → (p : ℕ) × Contains places p × (class_at classes p ≡ class)
+of-class classes class places is =
+    let any = Any-from_list_any (λ p. class_at classes p == class) places is in
+    (any.1, (any.0, any.2, any.3), eqb-true (class_at classes any.1) class any.4)
 
-none-wanted : (classes places : List ℕ) → has_wanted classes places ≡ false → IsWanted classes places → ⊥
-none-wanted classes places none want =
-    let any = list_any-from_Any (λ p. class_at classes p == wanted_class) places (want.1.0, want.0, want.1.1, want.1.2, eq-eqb (class_at classes want.0) wanted_class want.2) in
+none-of : (classes : List ℕ) (class : ℕ) (places : List ℕ) → has_class classes class places ≡ false → (p : ℕ) × Contains places p × (class_at classes p ≡ class) → ⊥
+none-of classes class places none has =
+    let any = list_any-from_Any (λ p. class_at classes p == class) places (has.1.0, has.0, has.1.1, has.1.2, eq-eqb (class_at classes has.0) class has.2) in
     true≢false (sym any ∙ none)
 
--- no pattern that is wanted ends in the set of a number
+-- the test tells whether one is wanted and none passed over
+pub are-told : (classes places : List ℕ) → are_told classes places ≡ true → AreTold classes places
+are-told classes places is =
+    let parts = and_parts (has_class classes wanted_class places) (not (has_class classes passed_over_class places)) is in
+    record {
+      wanted = of-class classes wanted_class places parts.0;
+      none_passed_over = λ has. none-of classes passed_over_class places (not_true (has_class classes passed_over_class places) parts.1) has;
+    }
+  where
+    not_true : (b : Bool) → not b ≡ true → b ≡ false
+    not_true false h = refl
+    not_true true h = absurd cc
+
+none-told : (classes places : List ℕ) → are_told classes places ≡ false → AreTold classes places → ⊥
+none-told classes places none told = by (has_class classes wanted_class places) (has_class classes passed_over_class places) refl refl none
+  where
+    by : (w p : Bool) → has_class classes wanted_class places ≡ w → has_class classes passed_over_class places ≡ p → (w && not p) ≡ false → ⊥
+    by false p is other both = none-of classes wanted_class places is told.wanted
+    by true true is other both = told.none_passed_over (of-class classes passed_over_class places other)
+    by true false is other both = absurd cc
+
+-- no pattern that is wanted ends in the set of a number, or one that is passed over
 pub outcome-none : (g : Graph) (classes : List ℕ) (found : List FoundSet) (number : ℕ) (outcomes : List Outcome) (places : List ℕ)
-    → AreOutcomesBefore g classes found number outcomes → EndIn g (set_at found number) places → has_wanted classes places ≡ false
+    → AreOutcomesBefore g classes found number outcomes → EndIn g (set_at found number) places → are_told classes places ≡ false
     → AreOutcomesBefore g classes found (number + 1) outcomes
 outcome-none g classes found number outcomes places before ends none = record {
   each = each-on g classes found number outcomes outcomes before.each (λ o h. h) (λ others there want.
-      absurd (none-wanted classes places none (want.0, (same-ends g (set_at found number) others places there ends want.0).0 want.1, want.2)));
+      let same = same-ends g (set_at found number) others places there ends in
+      absurd (none-told classes places none (record {
+        wanted = (want.wanted.0, (same want.wanted.0).0 want.wanted.1, want.wanted.2);
+        none_passed_over = λ has. want.none_passed_over (has.0, (same has.0).1 has.1, has.2);
+      })));
   only = before.only;
   earlier = earlier-on found number outcomes before.earlier;
   order = before.order;

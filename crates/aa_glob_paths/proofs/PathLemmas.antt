@@ -12,8 +12,9 @@ use Rattle.aa_glob_pairs.proofs.MeetLemmas.{there}
 use Rattle.aa_glob_run.specs.Ends.{IsEndIn}
 use Rattle.aa_glob_automaton.proofs.ClashLemmas.{bytes-reverse, graph-laid}
 use Rattle.aa_glob_sets.specs.Found.{FoundSet, set_at}
-use Rattle.aa_glob_sets.specs.Laws.{EndIn}
+use Rattle.aa_glob_sets.specs.Laws.{EndIn, NotPassedOverIsUnsettled}
 use Rattle.aa_glob_sets.specs.Reachable.{AreMoreThan, AreReachable}
+use Rattle.aa_glob_sets.specs.Settled.{IsPassedOver, MarksSettled}
 use Rattle.aa_glob_sets.specs.Wanted.{MarksWanted}
 use Rattle.aa_glob_automaton.specs.Automata.{IsGraphOf}
 use Rattle.aa_glob_automaton.proofs.BuiltLemmas.{matching-found}
@@ -24,7 +25,7 @@ use Rattle.aa_glob_automaton.specs.Visits.{IsReadOf}
 use Rattle.aa_glob_pattern.specs.Trails.{Trail, trail_of}
 use Rattle.aa_glob_syntax.specs.Reading.{items_of, reading}
 use Rattle.aa_glob_syntax.specs.Patterns.{AreMatching, IsPatternAt}
-use Rattle.aa_glob_paths.specs.AllPaths.{IsOutcome, SamePlaces, TellAllPaths}
+use Rattle.aa_glob_paths.specs.AllPaths.{AreTold, IsOutcome, SamePlaces, TellAllPaths}
 use Rattle.aa_glob_paths.specs.TooMany.{AreMoreTextsThan}
 use Rattle.aa_glob_sets.proofs.RisingLemmas.{rise-same}
 use Rattle.aa_glob_paths.specs.code.AllTexts.{AreOutcomesBefore, IsFoundBy, TellAllTexts}
@@ -48,14 +49,21 @@ found-in g text set places whole found p = (
   (λ end. (found p).1 (end.0, end.1, All-contains (Reaches g (reverse text)) set end.0 whole.reached end.2)),
 )
 
+-- what a text is passed over for is a pattern that is told of it
+none-passed : (g : Graph) (classes text places : List ℕ) → IsFound g text places → AreTold classes places → IsPassedOver g classes (reverse text) → ⊥
+none-passed g classes text places told want passed = want.none_passed_over (passed.0, (told passed.0).1 passed.2, passed.1)
+
 -- the outcomes of all sets tell of all texts
-pub texts-told : (g : Graph) (classes : List ℕ) (wanted : List Bool) (found : List FoundSet) (outcomes : List Outcome) → IsLaid g → MarksWanted g classes wanted
-    → AreReachable g wanted found → AreOutcomesBefore g classes found (length found) outcomes → TellAllTexts g classes outcomes
-texts-told g classes wanted found outcomes laid marks reachable are = record {
+pub texts-told : NotPassedOverIsUnsettled → (g : Graph) (classes : List ℕ) (wanted settled : List Bool) (found : List FoundSet) (outcomes : List Outcome) → IsLaid g
+    → MarksWanted g classes wanted → MarksSettled g classes settled → AreReachable g wanted settled found → AreOutcomesBefore g classes found (length found) outcomes
+    → TellAllTexts g classes outcomes
+texts-told law g classes wanted settled found outcomes laid marks settles reachable are = record {
   each_text = λ text places bytes told want.
-      let end = (told want.0).0 want.1 in
-      let it = marks end.0 want.0 (there g laid end.2) end.1 want.2 in
-      let set = reachable.each_text (reverse text) (bytes-reverse text bytes) (end.0, end.2, it) in
+      let one = want.wanted in
+      let end = (told one.0).0 one.1 in
+      let it = marks end.0 one.0 (there g laid end.2) end.1 one.2 in
+      let unsettled = law g classes settled (reverse text) settles (end.0, end.2) (none-passed g classes text places told want) in
+      let set = reachable.each_text (reverse text) (bytes-reverse text bytes) (end.0, end.2, it) unsettled in
       let own = reachable.each_set set.0 set.1 in
       let ends = found-in g text (set_at found set.0) places set.2 told in
       let outcome = are.each set.0 places set.1 ends want in
@@ -102,7 +110,7 @@ paths-told law g patterns classes outcomes graph told = record {
     bytes = by.bytes;
     matching = matching-found law g patterns o.path.items o.places.items by.bytes by.found graph;
     rise = by.rise;
-    wanted = by.wanted;
+    told = by.told;
   }) outcomes told.each_outcome;
   by_length = told.order.by_length;
   apart = λ i j d before within same.
@@ -114,7 +122,7 @@ paths-told law g patterns classes outcomes graph told = record {
 -- no patterns, no paths
 pub none-told : (classes : List ℕ) → TellAllPaths [] classes []
 none-told classes = record {
-  each_path = λ path places bytes matching want. absurd (let known = (matching want.0).0 want.1 in let at = known.1 in cc);
+  each_path = λ path places bytes matching want. absurd (let known = (matching want.wanted.0).0 want.wanted.1 in let at = known.1 in cc);
   each_outcome = All-nil (IsOutcome [] classes);
   by_length = λ i j d before within. absurd (omega (arith, within));
   apart = λ i j d before within. absurd (omega (arith, within));

@@ -8,8 +8,8 @@ use Rattle.aa_glob_nfa.proofs.ListLemmas.{Contains-cons_cases, Contains-first, C
 use Rattle.aa_glob_syntax.specs.Matching.{matches}
 use Rattle.aa_glob_syntax.specs.Patterns.{AreMatching, IsPatternAt}
 use Rattle.aa_glob_syntax.specs.Reading.{items_of}
-use Rattle.aa_glob_paths.specs.AllPaths.{IsOutcome, SamePlaces, TellAllPaths}
-use Rattle.aa_glob_paths.specs.Laws.{OutcomesAreShortest, OutcomesStandForAll}
+use Rattle.aa_glob_paths.specs.AllPaths.{AreTold, IsOutcome, SamePlaces, TellAllPaths}
+use Rattle.aa_glob_paths.specs.Laws.{IsToldOf, OutcomesAreShortest, OutcomesStandForAll}
 use Rattle.aa_glob_paths.specs.declared.outcome.Outcome.{Outcome}
 
 -- a pattern at a place that matches a path
@@ -60,11 +60,19 @@ told patterns path places place pattern matching at among =
     let same : known.0 ≡ pattern = let both : Some known.0 ≡ Some pattern = sym known.1 ∙ at in cc in
     subst (λ l. matches (items_of l) path ≡ true) same known.2
 
+-- the places of a path that is told of
+told-places : (patterns : List (List ℕ)) (classes path places : List ℕ) → AreMatching patterns path places → IsToldOf patterns classes path → AreTold classes places
+told-places patterns classes path places matching is_told =
+    let wanted = is_told.wanted in
+    record {
+      wanted = (wanted.0, (matching wanted.0).1 (wanted.1, wanted.2, wanted.4), wanted.3);
+      none_passed_over = λ has. let known = (matching has.0).0 has.1 in is_told.not_passed_over (has.0, known.0, known.1, has.2, known.2);
+    }
+
 pub stand-for-all : OutcomesStandForAll
-stand-for-all patterns classes outcomes told_all path bytes wanted =
+stand-for-all patterns classes outcomes told_all path bytes is_told =
     let mine = matching-places patterns path in
-    let among = (mine.1 wanted.0).1 (wanted.1, wanted.2, wanted.4) in
-    let there = told_all.each_path path mine.0 bytes mine.1 (wanted.0, among, wanted.3) in
+    let there = told_all.each_path path mine.0 bytes mine.1 (told-places patterns classes path mine.0 mine.1 is_told) in
     let outcome = there.0 in
     let is = All-contains (IsOutcome patterns classes) outcomes outcome told_all.each_outcome there.1 in (
       outcome.path.items,
@@ -102,6 +110,6 @@ one-alone patterns classes outcomes one other told_all at there same = elim (cas
 pub are-shortest : OutcomesAreShortest
 are-shortest patterns classes outcomes o told_all among path bytes matching =
     let is = All-contains (IsOutcome patterns classes) outcomes o told_all.each_outcome among in
-    let there = told_all.each_path path o.places.items bytes matching is.wanted in
+    let there = told_all.each_path path o.places.items bytes matching is.told in
     let same = one-alone patterns classes outcomes there.0 o told_all there.1 among there.2 in
     subst (λ (x : Outcome). length x.path.items ≤ length path) same there.3

@@ -2,6 +2,7 @@
 use Rattle.std.specs.Prelude.{◌≡◌, ◌↔◌, ℕ, ◌<◌, ◌≤◌, List, length, All, AllPairs, Contains}
 use Rattle.aa_glob_nfa.specs.Graphs.{AreBytes}
 use Rattle.aa_glob_pairs.specs.Graphs.{class_at}
+use Rattle.aa_glob_sets.specs.Settled.{passed_over_class}
 use Rattle.aa_glob_sets.specs.Wanted.{wanted_class}
 use Rattle.aa_glob_syntax.specs.Patterns.{AreMatching}
 use Rattle.aa_glob_paths.specs.declared.outcome.Outcome.{Outcome}
@@ -14,25 +15,34 @@ SamePlaces places others = (p : ℕ) → Contains places p ↔ Contains others p
 abbrev pub IsWanted : List ℕ → List ℕ → Type 0
 IsWanted classes places = (p : ℕ) × Contains places p × (class_at classes p ≡ wanted_class)
 
+-- one of them is passed over
+abbrev pub HasPassedOver : List ℕ → List ℕ → Type 0
+HasPassedOver classes places = (p : ℕ) × Contains places p × (class_at classes p ≡ passed_over_class)
+
+-- one of them is wanted, and none is passed over
+pub record AreTold (classes places : List ℕ) : Type 0 where
+  pub wanted : IsWanted classes places
+  pub none_passed_over : HasPassedOver classes places → ⊥
+
 -- an outcome has these places, and its path is no longer than this one
 abbrev pub HasPlaces : List Outcome → List ℕ → List ℕ → Type 0
 HasPlaces outcomes path places = (o : Outcome) × Contains outcomes o × SamePlaces o.places.items places × (length o.path.items ≤ length path)
 
--- Its path is one, and its places, in rising order, are those of the patterns that match it. One of these is wanted.
+-- Its path is one, and its places, in rising order, are those of the patterns that match it. One of these is wanted, and none is passed over.
 pub record IsOutcome (patterns : List (List ℕ)) (classes : List ℕ) (o : Outcome) : Type 0 where
   pub bytes : AreBytes o.path.items
   pub matching : AreMatching patterns o.path.items o.places.items
   pub rise : AllPairs (λ p q. p < q) o.places.items
-  pub wanted : IsWanted classes o.places.items
+  pub told : AreTold classes o.places.items
 
--- each path has the places of one of the outcomes, whose own path is no longer, as far as a pattern that is wanted matches
+-- each path has the places of one of the outcomes, whose own path is no longer, as far as a pattern that is wanted matches, and none that is passed over
 abbrev pub EachPathHasPlaces : List (List ℕ) → List ℕ → List Outcome → Type 0
 EachPathHasPlaces patterns classes outcomes =
-    (path places : List ℕ) → AreBytes path → AreMatching patterns path places → IsWanted classes places → HasPlaces outcomes path places
+    (path places : List ℕ) → AreBytes path → AreMatching patterns path places → AreTold classes places → HasPlaces outcomes path places
 
--- These tell of all paths of bytes which patterns match them, as far as a pattern that is wanted matches: each such path has the places of one of
--- them, and each of them has such a path. No two have the same places, so no shorter path has those of one of them. Those with shorter paths stand
--- first.
+-- These tell of all paths of bytes which patterns match them, as far as a pattern that is wanted matches, and none that is passed over: each such path has
+-- the places of one of them, and each of them has such a path. No two have the same places, so no shorter path has those of one of them. Those with
+-- shorter paths stand first.
 pub record TellAllPaths (patterns : List (List ℕ)) (classes : List ℕ) (outcomes : List Outcome) : Type 0 where
   pub each_path : EachPathHasPlaces patterns classes outcomes
   pub each_outcome : All (IsOutcome patterns classes) outcomes

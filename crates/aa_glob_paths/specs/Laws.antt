@@ -2,6 +2,7 @@
 use Rattle.std.specs.Prelude.{◌≡◌, ℕ, ◌≤◌, true, List, length, map, Contains}
 use Rattle.aa_glob_nfa.specs.Graphs.{AreBytes}
 use Rattle.aa_glob_pairs.specs.Graphs.{class_at}
+use Rattle.aa_glob_sets.specs.Settled.{passed_over_class}
 use Rattle.aa_glob_sets.specs.Wanted.{wanted_class}
 use Rattle.aa_glob_syntax.specs.Matching.{matches}
 use Rattle.aa_glob_syntax.specs.Patterns.{AreMatching, IsPatternAt}
@@ -14,10 +15,15 @@ abbrev pub AreMatchedAlike : List (List ℕ) → List ℕ → List ℕ → Type 
 AreMatchedAlike patterns path other =
     (place : ℕ) (pattern : List ℕ) → IsPatternAt patterns place pattern → matches (items_of pattern) path ≡ matches (items_of pattern) other
 
--- a pattern that is wanted matches the path
-abbrev pub IsMatchedByWanted : List (List ℕ) → List ℕ → List ℕ → Type 0
-IsMatchedByWanted patterns classes path =
-    (place : ℕ) × (pattern : List ℕ) × IsPatternAt patterns place pattern × (class_at classes place ≡ wanted_class) × (matches (items_of pattern) path ≡ true)
+-- a pattern of the class matches the path
+abbrev pub IsMatchedByClass : ℕ → List (List ℕ) → List ℕ → List ℕ → Type 0
+IsMatchedByClass class patterns classes path =
+    (place : ℕ) × (pattern : List ℕ) × IsPatternAt patterns place pattern × (class_at classes place ≡ class) × (matches (items_of pattern) path ≡ true)
+
+-- a pattern that is wanted matches the path, and none that is passed over
+pub record IsToldOf (patterns : List (List ℕ)) (classes path : List ℕ) : Type 0 where
+  pub wanted : IsMatchedByClass wanted_class patterns classes path
+  pub not_passed_over : IsMatchedByClass passed_over_class patterns classes path → ⊥
 
 -- another path stands for a path: the same patterns match both, and it is no longer
 pub record StandsFor (patterns : List (List ℕ)) (path other : List ℕ) : Type 0 where
@@ -25,10 +31,10 @@ pub record StandsFor (patterns : List (List ℕ)) (path other : List ℕ) : Type
   pub alike : AreMatchedAlike patterns path other
   pub no_longer : length other ≤ length path
 
--- some paths stand for all that a wanted pattern matches
+-- some paths stand for all that a wanted pattern matches, and none that is passed over
 abbrev pub StandForAllPaths : List (List ℕ) → List ℕ → List (List ℕ) → Type 0
 StandForAllPaths patterns classes paths =
-    (path : List ℕ) → AreBytes path → IsMatchedByWanted patterns classes path → (other : List ℕ) × Contains paths other × StandsFor patterns path other
+    (path : List ℕ) → AreBytes path → IsToldOf patterns classes path → (other : List ℕ) × Contains paths other × StandsFor patterns path other
 
 -- the paths of outcomes
 abbrev pub paths_of : List Outcome → List (List ℕ)

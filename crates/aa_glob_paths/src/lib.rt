@@ -6,7 +6,7 @@ mod laws;
 mod of_sets;
 mod outcome;
 
-pub use aa_glob_sets::WANTED;
+pub use aa_glob_sets::{PASSED_OVER, WANTED};
 pub use all_paths::outcomes;
 pub use laws::outcomes_stand_for_all;
 pub use outcome::Outcome;

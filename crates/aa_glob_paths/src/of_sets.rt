@@ -6,31 +6,41 @@ ghost use Rattle.aa_glob_pairs.specs.Graphs.{IsLaid};
 ghost use Rattle.aa_glob_pairs.specs.Pairs.{AreClassed};
 ghost use Rattle.aa_glob_sets.specs.Found.{AreByLength, AreFound};
 ghost use Rattle.aa_glob_sets.specs.Reachable.{AreMoreThan};
-ghost use Rattle.aa_glob_paths.specs.code.AllTexts.{AreOutcomesBefore, TellAllTexts, has_wanted};
+ghost use Rattle.aa_glob_paths.specs.code.AllTexts.{AreOutcomesBefore, TellAllTexts, are_told, has_class};
 ghost use Rattle.aa_glob_paths.specs.code.Kept.{kept_outcomes};
 
 use crate::outcome::Outcome;
 use aa_glob_nfa::Tables;
 use aa_glob_run::patterns_of;
-use aa_glob_sets::{Sets, WANTED, reachable, wanted_states};
+use aa_glob_sets::{
+    PASSED_OVER, Sets, WANTED, reachable, settled_states, wanted_states, what_sets_tell,
+};
 use indexmap::IndexMap;
 use std::alloc::{AllocError, Global};
 
-// Whether one of the patterns at some places is wanted.
-fn has_wanted(classes: &[u32], places: &[usize]) -> bool
+// Whether one of the patterns at some places is of a class.
+fn has_class(classes: &[u32], class: u32, places: &[usize]) -> bool
     requires { All (λ p. p < length classes.now) places.now }
-    ensures { result ≡ has_wanted classes.now places.now }
+    ensures { result ≡ has_class classes.now class places.now }
 {
     for place in places {
-        if classes[*place] == WANTED {
+        if classes[*place] == class {
             return true;
         }
     }
     false
 }
 
-// Appends the patterns of the set of a number to those of the sets before it, with the text that leads to it, if one of them is wanted and they aren't
-// there.
+// Whether one of the patterns at some places is wanted, and none is passed over.
+fn are_told(classes: &[u32], places: &[usize]) -> bool
+    requires { All (λ p. p < length classes.now) places.now }
+    ensures { result ≡ are_told classes.now places.now }
+{
+    has_class(classes, WANTED, places) && !has_class(classes, PASSED_OVER, places)
+}
+
+// Appends the patterns of the set of a number to those of the sets before it, with the text that leads to it, if one of them is wanted, none is passed over,
+// and they aren't there.
 fn put_outcome(
     alloc: Global,
     tables: &Tables,
@@ -49,7 +59,7 @@ fn put_outcome(
     ensures { OnOk result (AreOutcomesBefore (graph_of tables.now) classes.now sets.now (number + 1) (kept_outcomes kept.new.entries)) }
 {
     let places = patterns_of(alloc, tables, sets.set(number))?;
-    if !has_wanted(classes, &places) {
+    if !are_told(classes, &places) {
         return Ok(());
     }
     if kept.contains_key(places.as_slice()) {
@@ -92,7 +102,7 @@ fn outcomes_of(
     listed(alloc, kept)
 }
 
-/// The outcomes of all texts that lead to an end of a wanted pattern; none where there are more sets than a limit.
+/// The outcomes of all texts that lead to an end of a wanted pattern, and to none of one that is passed over; none where there are more sets than a limit.
 pub fn outcomes_in(
     alloc: Global,
     tables: &Tables,
@@ -104,8 +114,10 @@ pub fn outcomes_in(
     ensures told { IfOk result (λ found. IfSome found (λ outcomes. TellAllTexts (graph_of tables.now) classes.now outcomes.items)) }
     ensures full { IfOk result (λ found. found ≡ None → AreMoreThan (graph_of tables.now) limit) }
 {
+    what_sets_tell();
     let wanted = wanted_states(alloc, tables, classes)?;
-    match reachable(alloc, tables, &wanted, limit)? {
+    let settled = settled_states(alloc, tables, classes)?;
+    match reachable(alloc, tables, &wanted, &settled, limit)? {
         None => Ok(None),
         Some(sets) => Ok(Some(outcomes_of(alloc, tables, classes, &sets)?)),
     }

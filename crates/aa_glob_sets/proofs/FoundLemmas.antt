@@ -119,9 +119,9 @@ found-placed g room old new one are placed next = elim placed.only [
 ]
 
 -- a set that was placed lives behind the one that it was placed for
-pub placed-next : (g : Graph) (wanted : List Bool) (old new : List FoundSet) (one : FoundSet) → HasPlaced old new one → Grows old new → ComeOfUpTo new one.origin.from
-    → one.origin.from < length old → LeadsTo g (set_at old one.origin.from) one.origin.byte one.set → IsFollowed g wanted new one.origin.from one.origin.byte
-placed-next g wanted old new one placed grows up_to from leads = inl (
+pub placed-next : (g : Graph) (wanted settled : List Bool) (old new : List FoundSet) (one : FoundSet) → HasPlaced old new one → Grows old new → ComeOfUpTo new one.origin.from
+    → one.origin.from < length old → LeadsTo g (set_at old one.origin.from) one.origin.byte one.set → IsFollowed g wanted settled new one.origin.from one.origin.byte
+placed-next g wanted settled old new one placed grows up_to from leads = inl (
   placed.number,
   placed.within,
   All-get_or (λ (f : FoundSet). f.origin.from ≤ one.origin.from) new placed.number no_set placed.within up_to,
@@ -130,24 +130,24 @@ placed-next g wanted old new one placed grows up_to from leads = inl (
 )
 
 -- what is followed stays so
-pub followed-more : (g : Graph) (wanted : List Bool) (old new : List FoundSet) (n c : ℕ) → n < length old → Grows old new → IsFollowed g wanted old n c
-    → IsFollowed g wanted new n c
-followed-more g wanted old new n c low grows (inl next) = inl (
+pub followed-more : (g : Graph) (wanted settled : List Bool) (old new : List FoundSet) (n c : ℕ) → n < length old → Grows old new → IsFollowed g wanted settled old n c
+    → IsFollowed g wanted settled new n c
+followed-more g wanted settled old new n c low grows (inl next) = inl (
   next.0,
   omega (arith, grows.longer, next.1),
   subst (λ (f : FoundSet). f.origin.from ≤ n) (sym (grows.same next.0 next.1)) next.2,
   subst (λ (f : FoundSet). LeadsTo g f.set c (set_at new next.0)) (sym (grows.same n low))
       (subst (λ (f : FoundSet). LeadsTo g (set_at old n) c f.set) (sym (grows.same next.0 next.1)) next.3),
 )
-followed-more g wanted old new n c low grows (inr over) = inr (subst (λ (f : FoundSet). IsOver g wanted f.set c) (sym (grows.same n low)) over)
+followed-more g wanted settled old new n c low grows (inr over) = inr (subst (λ (f : FoundSet). IsOver g wanted settled f.set c) (sym (grows.same n low)) over)
 
 -- one byte more
-pub followed-next : (g : Graph) (wanted : List Bool) (old new : List FoundSet) (n : ℕ) (bytes : List ℕ) (i d : ℕ) → n < length old → i < length bytes → Grows old new
-    → IsFollowedBehind g wanted old n (take i bytes) → IsFollowed g wanted new n (get_or bytes i d) → IsFollowedBehind g wanted new n (take (i + 1) bytes)
-followed-next g wanted old new n bytes i d low within grows before here c among =
+pub followed-next : (g : Graph) (wanted settled : List Bool) (old new : List FoundSet) (n : ℕ) (bytes : List ℕ) (i d : ℕ) → n < length old → i < length bytes → Grows old new
+    → IsFollowedBehind g wanted settled old n (take i bytes) → IsFollowed g wanted settled new n (get_or bytes i d) → IsFollowedBehind g wanted settled new n (take (i + 1) bytes)
+followed-next g wanted settled old new n bytes i d low within grows before here c among =
     elim (Contains-push_cases (take i bytes) (get_or bytes i d) c (subst (λ l. Contains l c) (take_more bytes i d within) among)) [
-      | inl early ↦ followed-more g wanted old new n c low grows (before c early)
-      | inr last ↦ subst (IsFollowed g wanted new n) last here
+      | inl early ↦ followed-more g wanted settled old new n c low grows (before c early)
+      | inr last ↦ subst (IsFollowed g wanted settled new n) last here
     ]
 
 -- behind a byte that is like another from a set the same set lives
@@ -160,28 +160,29 @@ leads-alike g from to c d alike leads past whole =
       each = λ r at. behind.each r (reached-same g past d c (same-turned g past c d same) at refl);
     }
 
-followed-alike : (g : Graph) (wanted : List Bool) (found : List FoundSet) (n c d : ℕ) → AreAlikeFrom g (set_at found n) c d → IsFollowed g wanted found n c
-    → IsFollowed g wanted found n d
-followed-alike g wanted found n c d alike (inl next) =
+followed-alike : (g : Graph) (wanted settled : List Bool) (found : List FoundSet) (n c d : ℕ) → AreAlikeFrom g (set_at found n) c d → IsFollowed g wanted settled found n c
+    → IsFollowed g wanted settled found n d
+followed-alike g wanted settled found n c d alike (inl next) =
     inl (next.0, next.1, next.2, leads-alike g (set_at found n) (set_at found next.0) c d alike next.3)
-followed-alike g wanted found n c d alike (inr over) =
-    inr (λ past whole lives.
+followed-alike g wanted settled found n c d alike (inr over) =
+    inr (λ past whole lives unsettled.
     let same : LeadSame g past c d = λ q at. alike q (whole.each q at) in
-    over past whole (lives.0, reached-same g past d c (same-turned g past c d same) lives.1 refl, lives.2))
+    over past whole (lives.0, reached-same g past d c (same-turned g past c d same) lives.1 refl, lives.2)
+    (λ r at. unsettled r (reached-same g past c d same at refl)))
 
 -- bytes that stand for all behind the texts of a set
-pub followed-all : (g : Graph) (wanted : List Bool) (found : List FoundSet) (n : ℕ) (bytes : List ℕ) → StandForAllFrom g (set_at found n) bytes
-    → IsFollowedBehind g wanted found n bytes → IsFollowedByAll g wanted found n
-followed-all g wanted found n bytes stand followed c is_byte =
+pub followed-all : (g : Graph) (wanted settled : List Bool) (found : List FoundSet) (n : ℕ) (bytes : List ℕ) → StandForAllFrom g (set_at found n) bytes
+    → IsFollowedBehind g wanted settled found n bytes → IsFollowedByAll g wanted settled found n
+followed-all g wanted settled found n bytes stand followed c is_byte =
     let like = stand c is_byte in
-    followed-alike g wanted found n like.0 c like.2 (followed like.0 like.1)
+    followed-alike g wanted settled found n like.0 c like.2 (followed like.0 like.1)
 
 -- one set more is followed
-pub closed-next : (g : Graph) (wanted : List Bool) (old new : List FoundSet) (at : ℕ) → at < length old → Grows old new
-    → IsClosedBefore g wanted old at → IsFollowedByAll g wanted new at → IsClosedBefore g wanted new (at + 1)
-closed-next g wanted old new at within grows before here n low c is_byte = elim (cases_eq n at) [
-  | inl same ↦ subst (λ k. IsFollowed g wanted new k c) (sym same) (here c is_byte)
+pub closed-next : (g : Graph) (wanted settled : List Bool) (old new : List FoundSet) (at : ℕ) → at < length old → Grows old new
+    → IsClosedBefore g wanted settled old at → IsFollowedByAll g wanted settled new at → IsClosedBefore g wanted settled new (at + 1)
+closed-next g wanted settled old new at within grows before here n low c is_byte = elim (cases_eq n at) [
+  | inl same ↦ subst (λ k. IsFollowed g wanted settled new k c) (sym same) (here c is_byte)
   | inr other ↦
       let less : n < at = omega (arith, low, other) in
-      followed-more g wanted old new n c (omega (arith, less, within)) grows (before n less c is_byte)
+      followed-more g wanted settled old new n c (omega (arith, less, within)) grows (before n less c is_byte)
 ]

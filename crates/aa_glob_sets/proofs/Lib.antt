@@ -3,6 +3,7 @@ pub mod FoundLemmas
 pub mod LiveLemmas
 pub mod PlaceLemmas
 pub mod RisingLemmas
+pub mod SettledLemmas
 pub mod TextLemmas
 pub mod ToldLemmas
 pub mod WantedLemmas

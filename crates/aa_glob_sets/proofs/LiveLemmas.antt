@@ -1,11 +1,12 @@
 -- States that live together, in whatever order they are told.
-use Rattle.std.proofs.Common.{◌≡◌, ℕ, ◌<◌, Bool, false, ◌==◌, List, [], ◌∷◌, eqb-true, refl, sym, ◌∙◌, inl, inr, eq-eqb}
+use Rattle.std.proofs.Common.{◌≡◌, ℕ, ◌<◌, Bool, true, false, not, ◌&&◌, ◌==◌, List, [], ◌∷◌, eqb-true, refl, sym, ◌∙◌, inl, inr, eq-eqb}
 use Rattle.std.proofs.Math.Dec.{eqb}
 use Rattle.std.proofs.lemmas.Bool.{cases_Bool, true≢false, or_parts, or_from}
 use Rattle.std.proofs.lemmas.List.Kept.{AllPairs-from_increasing}
 use Rattle.std.proofs.lemmas.List.Sorted.{All-permutation, Contains-permutation}
 use Rattle.std.proofs.lemmas.Map.Keys.{IsDistinct-IsPermutation, IsStrictlyIncreasing-from_distinct}
-use Rattle.std.proofs.lemmas.List.Folds.{list_any-from_Any}
+use Rattle.std.proofs.lemmas.List.Elements.{All-contains}
+use Rattle.std.proofs.lemmas.List.Folds.{Any-from_list_any, list_any-from_Any}
 use Rattle.std.specs.Prelude.{Contains}
 use Rattle.std.specs.List.{AllByRecursion, IsDistinct, list_any}
 use Rattle.std.specs.List.Sorted.{IsNonDecreasing, IsPermutation}
@@ -13,7 +14,7 @@ use Rattle.aa_glob_nfa.specs.Graphs.{Graph, Reaches}
 use Rattle.aa_glob_front.specs.Fronts.{AreDistinct, is_in, IsLive}
 use Rattle.aa_glob_front.specs.Runs.{IsWhole, LeadsTo}
 use Rattle.aa_glob_sets.specs.Found.{IsStateSet}
-use Rattle.aa_glob_sets.specs.Reachable.{IsOver, matters}
+use Rattle.aa_glob_sets.specs.Reachable.{IsOver, is_settled, matters}
 
 -- no number of a list is another, by recursion on the list
 none-all : (r : ℕ) (xs : List ℕ) → is_in r xs ≡ false → AllByRecursion (λ x. eqb r x ≡ false) xs
@@ -61,7 +62,25 @@ whole-permutation g past xs ys moved whole = record {
 }
 
 -- where none of the states matters that live behind a byte, nothing that matters does
-pub over-none : (g : Graph) (wanted : List Bool) (from to : List ℕ) (c : ℕ) → LeadsTo g from c to → list_any (matters wanted) to ≡ false → IsOver g wanted from c
-over-none g wanted from to c leads none past whole lives =
+over-none : (g : Graph) (wanted settled : List Bool) (from to : List ℕ) (c : ℕ) → LeadsTo g from c to → list_any (matters wanted) to ≡ false
+    → IsOver g wanted settled from c
+over-none g wanted settled from to c leads none past whole lives unsettled =
     let there : Contains to lives.0 = (leads past whole).each lives.0 lives.1 in
     true≢false (sym (list_any-from_Any (matters wanted) to (there.0, lives.0, there.1, there.2, lives.2)) ∙ none)
+
+-- where one of them is settled, something that is settled lives there
+over-settled : (g : Graph) (wanted settled : List Bool) (from to : List ℕ) (c : ℕ) → LeadsTo g from c to → list_any (is_settled settled) to ≡ true
+    → IsOver g wanted settled from c
+over-settled g wanted settled from to c leads some past whole lives unsettled =
+    let any = Any-from_list_any (is_settled settled) to some in
+    unsettled any.1 (All-contains (Reaches g (c ∷ past)) to any.1 (leads past whole).reached (any.0, any.2, any.3)) any.4
+
+-- states that aren't kept
+pub over-unkept : (g : Graph) (wanted settled : List Bool) (from to : List ℕ) (c : ℕ) → LeadsTo g from c to
+    → (list_any (matters wanted) to && not (list_any (is_settled settled) to)) ≡ false → IsOver g wanted settled from c
+over-unkept g wanted settled from to c leads unkept = by (list_any (matters wanted) to) (list_any (is_settled settled) to) refl refl unkept
+  where
+    by : (m s : Bool) → list_any (matters wanted) to ≡ m → list_any (is_settled settled) to ≡ s → (m && not s) ≡ false → IsOver g wanted settled from c
+    by false s none is kept = over-none g wanted settled from to c leads none
+    by true true some is kept = over-settled g wanted settled from to c leads is
+    by true false some is kept = absurd cc

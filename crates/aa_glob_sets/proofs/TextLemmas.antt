@@ -13,7 +13,7 @@ use Rattle.aa_glob_front.specs.Runs.{IsWhole}
 use Rattle.aa_glob_pairs.proofs.MeetLemmas.{there}
 use Rattle.aa_glob_sets.specs.Found.{AreByLength, AreFound, FoundSet, IsFoundBehind, IsFoundWithin, IsStateSet, no_set, origin_at, set_at}
 use Rattle.aa_glob_sets.specs.Laws.{ClosedSetsAreReachable, EndIn, SetsTellPatterns}
-use Rattle.aa_glob_sets.specs.Reachable.{AreMoreThan, HasSet, HasText, IsClosed, IsKeptBack, LeadAlike, LivesOn, matters}
+use Rattle.aa_glob_sets.specs.Reachable.{AreMoreThan, HasSet, HasText, IsClosed, IsKeptBack, LeadAlike, LivesOn, matters, StaysUnsettled}
 use Rattle.aa_glob_sets.proofs.RisingLemmas.{rise-same}
 
 -- behind the text before the last byte a state lives that matters, where one does behind that byte
@@ -86,19 +86,21 @@ first-within found [] behind = omega arith
 first-within found (c ∷ text) behind = absurd (let some = behind.0 in omega (arith, some))
 
 -- each text has its set
-has-set : (g : Graph) (wanted : List Bool) (room : ℕ) (found : List FoundSet) → IsKeptBack g wanted → AreFound g room found → IsClosed g wanted found
-    → (past : List ℕ) → AllByRecursion (λ c. c < 2 ^ 8) past → LivesOn g wanted past → HasSet g found past
-has-set g wanted room found back are closed [] bytes lives = (0, are.some, are.start, first-within found)
-has-set g wanted room found back are closed (c ∷ past) bytes lives =
-    let here = has-set g wanted room found back are closed past bytes.1 (lives-before g wanted past c back lives) in
+has-set : (g : Graph) (wanted settled : List Bool) (room : ℕ) (found : List FoundSet) → IsKeptBack g wanted → AreFound g room found
+    → IsClosed g wanted settled found → (past : List ℕ) → AllByRecursion (λ c. c < 2 ^ 8) past → LivesOn g wanted past → StaysUnsettled g settled past
+    → HasSet g found past
+has-set g wanted settled room found back are closed [] bytes lives unsettled = (0, are.some, are.start, first-within found)
+has-set g wanted settled room found back are closed (c ∷ past) bytes lives unsettled =
+    let here = has-set g wanted settled room found back are closed past bytes.1 (lives-before g wanted past c back lives) unsettled.1 in
     elim (closed here.0 c here.1 bytes.0) [
       | inl next ↦ (next.0, next.1, next.3 past here.2, within-next g room found here.0 next.0 c past are here.1 next.2 here.3)
-      | inr over ↦ absurd (over past here.2 lives)
+      | inr over ↦ absurd (over past here.2 lives unsettled.0)
     ]
 
 pub closed-reachable : ClosedSetsAreReachable
-closed-reachable g wanted room found back are closed = record {
-  each_text = λ past bytes lives. has-set g wanted room found back are closed past (recursion_from_All (λ c. c < 2 ^ 8) past bytes) lives;
+closed-reachable g wanted settled room found back are closed = record {
+  each_text = λ past bytes lives unsettled.
+      has-set g wanted settled room found back are closed past (recursion_from_All (λ c. c < 2 ^ 8) past bytes) lives unsettled;
   each_set = λ n within. has-text g room found n are within;
   by_length = by-length g room found are;
 }
@@ -177,7 +179,7 @@ found-ends g text set patterns whole found p = (
 )
 
 pub sets-tell : SetsTellPatterns
-sets-tell g wanted found patterns laid reachable = (
+sets-tell g wanted settled found patterns laid reachable = (
   (λ some.
       let text = reachable.each_set some.0 some.1 in (
         reverse text.0,
@@ -186,7 +188,7 @@ sets-tell g wanted found patterns laid reachable = (
             (ends-found g text.0 (set_at found some.0) patterns text.2 some.2),
       )),
   (λ has some.
-      let end = (some.2 has.0).0 has.1 in
-      let set = reachable.each_text (reverse some.0) (bytes-reverse some.0 some.1) (end.0, end.2, has.2 end.0 (there g laid end.2) end.1) in
-      (set.0, set.1, found-ends g some.0 (set_at found set.0) patterns set.2 some.2)),
+      let end = (some.3 has.0).0 has.1 in
+      let set = reachable.each_text (reverse some.0) (bytes-reverse some.0 some.1) (end.0, end.2, has.2 end.0 (there g laid end.2) end.1) some.2 in
+      (set.0, set.1, found-ends g some.0 (set_at found set.0) patterns set.2 some.3)),
 )

@@ -12,6 +12,7 @@ use std::marker::Model;
 /// Sets of states, each once, in the order in which they were found, with their origins. Contracts see that list.
 #[derive(Drop)]
 pub struct Sets {
+    alloc: Global,
     sets: IndexMap<Vec<u32>, Origin>,
 }
 
@@ -31,6 +32,7 @@ impl Sets {
         ensures { result ≡ [] }
     {
         Sets {
+            alloc,
             sets: IndexMap::new(alloc),
         }
     }
@@ -64,16 +66,15 @@ impl Sets {
         }
     }
 
-    // Appends a set, if it isn't among the others.
-    pub(crate) fn place(&mut self, set: Vec<u32>, origin: Origin) -> Result<(), AllocError>
-        ensures { OnOk result (HasPlaced self.old self.new (record { set = set.items; origin = origin })) }
+    // Appends a copy of a set, if it isn't among the others.
+    pub(crate) fn place(&mut self, set: &[u32], origin: Origin) -> Result<(), AllocError>
+        ensures { OnOk result (HasPlaced self.old self.new (record { set = set.now; origin = origin })) }
     {
-        if self.sets.contains_key(set.as_slice()) {
+        if self.sets.contains_key(set) {
             return Ok(());
         }
-        let mut set = set;
-        set.shrink_to_fit();
-        self.sets.insert(set, origin)?;
+        let own = Vec::from_slice(self.alloc, set)?;
+        self.sets.insert(own, origin)?;
         Ok(())
     }
 }

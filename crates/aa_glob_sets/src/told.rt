@@ -1,6 +1,6 @@
 //! Bytes that stand for those that no state of a set tells apart from them.
 
-ghost use Rattle.std.specs.Prelude.{◌≡◌, ◌<◌, ℕ, true, length, All, Contains, IfOk};
+ghost use Rattle.std.specs.Prelude.{◌≡◌, ◌<◌, ℕ, true, length, All, Contains, OnOk};
 ghost use Rattle.aa_bytes.specs.ByteMaps.{in_map};
 ghost use Rattle.aa_glob_nfa.specs.Entries.{takes_byte};
 ghost use Rattle.aa_glob_nfa.specs.Graphs.{Leads, entry_of};
@@ -11,7 +11,7 @@ ghost use Rattle.aa_glob_sets.specs.code.Told.{ArePicked, HasEnds, KeepsTold, Te
 
 use aa_bytes::ByteMap;
 use aa_glob_nfa::{Gate, Tables, Way};
-use std::alloc::{AllocError, Global};
+use std::alloc::AllocError;
 
 // Puts those of some bytes into a set of bytes that lead into a state.
 fn tell_taken(tables: &Tables, bytes: &[u8], number: u32, told: &mut ByteMap)
@@ -114,11 +114,11 @@ fn told_by(tables: &Tables, bytes: &[u8], set: &[u32]) -> ByteMap
     told
 }
 
-// Those of some bytes that are told, and the first one that isn't.
-fn picked(alloc: Global, bytes: &[u8], told: &ByteMap) -> Result<Vec<u8>, AllocError>
-    ensures { IfOk result (λ own. ArePicked bytes.now told.now own.items) }
+// Puts those of some bytes that are told, and the first one that isn't, in place of others.
+fn pick(bytes: &[u8], told: &ByteMap, own: &mut Vec<u8>) -> Result<(), AllocError>
+    ensures { OnOk result (ArePicked bytes.now told.now own.new.items) }
 {
-    let mut own = Vec::new(alloc);
+    own.clear();
     let mut has_untold = false;
     for byte in bytes {
         let is_told = told.has(*byte);
@@ -127,27 +127,27 @@ fn picked(alloc: Global, bytes: &[u8], told: &ByteMap) -> Result<Vec<u8>, AllocE
         }
         has_untold = has_untold || !is_told;
     }
-    Ok(own)
+    Ok(())
 }
 
-/// Those of some bytes, which stand for all, that stand for all behind the texts of a set: to each byte one of them is alike, as far as its states
-/// tell bytes apart. They stand in the order of the others. It goes over the set once.
+/// Puts those of some bytes, which stand for all, that stand for all behind the texts of a set in place of others: to each byte one of them is alike,
+/// as far as its states tell bytes apart. They stand in the order of the others. It goes over the set once.
 ///
 /// # Errors
 ///
-/// Where memory runs out.
+/// Where memory runs out. Which bytes there are then is not said.
 pub fn bytes_for_set(
-    alloc: Global,
     tables: &Tables,
     bytes: &[u8],
     set: &[u32],
-) -> Result<Vec<u8>, AllocError>
+    own: &mut Vec<u8>,
+) -> Result<(), AllocError>
     requires sound { AreSound tables.now }
     requires sorted { AreSorted tables.now }
     requires are_states { All (λ r. r < length tables.now.states) set.now }
     requires bytes { StandForAll (graph_of tables.now) bytes.now }
-    ensures { IfOk result (λ own. StandForAllFrom (graph_of tables.now) set.now own.items) }
+    ensures { OnOk result (StandForAllFrom (graph_of tables.now) set.now own.new.items) }
 {
     let told = told_by(tables, bytes, set);
-    picked(alloc, bytes, &told)
+    pick(bytes, &told, own)
 }

@@ -1,7 +1,7 @@
 //! Why a text was refused as a pattern.
 
 ghost use Rattle.std.specs.Prelude.{◌≡◌};
-ghost use Rattle.aa_glob_syntax.specs.PatternError.{number_of, name_of};
+ghost use Rattle.aa_glob_syntax.specs.PatternError.{name_of, number_of, words_of};
 ghost use Rattle.aa_glob_syntax.specs.declared.pattern_error.PatternError.TheVariants.{Memory};
 
 use std::alloc::{AllocError, AllocFailed};
@@ -77,11 +77,12 @@ impl PatternError {
             PatternError::Memory => "Memory",
         }
     }
-}
 
-impl Display for PatternError {
-    fn fmt<W: Write>(&self, f: &mut Formatter<W>) -> fmt::Result {
-        f.write_str(match self {
+    /// What is wrong, in words for people.
+    pub fn words(self) -> &'static str
+        ensures { result.now ≡ words_of self }
+    {
+        match self {
             PatternError::NotAbsolute => "the pattern doesn't begin with a slash",
             PatternError::UnclosedClass => "a class of the pattern isn't closed",
             PatternError::EmptyClass => "a class of the pattern lists no byte",
@@ -95,7 +96,19 @@ impl Display for PatternError {
             PatternError::TooDeep => "the groups of the pattern are nested too deep",
             PatternError::ZeroByte => "the pattern holds a zero byte",
             PatternError::Memory => "no memory is left",
-        })
+        }
+    }
+}
+
+// In words, as `words` has them.
+impl Display for PatternError {
+    ghost use Rattle.std.specs.Prelude.{Some};
+    ghost use Rattle.aa_glob_syntax.specs.PatternError.{words_of};
+
+    ghost output = { λ refusal. Some (words_of refusal) };
+
+    fn fmt<W: Write>(&self, f: &mut Formatter<W>) -> fmt::Result {
+        f.write_str(self.words())
     }
 }
 

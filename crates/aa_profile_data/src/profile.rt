@@ -252,8 +252,12 @@ impl OtherRule {
 }
 
 impl Rule {
-    // An equal rule.
-    fn try_copy(&self, alloc: Global) -> Result<Rule, AllocError>
+    /// An equal rule, which shares the names of targets.
+    ///
+    /// # Errors
+    ///
+    /// Where memory runs out.
+    pub fn try_copy(&self, alloc: Global) -> Result<Rule, AllocError>
         ensures { IfOk result (λ copy. copy ≡ self.now) }
     {
         match self {

@@ -1,4 +1,4 @@
--- The refusals of a text: each one's number and name; and the texts of errors.
+-- The refusals of a text: each one's number, name and words; and the texts of errors.
 use Rattle.std.specs.Prelude.{ℕ, List, ◌++◌, codes, Option, None, Some}
 use Rattle.std.specs.Fmt.{decimal}
 use Rattle.aa_text_files.specs.declared.text_error.Place.{Place}
@@ -25,6 +25,20 @@ number_of refusal = (described refusal).0
 
 abbrev pub name_of : TextRefusal → List ℕ
 name_of refusal = (described refusal).1
+
+-- what is wrong, in words for people
+abbrev pub words_of : TextRefusal → List ℕ
+words_of ZeroByte = codes "a file holds a zero byte"
+words_of OpenQuote = codes "a quote isn't closed in its line"
+words_of OpenOther = codes "a name or a brace isn't closed"
+words_of NoFile = codes "there is no such file"
+words_of IncludeDepth = codes "the includes are nested too deep"
+words_of TextTooBig = codes "the files are too long together"
+words_of Undefined = codes "a variable isn't defined"
+words_of Redefined = codes "a variable is defined twice"
+words_of AppendUndefined = codes "values are added to a variable that isn't defined"
+words_of Cycle = codes "a variable leads to itself"
+words_of Memory = codes "memory ran out"
 
 -- a refusal without a place
 abbrev pub plain : TextRefusal → TextError

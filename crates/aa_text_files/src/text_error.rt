@@ -2,7 +2,7 @@
 
 ghost use Rattle.std.specs.Prelude.{◌≡◌, Some};
 ghost use Rattle.std.specs.Fmt.{DisplaysOnOk};
-ghost use Rattle.aa_text_files.specs.TextError.{error_text, name_of, number_of, plain};
+ghost use Rattle.aa_text_files.specs.TextError.{error_text, name_of, number_of, plain, words_of};
 ghost use Rattle.aa_text_files.specs.declared.text_error.TextRefusal.TheVariants.{Memory};
 
 use std::alloc::{AllocError, AllocFailed};
@@ -59,21 +59,15 @@ pub enum TextRefusal {
     Memory,
 }
 
+// In words, as `words` has them.
 impl Display for TextRefusal {
+    ghost use Rattle.std.specs.Prelude.{Some};
+    ghost use Rattle.aa_text_files.specs.TextError.{words_of};
+
+    ghost output = { λ refusal. Some (words_of refusal) };
+
     fn fmt<W: Write>(&self, f: &mut Formatter<W>) -> fmt::Result {
-        f.write_str(match self {
-            TextRefusal::ZeroByte => "a file holds a zero byte",
-            TextRefusal::OpenQuote => "a quote isn't closed in its line",
-            TextRefusal::OpenOther => "a name or a brace isn't closed",
-            TextRefusal::NoFile => "there is no such file",
-            TextRefusal::IncludeDepth => "the includes are nested too deep",
-            TextRefusal::TextTooBig => "the files are too long together",
-            TextRefusal::Undefined => "a variable isn't defined",
-            TextRefusal::Redefined => "a variable is defined twice",
-            TextRefusal::AppendUndefined => "values are added to a variable that isn't defined",
-            TextRefusal::Cycle => "a variable leads to itself",
-            TextRefusal::Memory => "memory ran out",
-        })
+        f.write_str(self.words())
     }
 }
 
@@ -132,6 +126,25 @@ impl TextRefusal {
             TextRefusal::AppendUndefined => "AppendUndefined",
             TextRefusal::Cycle => "Cycle",
             TextRefusal::Memory => "Memory",
+        }
+    }
+
+    /// What is wrong, in words for people.
+    pub fn words(self) -> &'static str
+        ensures { result.now ≡ words_of self }
+    {
+        match self {
+            TextRefusal::ZeroByte => "a file holds a zero byte",
+            TextRefusal::OpenQuote => "a quote isn't closed in its line",
+            TextRefusal::OpenOther => "a name or a brace isn't closed",
+            TextRefusal::NoFile => "there is no such file",
+            TextRefusal::IncludeDepth => "the includes are nested too deep",
+            TextRefusal::TextTooBig => "the files are too long together",
+            TextRefusal::Undefined => "a variable isn't defined",
+            TextRefusal::Redefined => "a variable is defined twice",
+            TextRefusal::AppendUndefined => "values are added to a variable that isn't defined",
+            TextRefusal::Cycle => "a variable leads to itself",
+            TextRefusal::Memory => "memory ran out",
         }
     }
 }

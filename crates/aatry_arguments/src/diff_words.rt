@@ -45,7 +45,7 @@ differs one of these is told:
                  each with FILE:LINE:COLUMN: where it is written
   new: NAME      NEW has it alone
 Ahead of these stands each file of NEW that is newly left out, as none of its name is of OLD:
-  newly left out: FILE: NUMBER NAME
+  newly left out: FILE: NUMBER NAME: WORDS
 Of each question that FILE tells of and that they answer otherwise this is told, and below it the
 rules that OLD or NEW alone answers by:
   QUESTION: ANSWER OF OLD -> ANSWER OF NEW (HOW OFTEN IT CAME)

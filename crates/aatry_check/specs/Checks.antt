@@ -16,6 +16,7 @@ use Rattle.aaset_start.specs.declared.readable.UnreadFault.{UnreadFault}
 use Rattle.aatry_check.specs.Loading.{loading_in, told_loading}
 use Rattle.aatry_check.specs.Others.{other_lines, with_other}
 use Rattle.aatry_folder.specs.Loadings.{TopFile}
+use Rattle.aatry_refusal_words.specs.Naming.{words_at}
 use Rattle.aatry_report.specs.Faults.{fault_lines, with_fault}
 use Rattle.aatry_report.specs.FilePlaces.{path_below}
 use Rattle.aatry_report.specs.Records.{record_line, record_of, with_text}
@@ -87,18 +88,19 @@ told_refusal form words files base name number place earlier None = refusal_line
 told_refusal form words files base name number place earlier (Some unread) =
     unread_lines form base name (name_at files unread.0) number (words_of unread.1)
 
--- lines tell how the reading of a file came out, and the rule before the refused one, if there is one
-abbrev pub TellsReading : Form → List File → List (Option UnreadFault) → List ℕ → List ℕ → Option Place → Result (List Profile) ProfileError → List ℕ → Type 0
-TellsReading form files unread base name earlier (Ok profiles) lines = lines ≡ taken_line form (path_below base name) profiles
-TellsReading form files unread base name earlier (Err error) lines =
-    (words : List ℕ) × (lines ≡ told_refusal form words files base name (number_of error.refusal) error.place earlier (unread_in unread error.place))
+-- lines tell how the reading of a file by a language came out, and the rule before the refused one, if there is one
+abbrev pub TellsReading : Form → Language → List File → List (Option UnreadFault) → List ℕ → List ℕ → Option Place → Result (List Profile) ProfileError → List ℕ → Type 0
+TellsReading form language files unread base name earlier (Ok profiles) lines = lines ≡ taken_line form (path_below base name) profiles
+TellsReading form language files unread base name earlier (Err error) lines =
+    lines ≡ told_refusal form (words_at language files error.refusal error.place) files base name (number_of error.refusal) error.place earlier
+    (unread_in unread error.place)
 
 -- lines tell a file: that it was taken, or why it is refused, exactly as its reading by a language says, with the rule before the refused one, where two
 -- conflict; and how it is loaded, by the files at the top
 abbrev pub Tells : Form → Language → List File → List (Option UnreadFault) → List ℕ → List TopFile → List ℕ → List ℕ → Type 0
 Tells form language files unread base top name lines =
     (first : List ℕ) × (lines ≡ first ++ told_loading form base name (loading_in top name))
-    × TellsReading form files unread base name (earlier_rule language files name) (file_profiles_in language files name) first
+    × TellsReading form language files unread base name (earlier_rule language files name) (file_profiles_in language files name) first
 
 -- one file is refused, or none: its reading gives no profiles
 abbrev pub refused_in : Language → List File → List ℕ → ℕ

@@ -55,7 +55,7 @@ fn check_reading(
     ensures refused { IfOk result (λ refused. refused ≡ refused_in language files.now name.now) }
     ensures few { IfOk result (λ refused. refused ≤ 1) }
     ensures told { OnOk result ((lines : List ℕ) × (out.new.items ≡ out.old.items ++ lines)
-        × TellsReading teller.form files.now unread.now base.now name.now (earlier_rule language files.now name.now)
+        × TellsReading teller.form language files.now unread.now base.now name.now (earlier_rule language files.now name.now)
         (file_profiles_in language files.now name.now) lines) }
 {
     match read_file_in(teller.alloc, language, files, name) {

@@ -1,8 +1,9 @@
 //! What is told of a file that is refused.
 
-ghost use Rattle.std.specs.Prelude.{◌≡◌, ◌++◌, ℕ, List, OnOk};
+ghost use Rattle.std.specs.Prelude.{◌≡◌, ◌++◌, OnOk};
 ghost use Rattle.aa_profile_errors.specs.ProfileError.{number_of};
 ghost use Rattle.aatry_check.specs.Checks.{earlier_lines, included_line, included_lines, refusal_lines};
+ghost use Rattle.aatry_refusal_words.specs.Naming.{words_at};
 ghost use Rattle.aatry_report.specs.declared.form.Form.TheVariants as form;
 
 use crate::other::push_other;
@@ -137,8 +138,9 @@ pub fn push_refusal(
     refused: Refused,
     out: &mut Vec<u8>,
 ) -> Result<(), AllocError>
-    ensures { OnOk result ((words : List ℕ) × (out.new.items ≡ out.old.items
-        ++ refusal_lines teller.form words files.now base.now name.now (number_of refused.error.refusal) refused.error.place refused.earlier)) }
+    ensures { OnOk result (out.new.items ≡ out.old.items
+        ++ refusal_lines teller.form (words_at refused.language files.now refused.error.refusal refused.error.place) files.now base.now name.now
+        (number_of refused.error.refusal) refused.error.place refused.earlier) }
 {
     let words = words_of(teller.alloc, refused.language, files, refused.error)?;
     push_in_words(teller, files, base, name, words.as_str(), refused, out)

@@ -1,9 +1,10 @@
 //! What is told of a file that is refused since it wasn't read, or one that it includes.
 
-ghost use Rattle.std.specs.Prelude.{◌≡◌, ◌++◌, ℕ, List, IfOk, OnOk};
+ghost use Rattle.std.specs.Prelude.{◌≡◌, ◌++◌, IfOk, OnOk};
 ghost use Rattle.aa_profile_errors.specs.ProfileError.{number_of};
 ghost use Rattle.aaset_start.specs.Readable.{unread_in};
 ghost use Rattle.aatry_check.specs.Checks.{told_refusal, unread_lines, unread_record, unread_text};
+ghost use Rattle.aatry_refusal_words.specs.Naming.{words_at};
 ghost use Rattle.aatry_report.specs.SeenRecord.{seen_record};
 
 use crate::records::put_included;
@@ -79,8 +80,9 @@ pub fn push_told(
     refused: Refused,
     out: &mut Vec<u8>,
 ) -> Result<(), AllocError>
-    ensures { OnOk result ((words : List ℕ) × (out.new.items ≡ out.old.items ++ told_refusal teller.form words files.now base.now name.now
-        (number_of refused.error.refusal) refused.error.place refused.earlier (unread_in unread.now refused.error.place))) }
+    ensures { OnOk result (out.new.items ≡ out.old.items
+        ++ told_refusal teller.form (words_at refused.language files.now refused.error.refusal refused.error.place) files.now base.now name.now
+        (number_of refused.error.refusal) refused.error.place refused.earlier (unread_in unread.now refused.error.place)) }
 {
     match unread_in(unread, refused.error.place) {
         None => push_refusal(teller, files, base, name, refused, out),

@@ -28,4 +28,4 @@ newly_words = record { kind = codes "newly_left_out"; before = codes "newly left
 
 -- what is told of such files of a folder
 abbrev pub newly_lines : Form → Folder → List LeftOut → List ℕ
-newly_lines form folder files = told_files form newly_words folder.base folder.files folder.unread files
+newly_lines form folder files = told_files form newly_words folder.language folder.base folder.files folder.unread files

@@ -1,6 +1,6 @@
 -- What is told of words that ask nothing, where it shows what was meant.
-use Rattle.std.specs.Prelude.{ℕ, Bool, false, not, find, if◌then◌else◌, List, [], ◌∷◌, ◌++◌, codes, Option, None, Some}
-use Rattle.std.specs.List.{list_any}
+use Rattle.std.specs.Prelude.{ℕ, Bool, false, not, ◌&&◌, ◌||◌, ◌==◌, find, if◌then◌else◌, List, [], ◌∷◌, ◌++◌, codes, take, Option, None, Some}
+use Rattle.std.specs.List.{list_any, prefix_len}
 use Rattle.std.specs.Str.{bytes_eq}
 use Rattle.aa_bytes.specs.Texts.{begins_with}
 use Rattle.aatry_near.specs.Near.{nearest}
@@ -55,3 +55,73 @@ misspelled_by (Some word) = no_command_told word (command_meant word)
 -- that of the words behind the program's own name
 abbrev pub misspelled : List (List ℕ) → Option (List ℕ)
 misspelled words = misspelled_by (command_word words)
+
+-- the options that a command may have, by their long names, and the others by their letters
+abbrev pub options : List (List ℕ)
+options =
+    codes "--json" ∷ codes "--verbose" ∷ codes "--language" ∷ codes "--color" ∷ codes "--names" ∷ codes "--limit" ∷ codes "--strict" ∷ codes "--denied"
+    ∷ codes "--profile" ∷ codes "--since" ∷ codes "--rules" ∷ codes "--globs" ∷ codes "--log" ∷ codes "--questions" ∷ codes "--stat" ∷ codes "--accept"
+    ∷ codes "--help" ∷ codes "--version" ∷ []
+
+abbrev pub letters : List (List ℕ)
+letters = codes "-b" ∷ codes "-h" ∷ codes "-V" ∷ []
+
+-- those that take a value
+abbrev pub valued : List (List ℕ)
+valued =
+    codes "-b" ∷ codes "--language" ∷ codes "--color" ∷ codes "--limit" ∷ codes "--profile" ∷ codes "--since" ∷ codes "--log" ∷ codes "--questions" ∷ []
+
+-- what `=` is
+abbrev pub equals_sign : ℕ
+equals_sign = 61
+
+-- the name of an option in a word: what stands ahead of `=`, if there is one
+abbrev pub option_name : List ℕ → List ℕ
+option_name word = take (prefix_len (λ b. not (b == equals_sign)) word) word
+
+-- a word is among some
+abbrev pub is_word_of : List (List ℕ) → List ℕ → Bool
+is_word_of names word = list_any (λ name. bytes_eq word name) names
+
+-- a word begins as one of some does
+abbrev pub begins_as_one : List (List ℕ) → List ℕ → Bool
+begins_as_one names word = list_any (λ name. begins_with name word) names
+
+-- a word has the form of an option, and is none
+abbrev pub is_no_option : List ℕ → Bool
+is_no_option word =
+    begins_with (codes "-") word && not (bytes_eq word (codes "-")) && not (begins_as_one letters word || is_word_of options (option_name word))
+
+-- the first of some words that has that form and is none; behind `--` alone no word is one
+abbrev pub unknown_option : List (List ℕ) → Option (List ℕ)
+unknown_option [] = None
+unknown_option (word ∷ words) = if bytes_eq word (codes "--") then None else if is_no_option word then Some (option_name word) else unknown_option words
+
+-- the line that is told of its name, and of the option that may have been meant
+abbrev pub no_option_told : List ℕ → Option (List ℕ) → List ℕ
+no_option_told name None = codes "aatry: there is no option " ++ shown name ++ codes "\n"
+no_option_told name (Some near) = codes "aatry: there is no option " ++ shown name ++ codes ": did you mean " ++ shown near ++ codes "?\n"
+
+-- that of the words behind the program's own name
+abbrev pub unknown_told : Option (List ℕ) → Option (List ℕ)
+unknown_told None = None
+unknown_told (Some name) = Some (no_option_told name (nearest name options))
+
+-- the last of some words
+abbrev pub last_word : List (List ℕ) → Option (List ℕ)
+last_word [] = None
+last_word (word ∷ []) = Some word
+last_word (word ∷ other ∷ words) = last_word (other ∷ words)
+
+-- the line that is told where the last word is an option that takes a value
+abbrev pub no_value_told : Option (List ℕ) → Option (List ℕ)
+no_value_told None = None
+no_value_told (Some word) = if is_word_of valued word then Some (codes "aatry: a value is wanted behind " ++ shown word ++ codes "\n") else None
+
+-- the first of these lines that there is: of the command, of an option, of a value
+abbrev pub line_or : Option (List ℕ) → Option (List ℕ) → Option (List ℕ)
+line_or (Some line) other = Some line
+line_or None other = other
+
+abbrev pub hint : List (List ℕ) → Option (List ℕ)
+hint words = line_or (misspelled words) (line_or (unknown_told (unknown_option words)) (no_value_told (last_word words)))

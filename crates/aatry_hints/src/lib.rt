@@ -2,5 +2,8 @@
 #![tactic(auto)]
 
 mod hints;
+mod options;
+mod told;
 
-pub use hints::{cut_line, misspelled};
+pub use hints::cut_line;
+pub use told::hint;

@@ -66,7 +66,8 @@ origins_in folder = origins_of (read_in folder)
 
 -- what is told of those that are left out, at length or not
 abbrev pub left_out_in : Form → Bool → Folder → List ℕ
-left_out_in form verbose folder = listed_lines form verbose folder.base folder.files folder.unread (file_names folder.top) (outcomes_in folder)
+left_out_in form verbose folder =
+    listed_lines form verbose folder.language folder.base folder.files folder.unread (file_names folder.top) (outcomes_in folder)
 
 -- those themselves
 abbrev pub files_left_out : Folder → List LeftOut

@@ -35,9 +35,9 @@ pub fn by_parts<'a>(folder: &'a PolicyFolder<'_>, parts: &'a [Part<'a>]) -> Fold
 
 /// Loads the files at the top of a folder, as `load` does by the folder's language and as each is to be loaded, and puts what is told and noted of
 /// those that are left out behind a report. Told is, in lines that tell at length, a line of each with its path, the number and the name of its
-/// refusal; in other lines nothing; and in records one of the kind `left_out`, with `file`, `number` and `refusal`. Where a file is left out since another
-/// one, or itself, wasn't read, the path of that and why it wasn't come in place of the refusal, in records as `unread` and `words`. Noted is, where
-/// there are any, how many there are, and the command that tells what is wrong with each.
+/// refusal, what is wrong, in words, and where, if it has a place; in other lines nothing; and in records one of the kind `left_out`, with `file`, `number`,
+/// `refusal` and `words`. Where a file is left out since another one, or itself, wasn't read, the path of that and why it wasn't come in place of the
+/// refusal, in records as `unread` and `words`. Noted is, where there are any, how many there are, and the command that tells what is wrong with each.
 ///
 /// # Errors
 ///

@@ -1,9 +1,9 @@
-//! What is told of refusals, and of the files that are left out of a policy set.
+//! What is told of the files that are left out of a policy set.
 
 ghost use Rattle.std.specs.Prelude.{◌≡◌, ◌++◌, IfOk, OnOk, codes, map};
 ghost use Rattle.aatry_folder.specs.Loadings.{file_names, seen_top};
 ghost use Rattle.aatry_policy.specs.LeftOut.{file_line, file_record, file_text, is_listed, left_out_of, left_out_words, listed_lines};
-ghost use Rattle.aatry_policy.specs.LeftOut.{reason_text, refusal_text, told_file, told_files, with_reason};
+ghost use Rattle.aatry_policy.specs.LeftOut.{reason_text, told_file, told_files, with_reason};
 ghost use Rattle.aatry_policy.specs.SeenLeftOut.{all_left_out, seen_left_out, seen_words};
 ghost use Rattle.aatry_report.specs.FilePlaces.{path_below};
 ghost use Rattle.aatry_report.specs.Records.{with_text};
@@ -11,12 +11,11 @@ ghost use Rattle.aatry_report.specs.SeenRecord.{seen_record};
 ghost use Rattle.aatry_report.specs.Shown.{shown};
 
 use crate::left_out_files::{LeftOut, left_out_of};
+use crate::refusals::{push_worded, put_worded};
 use aa_set_commands::Refusal;
 use aaset_start::unread_in;
 use aatry_folder::PolicyFolder;
-use aatry_report::{
-    Form, Record, Teller, path_below, push_named_refusal, push_shown, put_named_refusal,
-};
+use aatry_report::{Form, Record, Teller, path_below, push_shown};
 use std::alloc::{AllocError, Global};
 
 /// The words that tell a file that is left out.
@@ -28,17 +27,6 @@ pub struct LeftOutWords<'a> {
     pub before: &'a str,
     /// What stands behind its path there, and before why it is left out.
     pub behind: &'a str,
-}
-
-/// Puts the number and the name of a refusal behind a text.
-///
-/// # Errors
-///
-/// Where memory runs out. A beginning may have been put then.
-pub fn push_refusal(out: &mut Vec<u8>, refusal: Refusal) -> Result<(), AllocError>
-    ensures { OnOk result (out.new.items ≡ out.old.items ++ refusal_text refusal) }
-{
-    push_named_refusal(out, refusal.number(), refusal.name())
 }
 
 // Puts why a file wasn't read behind a text, by its name in its folder.
@@ -73,8 +61,8 @@ fn put_unread(
     into.put_text(alloc, "words", words.as_bytes())
 }
 
-/// Puts why a file of a folder is left out behind a text: the number and the name of its refusal; or, where the refusal stands in a file that wasn't
-/// read, be it another one or itself, the path of that and why it wasn't.
+/// Puts why a file of a folder is left out behind a text: the number and the name of its refusal, what is wrong, in words, and where, if it has a place; or,
+/// where the refusal stands in a file that wasn't read, be it another one or itself, the path of that and why it wasn't.
 ///
 /// # Errors
 ///
@@ -86,10 +74,10 @@ pub fn push_reason(
     out: &mut Vec<u8>,
 ) -> Result<(), AllocError>
     ensures { OnOk result (out.new.items
-        ≡ out.old.items ++ reason_text folder.now.base.now folder.now.files folder.now.unread.items refusal) }
+        ≡ out.old.items ++ reason_text folder.now.language folder.now.base.now folder.now.files folder.now.unread.items refusal) }
 {
     match unread_in(&folder.unread, refusal.place) {
-        None => push_refusal(out, refusal),
+        None => push_worded(alloc, folder, refusal, out),
         Some((file, fault)) => push_unread(
             alloc,
             folder.base.as_bytes(),
@@ -100,7 +88,7 @@ pub fn push_reason(
     }
 }
 
-/// Puts the same into a record: as `number` and `refusal`, or as `unread` and `words`.
+/// Puts the same into a record, but for the place: as `number`, `refusal` and `words`, or as `unread` and `words`.
 ///
 /// # Errors
 ///
@@ -112,10 +100,10 @@ pub fn put_reason(
     into: &mut Record,
 ) -> Result<(), AllocError>
     ensures { OnOk result (seen_record into.new
-        ≡ with_reason folder.now.base.now folder.now.files folder.now.unread.items refusal (seen_record into.old)) }
+        ≡ with_reason folder.now.language folder.now.base.now folder.now.files folder.now.unread.items refusal (seen_record into.old)) }
 {
     match unread_in(&folder.unread, refusal.place) {
-        None => put_named_refusal(alloc, refusal.number(), refusal.name(), into),
+        None => put_worded(alloc, folder, refusal, into),
         Some((file, fault)) => put_unread(
             alloc,
             folder.base.as_bytes(),
@@ -136,7 +124,7 @@ fn push_line(
     out: &mut Vec<u8>,
 ) -> Result<(), AllocError>
     ensures { OnOk result (out.new.items
-        ≡ out.old.items ++ file_line (seen_words words.entry) folder.now.base.now folder.now.files folder.now.unread.items path.now refusal) }
+        ≡ out.old.items ++ file_line (seen_words words.entry) folder.now.language folder.now.base.now folder.now.files folder.now.unread.items path.now refusal) }
 {
     out.extend_from_slice(words.before.as_bytes())?;
     push_shown(out, path)?;
@@ -155,7 +143,7 @@ fn file_record(
     refusal: Refusal,
 ) -> Result<Record, AllocError>
     ensures { IfOk result (λ made. seen_record made
-        ≡ file_record (seen_words words.entry) folder.now.base.now folder.now.files folder.now.unread.items path.now refusal) }
+        ≡ file_record (seen_words words.entry) folder.now.language folder.now.base.now folder.now.files folder.now.unread.items path.now refusal) }
 {
     let mut made = Record::new(alloc, words.kind)?;
     made.put_text(alloc, "file", path)?;
@@ -173,7 +161,7 @@ fn push_text(
     out: &mut Vec<u8>,
 ) -> Result<(), AllocError>
     ensures { OnOk result (out.new.items ≡ out.old.items
-        ++ file_text teller.form (seen_words words.entry) folder.now.base.now folder.now.files folder.now.unread.items path.now refusal) }
+        ++ file_text teller.form (seen_words words.entry) folder.now.language folder.now.base.now folder.now.files folder.now.unread.items path.now refusal) }
 {
     match teller.form {
         Form::Lines => push_line(teller.alloc, words, folder, path, refusal, out),
@@ -192,7 +180,7 @@ fn push_file(
     out: &mut Vec<u8>,
 ) -> Result<(), AllocError>
     ensures { OnOk result (out.new.items ≡ out.old.items
-        ++ told_file teller.form (seen_words words.entry) folder.now.base.now folder.now.files folder.now.unread.items (seen_left_out file.entry)) }
+        ++ told_file teller.form (seen_words words.entry) folder.now.language folder.now.base.now folder.now.files folder.now.unread.items (seen_left_out file.entry)) }
 {
     let path = path_below(teller.alloc, folder.base.as_bytes(), file.name.as_bytes())?;
     push_text(teller, words, folder, &path, file.refusal, out)
@@ -212,7 +200,7 @@ pub fn push_files(
     out: &mut Vec<u8>,
 ) -> Result<(), AllocError>
     ensures { OnOk result (out.new.items ≡ out.old.items
-        ++ told_files teller.form (seen_words words.entry) folder.now.base.now folder.now.files folder.now.unread.items (all_left_out files.now)) }
+        ++ told_files teller.form (seen_words words.entry) folder.now.language folder.now.base.now folder.now.files folder.now.unread.items (all_left_out files.now)) }
 {
     let mut rest = files;
     while let [file, behind @ ..] = rest {
@@ -230,7 +218,7 @@ fn push_each(
     out: &mut Vec<u8>,
 ) -> Result<(), AllocError>
     ensures { OnOk result (out.new.items ≡ out.old.items
-        ++ told_files teller.form left_out_words folder.now.base.now folder.now.files folder.now.unread.items
+        ++ told_files teller.form left_out_words folder.now.language folder.now.base.now folder.now.files folder.now.unread.items
         (left_out_of (file_names (map seen_top folder.now.top.items)) outcomes.now)) }
 {
     let files = left_out_of(teller.alloc, &folder.top, outcomes)?;
@@ -264,7 +252,7 @@ pub fn push_left_out(
     outcomes: &[Option<Refusal>],
     out: &mut Vec<u8>,
 ) -> Result<(), AllocError>
-    ensures { OnOk result (out.new.items ≡ out.old.items ++ listed_lines teller.form teller.verbose folder.now.base.now folder.now.files
+    ensures { OnOk result (out.new.items ≡ out.old.items ++ listed_lines teller.form teller.verbose folder.now.language folder.now.base.now folder.now.files
         folder.now.unread.items (file_names (map seen_top folder.now.top.items)) outcomes.now) }
 {
     if is_listed(teller) {

@@ -12,6 +12,7 @@ mod notes;
 mod origins;
 mod parts;
 mod policy;
+mod refusals;
 
 pub use folder::{LoadedFolder, by_parts, load_folder};
 pub use folder_parts::FolderParts;
@@ -19,9 +20,10 @@ pub use laws::{
     what_cannot_be_read_gives_no_profile, where_loaded_profiles_are_read,
     where_loaded_rules_are_written, which_rules_parts_have,
 };
-pub use left_out::{LeftOutWords, push_files, push_reason, push_refusal, put_reason};
+pub use left_out::{LeftOutWords, push_files, push_reason, put_reason};
 pub use left_out_files::{LeftOut, left_out_of};
 pub use loaded::what_folders_load;
 pub use origins::{Origin, file_of, origin_in, origins_of, rule_places};
 pub use parts::{Part, part_of, parts_of};
 pub use policy::{Policy, load};
+pub use refusals::push_refusal;

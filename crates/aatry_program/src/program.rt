@@ -24,7 +24,7 @@ use aatry_arguments::{AllPaths, ArgumentFault, Asking, Call, Command, Session, c
 use aatry_check::check_folder;
 use aatry_diff::diff_folders;
 use aatry_folder::{Fault, Folders, Report};
-use aatry_hints::misspelled;
+use aatry_hints::hint;
 use aatry_log::log_folder;
 use aatry_never::{PathsReport, paths_fault, paths_folder};
 use aatry_report::Teller;
@@ -289,11 +289,11 @@ fn behind(words: &[String]) -> &[String]
     }
 }
 
-// Reports bad arguments, and gives the exit status; where they have a word that may have been meant for a command, a line tells that.
+// Reports bad arguments, and gives the exit status; where their words show what was meant, or what is missing, a line tells that.
 fn report_words<E: Sink>(alloc: Global, words: &[String], errors: &mut E) -> u8
     ensures { result ≡ status_of BadArguments }
 {
-    match misspelled(alloc, behind(words)) {
+    match hint(alloc, behind(words)) {
         Ok(Some(line)) => report_line(errors, &line, &Fault::BadArguments),
         _ => report(alloc, errors, &Fault::BadArguments),
     }

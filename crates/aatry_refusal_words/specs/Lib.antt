@@ -1,3 +1,4 @@
 pub mod FlagFaults
 pub mod Naming
+pub mod Refusals
 pub mod TokensAt

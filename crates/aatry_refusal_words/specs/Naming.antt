@@ -1,6 +1,7 @@
 -- What is wrong with a file that is refused, in words that go by what stands at the place: a flag, a name, or an include by a whole path.
 use Rattle.std.specs.Prelude.{ℕ, List, ◌++◌, codes, if◌then◌else◌, Option, None, Some}
 use Rattle.std.specs.Option.{option_map}
+use Rattle.std.specs.Str.Lossy.{utf8_lossy}
 use Rattle.aa_bytes.specs.Bytes.{slash}
 use Rattle.aa_bytes.specs.Texts.{begins_with_byte}
 use Rattle.aa_profile_errors.specs.declared.profile_error.ProfileRefusal.{ProfileRefusal}
@@ -13,6 +14,7 @@ use Rattle.aa_text_files.specs.declared.text_error.TextRefusal.TheVariants.{NoFi
 use Rattle.aatry_refusal_words.specs.FlagFaults.{unknown_flag}
 use Rattle.aatry_refusal_words.specs.TokensAt.{text_at}
 use Rattle.aatry_report.specs.Shown.{shown}
+use Rattle.aatry_report.specs.Words.{words_of}
 
 -- words, and a text as it is shown, between backquotes
 abbrev pub named : List ℕ → List ℕ → List ℕ
@@ -60,3 +62,12 @@ naming_words language files _ place = None
 abbrev pub naming_words_of : Language → List File → ProfileRefusal → Option Place → Option (List ℕ)
 naming_words_of language files refusal None = None
 naming_words_of language files refusal (Some place) = naming_words language files refusal place
+
+-- words that name what stands at the place, if there are some, and else those of the refusal
+abbrev pub words_or : ProfileRefusal → Option (List ℕ) → List ℕ
+words_or refusal None = words_of refusal
+words_or refusal (Some named) = utf8_lossy named
+
+-- what is wrong with a file by a refusal that may have a place
+abbrev pub words_at : Language → List File → ProfileRefusal → Option Place → List ℕ
+words_at language files refusal place = words_or refusal (naming_words_of language files refusal place)

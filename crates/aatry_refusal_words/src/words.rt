@@ -1,9 +1,8 @@
 //! What is wrong with a file of policy, in words.
 
-ghost use Rattle.std.specs.Prelude.{◌≡◌, IfOk, IfSome, string_bytes};
+ghost use Rattle.std.specs.Prelude.{◌≡◌, IfOk, string_bytes};
 ghost use Rattle.std.specs.Option.{option_map};
-ghost use Rattle.std.specs.Str.Lossy.{utf8_lossy};
-ghost use Rattle.aatry_refusal_words.specs.Naming.{naming_words_of};
+ghost use Rattle.aatry_refusal_words.specs.Naming.{naming_words_of, words_at};
 
 use crate::naming::naming_words;
 use aa_profile_errors::{ProfileError, ProfileRefusal};
@@ -40,11 +39,10 @@ pub fn words_of(
     files: &Files,
     error: ProfileError,
 ) -> Result<String, AllocError>
-    ensures { IfOk result (λ words. IfSome (naming_words_of language files.now error.refusal error.place)
-        (λ named. string_bytes words ≡ utf8_lossy named)) }
+    ensures { IfOk result (λ words. string_bytes words ≡ words_at language files.now error.refusal error.place) }
 {
     match naming_words_of(alloc, language, files, error.refusal, error.place)? {
-        None => aatry_report::words_of(alloc, error.refusal),
+        None => String::from_str(alloc, aatry_report::words_of(error.refusal)),
         Some(words) => String::from_utf8_lossy(alloc, &words),
     }
 }

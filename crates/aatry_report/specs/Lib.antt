@@ -11,3 +11,4 @@ pub mod SeenRecord
 pub mod Shown
 pub mod Taken
 pub mod Walks
+pub mod Words

@@ -1,11 +1,15 @@
 //! What is wrong with a file of policy, in words.
 
+ghost use Rattle.std.specs.Prelude.{◌≡◌};
+ghost use Rattle.aatry_report.specs.Words.{words_of, words_of_grammar};
+
 use aa_profile_errors::ProfileRefusal;
 use aa_profile_parsing::GrammarRefusal;
-use std::alloc::{AllocError, Global};
 
 // What is wrong with a file's grammar, in words.
-fn words_of_grammar(refusal: GrammarRefusal) -> &'static str {
+fn words_of_grammar(refusal: GrammarRefusal) -> &'static str
+    ensures { result.now ≡ words_of_grammar refusal }
+{
     match refusal {
         GrammarRefusal::BadToken => "nothing that may stand here begins so",
         GrammarRefusal::OpenBlock => "this brace isn't closed",
@@ -29,28 +33,23 @@ fn words_of_grammar(refusal: GrammarRefusal) -> &'static str {
     }
 }
 
-/// What is wrong with a file of policy, in words.
-///
-/// # Errors
-///
-/// Where memory runs out.
-pub fn words_of(alloc: Global, refusal: ProfileRefusal) -> Result<String, AllocError> {
+/// What is wrong with a file of policy, in words. It takes no memory.
+pub fn words_of(refusal: ProfileRefusal) -> &'static str
+    ensures { result.now ≡ words_of refusal }
+{
     match refusal {
-        ProfileRefusal::Pattern(error) => error.to_string(alloc),
-        ProfileRefusal::Text(error) => error.to_string(alloc),
-        ProfileRefusal::Grammar(error) => String::from_str(alloc, words_of_grammar(error)),
-        ProfileRefusal::TooManyRules => String::from_str(
-            alloc,
-            "the file has more than 16,384 patterns, each expansion counted",
-        ),
-        ProfileRefusal::ManyStates => String::from_str(
-            alloc,
-            "the patterns of its exec rules have more than 8,192 different beginnings",
-        ),
-        ProfileRefusal::ExecConflict => String::from_str(
-            alloc,
-            "this rule and one before it lead a program of one path to different places",
-        ),
-        ProfileRefusal::Memory => String::from_str(alloc, "memory ran out"),
+        ProfileRefusal::Pattern(error) => error.words(),
+        ProfileRefusal::Text(error) => error.words(),
+        ProfileRefusal::Grammar(error) => words_of_grammar(error),
+        ProfileRefusal::TooManyRules => {
+            "the file has more than 16,384 patterns, each expansion counted"
+        }
+        ProfileRefusal::ManyStates => {
+            "the patterns of its exec rules have more than 8,192 different beginnings"
+        }
+        ProfileRefusal::ExecConflict => {
+            "this rule and one before it lead a program of one path to different places"
+        }
+        ProfileRefusal::Memory => "memory ran out",
     }
 }

@@ -253,7 +253,7 @@ made_behind laws loaded files managed flag change its h =
     flagged_behind laws loaded files managed flag (Make change) its (λ n is. let wrong : None ≡ Some n = is in absurd (cc)) h
 
 pub adds : Laws → AddsBehind
-adds laws loaded files base words kept name flag step h =
+adds laws loaded files base kept name flag step h =
     (h.0, made_behind laws loaded files kept.managed flag (Add name) step.marked h.1)
 
 pub switches : Laws → SwitchesBehind
@@ -264,7 +264,7 @@ switches laws loaded loading.Disable kept name step h = (h.0, made_behind laws l
 pub leaves_adding : Laws → AddLeavesBehind
 leaves_adding laws loaded files before after name left step h = elim left [
   | inl same ↦ subst (IsBehind loaded) (sym same) h
-  | inr told ↦ subst (IsBehind loaded) (sym told.1) (adds laws loaded files [] [] before name told.0 step h)
+  | inr told ↦ subst (IsBehind loaded) (sym told.1) (adds laws loaded files [] before name told.0 step h)
 ]
 
 pub forgets : ForgetsBehind
@@ -299,12 +299,12 @@ undoes same loaded kept h =
 pub refuses : RefusesToUndoMore
 refuses files base words kept line flag said more =
     ap (said_outcome files base words kept line flag) said
-    ∙ ap (λ more. told_outcome files base words kept (change_in (command_in line))
+    ∙ ap (λ more. told_outcome files base kept (change_in (command_in line))
     (cond more (refused kept.managed (plain NothingToUndo)) (line_outcome files kept.managed line flag))) more
     ∙ by (change_in (command_in line))
   where
     by : (change : Option PolicyChange)
-        → told_outcome files base words kept change (refused kept.managed (plain NothingToUndo))
-        ≡ record { answer = Told (refusal_told files base words (plain NothingToUndo)); kept = kept }
+        → told_outcome files base kept change (refused kept.managed (plain NothingToUndo))
+        ≡ record { answer = Told (refusal_told kept.managed.settings.language files base (plain NothingToUndo)); kept = kept }
     by None = refl
     by (Some change) = refl

@@ -399,7 +399,7 @@ leaves laws files before after line left step h = elim left [
 ]
 
 pub adds : Laws → AddsKnowing
-adds laws files base words kept name flag step h = command_keeps laws files kept flag (Ok (Some (Make (Add name)))) step h
+adds laws files base kept name flag step h = command_keeps laws files kept flag (Ok (Some (Make (Add name)))) step h
 
 pub switches : Laws → SwitchesKnowing
 switches laws files loading.ByFlags kept name step h = h
@@ -409,7 +409,7 @@ switches laws files loading.Disable kept name step h = command_keeps laws files 
 pub leaves_adding : Laws → AddLeavesKnowing
 leaves_adding laws files before after name left step h = elim left [
   | inl same ↦ subst (IsKept files) (sym same) h
-  | inr told ↦ subst (IsKept files) (sym told.1) (adds laws files [] [] before name told.0 step h)
+  | inr told ↦ subst (IsKept files) (sym told.1) (adds laws files [] before name told.0 step h)
 ]
 
 -- an origin, without its places

@@ -62,7 +62,7 @@ leaves known files before after line left h = elim left [
 ]
 
 pub adds : Known → AddsInStep
-adds known files base words kept name flag h =
+adds known files base kept name flag h =
     in_step files kept (Some (Add name)) (file_added files kept.managed name flag) h
     (command_keeps known files kept flag (Ok (Some (Make (Add name)))) (h.counted, h.marked))
 
@@ -79,7 +79,7 @@ switches known Disable kept name h = made-change known kept (DisableChange name)
 pub leaves_adding : Known → AddLeavesInStep
 leaves_adding known files before after name left h = elim left [
   | inl same ↦ subst IsInStep (sym same) h
-  | inr obeyed ↦ subst IsInStep (sym obeyed.1) (adds known files [] [] before name obeyed.0 h)
+  | inr obeyed ↦ subst IsInStep (sym obeyed.1) (adds known files [] before name obeyed.0 h)
 ]
 
 pub forgets : ForgetsInStep
@@ -92,8 +92,8 @@ as_lines files base words kept name line flag said short is =
     λ fits command. cond (fits && is_above (undoable kept.loaded kept.managed) (undo_count command)) (left_as kept.managed (plain NothingToUndo))
     (cond fits (machine_outcome files kept.managed flag command) (left_as kept.managed (plain LineTooLong))) in
     ap (said_outcome files base words kept line flag) said
-    ∙ ap (λ command. command_outcome files base words kept (change_in command) (obeyed (nat_le (length line) longest_line) command)) is
-    ∙ ap (λ fits. command_outcome files base words kept (Some (Add name)) (obeyed fits (Ok (Some (Make (Add name)))))) short
+    ∙ ap (λ command. command_outcome files base kept (change_in command) (obeyed (nat_le (length line) longest_line) command)) is
+    ∙ ap (λ fits. command_outcome files base kept (Some (Add name)) (obeyed fits (Ok (Some (Make (Add name)))))) short
 
 -- a refused line leaves the texts, and where profiles were read
 texts_stay : (done : ℕ) (change : Option PolicyChange) (reply : Reply) (texts : List (List ℕ)) → is_refusal reply ≡ true → texts_behind done change reply texts ≡ texts

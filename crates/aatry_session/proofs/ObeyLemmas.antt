@@ -17,7 +17,7 @@ use Rattle.aatry_session.specs.Changes.{kept_with}
 use Rattle.aatry_session_told.specs.Commands.{change_in, is_above, undo_count, undoes_more}
 use Rattle.aatry_session_told.specs.History.{change_text}
 use Rattle.aatry_session.specs.Origins.{change_origins}
-use Rattle.aatry_session.specs.Turns.{Kept, LeavesAs, ObeysAs, depth, done_behind, kept_after, line_obeyed, origins_behind, reply_told, texts_behind, undoable}
+use Rattle.aatry_session.specs.Turns.{Kept, LeavesAs, ObeysAs, depth, done_behind, kept_after, line_obeyed, origins_behind, reply_told, texts_behind, told_of, undoable}
 
 -- the session after a command whose reply, manager, texts and origins are those that its outcome gives, and whose history leaves out as much as before
 kept_by : (files : List File) (before after : Kept) (change : Option PolicyChange) (obeyed : Obeyed) (reply : Reply)
@@ -38,16 +38,14 @@ kept_by files before after change obeyed reply is texts origins loaded =
     }) loaded)
 
 -- what is told of its reply is what is told of it
-told_by : (files : List File) (base words : List ℕ) (before after : Kept) (change : Option PolicyChange) (obeyed : Obeyed) (reply : Reply) (old new : List ℕ)
+told_by : (files : List File) (base : List ℕ) (before after : Kept) (change : Option PolicyChange) (obeyed : Obeyed) (reply : Reply) (old new : List ℕ)
     → ◌≡◌ {A = Obeyed} (record { reply = reply; managed = after.managed }) obeyed
     → after.texts ≡ texts_behind (depth before.managed) change reply before.texts
-    → new ≡ old ++ reply_told files base words after.texts (depth before.managed) (done_behind before.managed change after.managed) reply
-    → new ≡ old ++ reply_told files base words (texts_behind (depth before.managed) change obeyed.reply before.texts) (depth before.managed)
-    (done_behind before.managed change obeyed.managed) obeyed.reply
-told_by files base words before after change obeyed reply old new is texts told =
-    subst (λ o. new ≡ old ++ reply_told files base words (texts_behind (depth before.managed) change o.reply before.texts) (depth before.managed)
-    (done_behind before.managed change o.managed) o.reply) is
-    (subst (λ t. new ≡ old ++ reply_told files base words t (depth before.managed) (done_behind before.managed change after.managed) reply) texts told)
+    → new ≡ old ++ reply_told after.managed.settings.language files base after.texts (depth before.managed) (done_behind before.managed change after.managed) reply
+    → new ≡ old ++ told_of files base before change obeyed
+told_by files base before after change obeyed reply old new is texts told =
+    subst (λ o. new ≡ old ++ told_of files base before change o) is
+    (subst (λ t. new ≡ old ++ reply_told after.managed.settings.language files base t (depth before.managed) (done_behind before.managed change after.managed) reply) texts told)
 
 on-ok : {A E : Type 0} (r : Result A E) (P Q : Type 0) → (P → Q) → OnOk r P → OnOk r Q
 on-ok (Ok x) P Q f p = f p
@@ -67,17 +65,16 @@ pub obeyed-other : {A E : Type 0} (r : Result A E) (files : List File) (base : L
     → after.loaded ≡ before.loaded
     → from ≡ depth before.managed
     → to ≡ depth after.managed
-    → OnOk r ((words : List ℕ) × (new ≡ old ++ reply_told files base words after.texts from to reply))
+    → OnOk r (new ≡ old ++ reply_told after.managed.settings.language files base after.texts from to reply)
     → OnOk r (ObeysAs files base before after None obeyed old new)
 obeyed-other r files base before after obeyed old new flag reply from to is texts origins loaded first last told =
-    on-ok r ((words : List ℕ) × (new ≡ old ++ reply_told files base words after.texts from to reply)) (ObeysAs files base before after None obeyed old new)
-    (λ pair. (
+    on-ok r (new ≡ old ++ reply_told after.managed.settings.language files base after.texts from to reply) (ObeysAs files base before after None obeyed old new)
+    (λ put. (
       flag,
-      pair.0,
       kept_by files before after None (obeyed flag) reply is texts origins loaded,
-      told_by files base pair.0 before after None (obeyed flag) reply old new is texts
-          (subst (λ n. new ≡ old ++ reply_told files base pair.0 after.texts (depth before.managed) n reply) last
-          (subst (λ n. new ≡ old ++ reply_told files base pair.0 after.texts n to reply) first pair.1)),
+      told_by files base before after None (obeyed flag) reply old new is texts
+          (subst (λ n. new ≡ old ++ reply_told after.managed.settings.language files base after.texts (depth before.managed) n reply) last
+          (subst (λ n. new ≡ old ++ reply_told after.managed.settings.language files base after.texts n to reply) first put)),
     )) told
 
 -- it was obeyed where memory ran out for what is told of it, too
@@ -131,17 +128,16 @@ kept_made files before after change obeyed made =
 -- a command that makes a change was obeyed
 pub obeyed-change : {A E : Type 0} (r : Result A E) (files : List File) (base : List ℕ) (before after : Kept) (change : PolicyChange) (obeyed : Bool → Obeyed)
     → (old new : List ℕ) → (made : IsMade files before after change obeyed)
-    → OnOk r ((words : List ℕ) × (new ≡ old ++ reply_told files base words after.texts made.done made.done made.reply))
+    → OnOk r (new ≡ old ++ reply_told after.managed.settings.language files base after.texts made.done made.done made.reply)
     → OnOk r (ObeysAs files base before after (Some change) obeyed old new)
 obeyed-change r files base before after change obeyed old new made told =
-    on-ok r ((words : List ℕ) × (new ≡ old ++ reply_told files base words after.texts made.done made.done made.reply))
+    on-ok r (new ≡ old ++ reply_told after.managed.settings.language files base after.texts made.done made.done made.reply)
     (ObeysAs files base before after (Some change) obeyed old new)
-    (λ pair. (
+    (λ put. (
       made.flag,
-      pair.0,
       kept_made files before after change obeyed made,
-      told_by files base pair.0 before after (Some change) (obeyed made.flag) made.reply old new made.is (texts_made files before after change obeyed made)
-          (subst (λ n. new ≡ old ++ reply_told files base pair.0 after.texts n n made.reply) made.first pair.1),
+      told_by files base before after (Some change) (obeyed made.flag) made.reply old new made.is (texts_made files before after change obeyed made)
+          (subst (λ n. new ≡ old ++ reply_told after.managed.settings.language files base after.texts n n made.reply) made.first put),
     )) told
 
 -- also where memory ran out for what is told of it

@@ -35,7 +35,7 @@ pub begins : BeginsUnmarked
 begins language force_complain = refl
 
 pub adds : AddsUnmarked
-adds files base words kept name flag none = flagged_unmarked files kept.managed flag (Add name) none
+adds files base kept name flag none = flagged_unmarked files kept.managed flag (Add name) none
 
 pub switches : SwitchesUnmarked
 switches loading.ByFlags kept name none = none

@@ -37,9 +37,9 @@ LeavesInStep = (files : List File) (before after : Kept) (line : List ℕ) → I
 -- so does adding the profiles of a file
 abbrev pub AddsInStep : Type 0
 AddsInStep =
-    (files : List File) (base words : List ℕ) (kept : Kept) (name : List ℕ) (flag : Bool)
+    (files : List File) (base : List ℕ) (kept : Kept) (name : List ℕ) (flag : Bool)
     → IsInStep kept
-    → IsInStep (add_outcome files base words kept name flag).kept
+    → IsInStep (add_outcome files base kept name flag).kept
 
 -- also where memory ran out for it
 abbrev pub AddLeavesInStep : Type 0
@@ -60,7 +60,7 @@ AddsAsLinesDo =
     → saying_in line ≡ Command
     → nat_le (length line) longest_line ≡ true
     → command_in line ≡ Ok (Some (Make (Add name)))
-    → turn_outcome files base words kept line flag ≡ add_outcome files base words kept name flag
+    → turn_outcome files base words kept line flag ≡ add_outcome files base kept name flag
 
 -- a line that the machine refuses leaves the manager, the texts, and where profiles were read, as they were
 abbrev pub RefusedTurnLeavesAll : Type 0

@@ -42,9 +42,9 @@ BeginsUnmarked = (language : Language) (force_complain : Bool) → IsUnmarked (b
 -- and so it is where files are added, and their profiles changed by how they are loaded
 abbrev pub AddsUnmarked : Type 0
 AddsUnmarked =
-    (files : List File) (base words : List ℕ) (kept : Kept) (name : List ℕ) (flag : Bool)
+    (files : List File) (base : List ℕ) (kept : Kept) (name : List ℕ) (flag : Bool)
     → IsUnmarked kept
-    → IsUnmarked (add_outcome files base words kept name flag).kept
+    → IsUnmarked (add_outcome files base kept name flag).kept
 
 abbrev pub SwitchesUnmarked : Type 0
 SwitchesUnmarked = (loading : Loading) (kept : Kept) (name : List ℕ) → IsUnmarked kept → IsUnmarked (kept_switched loading kept name)
@@ -73,10 +73,10 @@ LeavesBehind =
 -- and where a file is added by its name,
 abbrev pub AddsBehind : Type 0
 AddsBehind =
-    (loaded : Machine (List Loaded)) (files : List File) (base words : List ℕ) (kept : Kept) (name : List ℕ) (flag : Bool)
+    (loaded : Machine (List Loaded)) (files : List File) (base : List ℕ) (kept : Kept) (name : List ℕ) (flag : Bool)
     → IsInStep kept
     → IsBehind loaded kept
-    → IsBehind loaded (add_outcome files base words kept name flag).kept
+    → IsBehind loaded (add_outcome files base kept name flag).kept
 
 -- also where memory ran out for it,
 abbrev pub AddLeavesBehind : Type 0
@@ -117,4 +117,5 @@ RefusesToUndoMore =
     (files : List File) (base words : List ℕ) (kept : Kept) (line : List ℕ) (flag : Bool)
     → saying_in line ≡ Command
     → undoes_more (undoable kept.loaded kept.managed) line ≡ true
-    → turn_outcome files base words kept line flag ≡ record { answer = Told (refusal_told files base words (plain NothingToUndo)); kept = kept }
+    → turn_outcome files base words kept line flag
+    ≡ record { answer = Told (refusal_told kept.managed.settings.language files base (plain NothingToUndo)); kept = kept }

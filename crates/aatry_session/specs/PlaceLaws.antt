@@ -51,10 +51,10 @@ LeavesKnowing =
 -- so does adding the profiles of a file
 abbrev pub AddsKnowing : Type 0
 AddsKnowing =
-    (files : List File) (base words : List ℕ) (kept : Kept) (name : List ℕ) (flag : Bool)
+    (files : List File) (base : List ℕ) (kept : Kept) (name : List ℕ) (flag : Bool)
     → IsInStep kept
     → Knows files kept
-    → Knows files (add_outcome files base words kept name flag).kept
+    → Knows files (add_outcome files base kept name flag).kept
 
 -- and the change of a profile by how its file is loaded
 abbrev pub SwitchesKnowing : Type 0

@@ -66,12 +66,12 @@ origin_of kept name = origin_among name (depth kept.managed) kept.origins
 abbrev pub unplaced : Kept → Kept
 unplaced kept = record kept { origins = map (map unplaced_origin) kept.origins }
 
--- what is told of a reply, where so many changes were done before it and so many are done behind it; that a file is refused in these words
-abbrev pub reply_told : List File → List ℕ → List ℕ → List (List ℕ) → ℕ → ℕ → Reply → List ℕ
-reply_told files base words texts from to Silent = []
-reply_told files base words texts from to Done = moves_text from to texts
-reply_told files base words texts from to (Answered lines) = shown_lines lines
-reply_told files base words texts from to (Refused refusal) = refusal_told files base words refusal
+-- what is told of a reply, where files are read by a language, so many changes were done before it and so many are done behind it
+abbrev pub reply_told : Language → List File → List ℕ → List (List ℕ) → ℕ → ℕ → Reply → List ℕ
+reply_told language files base texts from to Silent = []
+reply_told language files base texts from to Done = moves_text from to texts
+reply_told language files base texts from to (Answered lines) = shown_lines lines
+reply_told language files base texts from to (Refused refusal) = refusal_told language files base refusal
 
 -- the texts after this change, if one is made, that was given this reply
 abbrev pub texts_behind : ℕ → Option PolicyChange → Reply → List (List ℕ) → List (List ℕ)
@@ -98,18 +98,18 @@ kept_after files kept change obeyed = record {
 }
 
 -- what is told of it
-abbrev pub told_of : List File → List ℕ → List ℕ → Kept → Option PolicyChange → Obeyed → List ℕ
-told_of files base words kept change obeyed =
-    reply_told files base words (kept_after files kept change obeyed).texts (depth kept.managed) (done_behind kept.managed change obeyed.managed)
-    obeyed.reply
+abbrev pub told_of : List File → List ℕ → Kept → Option PolicyChange → Obeyed → List ℕ
+told_of files base kept change obeyed =
+    reply_told obeyed.managed.settings.language files base (kept_after files kept change obeyed).texts (depth kept.managed)
+    (done_behind kept.managed change obeyed.managed) obeyed.reply
 
 -- A command that makes this change, if it makes one, was obeyed, as the machine obeys it with a flag that it found no memory, and what is told of it
 -- was appended to a text.
 abbrev pub ObeysAs : List File → List ℕ → (before after : Kept) → Option PolicyChange → (Bool → Obeyed) → (old new : List ℕ) → Type 0
 ObeysAs files base before after change obeyed old new =
-    (flag : Bool) × (words : List ℕ)
+    (flag : Bool)
     × (after ≡ kept_after files before change (obeyed flag))
-    × (new ≡ old ++ told_of files base words before change (obeyed flag))
+    × (new ≡ old ++ told_of files base before change (obeyed flag))
 
 -- A command that makes this change, if it makes one, was obeyed so, or all is as it was.
 abbrev pub LeavesAs : List File → (before after : Kept) → Option PolicyChange → (Bool → Obeyed) → Type 0
@@ -151,16 +151,16 @@ pub record Outcome : Type 0 where
   pub kept : Kept
 
 -- what a command for the machine is answered that makes this change, if it makes one, by what the machine made of it
-abbrev pub command_outcome : List File → List ℕ → List ℕ → Kept → Option PolicyChange → Obeyed → Outcome
-command_outcome files base words kept change obeyed = record {
-  answer = Told (told_of files base words kept change obeyed);
+abbrev pub command_outcome : List File → List ℕ → Kept → Option PolicyChange → Obeyed → Outcome
+command_outcome files base kept change obeyed = record {
+  answer = Told (told_of files base kept change obeyed);
   kept = kept_after files kept change obeyed;
 }
 
--- what a line is answered by what it says, with the flag that it found no memory; that a file, or words that are no question, are refused in these words
+-- what a line is answered by what it says, with the flag that it found no memory; that words are no question in these words
 abbrev pub said_outcome : List File → List ℕ → List ℕ → Kept → List ℕ → Bool → Saying → Outcome
 said_outcome files base words kept line flag Command =
-    command_outcome files base words kept (change_in (command_in line)) (line_obeyed files kept.loaded kept.managed line flag)
+    command_outcome files base kept (change_in (command_in line)) (line_obeyed files kept.loaded kept.managed line flag)
 said_outcome files base words kept line flag Help = record { answer = Told help_text; kept = kept }
 said_outcome files base words kept line flag History = record { answer = Told (history_told kept); kept = kept }
 said_outcome files base words kept line flag Widen = record { answer = Widened; kept = kept }
@@ -175,8 +175,8 @@ abbrev pub turn_outcome : List File → List ℕ → List ℕ → Kept → List 
 turn_outcome files base words kept line flag = said_outcome files base words kept line flag (saying_in line)
 
 -- What is answered where the profiles of a file are added, by the file's name: what a line is answered that does so. But no line can name each file.
-abbrev pub add_outcome : List File → List ℕ → List ℕ → Kept → List ℕ → Bool → Outcome
-add_outcome files base words kept name flag = command_outcome files base words kept (Some (Add name)) (file_added files kept.managed name flag)
+abbrev pub add_outcome : List File → List ℕ → Kept → List ℕ → Bool → Outcome
+add_outcome files base kept name flag = command_outcome files base kept (Some (Add name)) (file_added files kept.managed name flag)
 
 -- What is left where memory ran out: all as it was, or what was made of it with some flag, where memory ran out for what is told alone.
 abbrev pub IsLeftBy : (before after : Kept) → (Bool → Kept) → Type 0
@@ -192,4 +192,4 @@ IsLeft files before after line = IsLeftBy before after (kept_behind files before
 
 -- what is left where memory ran out for adding the profiles of a file
 abbrev pub IsLeftAdding : List File → (before after : Kept) → List ℕ → Type 0
-IsLeftAdding files before after name = IsLeftBy before after (λ flag. (add_outcome files [] [] before name flag).kept)
+IsLeftAdding files before after name = IsLeftBy before after (λ flag. (add_outcome files [] before name flag).kept)

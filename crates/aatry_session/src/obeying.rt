@@ -1,6 +1,6 @@
 //! A line for the machine over commands, obeyed, and what is told of it.
 
-ghost use Rattle.std.specs.Prelude.{◌≡◌, ◌<◌, ◌++◌, ℕ, Bool, List, OnErr, OnOk, None, Some, length, vec_capacity};
+ghost use Rattle.std.specs.Prelude.{◌≡◌, ◌<◌, ◌++◌, Bool, OnErr, OnOk, None, Some, length, vec_capacity};
 ghost use Rattle.aa_set_manager.specs.Outcomes.{command_in};
 ghost use Rattle.aa_set_commands.specs.Command.{seen_change};
 ghost use Rattle.aatry_session.specs.Changes.{kept_with};
@@ -31,7 +31,7 @@ fn push_reply(
     reply: &Reply,
     out: &mut Vec<u8>,
 ) -> Result<(), AllocError>
-    ensures { OnOk result ((words : List ℕ) × (out.new.items ≡ out.old.items ++ reply_told files.now base.now words texts.now from to reply.now)) }
+    ensures { OnOk result (out.new.items ≡ out.old.items ++ reply_told language files.now base.now texts.now from to reply.now) }
 {
     match reply {
         Reply::Silent => Ok(()),
@@ -58,8 +58,8 @@ fn keep_and_tell(
     ensures texts { changes.new.texts.items ≡ kept_with done text made.reply changes.old.texts.items }
     ensures origins { changes.new.origins.items ≡ kept_with done made.origins made.reply changes.old.origins.items }
     ensures loaded { changes.new.loaded ≡ changes.old.loaded }
-    ensures told { OnOk result ((words : List ℕ)
-        × (out.new.items ≡ out.old.items ++ reply_told files.now base.now words changes.new.texts.items done done made.reply)) }
+    ensures told { OnOk result (out.new.items
+        ≡ out.old.items ++ reply_told language files.now base.now changes.new.texts.items done done made.reply) }
 {
     let Made { reply, origins } = made;
     keep(changes, done, text, origins, &reply);

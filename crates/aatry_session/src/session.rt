@@ -129,8 +129,8 @@ impl Session {
         base: &str,
         name: &[u8],
     ) -> Result<Turn<'a>, AllocError>
-        ensures told { IfOk result (λ turn. (flag : Bool) × (words : List ℕ)
-            × (record { answer = seen_turn turn; kept = self.new } ≡ add_outcome files.now base.now words self.old name.now flag)) }
+        ensures told { IfOk result (λ turn. (flag : Bool)
+            × (record { answer = seen_turn turn; kept = self.new } ≡ add_outcome files.now base.now self.old name.now flag)) }
         ensures askable { IfOk result IsAskable }
         ensures left { OnErr result (IsLeftAdding files.now self.old self.new name.now) }
     {

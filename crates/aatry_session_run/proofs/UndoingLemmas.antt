@@ -49,10 +49,10 @@ loads_so : Laws → (language : Language) (files : List File) (base : List ℕ) 
     → LoadsEach language files base before top after text → IsLoading before → IsLoading after
 loads_so laws language files base before [] after text loads h = subst IsLoading (sym loads.0) h
 loads_so laws language files base before (file ∷ top) after text (next, first, rest, put, one, behind) h =
-    let (answer, added, flag, words, is, after_it, told) = one in
-    let own : added ≡ (add_outcome files base words before file.name flag).kept = ap (λ (o : Outcome). o.kept) is in
+    let (answer, added, flag, is, after_it, told) = one in
+    let own : added ≡ (add_outcome files base before file.name flag).kept = ap (λ (o : Outcome). o.kept) is in
     let so : IsLoading added =
-    subst IsLoading (sym own) (laws.adds files base words before file.name flag h.0, laws.adds_unmarked files base words before file.name flag h.1) in
+    subst IsLoading (sym own) (laws.adds files base before file.name flag h.0, laws.adds_unmarked files base before file.name flag h.1) in
     loads_so laws language files base next top after rest behind
     (subst IsLoading (sym after_it) (settled_so laws language files file (is_taken answer) added so))
 

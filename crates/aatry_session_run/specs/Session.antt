@@ -60,8 +60,8 @@ settled language files file taken kept =
 -- tells whether it is left out.
 abbrev pub LoadsOne : Language → List File → List ℕ → Kept → TopFile → Kept → List ℕ → Type 0
 LoadsOne language files base before file after text =
-    (answer : Answer) × (added : Kept) × (flag : Bool) × (words : List ℕ)
-    × (record { answer = answer; kept = added } ≡ add_outcome files base words before file.name flag)
+    (answer : Answer) × (added : Kept) × (flag : Bool)
+    × (record { answer = answer; kept = added } ≡ add_outcome files base before file.name flag)
     × (after ≡ settled language files file (is_taken answer) added)
     × (text ≡ loading_text file.name answer)
 

@@ -7,38 +7,17 @@ ghost use Rattle.aatry_report.specs.Faults.{fault_lines};
 ghost use Rattle.aatry_report.specs.FilePlaces.{path_below};
 ghost use Rattle.aatry_report.specs.Refusals.{placed_refusal};
 ghost use Rattle.aatry_questions.specs.Faults.{seen_fault};
-ghost use Rattle.aatry_session_told.specs.Refusals.{no_question_told, refusal_told, told_by, unread_at, words_for};
+ghost use Rattle.aatry_session_told.specs.Refusals.{no_question_told, refusal_told, told_by, unread_at};
 
-use aa_profile_errors::ProfileError;
 use aa_profile_parsing::Language;
-use aa_set_commands::{Refusal, RefusalKind};
+use aa_set_commands::Refusal;
 use aa_text_files::{Files, Place};
 use aaset_start::is_stand_in;
 use aatry_questions::{WordFault, push_words_fault, refusal_of, with_nearest};
-use aatry_refusal_words::words_of;
+use aatry_refusal_words::{kind_words, refusal_words};
 use aatry_report::{path_below, push_fault, push_placed_refusal};
 use std::alloc::{AllocError, Global};
 use std::str::from_utf8;
-
-// What is wrong, in words; none where it is a file, which has words of its own.
-fn own_words(kind: RefusalKind) -> &'static str
-    ensures { result.now ≡ words_for kind [] }
-{
-    match kind {
-        RefusalKind::File(_) => "",
-        RefusalKind::Exists => "a profile of one of the file's names is there",
-        RefusalKind::Absent => "no profile, child or hat of this name is there",
-        RefusalKind::Disabled => "the profile is disabled",
-        RefusalKind::NothingToUndo =>
-            "fewer changes can be undone; say `loading` to undo those of the loading, too",
-        RefusalKind::NothingToRedo => "fewer changes can be redone",
-        RefusalKind::BadCommand => "this is no command: `help` tells which there are",
-        RefusalKind::LineTooLong => "the line has more than 65,536 bytes",
-        RefusalKind::BadRequest => "no question can have these words, or no mark this name",
-        RefusalKind::NoMark => "no mark has this name",
-        RefusalKind::Memory => "memory ran out",
-    }
-}
 
 // What is wrong with the words of a question, in words.
 fn question_words(alloc: Global, fault: WordFault<'_>) -> Result<Vec<u8>, AllocError> {
@@ -65,7 +44,7 @@ pub fn push_no_question(
     let words = question_words(alloc, fault)?;
     let text = match from_utf8(&words) {
         Ok(text) => text,
-        Err(_) => own_words(refusal.refusal),
+        Err(_) => kind_words(refusal.refusal),
     };
     push_fault(out, b"refused", text, refusal.number())
 }
@@ -129,16 +108,9 @@ fn push_plain(
     refusal: Refusal,
     out: &mut Vec<u8>,
 ) -> Result<(), AllocError>
-    ensures { OnOk result ((words : List ℕ) × (out.new.items ≡ out.old.items ++ told_by None files.now base.now words refusal)) }
+    ensures { OnOk result (out.new.items ≡ out.old.items ++ told_by None language files.now base.now refusal) }
 {
-    let RefusalKind::File(fault) = refusal.refusal else {
-        return push_in_words(alloc, files, base, own_words(refusal.refusal), refusal, out);
-    };
-    let error = ProfileError {
-        refusal: fault,
-        place: refusal.place,
-    };
-    let words = words_of(alloc, language, files, error)?;
+    let words = refusal_words(alloc, language, files, refusal)?;
     push_in_words(alloc, files, base, words.as_str(), refusal, out)
 }
 
@@ -156,7 +128,7 @@ pub fn push_refusal(
     refusal: Refusal,
     out: &mut Vec<u8>,
 ) -> Result<(), AllocError>
-    ensures { OnOk result ((words : List ℕ) × (out.new.items ≡ out.old.items ++ refusal_told files.now base.now words refusal)) }
+    ensures { OnOk result (out.new.items ≡ out.old.items ++ refusal_told language files.now base.now refusal) }
 {
     match unread_at(files, refusal.place) {
         None => push_plain(alloc, language, files, base, refusal, out),

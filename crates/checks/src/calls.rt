@@ -1,12 +1,14 @@
-//! Calls of the libraries whose answers no row can tell: the copy of a profile, the slots that may attach a path, the start of a program by one of whom
-//! the slot is known, what a question is answered as values, and the reading of a file by each language.
+//! Calls of the libraries whose answers no row can tell: the copies of a profile and of a rule, the slots that may attach a path, the start of a program by
+//! one of whom the slot is known, what a question is answered as values, and the reading of a file by each language.
 
 ghost use Rattle.std.specs.Prelude.{◌≡◌, true, IfSome};
 ghost use Rattle.aa_profile_data.specs.Conflicts.{profile_agrees};
 
 use crate::given::{files, last_profile, managed};
 use aa_decide::{Answer, ExecTo, Who, exec, find_named};
-use aa_profile::{GrammarRefusal, Language, Profile, ProfileRefusal, read_file, read_file_in};
+use aa_profile::{
+    GrammarRefusal, Language, Profile, ProfileRefusal, Rule, read_file, read_file_in,
+};
 use aa_set::{Answered, Manager, Question};
 use std::alloc::Global;
 
@@ -38,6 +40,29 @@ fn copies(alloc: Global) -> Option<bool> {
 #[test]
 fn a_profile_is_copied(rt: HostRuntime) {
     assert!(rt; copies(rt.alloc()) == Some(true));
+}
+
+// Whether a rule is the owner's, on files below one folder.
+fn is_upload(rule: &Rule) -> bool {
+    match rule {
+        Rule::File(rule) => rule.owner && rule.pattern.text() == b"/srv/up/*".as_slice(),
+        _ => false,
+    }
+}
+
+fn copies_rule(alloc: Global) -> Option<bool> {
+    let profile = read(alloc, b"profile web { /srv/** r, owner /srv/up/* w, }")?;
+    let rules = profile.rules.as_slice();
+    if rules.len() != 2 {
+        return None;
+    }
+    let copy = rules[1].try_copy(alloc).ok()?;
+    Some(is_upload(&rules[1]) && is_upload(&copy))
+}
+
+#[test]
+fn a_rule_is_copied(rt: HostRuntime) {
+    assert!(rt; copies_rule(rt.alloc()) == Some(true));
 }
 
 // Asks under what a program starts, again and again, so that its path is remembered.

@@ -1,16 +1,15 @@
 -- The first of some paths that says otherwise.
-use Rattle.std.specs.Prelude.{ℕ, Bool, not, ◌&&◌, if◌then◌else◌, List, [], ◌∷◌, Option, None, Some}
+use Rattle.std.specs.Prelude.{ℕ, Bool, if◌then◌else◌, List, [], ◌∷◌, Option, None, Some}
 use Rattle.aa_glob_paths.specs.declared.outcome.Outcome.{Outcome}
 use Rattle.aa_profile_data.specs.declared.profile.Rule.{Rule}
 use Rattle.aa_explain_paths.specs.Answers.{Asked, Breaking, breaking_by, seen_breaking}
 use Rattle.aa_explain_paths.specs.Claims.{breaks_for}
-use Rattle.aa_explain_paths.specs.Meant.{is_matched}
 use Rattle.aa_explain_paths.specs.declared.question.PathAnswer.{PathAnswer}
 use Rattle.aa_explain_paths.specs.declared.question.PathAnswer.TheVariants.{Fails, Holds, TooMany}
 
--- none of some patterns matches a path, and it says otherwise
-abbrev pub says_otherwise : List Rule → Asked → List (List ℕ) → List ℕ → Bool
-says_otherwise rules asked unasked path = not (is_matched unasked path) && breaks_for asked.claim rules asked.letters asked.whose path
+-- a path says otherwise
+abbrev pub says_otherwise : List Rule → Asked → List ℕ → Bool
+says_otherwise rules asked path = breaks_for asked.claim rules asked.letters asked.whose path
 
 -- the path of the first outcome whose path passes a test
 abbrev pub first_break : (List ℕ → Bool) → List Outcome → Option (List ℕ)
@@ -33,8 +32,8 @@ abbrev pub breaking_with : List ℕ → Bool → ℕ → Breaking
 breaking_with path owned letters = record { path = path; owned = owned; letters = letters }
 
 -- what is told of a path, if it says otherwise
-abbrev pub breaking_at : List Rule → Asked → List (List ℕ) → List ℕ → Option Breaking
-breaking_at rules asked unasked path = if says_otherwise rules asked unasked path then Some (breaking_by rules asked path) else None
+abbrev pub breaking_at : List Rule → Asked → List ℕ → Option Breaking
+breaking_at rules asked path = if says_otherwise rules asked path then Some (breaking_by rules asked path) else None
 
 -- the answer where so many paths stand for all, and this is the first that says otherwise, if one does
 abbrev pub answer_of : List Rule → Asked → ℕ → Option (List ℕ) → SeenAnswer

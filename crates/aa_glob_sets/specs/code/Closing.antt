@@ -21,16 +21,16 @@ abbrev pub ComeOfUpTo : List FoundSet → ℕ → Type 0
 ComeOfUpTo found n = All (λ f. f.origin.from ≤ n) found
 
 -- a set is followed behind each of some bytes
-abbrev pub IsFollowedBehind : Graph → List Bool → List FoundSet → ℕ → List ℕ → Type 0
-IsFollowedBehind g wanted found n bytes = (c : ℕ) → Contains bytes c → IsFollowed g wanted found n c
+abbrev pub IsFollowedBehind : Graph → List Bool → List Bool → List FoundSet → ℕ → List ℕ → Type 0
+IsFollowedBehind g wanted settled found n bytes = (c : ℕ) → Contains bytes c → IsFollowed g wanted settled found n c
 
 -- a set is followed behind each byte
-abbrev pub IsFollowedByAll : Graph → List Bool → List FoundSet → ℕ → Type 0
-IsFollowedByAll g wanted found n = (c : ℕ) → c < 2 ^ 8 → IsFollowed g wanted found n c
+abbrev pub IsFollowedByAll : Graph → List Bool → List Bool → List FoundSet → ℕ → Type 0
+IsFollowedByAll g wanted settled found n = (c : ℕ) → c < 2 ^ 8 → IsFollowed g wanted settled found n c
 
 -- the sets before a number are followed behind each byte
-abbrev pub IsClosedBefore : Graph → List Bool → List FoundSet → ℕ → Type 0
-IsClosedBefore g wanted found at = (n : ℕ) → n < at → IsFollowedByAll g wanted found n
+abbrev pub IsClosedBefore : Graph → List Bool → List Bool → List FoundSet → ℕ → Type 0
+IsClosedBefore g wanted settled found at = (n : ℕ) → n < at → IsFollowedByAll g wanted settled found n
 
 -- sets that were found, with more of them maybe than before, which come of those up to a number
 pub record AreMore (g : Graph) (room n : ℕ) (old new : List FoundSet) : Type 0 where

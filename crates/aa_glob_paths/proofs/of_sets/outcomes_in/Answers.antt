@@ -9,6 +9,9 @@ pub returns-clause-told : goal.returns-clause-told
 returns-clause-told c =
     let g = graph_of c.args.tables.now in
     let sets = c.in-Some.sets in
-    let some = subst (λ found. IfSome found (AreReachable g c.deref.result.now)) c.in-Some.is c.in_ok-reachable.ensures.reachable in
-    texts-told g c.args.classes.now c.in_ok-wanted.wanted.items sets c.in_ok-outcomes_of-in-Some.field-0.items c.requires.later c.in_ok-wanted.ensures.ends
-    (subst (λ wanted. AreReachable g wanted sets) c.deref.ensures.value some) c.in_ok-outcomes_of-in-Some.ensures
+    let some = subst (λ found. IfSome found (AreReachable g c.deref.result.now c.deref-2.result.now)) c.in-Some.is c.in_ok-reachable.ensures.reachable in
+    let wanted = c.in_ok-wanted.wanted.items in
+    let settled = c.in_ok-settled.settled.items in
+    let told : AreReachable g wanted settled sets = subst (λ marks. AreReachable g wanted marks sets) c.deref-2.ensures.value (subst (λ marks. AreReachable g marks c.deref-2.result.now sets) c.deref.ensures.value some) in
+    texts-told c.what_sets_tell.ensures.settled g c.args.classes.now wanted settled sets c.in_ok-outcomes_of-in-Some.field-0.items c.requires.later
+    c.in_ok-wanted.ensures.ends c.in_ok-settled.ensures.settled told c.in_ok-outcomes_of-in-Some.ensures

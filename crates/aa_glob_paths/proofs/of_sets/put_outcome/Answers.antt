@@ -8,9 +8,9 @@ use Rattle.aa_glob_run.proofs.PatternLemmas.{found_all}
 use Rattle.aa_glob_run.specs.Ends.{AreEndsOf}
 use Rattle.aa_glob_sets.specs.Found.{FoundSet, IsStateSet, no_set, set_at}
 use Rattle.aa_glob_sets.proofs.PlaceLemmas.{kept_at, not_some}
-use Rattle.aa_glob_paths.specs.code.AllTexts.{AreOutcomesBefore, has_wanted}
+use Rattle.aa_glob_paths.specs.code.AllTexts.{AreOutcomesBefore, are_told}
 use Rattle.aa_glob_paths.specs.code.Kept.{Entry, kept_outcomes, outcome_of}
-use Rattle.aa_glob_paths.proofs.OutcomeLemmas.{ends-classed, is-wanted, kept-more, kept-none, kept-there, outcome-more, outcome-none, outcome-there}
+use Rattle.aa_glob_paths.proofs.OutcomeLemmas.{are-told, ends-classed, kept-more, kept-none, kept-there, outcome-more, outcome-none, outcome-there}
 use Rattle.aa_glob_paths.proofs.PathLemmas.{ends-in}
 use Rattle.aa_glob_paths.proofs.of_sets.put_outcome.Goals as goal
 
@@ -19,21 +19,21 @@ patterns_of-requires-clause-are_states c =
     let room = length c.args.tables.now.states in
     subst (All (λ r. r < room)) (sym c.set.ensures) (All-get_or (λ (f : FoundSet). IsStateSet room f.set) c.args.sets.now c.args.number no_set c.requires.within c.requires.found.sets).live.1
 
-pub has_wanted-requires : goal.has_wanted-requires
-has_wanted-requires c =
+pub are_told-requires : goal.are_told-requires
+are_told-requires c =
     let g = graph_of c.args.tables.now in
     let classes = c.args.classes.now in
     let places = c.in_ok-places.places.items in
     let ends = ends-in g (set_at c.args.sets.now c.args.number) places (subst (λ live. AreEndsOf g live places) c.set.ensures c.in_ok-places.ensures.found) in
     subst (All (λ p. p < length classes)) (sym c.deref.ensures.value) (ends-classed c.args.tables.now classes (set_at c.args.sets.now c.args.number) places c.requires.classed ends)
 
-pub returns-then-not-has_wanted : goal.returns-then-not-has_wanted
-returns-then-not-has_wanted c =
+pub returns-then-not-are_told : goal.returns-then-not-are_told
+returns-then-not-are_told c =
     let g = graph_of c.args.tables.now in
     let classes = c.args.classes.now in
     let places = c.in_ok-places.places.items in
     let ends = ends-in g (set_at c.args.sets.now c.args.number) places (subst (λ live. AreEndsOf g live places) c.set.ensures c.in_ok-places.ensures.found) in
-    let none = subst (λ l. has_wanted classes l ≡ false) c.deref.ensures.value (sym c.has_wanted.ensures ∙ c.if-not-has_wanted.true) in
+    let none = subst (λ l. are_told classes l ≡ false) c.deref.ensures.value (sym c.are_told.ensures ∙ c.if-not-are_told.true) in
     outcome-none g classes c.args.sets.now c.args.number (kept_outcomes c.args.kept.now.entries) places c.requires.before ends none
 
 pub returns-then-contains_key : goal.returns-then-contains_key
@@ -58,7 +58,7 @@ returns c =
     let places = c.in_ok-places.places.items in
     let path = c.in_ok-path.path.items in
     let told = subst (λ live. AreEndsOf g live places) c.set.ensures c.in_ok-places.ensures.found in
-    let has = subst (λ l. has_wanted classes l ≡ true) c.deref.ensures.value (sym c.has_wanted.ensures ∙ c.if-not-has_wanted.false) in
+    let has = subst (λ l. are_told classes l ≡ true) c.deref.ensures.value (sym c.are_told.ensures ∙ c.if-not-are_told.false) in
     let none = subst (λ key. is_some (kept_at key entries) ≡ false) c.as_slice.ensures.value (sym c.contains_key.ensures ∙ c.if-contains_key.false) in
     let last = insert_entry-new _ c.args.kept.now c.in_ok-places.places c.in_ok-path.path (not_some (kept_at places entries) none) in
     let entry : Entry = (c.in_ok-places.places, c.in_ok-path.path) in
@@ -69,7 +69,7 @@ returns c =
       bytes = c.in_ok-path.ensures.bytes;
       found = found_all g path (set_at sets number) places (c.in_ok-path.ensures.leads g room c.requires.found) told;
       rise = c.in_ok-places.ensures.rise;
-      wanted = is-wanted classes places has;
+      told = are-told classes places has;
     })
     c.in_ok-path.ensures.behind
     (kept-none places entries none))

@@ -6,5 +6,5 @@ use Rattle.aa_glob_sets.proofs.closing.follow_all.Goals as goal
 pub follow_each-requires-clause-bytes : goal.follow_each-requires-clause-bytes
 follow_each-requires-clause-bytes c =
     let g = graph_of c.args.tables.now in
-    let own = subst (λ (set : List ℕ). StandForAllFrom g set c.in_ok-own.own.items) c.set.ensures c.in_ok-own.ensures in
+    let own = subst (λ (set : List ℕ). StandForAllFrom g set c.bytes_for_set.new.own.items) c.set.ensures c.in_ok-bytes_for_set.ensures in
     subst (StandForAllFrom g _) (sym c.deref.ensures.value) own

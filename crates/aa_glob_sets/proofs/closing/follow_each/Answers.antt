@@ -16,7 +16,8 @@ loop-byte-preserved c =
     let here = c.in_ok-follow_byte.ensures in
     record {
       more = record { found = here.more.found; up_to = here.more.up_to; grows = grows-then c.args.sets.now old new more.grows here.more.grows };
-      followed = followed-next g c.args.wanted.now old new c.args.from c.args.bytes.now c.loop-byte.byte-index 0 (omega (arith, more.grows.longer, c.requires.within)) c.loop-byte-test.true
+      room = here.room;
+      followed = followed-next g c.args.wanted.now c.args.settled.now old new c.args.from c.args.bytes.now c.loop-byte.byte-index 0 (omega (arith, more.grows.longer, c.requires.within)) c.loop-byte-test.true
           here.more.grows c.loop-byte.invariant.followed here.followed;
     }
 
@@ -25,5 +26,5 @@ returns-clause-followed c =
     let g = graph_of c.args.tables.now in
     let end : length c.args.bytes.now ≤ c.loop-byte.byte-index = omega arith in
     let stand = subst (λ (f : FoundSet). StandForAllFrom g f.set c.args.bytes.now) (sym (c.loop-byte.invariant.more.grows.same c.args.from c.requires.within)) c.requires.bytes in
-    followed-all g c.args.wanted.now c.loop-byte.sets c.args.from c.args.bytes.now stand
-    (subst (IsFollowedBehind g c.args.wanted.now c.loop-byte.sets c.args.from) (take_all c.loop-byte.byte-index c.args.bytes.now end) c.loop-byte.invariant.followed)
+    followed-all g c.args.wanted.now c.args.settled.now c.loop-byte.sets c.args.from c.args.bytes.now stand
+    (subst (IsFollowedBehind g c.args.wanted.now c.args.settled.now c.loop-byte.sets c.args.from) (take_all c.loop-byte.byte-index c.args.bytes.now end) c.loop-byte.invariant.followed)

@@ -17,13 +17,14 @@ loop-at-preserved c =
     record {
       found = here.more.found;
       up_to = All-weaker (λ (f : FoundSet). f.origin.from ≤ at) (λ (f : FoundSet). f.origin.from ≤ at + 1) (λ f low. omega (arith, low)) c.follow_all.new.sets here.more.up_to;
-      closed = closed-next (graph_of c.args.tables.now) c.args.wanted.now c.loop-at.sets c.follow_all.new.sets at (omega arith) here.more.grows
+      room = here.room;
+      closed = closed-next (graph_of c.args.tables.now) c.args.wanted.now c.args.settled.now c.loop-at.sets c.follow_all.new.sets at (omega arith) here.more.grows
           c.loop-at.invariant.closed here.followed;
     }
 
 pub returns-clause-reachable : goal.returns-clause-reachable
 returns-clause-reachable c =
-    closed-reachable (graph_of c.args.tables.now) c.args.wanted.now (length c.args.tables.now.states) c.loop-at.sets c.requires.back c.loop-at.invariant.found
+    closed-reachable (graph_of c.args.tables.now) c.args.wanted.now c.args.settled.now (length c.args.tables.now.states) c.loop-at.sets c.requires.back c.loop-at.invariant.found
     (λ n byte within is_byte. c.loop-at.invariant.closed n (omega (arith, within)) byte is_byte)
 
 pub returns-then-len-limit-clause-full : goal.returns-then-len-limit-clause-full

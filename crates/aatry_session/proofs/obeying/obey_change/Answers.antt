@@ -1,8 +1,8 @@
-use Rattle.std.proofs.Common.{◌∙◌, ap}
+use Rattle.std.proofs.Common.{◌≡◌, ◌∙◌, ◌++◌, OnOk, ap, subst}
 use Rattle.aa_set_commands.specs.Command.{seen_change}
 use Rattle.aatry_session.specs.Changes.{kept_with}
 use Rattle.aatry_session.specs.SeenSessions.{seen_session}
-use Rattle.aatry_session.specs.Turns.{line_obeyed}
+use Rattle.aatry_session.specs.Turns.{line_obeyed, reply_told}
 use Rattle.aatry_session.proofs.ObeyLemmas.{change-obeyed, left-change, obeyed-change}
 use Rattle.aatry_session.proofs.obeying.obey_change.Goals as goal
 
@@ -31,7 +31,9 @@ returns-clause-told c =
       texts = c.keep_and_tell.ensures.texts ∙ ap (kept_with c.depth-done.result c.in_ok-text.text reply) c.make_room.ensures.texts;
       origins = c.keep_and_tell.ensures.origins ∙ ap (kept_with c.depth-done.result c.make-made.result.origins reply) c.make_room.ensures.origins;
       left_out = c.keep_and_tell.ensures.loaded ∙ c.make_room.ensures.loaded;
-    }) c.keep_and_tell.ensures.told
+    })
+    (subst (λ language. OnOk c.keep_and_tell.result (c.keep_and_tell.new.out.items
+    ≡ c.args.out.now.items ++ reply_told language c.args.files.now c.args.base.now after.texts c.depth-done.result c.depth-done.result reply)) c.language.ensures c.keep_and_tell.ensures.told)
 
 pub returns-clause-left : goal.returns-clause-left
 returns-clause-left c =

@@ -4,8 +4,8 @@ use Rattle.std.proofs.lemmas.List.Elements.{Contains-append_left, Contains-push}
 use Rattle.std.specs.Prelude.{Contains}
 use Rattle.aa_glob_sets.specs.code.Told.{HasStanding}
 use Rattle.aa_glob_sets.proofs.ToldLemmas.{only-pushed, stand-last, stand-more, stand-there}
-use Rattle.aa_glob_sets.proofs.told.picked.Goals.{then-is_told+in_ok-push, then-is_told-via-then-is_told, then-is_told-via-else-is_told+then-not-has_untold, else-is_told+else-not-has_untold, then-has_untold, else-has_untold}
-use Rattle.aa_glob_sets.proofs.told.picked.Goals as goal
+use Rattle.aa_glob_sets.proofs.told.pick.Goals.{then-is_told+in_ok-push, then-is_told-via-then-is_told, then-is_told-via-else-is_told+then-not-has_untold, else-is_told+else-not-has_untold, then-has_untold, else-has_untold}
+use Rattle.aa_glob_sets.proofs.told.pick.Goals as goal
 
 pub loop-byte-preserved : goal.loop-byte-preserved
 loop-byte-preserved c =

@@ -2,7 +2,7 @@ use Rattle.std.proofs.Common.{◌≡◌, ℕ, true, false, take}
 use Rattle.std.specs.Prelude.{Contains}
 use Rattle.aa_bytes.specs.ByteMaps.{in_map}
 use Rattle.aa_glob_sets.specs.code.Told.{HasStanding}
-use Rattle.aa_glob_sets.proofs.told.picked.Given as goal
+use Rattle.aa_glob_sets.proofs.told.pick.Given as goal
 
 -- where one of the bytes that aren't told came, the first of them is picked
 abbrev pub invariant-loop-byte : goal.invariant-loop-byte

@@ -1,0 +1,10 @@
+use Rattle.std.proofs.Common.{◌≡◌, length, map}
+use Rattle.aatry_hints.specs.Hints.{is_word_of}
+use Rattle.aatry_hints.proofs.options.is_word_of.Given as goal
+
+-- it is among what is left where it is among all
+abbrev pub invariant-loop-rest : goal.invariant-loop-rest
+invariant-loop-rest l = is_word_of (map (λ name. name.now) l.rest) l.word ≡ is_word_of (map (λ name. name.now) l.names) l.word
+
+abbrev pub decreases-loop-rest : goal.decreases-loop-rest
+decreases-loop-rest l = length l.rest

@@ -1,0 +1,54 @@
+//! What is wrong with a command that is refused, in words.
+
+ghost use Rattle.std.specs.Prelude.{◌≡◌, IfOk, string_bytes};
+ghost use Rattle.aatry_refusal_words.specs.Refusals.{kind_words, refusal_words};
+
+use crate::words::words_of;
+use aa_profile_errors::ProfileError;
+use aa_profile_parsing::Language;
+use aa_set_commands::{Refusal, RefusalKind};
+use aa_text_files::Files;
+use std::alloc::{AllocError, Global};
+
+/// What is wrong with a command by the kind of its refusal alone, in words. Those of a file are `aatry_report::words_of`.
+pub fn kind_words(kind: RefusalKind) -> &'static str
+    ensures { result.now ≡ kind_words kind }
+{
+    match kind {
+        RefusalKind::File(refusal) => aatry_report::words_of(refusal),
+        RefusalKind::Exists => "a profile of one of the file's names is there",
+        RefusalKind::Absent => "no profile, child or hat of this name is there",
+        RefusalKind::Disabled => "the profile is disabled",
+        RefusalKind::NothingToUndo =>
+            "fewer changes can be undone; say `loading` to undo those of the loading, too",
+        RefusalKind::NothingToRedo => "fewer changes can be redone",
+        RefusalKind::BadCommand => "this is no command: `help` tells which there are",
+        RefusalKind::LineTooLong => "the line has more than 65,536 bytes",
+        RefusalKind::BadRequest => "no question can have these words, or no mark this name",
+        RefusalKind::NoMark => "no mark has this name",
+        RefusalKind::Memory => "memory ran out",
+    }
+}
+
+/// What is wrong with a command that is refused, in words: where a file is, as `words_of` has them, by the language that it was read by; and else those of
+/// its kind.
+///
+/// # Errors
+///
+/// Where memory runs out.
+pub fn refusal_words(
+    alloc: Global,
+    language: Language,
+    files: &Files,
+    refusal: Refusal,
+) -> Result<String, AllocError>
+    ensures { IfOk result (λ words. string_bytes words ≡ refusal_words language files.now refusal) }
+{
+    let Refusal { refusal, place } = refusal;
+    match refusal {
+        RefusalKind::File(refusal) => {
+            words_of(alloc, language, files, ProfileError { refusal, place })
+        }
+        kind => String::from_str(alloc, kind_words(kind)),
+    }
+}
