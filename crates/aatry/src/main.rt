@@ -1,10 +1,11 @@
 //! Helps with AppArmor policy at a terminal: the real words, folders, files and streams, handed to `start`.
 #![tactic(auto)]
 
-use aa_set_lines::{FromRead, ToWrite};
+use aa_set_lines::{FromRead, ToWrite, write_all};
 use aaset_start::RuntimeFiles;
 use aatry_colors::{ColorWish, Painted, WithWish, is_colored, wished};
 use aatry_folder::RuntimeFolders;
+use aatry_hints::hint;
 use aatry_program::{Disk, Fault, Muted, Piped, Streams};
 use aatry_test::RuntimeStore;
 use std::alloc::Global;
@@ -15,6 +16,9 @@ use std::process::ExitCode;
 use std::rt::Env;
 use std::{env, io};
 
+// The exit status where the arguments are bad.
+const BAD_ARGUMENTS: u8 = 2;
+
 // The words that the program was started with, its own name first.
 fn words_of_start<R: Env + AllocGlobal>(rt: &R) -> Result<Vec<String>, Fault> {
     match env::args(rt) {
@@ -23,19 +27,53 @@ fn words_of_start<R: Env + AllocGlobal>(rt: &R) -> Result<Vec<String>, Fault> {
     }
 }
 
-// What words say of colours, and the words without that; or the fault that keeps them from being read.
-fn wished_words(
-    alloc: Global,
+// What was read of the words of the start.
+#[derive(Drop)]
+struct ReadWords {
+    // When lines are to be in colours.
+    wish: ColorWish,
+    // The words without that, or the fault that keeps them from being read.
     words: Result<Vec<String>, Fault>,
-) -> (ColorWish, Result<Vec<String>, Fault>) {
-    let words = match words {
-        Ok(words) => words,
-        Err(fault) => return (ColorWish::Never, Err(fault)),
+    // A line that tells what is wrong with what they say of colours, if one does.
+    line: Option<Vec<u8>>,
+}
+
+// Words that can't be read.
+fn unread(fault: Fault, line: Option<Vec<u8>>) -> ReadWords {
+    ReadWords {
+        wish: ColorWish::Never,
+        words: Err(fault),
+        line,
+    }
+}
+
+// The line that tells what is wrong with words behind the program's own name, if one does.
+fn line_behind_name(alloc: Global, words: &[String]) -> Option<Vec<u8>> {
+    let behind = match words {
+        [_, behind @ ..] => behind,
+        [] => words,
     };
+    hint(alloc, behind).unwrap_or(None)
+}
+
+// What words say of colours, and the words without that.
+fn wished_words(alloc: Global, words: Vec<String>) -> ReadWords {
     match wished(alloc, &words) {
-        Ok(Some(WithWish { wish, words })) => (wish, Ok(words)),
-        Ok(None) => (ColorWish::Never, Err(Fault::BadArguments)),
-        Err(_) => (ColorWish::Never, Err(Fault::NoMemory)),
+        Ok(Some(WithWish { wish, words })) => ReadWords {
+            wish,
+            words: Ok(words),
+            line: None,
+        },
+        Ok(None) => unread(Fault::BadArguments, line_behind_name(alloc, &words)),
+        Err(_) => unread(Fault::NoMemory, None),
+    }
+}
+
+// The same of the words that the program was started with.
+fn started<R: Env + AllocGlobal>(rt: &R) -> ReadWords {
+    match words_of_start(rt) {
+        Ok(words) => wished_words(rt.alloc(), words),
+        Err(fault) => unread(fault, None),
     }
 }
 
@@ -59,7 +97,7 @@ fn prompt(is_terminal: bool) -> &'static [u8] {
 }
 
 fn main(rt: HostRuntime) -> ExitCode {
-    let (wish, words) = wished_words(rt.alloc(), words_of_start(&rt));
+    let ReadWords { wish, words, line } = started(&rt);
     let colors = is_colored(wish, rt.stdout().is_terminal() && takes_colors(&rt));
     let reader = rt.reader();
     let prompt = prompt(reader.is_terminal());
@@ -73,6 +111,10 @@ fn main(rt: HostRuntime) -> ExitCode {
         )),
         errors: ToWrite::new(Muted::new(rt.stderr(), &is_closed)),
     };
+    if let Some(line) = line {
+        let _ = write_all(&mut streams.errors, &line);
+        return ExitCode::from(BAD_ARGUMENTS);
+    }
     let mut disk = Disk {
         folders: RuntimeFolders::new(&rt),
         files: RuntimeFiles::new(&rt),

@@ -1,10 +1,14 @@
 -- What is told of words that ask nothing, where it shows what was meant.
-use Rattle.std.specs.Prelude.{ℕ, Bool, false, not, ◌&&◌, ◌||◌, ◌==◌, find, if◌then◌else◌, List, [], ◌∷◌, ◌++◌, codes, take, Option, None, Some}
-use Rattle.std.specs.List.{list_any, prefix_len}
+use Rattle.std.specs.Prelude.{ℕ, Bool, false, if◌then◌else◌, List, [], ◌∷◌, ◌++◌, codes, Option, None, Some, unwrap_or}
+use Rattle.std.specs.List.{list_any}
 use Rattle.std.specs.Str.{bytes_eq}
-use Rattle.aa_bytes.specs.Texts.{begins_with}
+use Rattle.aa_bytes.specs.Texts.{begins_with, is_empty}
 use Rattle.aatry_near.specs.Near.{nearest}
 use Rattle.aatry_report.specs.Shown.{shown}
+use Rattle.aatry_hints.specs.Commands.{commands, not_taken_by, own_options_by, unknown_in}
+use Rattle.aatry_hints.specs.Options.{options}
+use Rattle.aatry_hints.specs.Parts.{Part, command_in, last_behind, parts}
+use Rattle.aatry_hints.specs.Values.{BadValue, bad_value_in, lacking, values_told}
 
 -- a word is the pair by which a line of a log tells of a request
 abbrev pub is_pair : List ℕ → Bool
@@ -23,15 +27,6 @@ cut_line_told = codes "aatry: a line of a log is one word, in quotes: aatry why 
 -- the line that is told of words, if they are such ones
 abbrev pub cut_line : List (List ℕ) → Option (List ℕ)
 cut_line words = if is_cut_line words then Some cut_line_told else None
-
--- the commands, as help tells them
-abbrev pub commands : List (List ℕ)
-commands =
-    codes "check" ∷ codes "why" ∷ codes "log" ∷ codes "who" ∷ codes "never" ∷ codes "always" ∷ codes "diff" ∷ codes "session" ∷ codes "test" ∷ []
-
--- the word among the words of a start that stands in the place of a command: the first that is no option
-abbrev pub command_word : List (List ℕ) → Option (List ℕ)
-command_word words = find (λ word. not (begins_with (codes "-") word)) words
 
 -- a name that was found for a word, if that is another
 abbrev pub other_than : List ℕ → Option (List ℕ) → Option (List ℕ)
@@ -52,76 +47,59 @@ abbrev pub misspelled_by : Option (List ℕ) → Option (List ℕ)
 misspelled_by None = None
 misspelled_by (Some word) = no_command_told word (command_meant word)
 
--- that of the words behind the program's own name
-abbrev pub misspelled : List (List ℕ) → Option (List ℕ)
-misspelled words = misspelled_by (command_word words)
-
--- the options that a command may have, by their long names, and the others by their letters
-abbrev pub options : List (List ℕ)
-options =
-    codes "--json" ∷ codes "--verbose" ∷ codes "--language" ∷ codes "--color" ∷ codes "--names" ∷ codes "--limit" ∷ codes "--strict" ∷ codes "--denied"
-    ∷ codes "--profile" ∷ codes "--since" ∷ codes "--rules" ∷ codes "--globs" ∷ codes "--log" ∷ codes "--questions" ∷ codes "--stat" ∷ codes "--accept"
-    ∷ codes "--help" ∷ codes "--version" ∷ []
-
-abbrev pub letters : List (List ℕ)
-letters = codes "-b" ∷ codes "-h" ∷ codes "-V" ∷ []
-
--- those that take a value
-abbrev pub valued : List (List ℕ)
-valued =
-    codes "-b" ∷ codes "--language" ∷ codes "--color" ∷ codes "--limit" ∷ codes "--profile" ∷ codes "--since" ∷ codes "--log" ∷ codes "--questions" ∷ []
-
--- what `=` is
-abbrev pub equals_sign : ℕ
-equals_sign = 61
-
--- the name of an option in a word: what stands ahead of `=`, if there is one
-abbrev pub option_name : List ℕ → List ℕ
-option_name word = take (prefix_len (λ b. not (b == equals_sign)) word) word
-
--- a word is among some
-abbrev pub is_word_of : List (List ℕ) → List ℕ → Bool
-is_word_of names word = list_any (λ name. bytes_eq word name) names
-
--- a word begins as one of some does
-abbrev pub begins_as_one : List (List ℕ) → List ℕ → Bool
-begins_as_one names word = list_any (λ name. begins_with name word) names
-
--- a word has the form of an option, and is none
-abbrev pub is_no_option : List ℕ → Bool
-is_no_option word =
-    begins_with (codes "-") word && not (bytes_eq word (codes "-")) && not (begins_as_one letters word || is_word_of options (option_name word))
-
--- the first of some words that has that form and is none; behind `--` alone no word is one
-abbrev pub unknown_option : List (List ℕ) → Option (List ℕ)
-unknown_option [] = None
-unknown_option (word ∷ words) = if bytes_eq word (codes "--") then None else if is_no_option word then Some (option_name word) else unknown_option words
-
--- the line that is told of its name, and of the option that may have been meant
+-- the line that is told of a name that no option has, and of the option that may have been meant
 abbrev pub no_option_told : List ℕ → Option (List ℕ) → List ℕ
 no_option_told name None = codes "aatry: there is no option " ++ shown name ++ codes "\n"
 no_option_told name (Some near) = codes "aatry: there is no option " ++ shown name ++ codes ": did you mean " ++ shown near ++ codes "?\n"
 
--- that of the words behind the program's own name
 abbrev pub unknown_told : Option (List ℕ) → Option (List ℕ)
 unknown_told None = None
 unknown_told (Some name) = Some (no_option_told name (nearest name options))
 
--- the last of some words
-abbrev pub last_word : List (List ℕ) → Option (List ℕ)
-last_word [] = None
-last_word (word ∷ []) = Some word
-last_word (word ∷ other ∷ words) = last_word (other ∷ words)
+-- the line that is told of a command and an option that it doesn't take, if there is one
+abbrev pub not_taken_told : Option (List ℕ) → Option (List ℕ) → Option (List ℕ)
+not_taken_told (Some command) (Some name) = Some (codes "aatry: " ++ shown command ++ codes " takes no " ++ shown name ++ codes "\n")
+not_taken_told (Some command) None = None
+not_taken_told None name = None
 
--- the line that is told where the last word is an option that takes a value
+-- the line that is told of an option whose value is missing
+abbrev pub wanted_told : List ℕ → List ℕ
+wanted_told name = codes "aatry: a value is wanted behind " ++ shown name ++ codes "\n"
+
+-- the line that is told of an option with a value that it doesn't take, if there is one: an empty value is as good as missing
+abbrev pub refused_told : List ℕ → List ℕ → List ℕ
+refused_told name value = codes "aatry: " ++ shown name ++ codes " takes " ++ values_told name ++ codes ", not " ++ shown value ++ codes "\n"
+
+abbrev pub bad_value_told : Option BadValue → Option (List ℕ)
+bad_value_told None = None
+bad_value_told (Some bad) = Some (if is_empty bad.value then wanted_told bad.name else refused_told bad.name bad.value)
+
+-- the line that is told where an option at the end lacks its value
 abbrev pub no_value_told : Option (List ℕ) → Option (List ℕ)
 no_value_told None = None
-no_value_told (Some word) = if is_word_of valued word then Some (codes "aatry: a value is wanted behind " ++ shown word ++ codes "\n") else None
+no_value_told (Some name) = Some (wanted_told name)
 
--- the first of these lines that there is: of the command, of an option, of a value
+-- the first of two lines that there is
 abbrev pub line_or : Option (List ℕ) → Option (List ℕ) → Option (List ℕ)
 line_or (Some line) other = Some line
 line_or None other = other
 
+-- the line that is told of the values among parts, by the word in the place of a command: of one that its option doesn't take, or of one that is missing
+abbrev pub values_hint : Option (List ℕ) → List Part → Option (List ℕ)
+values_hint command parts =
+    line_or (bad_value_told (bad_value_in (unwrap_or (own_options_by command) []) parts)) (no_value_told (lacking (last_behind None parts)))
+
+-- the same of options that the command doesn't take, and else of values
+abbrev pub taken_hint : Option (List ℕ) → List Part → Option (List ℕ)
+taken_hint command parts = line_or (not_taken_told command (not_taken_by (own_options_by command) parts)) (values_hint command parts)
+
+-- the same of options that there aren't, and else of others
+abbrev pub options_hint : Option (List ℕ) → List Part → Option (List ℕ)
+options_hint command parts = line_or (unknown_told (unknown_in parts)) (taken_hint command parts)
+
+-- the line that is told of all words: of the command first, and else of the options
+abbrev pub hint_of : List Part → Option (List ℕ)
+hint_of parts = line_or (misspelled_by (command_in parts)) (options_hint (command_in parts) parts)
+
 abbrev pub hint : List (List ℕ) → Option (List ℕ)
-hint words = line_or (misspelled words) (line_or (unknown_told (unknown_option words)) (no_value_told (last_word words)))
+hint words = hint_of (parts words)

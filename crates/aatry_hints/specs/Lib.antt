@@ -1,1 +1,7 @@
+pub mod Commands
 pub mod Hints
+pub mod Laws
+pub mod Options
+pub mod Parts
+pub mod Seen
+pub mod Values

@@ -1,18 +1,14 @@
-//! What is told of words that ask nothing, where it shows what was meant.
+//! What is told of the words of a log's line, and of a word in the place of a command.
 
 ghost use Rattle.std.specs.Prelude.{◌≡◌, IfOk, map, option_map, string_bytes};
 ghost use Rattle.std.specs.List.{list_any};
-ghost use Rattle.aatry_hints.specs.Hints.{command_meant, command_word, cut_line, is_cut_line, is_pair, misspelled, misspelled_by, no_command_told, other_than};
+ghost use Rattle.aatry_hints.specs.Hints.{command_meant, cut_line, is_cut_line, is_pair, misspelled_by, no_command_told, other_than};
 
+use crate::commands::COMMANDS;
 use aa_bytes::begins_with;
 use aatry_near::nearest_text;
 use aatry_report::push_shown;
 use std::alloc::{AllocError, Global};
-
-// The commands.
-const COMMANDS: [&str; 9] = [
-    "check", "why", "log", "who", "never", "always", "diff", "session", "test",
-];
 
 // What is told of words into which a shell cut the line of a log.
 const CUT_LINE: &[u8] =
@@ -54,21 +50,6 @@ pub fn cut_line(words: &[String]) -> Option<&'static [u8]>
     }
 }
 
-// The first of some words that is no option.
-fn command_word(words: &[String]) -> Option<&[u8]>
-    ensures { option_map (λ word. word.now) result ≡ command_word (map string_bytes words.now) }
-{
-    let mut rest = words;
-    while let [word, behind @ ..] = rest {
-        let bytes = word.as_bytes();
-        if !begins_with(b"-", bytes) {
-            return Some(bytes);
-        }
-        rest = behind;
-    }
-    None
-}
-
 // A name that was found for a word, if that is another.
 fn other_than<'a>(word: &[u8], found: Option<&'a [u8]>) -> Option<&'a [u8]>
     ensures { option_map (λ name. name.now) result ≡ other_than word.now (option_map (λ name. name.now) found.entry) }
@@ -107,8 +88,12 @@ fn command_meant(alloc: Global, word: &[u8]) -> Result<Option<&'static [u8]>, Al
     Ok(other_than(word, found))
 }
 
-// The line that is told of a word in the place of a command, if there is one.
-fn misspelled_by(alloc: Global, word: Option<&[u8]>) -> Result<Option<Vec<u8>>, AllocError>
+/// The line that is told of a word in the place of a command that is none and near to one, if there is such a word.
+///
+/// # Errors
+///
+/// Where memory runs out.
+pub fn misspelled_by(alloc: Global, word: Option<&[u8]>) -> Result<Option<Vec<u8>>, AllocError>
     ensures { IfOk result (λ line. option_map (λ line. line.items) line ≡ misspelled_by (option_map (λ word. word.now) word.entry)) }
 {
     match word {
@@ -118,15 +103,4 @@ fn misspelled_by(alloc: Global, word: Option<&[u8]>) -> Result<Option<Vec<u8>>, 
             no_command_told(alloc, word, near)
         }
     }
-}
-
-/// The line that is told of the words of a start behind the program's own name, where the one in the place of a command is none and near to one.
-///
-/// # Errors
-///
-/// Where memory runs out.
-pub fn misspelled(alloc: Global, words: &[String]) -> Result<Option<Vec<u8>>, AllocError>
-    ensures { IfOk result (λ line. option_map (λ line. line.items) line ≡ misspelled (map string_bytes words.now)) }
-{
-    misspelled_by(alloc, command_word(words))
 }

@@ -1,16 +1,12 @@
-//! What is told of words of which one has the form of an option, and is none, or lacks its value.
+//! The options of all commands, by their names, and what stands of them in a word.
 
-ghost use Rattle.std.specs.Prelude.{◌≡◌, IfOk, map, option_map, string_bytes};
-ghost use Rattle.aatry_hints.specs.Hints.{begins_as_one, is_no_option, is_word_of, last_word, no_option_told, no_value_told, option_name, options, unknown_option, unknown_told};
-ghost use Rattle.aatry_near.specs.Near.{nearest};
+ghost use Rattle.std.specs.Prelude.{◌≡◌, ◌≤◌, length, map, option_map, take};
+ghost use Rattle.aatry_hints.specs.Options.{begins_as_one, is_known, is_option, is_read_ahead, is_read_ahead_by, is_word_of, name_in, size_ahead, value_behind_letter, value_behind_sign, value_in};
 
-use aa_bytes::{begins_with, length_while};
-use aatry_near::nearest_text;
-use aatry_report::push_shown;
-use std::alloc::{AllocError, Global};
+use aa_bytes::{begins_with, behind, has_byte, length_while};
 
-// The options that a command may have, by their long names.
-const OPTIONS: [&str; 18] = [
+/// The options that a command may have, by their long names.
+pub const OPTIONS: [&str; 18] = [
     "--json",
     "--verbose",
     "--language",
@@ -34,8 +30,8 @@ const OPTIONS: [&str; 18] = [
 // The others, by their letters.
 const LETTERS: [&str; 3] = ["-b", "-h", "-V"];
 
-// Those that take a value.
-const VALUED: [&str; 8] = [
+/// Those that take a value.
+pub const VALUED: [&str; 8] = [
     "-b",
     "--language",
     "--color",
@@ -46,16 +42,14 @@ const VALUED: [&str; 8] = [
     "--questions",
 ];
 
-// The name of an option in a word: what stands ahead of `=`, if there is one.
-fn option_name(word: &[u8]) -> &[u8]
-    ensures { result.now ≡ option_name word.now }
-{
-    let size = length_while(word, |byte| byte != b'=');
-    &word[..size]
-}
+/// Those of them whose value is a path.
+pub const PATHS: [&str; 3] = ["-b", "--log", "--questions"];
 
-// Whether a word is among some.
-fn is_word_of(names: &[&str], word: &[u8]) -> bool
+// Those that are read out of the words ahead of others, the first of them first.
+const READ_FIRST: [&str; 5] = ["--color", "--language", "--verbose", "--json", "--profile"];
+
+/// Whether a word is among some. It takes no memory.
+pub fn is_word_of(names: &[&str], word: &[u8]) -> bool
     ensures { result ≡ is_word_of (map (λ name. name.now) names.now) word.now }
 {
     let mut rest = names;
@@ -66,6 +60,13 @@ fn is_word_of(names: &[&str], word: &[u8]) -> bool
         rest = behind;
     }
     false
+}
+
+/// Whether there is an option of this name. It takes no memory.
+pub fn is_known(name: &[u8]) -> bool
+    ensures { result ≡ is_known name.now }
+{
+    is_word_of(&LETTERS, name) || is_word_of(&OPTIONS, name)
 }
 
 // Whether a word begins as one of some does.
@@ -82,104 +83,94 @@ fn begins_as_one(names: &[&str], word: &[u8]) -> bool
     false
 }
 
-// Whether a word has the form of an option, and is none.
-fn is_no_option(word: &[u8]) -> bool
-    ensures { result ≡ is_no_option word.now }
+/// Whether a word is an option by its form: a hyphen, and more behind it. It takes no memory.
+pub fn is_option(word: &[u8]) -> bool
+    ensures { result ≡ is_option word.now }
 {
-    begins_with(b"-", word)
-        && word != b"-".as_slice()
-        && !(begins_as_one(&LETTERS, word) || is_word_of(&OPTIONS, option_name(word)))
+    begins_with(b"-", word) && word != b"-".as_slice()
 }
 
-/// The name of the first of some words that has the form of an option, and is none; behind `--` alone no word is one. It takes no memory.
-pub fn unknown_option(words: &[String]) -> Option<&[u8]>
-    ensures { option_map (λ name. name.now) result ≡ unknown_option (map string_bytes words.now) }
+// How many bytes of a word stand ahead of its first `=`, if there is one.
+fn size_ahead(word: &[u8]) -> usize
+    ensures value { result ≡ size_ahead word.now }
+    ensures within { result ≤ length word.now }
 {
-    let mut rest = words;
-    while let [word, behind @ ..] = rest {
-        let bytes = word.as_bytes();
-        if bytes == b"--".as_slice() {
-            return None;
+    length_while(word, |byte| byte != b'=')
+}
+
+// The first two bytes of a word, or all where it has no more.
+fn first_two(word: &[u8]) -> &[u8]
+    ensures { result.now ≡ take 2 word.now }
+{
+    match word {
+        [_, _, ..] => &word[..2],
+        _ => word,
+    }
+}
+
+/// The name of an option in its word: its letter, or what stands ahead of `=`. It takes no memory.
+pub fn name_in(word: &[u8]) -> &[u8]
+    ensures { result.now ≡ name_in word.now }
+{
+    if begins_as_one(&LETTERS, word) {
+        first_two(word)
+    } else {
+        &word[..size_ahead(word)]
+    }
+}
+
+// The value behind a letter, if something stands there.
+fn value_behind_letter(rest: &[u8]) -> Option<&[u8]>
+    ensures { option_map (λ value. value.now) result ≡ value_behind_letter rest.now }
+{
+    match rest {
+        [] => None,
+        [_, ..] => Some(rest),
+    }
+}
+
+// The value behind `=`, if that stands there.
+fn value_behind_sign(word: &[u8]) -> Option<&[u8]>
+    ensures { option_map (λ value. value.now) result ≡ value_behind_sign word.now }
+{
+    if has_byte(b'=', word) {
+        Some(behind(size_ahead(word) + 1, word))
+    } else {
+        None
+    }
+}
+
+/// The value of an option in its own word, if it has one there. It takes no memory.
+pub fn value_in(word: &[u8]) -> Option<&[u8]>
+    ensures { option_map (λ value. value.now) result ≡ value_in word.now }
+{
+    if begins_as_one(&LETTERS, word) {
+        value_behind_letter(behind(2, word))
+    } else {
+        value_behind_sign(word)
+    }
+}
+
+// Whether the second of two options is read ahead of the first, by the order of those that are read first.
+fn is_read_ahead_by(names: &[&str], name: &[u8], other: &[u8]) -> bool
+    ensures { result ≡ is_read_ahead_by (map (λ name. name.now) names.now) name.now other.now }
+{
+    let mut rest = names;
+    while let [first, behind @ ..] = rest {
+        if first.as_bytes() == name {
+            return false;
         }
-        if is_no_option(bytes) {
-            return Some(option_name(bytes));
+        if first.as_bytes() == other {
+            return true;
         }
         rest = behind;
     }
-    None
+    false
 }
 
-// The line that is told of a name that no option has, and of the option that may have been meant.
-fn no_option_told(alloc: Global, name: &[u8], near: Option<&[u8]>) -> Result<Vec<u8>, AllocError>
-    ensures { IfOk result (λ line. line.items ≡ no_option_told name.now (option_map (λ name. name.now) near.entry)) }
+/// Whether the second of two options is read out of the words ahead of the first. It takes no memory.
+pub fn is_read_ahead(name: &[u8], other: &[u8]) -> bool
+    ensures { result ≡ is_read_ahead name.now other.now }
 {
-    let mut line = Vec::from_slice(alloc, b"aatry: there is no option ")?;
-    push_shown(&mut line, name)?;
-    let Some(near) = near else {
-        line.push(b'\n')?;
-        return Ok(line);
-    };
-    line.extend_from_slice(b": did you mean ")?;
-    push_shown(&mut line, near)?;
-    line.extend_from_slice(b"?\n")?;
-    Ok(line)
-}
-
-// The option that a name may have been meant for, if one is near.
-fn nearest_option(alloc: Global, name: &[u8]) -> Result<Option<&'static [u8]>, AllocError>
-    ensures { IfOk result (λ found. option_map (λ option. option.now) found ≡ nearest name.now options) }
-{
-    nearest_text(alloc, name, &OPTIONS)
-}
-
-/// The line that is told of a name that no option has, if there is one.
-///
-/// # Errors
-///
-/// Where memory runs out.
-pub fn unknown_told(alloc: Global, name: Option<&[u8]>) -> Result<Option<Vec<u8>>, AllocError>
-    ensures { IfOk result (λ line. option_map (λ line. line.items) line ≡ unknown_told (option_map (λ name. name.now) name.entry)) }
-{
-    match name {
-        None => Ok(None),
-        Some(name) => {
-            let near = nearest_option(alloc, name)?;
-            let line = no_option_told(alloc, name, near)?;
-            Ok(Some(line))
-        }
-    }
-}
-
-/// The last of some words. It takes no memory.
-pub fn last_word(words: &[String]) -> Option<&[u8]>
-    ensures { option_map (λ word. word.now) result ≡ last_word (map string_bytes words.now) }
-{
-    let mut rest = words;
-    while let [word, behind @ ..] = rest {
-        if behind.is_empty() {
-            return Some(word.as_bytes());
-        }
-        rest = behind;
-    }
-    None
-}
-
-/// The line that is told of a last word that is an option which takes a value, if it is one.
-///
-/// # Errors
-///
-/// Where memory runs out.
-pub fn no_value_told(alloc: Global, word: Option<&[u8]>) -> Result<Option<Vec<u8>>, AllocError>
-    ensures { IfOk result (λ line. option_map (λ line. line.items) line ≡ no_value_told (option_map (λ word. word.now) word.entry)) }
-{
-    let Some(word) = word else {
-        return Ok(None);
-    };
-    if !is_word_of(&VALUED, word) {
-        return Ok(None);
-    }
-    let mut line = Vec::from_slice(alloc, b"aatry: a value is wanted behind ")?;
-    push_shown(&mut line, word)?;
-    line.push(b'\n')?;
-    Ok(Some(line))
+    is_read_ahead_by(&READ_FIRST, name, other)
 }

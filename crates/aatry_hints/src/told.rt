@@ -1,25 +1,179 @@
 //! The line that is told of words that ask for nothing.
 
-ghost use Rattle.std.specs.Prelude.{◌≡◌, IfOk, map, option_map, string_bytes};
-ghost use Rattle.aatry_hints.specs.Hints.{hint, line_or, no_value_told, last_word, unknown_option, unknown_told};
+ghost use Rattle.std.specs.Prelude.{◌≡◌, [], IfOk, map, option_map, string_bytes, unwrap_or};
+ghost use Rattle.aatry_hints.specs.Commands.{own_options_by};
+ghost use Rattle.aatry_hints.specs.Hints.{bad_value_told, hint, no_option_told, no_value_told, not_taken_told, options_hint, refused_told, taken_hint, unknown_told, values_hint, wanted_told};
+ghost use Rattle.aatry_hints.specs.Options.{options};
+ghost use Rattle.aatry_hints.specs.Parts.{parts};
+ghost use Rattle.aatry_hints.specs.Seen.{seen_bad};
+ghost use Rattle.aatry_near.specs.Near.{nearest};
 
-use crate::hints::misspelled;
-use crate::options::{last_word, no_value_told, unknown_option, unknown_told};
+use crate::commands::{not_taken_by, own_options_by, unknown_in};
+use crate::hints::misspelled_by;
+use crate::options::OPTIONS;
+use crate::parts::{command_in, last_part};
+use crate::values::{BadValue, bad_value_in, lacking, values_told};
+use aatry_near::nearest_text;
+use aatry_report::push_shown;
 use std::alloc::{AllocError, Global};
 
-// The line that is told of the options among words, if there is one.
-fn of_options(alloc: Global, words: &[String]) -> Result<Option<Vec<u8>>, AllocError>
-    ensures { IfOk result (λ line. option_map (λ line. line.items) line
-        ≡ line_or (unknown_told (unknown_option (map string_bytes words.now))) (no_value_told (last_word (map string_bytes words.now)))) }
+// The line that is told of a name that no option has, and of the option that may have been meant.
+fn no_option_told(alloc: Global, name: &[u8], near: Option<&[u8]>) -> Result<Vec<u8>, AllocError>
+    ensures { IfOk result (λ line. line.items ≡ no_option_told name.now (option_map (λ name. name.now) near.entry)) }
 {
-    match unknown_told(alloc, unknown_option(words))? {
-        Some(line) => Ok(Some(line)),
-        None => no_value_told(alloc, last_word(words)),
+    let mut line = Vec::from_slice(alloc, b"aatry: there is no option ")?;
+    push_shown(&mut line, name)?;
+    let Some(near) = near else {
+        line.push(b'\n')?;
+        return Ok(line);
+    };
+    line.extend_from_slice(b": did you mean ")?;
+    push_shown(&mut line, near)?;
+    line.extend_from_slice(b"?\n")?;
+    Ok(line)
+}
+
+// The option that a name may have been meant for, if one is near.
+fn nearest_option(alloc: Global, name: &[u8]) -> Result<Option<&'static [u8]>, AllocError>
+    ensures { IfOk result (λ found. option_map (λ option. option.now) found ≡ nearest name.now options) }
+{
+    nearest_text(alloc, name, &OPTIONS)
+}
+
+// The line that is told of a name that no option has, if there is one.
+fn unknown_told(alloc: Global, name: Option<&[u8]>) -> Result<Option<Vec<u8>>, AllocError>
+    ensures { IfOk result (λ line. option_map (λ line. line.items) line ≡ unknown_told (option_map (λ name. name.now) name.entry)) }
+{
+    match name {
+        None => Ok(None),
+        Some(name) => {
+            let near = nearest_option(alloc, name)?;
+            let line = no_option_told(alloc, name, near)?;
+            Ok(Some(line))
+        }
     }
 }
 
-/// The line that is told of the words of a start behind the program's own name that ask for nothing: where the one in the place of a command is none and near
-/// to one, or else one has the form of an option and is none, or else the last is an option that lacks its value.
+// The line that is told of a command and an option that it doesn't take, if there is one.
+fn not_taken_told(
+    alloc: Global,
+    command: Option<&[u8]>,
+    name: Option<&[u8]>,
+) -> Result<Option<Vec<u8>>, AllocError>
+    ensures { IfOk result (λ line. option_map (λ line. line.items) line
+        ≡ not_taken_told (option_map (λ command. command.now) command.entry) (option_map (λ name. name.now) name.entry)) }
+{
+    let Some(command) = command else {
+        return Ok(None);
+    };
+    let Some(name) = name else {
+        return Ok(None);
+    };
+    let mut line = Vec::from_slice(alloc, b"aatry: ")?;
+    push_shown(&mut line, command)?;
+    line.extend_from_slice(b" takes no ")?;
+    push_shown(&mut line, name)?;
+    line.push(b'\n')?;
+    Ok(Some(line))
+}
+
+// The line that is told of an option whose value is missing.
+fn wanted_told(alloc: Global, name: &[u8]) -> Result<Vec<u8>, AllocError>
+    ensures { IfOk result (λ line. line.items ≡ wanted_told name.now) }
+{
+    let mut line = Vec::from_slice(alloc, b"aatry: a value is wanted behind ")?;
+    push_shown(&mut line, name)?;
+    line.push(b'\n')?;
+    Ok(line)
+}
+
+// The line that is told of an option with a value that it doesn't take.
+fn refused_told(alloc: Global, name: &[u8], value: &[u8]) -> Result<Vec<u8>, AllocError>
+    ensures { IfOk result (λ line. line.items ≡ refused_told name.now value.now) }
+{
+    let mut line = Vec::from_slice(alloc, b"aatry: ")?;
+    push_shown(&mut line, name)?;
+    line.extend_from_slice(b" takes ")?;
+    line.extend_from_slice(values_told(name))?;
+    line.extend_from_slice(b", not ")?;
+    push_shown(&mut line, value)?;
+    line.push(b'\n')?;
+    Ok(line)
+}
+
+// The same, if there is one: an empty value is as good as missing.
+fn bad_value_told(alloc: Global, bad: Option<BadValue<'_>>) -> Result<Option<Vec<u8>>, AllocError>
+    ensures { IfOk result (λ line. option_map (λ line. line.items) line ≡ bad_value_told (option_map seen_bad bad.entry)) }
+{
+    let Some(BadValue { name, value }) = bad else {
+        return Ok(None);
+    };
+    if value.is_empty() {
+        return Ok(Some(wanted_told(alloc, name)?));
+    }
+    Ok(Some(refused_told(alloc, name, value)?))
+}
+
+// The line that is told where an option at the end lacks its value.
+fn no_value_told(alloc: Global, name: Option<&[u8]>) -> Result<Option<Vec<u8>>, AllocError>
+    ensures { IfOk result (λ line. option_map (λ line. line.items) line ≡ no_value_told (option_map (λ name. name.now) name.entry)) }
+{
+    match name {
+        None => Ok(None),
+        Some(name) => Ok(Some(wanted_told(alloc, name)?)),
+    }
+}
+
+// The line that is told of the values among words, by the word in the place of a command, if there is one.
+fn values_hint(
+    alloc: Global,
+    command: Option<&[u8]>,
+    words: &[String],
+) -> Result<Option<Vec<u8>>, AllocError>
+    ensures { IfOk result (λ line. option_map (λ line. line.items) line
+        ≡ values_hint (option_map (λ command. command.now) command.entry) (parts (map string_bytes words.now))) }
+{
+    let own = own_options_by(command).unwrap_or(&[]);
+    match bad_value_told(alloc, bad_value_in(own, words))? {
+        Some(line) => Ok(Some(line)),
+        None => no_value_told(alloc, lacking(last_part(words))),
+    }
+}
+
+// The same of options that the command doesn't take, and else of values.
+fn taken_hint(
+    alloc: Global,
+    command: Option<&[u8]>,
+    words: &[String],
+) -> Result<Option<Vec<u8>>, AllocError>
+    ensures { IfOk result (λ line. option_map (λ line. line.items) line
+        ≡ taken_hint (option_map (λ command. command.now) command.entry) (parts (map string_bytes words.now))) }
+{
+    let name = not_taken_by(own_options_by(command), words);
+    match not_taken_told(alloc, command, name)? {
+        Some(line) => Ok(Some(line)),
+        None => values_hint(alloc, command, words),
+    }
+}
+
+// The same of options that there aren't, and else of others.
+fn options_hint(
+    alloc: Global,
+    command: Option<&[u8]>,
+    words: &[String],
+) -> Result<Option<Vec<u8>>, AllocError>
+    ensures { IfOk result (λ line. option_map (λ line. line.items) line
+        ≡ options_hint (option_map (λ command. command.now) command.entry) (parts (map string_bytes words.now))) }
+{
+    match unknown_told(alloc, unknown_in(words))? {
+        Some(line) => Ok(Some(line)),
+        None => taken_hint(alloc, command, words),
+    }
+}
+
+/// The line that is told of the words of a start behind the program's own name that ask for nothing, if it shows what was meant. It is of the first of these
+/// that there is: a word in the place of a command that is none and near to one; a word of an option's form that is none; an option that the command doesn't
+/// take; an option with a value that it doesn't take; and an option at the end that lacks its value.
 ///
 /// # Errors
 ///
@@ -27,8 +181,9 @@ fn of_options(alloc: Global, words: &[String]) -> Result<Option<Vec<u8>>, AllocE
 pub fn hint(alloc: Global, words: &[String]) -> Result<Option<Vec<u8>>, AllocError>
     ensures { IfOk result (λ line. option_map (λ line. line.items) line ≡ hint (map string_bytes words.now)) }
 {
-    match misspelled(alloc, words)? {
+    let command = command_in(words);
+    match misspelled_by(alloc, command)? {
         Some(line) => Ok(Some(line)),
-        None => of_options(alloc, words),
+        None => options_hint(alloc, command, words),
     }
 }

@@ -1,5 +1,5 @@
 use Rattle.std.proofs.Common.{◌≡◌, length, map}
-use Rattle.aatry_hints.specs.Hints.{begins_as_one}
+use Rattle.aatry_hints.specs.Options.{begins_as_one}
 use Rattle.aatry_hints.proofs.options.begins_as_one.Given as goal
 
 -- it is among what is left where it is among all

@@ -1,5 +1,5 @@
 use Rattle.std.proofs.Common.{◌≡◌, length, map}
-use Rattle.aatry_hints.specs.Hints.{is_word_of}
+use Rattle.aatry_hints.specs.Options.{is_word_of}
 use Rattle.aatry_hints.proofs.options.is_word_of.Given as goal
 
 -- it is among what is left where it is among all

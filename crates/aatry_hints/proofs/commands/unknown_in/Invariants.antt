@@ -1,0 +1,12 @@
+use Rattle.std.proofs.Common.{◌≡◌, length, map}
+use Rattle.std.specs.Prelude.{string_bytes}
+use Rattle.aatry_hints.specs.Commands.{unknown_in}
+use Rattle.aatry_hints.specs.Parts.{parts}
+use Rattle.aatry_hints.proofs.commands.unknown_in.Given as goal
+
+-- what is left has the same as all
+abbrev pub invariant-loop-part : goal.invariant-loop-part
+invariant-loop-part l = unknown_in (parts (map string_bytes l.rest)) ≡ unknown_in (parts (map string_bytes l.words))
+
+abbrev pub decreases-loop-part : goal.decreases-loop-part
+decreases-loop-part l = length l.rest
