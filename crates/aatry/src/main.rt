@@ -1,11 +1,10 @@
 //! Helps with AppArmor policy at a terminal: the real words, folders, files and streams, handed to `start`.
 #![tactic(auto)]
 
-use aa_set_lines::{FromRead, ToWrite, write_all};
+use aa_set_lines::{FromRead, ToWrite};
 use aaset_start::RuntimeFiles;
 use aatry_colors::{ColorWish, Painted, WithWish, is_colored, wished};
 use aatry_folder::RuntimeFolders;
-use aatry_hints::hint;
 use aatry_program::{Disk, Fault, Muted, Piped, Streams};
 use aatry_test::RuntimeStore;
 use std::alloc::Global;
@@ -15,9 +14,6 @@ use std::io::IsTerminal;
 use std::process::ExitCode;
 use std::rt::Env;
 use std::{env, io};
-
-// The exit status where the arguments are bad.
-const BAD_ARGUMENTS: u8 = 2;
 
 // The words that the program was started with, its own name first.
 fn words_of_start<R: Env + AllocGlobal>(rt: &R) -> Result<Vec<String>, Fault> {
@@ -34,26 +30,17 @@ struct ReadWords {
     wish: ColorWish,
     // The words without that, or the fault that keeps them from being read.
     words: Result<Vec<String>, Fault>,
-    // A line that tells what is wrong with what they say of colours, if one does.
-    line: Option<Vec<u8>>,
+    // All words, where what they say of colours is misread.
+    misread: Option<Vec<String>>,
 }
 
-// Words that can't be read.
-fn unread(fault: Fault, line: Option<Vec<u8>>) -> ReadWords {
+// Words that can't be read, with all of them where it is colours that are misread.
+fn unread(fault: Fault, misread: Option<Vec<String>>) -> ReadWords {
     ReadWords {
         wish: ColorWish::Never,
         words: Err(fault),
-        line,
+        misread,
     }
-}
-
-// The line that tells what is wrong with words behind the program's own name, if one does.
-fn line_behind_name(alloc: Global, words: &[String]) -> Option<Vec<u8>> {
-    let behind = match words {
-        [_, behind @ ..] => behind,
-        [] => words,
-    };
-    hint(alloc, behind).unwrap_or(None)
 }
 
 // What words say of colours, and the words without that.
@@ -62,9 +49,9 @@ fn wished_words(alloc: Global, words: Vec<String>) -> ReadWords {
         Ok(Some(WithWish { wish, words })) => ReadWords {
             wish,
             words: Ok(words),
-            line: None,
+            misread: None,
         },
-        Ok(None) => unread(Fault::BadArguments, line_behind_name(alloc, &words)),
+        Ok(None) => unread(Fault::BadArguments, Some(words)),
         Err(_) => unread(Fault::NoMemory, None),
     }
 }
@@ -97,7 +84,11 @@ fn prompt(is_terminal: bool) -> &'static [u8] {
 }
 
 fn main(rt: HostRuntime) -> ExitCode {
-    let ReadWords { wish, words, line } = started(&rt);
+    let ReadWords {
+        wish,
+        words,
+        misread,
+    } = started(&rt);
     let colors = is_colored(wish, rt.stdout().is_terminal() && takes_colors(&rt));
     let reader = rt.reader();
     let prompt = prompt(reader.is_terminal());
@@ -111,9 +102,9 @@ fn main(rt: HostRuntime) -> ExitCode {
         )),
         errors: ToWrite::new(Muted::new(rt.stderr(), &is_closed)),
     };
-    if let Some(line) = line {
-        let _ = write_all(&mut streams.errors, &line);
-        return ExitCode::from(BAD_ARGUMENTS);
+    if let Some(words) = misread {
+        let status = aatry_program::report_words(rt.alloc(), &words, &mut streams.errors);
+        return ExitCode::from(status);
     }
     let mut disk = Disk {
         folders: RuntimeFolders::new(&rt),

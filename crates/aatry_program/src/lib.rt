@@ -12,6 +12,6 @@ mod streams;
 pub use aatry_folder::Fault;
 pub use disk::Disk;
 pub use pipes::{Muted, Piped};
-pub use program::start;
+pub use program::{report_words, start};
 pub use status::fault_of_words;
 pub use streams::Streams;

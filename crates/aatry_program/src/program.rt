@@ -289,8 +289,9 @@ fn behind(words: &[String]) -> &[String]
     }
 }
 
-// Reports bad arguments, and gives the exit status; where their words show what was meant, or what is missing, a line tells that.
-fn report_words<E: Sink>(alloc: Global, words: &[String], errors: &mut E) -> u8
+/// Reports on standard error that words ask for nothing, and gives the exit status, which is 2. The first word is the program's own name. Where the
+/// others show what was meant, or what is missing, a line tells that; where they don't, or memory runs out, the fault alone is told.
+pub fn report_words<E: Sink>(alloc: Global, words: &[String], errors: &mut E) -> u8
     ensures { result ≡ status_of BadArguments }
 {
     match hint(alloc, behind(words)) {
