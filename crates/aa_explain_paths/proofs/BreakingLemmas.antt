@@ -10,6 +10,7 @@ use Rattle.aa_glob_paths.specs.AllPaths.{IsOutcome, TellAllPaths}
 use Rattle.aa_glob_paths.specs.Laws.{AreMatchedAlike, OutcomesStandForAll, StandForAllPaths, paths_of}
 use Rattle.aa_glob_paths.specs.declared.outcome.Outcome.{Outcome}
 use Rattle.aa_profile_access.specs.Access.{common}
+use Rattle.aa_profile_data.specs.FileRules.{file_patterns}
 use Rattle.aa_profile_data.specs.declared.profile.Rule.{Rule}
 use Rattle.aa_explain_paths.specs.Answers.{Asked, Breaking, HoldsOfAll, IsAnswerBy, IsBreaking, IsShortestBreaking, breaking_by, seen_breaking}
 use Rattle.aa_explain_paths.specs.Claims.{breaks, is_allow, owners, single_letters}
@@ -120,7 +121,7 @@ module _ (rules : List Rule) (asked : Asked) where
         → (o : Outcome) × Contains outcomes o × (test o.path.items ≡ true) × (length o.path.items ≤ length path)
     standing path breaking =
         let meant = and_parts (is_matched asked.patterns path) (not (is_matched unasked_patterns path)) breaking.meant in
-        let there = stand path breaking.bytes (matched-told rules asked.patterns unasked_patterns path meant.0 (not-true (is_matched unasked_patterns path) meant.1)) in
+        let there = stand path breaking.bytes (matched-told (file_patterns rules) asked.patterns unasked_patterns path meant.0 (not-true (is_matched unasked_patterns path) meant.1)) in
         let o = Contains-map_cases (λ (o : Outcome). o.path.items) outcomes there.0 there.1 in (
           o.0,
           o.1,
@@ -136,7 +137,7 @@ module _ (rules : List Rule) (asked : Asked) where
           bytes = is.bytes;
           meant =
               and_from (is_matched asked.patterns o.path.items) (not (is_matched unasked_patterns o.path.items))
-              (outcome-matched rules asked.patterns unasked_patterns o is) (ap not (outcome-asked rules asked.patterns unasked_patterns o is));
+              (outcome-matched (file_patterns rules) asked.patterns unasked_patterns o is) (ap not (outcome-asked (file_patterns rules) asked.patterns unasked_patterns o is));
           breaks = passes;
         }
 

@@ -104,6 +104,16 @@ matching-front ps qs path places all place =
       (λ found. there-kept (stands ps) places place ((all place).1 (found.0, front found.0 found.1 ∙ found.1, found.2)) (ap is_there found.1)),
     )
 
+-- where the first of some patterns are those of rules on files, the rules that match a path stand at the file rules' places that the patterns' places pick
+pub rules-found : (rules : List Rule) (more : List (List ℕ)) (path places : List ℕ)
+    → ((path found : List ℕ) → AreMatching (file_patterns rules) path found → AreMatchingRules rules path (picked (places_from 0 rules) found))
+    → AreMatching (file_patterns rules ++ more) path places
+    → AreMatchingRules rules path (picked (places_from 0 rules) places)
+rules-found rules more path places found all =
+    let ps = file_patterns rules in
+    let front = found path (filter (stands ps) places) (matching-front ps more path places all) in
+    subst (AreMatchingRules rules path) (picked-kept (places_from 0 rules) (stands ps) (stands-alike 0 rules) places) front
+
 -- the rules that match the path of an outcome stand at the file rules' places that its own pick, and these rise
 pub outcome-rules : (rules : List Rule) (patterns unasked : List (List ℕ)) (classes : List ℕ) (o : Outcome)
     → ((path found : List ℕ) → AreMatching (file_patterns rules) path found → AreMatchingRules rules path (picked (places_from 0 rules) found))
@@ -113,9 +123,8 @@ pub outcome-rules : (rules : List Rule) (patterns unasked : List (List ℕ)) (cl
 outcome-rules rules patterns unasked classes o found rise is =
     let ps = file_patterns rules in
     let all : AreMatching (ps ++ (patterns ++ unasked)) o.path.items o.places.items =
-    subst (λ l. AreMatching l o.path.items o.places.items) (append_assoc ps patterns unasked) is.matching in
-    let front = found o.path.items (filter (stands ps) o.places.items) (matching-front ps (patterns ++ unasked) o.path.items o.places.items all) in (
-      subst (AreMatchingRules rules o.path.items) (picked-kept (places_from 0 rules) (stands ps) (stands-alike 0 rules) o.places.items) front,
+    subst (λ l. AreMatching l o.path.items o.places.items) (append_assoc ps patterns unasked) is.matching in (
+      rules-found rules (patterns ++ unasked) o.path.items o.places.items found all,
       rise o.places.items (λ k within. is.rise k (k + 1) 0 (omega arith) within),
     )
 

@@ -21,10 +21,10 @@ use Rattle.aa_profile_data.specs.declared.profile.Rule.{Rule}
 use Rattle.aa_profile_data.specs.declared.profile.Rule.TheVariants.{Cap, File, Net, Other}
 use Rattle.aa_explain_paths.specs.Laws.{HavePatternsAmong}
 use Rattle.aa_explain_paths.specs.Meant.{is_matched}
-use Rattle.aa_explain_paths.specs.Telling.{all_classes, classes_of, other_class, telling_patterns}
+use Rattle.aa_explain_paths.specs.Telling.{classes_among, classes_of, other_class, telling_among, telling_patterns}
 
 -- a pattern at a place behind others
-behind-at : (ps qs : List (List ℕ)) (place : ℕ) → slice_get (ps ++ qs) (length ps + place) ≡ slice_get qs place
+pub behind-at : (ps qs : List (List ℕ)) (place : ℕ) → slice_get (ps ++ qs) (length ps + place) ≡ slice_get qs place
 behind-at [] qs place =
     let same : length {A = List ℕ} [] + place ≡ place = omega arith in
     ap (slice_get qs) same
@@ -33,7 +33,7 @@ behind-at (p ∷ ps) qs place =
     ap (slice_get (p ∷ (ps ++ qs))) same ∙ behind-at ps qs place
 
 -- the pattern of each rule on files stands among theirs
-file-at : (rules : List Rule) (rule : FileRule) → Contains rules (File rule) → (place : ℕ) × IsPatternAt (file_patterns rules) place rule.pattern
+pub file-at : (rules : List Rule) (rule : FileRule) → Contains rules (File rule) → (place : ℕ) × IsPatternAt (file_patterns rules) place rule.pattern
 file-at [] rule at = absurd (omega (arith, at.1))
 file-at (one ∷ rules) rule at = by one (Contains-cons_cases one rules (File rule) at) (file-at rules rule)
   where
@@ -48,15 +48,20 @@ file-at (one ∷ rules) rule at = by one (Contains-cons_cases one rules (File ru
     by (Other own) (inl same) later = absurd cc
     by (Other own) (inr more) later = later more
 
--- so they are among those that tell paths apart
-pub files-among : (rules : List Rule) (patterns unasked : List (List ℕ)) → HavePatternsAmong rules (telling_patterns rules patterns unasked)
-files-among rules patterns unasked rule at =
-    let there = file-at rules rule at in
-    let low = slice_get_within (file_patterns rules) there.0 rule.pattern there.1 in
-    let wide : there.0 < length (file_patterns rules ++ patterns) = omega (arith, low, length-append (file_patterns rules) patterns) in (
+-- patterns that stand among some stand among those that tell paths apart
+pub among-telling : (rules : List Rule) (others patterns unasked : List (List ℕ)) → HavePatternsAmong rules others
+    → HavePatternsAmong rules (telling_among others patterns unasked)
+among-telling rules others patterns unasked among rule at =
+    let there = among rule at in
+    let low = slice_get_within others there.0 rule.pattern there.1 in
+    let wide : there.0 < length (others ++ patterns) = omega (arith, low, length-append others patterns) in (
       there.0,
-      slice_get-append (file_patterns rules ++ patterns) unasked there.0 wide ∙ slice_get-append (file_patterns rules) patterns there.0 low ∙ there.1,
+      slice_get-append (others ++ patterns) unasked there.0 wide ∙ slice_get-append others patterns there.0 low ∙ there.1,
     )
+
+-- so those of rules on files do
+pub files-among : (rules : List Rule) (patterns unasked : List (List ℕ)) → HavePatternsAmong rules (telling_patterns rules patterns unasked)
+files-among rules patterns unasked = among-telling rules (file_patterns rules) patterns unasked (file-at rules)
 
 -- patterns of which one matches a path, and one at a place that does
 pub matched-at : (patterns : List (List ℕ)) (path : List ℕ) → is_matched patterns path ≡ true
@@ -180,10 +185,9 @@ only-wanted n w u p wanted =
     ]
 
 -- each pattern has a class
-pub length-telling : (rules : List Rule) (patterns unasked : List (List ℕ))
-    → length (telling_patterns rules patterns unasked) ≡ length (all_classes rules patterns unasked)
-length-telling rules patterns unasked =
-    let files = file_patterns rules in
+pub length-telling : (others patterns unasked : List (List ℕ))
+    → length (telling_among others patterns unasked) ≡ length (classes_among others patterns unasked)
+length-telling files patterns unasked =
     let n = length files in
     let w = length patterns in
     let u = length unasked in
@@ -199,12 +203,11 @@ length-telling rules patterns unasked =
     let seven : length last ≡ u = length-replicate u passed_over_class in
     omega (arith, one, two, three, four, five, six, seven)
 
-module _ (rules : List Rule) (patterns unasked : List (List ℕ)) where
+module _ (files patterns unasked : List (List ℕ)) where
   -- a path that one of the patterns that are asked about matches is matched by a wanted one
-  matched-wanted : (path : List ℕ) → is_matched patterns path ≡ true → IsMatchedByClass wanted_class (telling_patterns rules patterns unasked) (all_classes rules patterns unasked) path
+  matched-wanted : (path : List ℕ) → is_matched patterns path ≡ true → IsMatchedByClass wanted_class (telling_among files patterns unasked) (classes_among files patterns unasked) path
   matched-wanted path some =
       let there = matched-at patterns path some in
-      let files = file_patterns rules in
       let low = slice_get_within patterns there.0 there.1 there.2 in
       let wide : length files + there.0 < length (files ++ patterns) = omega (arith, low, length-append files patterns) in (
         length files + there.0,
@@ -215,47 +218,45 @@ module _ (rules : List Rule) (patterns unasked : List (List ℕ)) where
       )
 
   -- how many patterns stand before those of paths that aren't asked about
-  before : length (file_patterns rules ++ patterns) ≡ length (file_patterns rules) + length patterns
-  before = length-append (file_patterns rules) patterns
+  before : length (files ++ patterns) ≡ length files + length patterns
+  before = length-append files patterns
 
   -- a pattern that is passed over is one of those
-  passed-unasked : (path : List ℕ) → IsMatchedByClass passed_over_class (telling_patterns rules patterns unasked) (all_classes rules patterns unasked) path
+  passed-unasked : (path : List ℕ) → IsMatchedByClass passed_over_class (telling_among files patterns unasked) (classes_among files patterns unasked) path
       → is_matched unasked path ≡ true
   passed-unasked path matched =
-      let front = file_patterns rules ++ patterns in
-      let behind = only-passed (length (file_patterns rules)) (length patterns) (length unasked) matched.0 matched.3 in
+      let front = files ++ patterns in
+      let behind = only-passed (length files) (length patterns) (length unasked) matched.0 matched.3 in
       let same : length front + (matched.0 - length front) ≡ matched.0 = omega (arith, behind, before) in
       at-matched unasked path (matched.0 - length front) matched.1
       (sym (behind-at front unasked (matched.0 - length front)) ∙ ap (slice_get (front ++ unasked)) same ∙ matched.2) matched.4
 
   -- what is told of a path that one of the patterns matches that are asked about, and that the kernel may ask about
   pub matched-told : (path : List ℕ) → is_matched patterns path ≡ true → is_matched unasked path ≡ false
-      → IsToldOf (telling_patterns rules patterns unasked) (all_classes rules patterns unasked) path
+      → IsToldOf (telling_among files patterns unasked) (classes_among files patterns unasked) path
   matched-told path some none = record {
     wanted = matched-wanted path some;
     not_passed_over = λ matched. true≢false (sym (passed-unasked path matched) ∙ none);
   }
 
   -- the kernel may ask about the path of each outcome
-  pub outcome-asked : (o : Outcome) → IsOutcome (telling_patterns rules patterns unasked) (all_classes rules patterns unasked) o → is_matched unasked o.path.items ≡ false
+  pub outcome-asked : (o : Outcome) → IsOutcome (telling_among files patterns unasked) (classes_among files patterns unasked) o → is_matched unasked o.path.items ≡ false
   outcome-asked o is = by (is_matched unasked o.path.items) refl
     where
       by : (b : Bool) → is_matched unasked o.path.items ≡ b → b ≡ false
       by false none = refl
       by true some =
           let there = matched-at unasked o.path.items some in
-          let files = file_patterns rules in
           let low = slice_get_within unasked there.0 there.1 there.2 in
           let place : ℕ = length files + length patterns + there.0 in
           let same : place ≡ length (files ++ patterns) + there.0 = omega (arith, before) in
-          let at : slice_get (telling_patterns rules patterns unasked) place ≡ Some there.1 =
-          ap (slice_get (telling_patterns rules patterns unasked)) same ∙ behind-at (files ++ patterns) unasked there.0 ∙ there.2 in
+          let at : slice_get (telling_among files patterns unasked) place ≡ Some there.1 =
+          ap (slice_get (telling_among files patterns unasked)) same ∙ behind-at (files ++ patterns) unasked there.0 ∙ there.2 in
           absurd (is.told.none_passed_over (place, (is.matching place).1 (there.1, at, there.3), passed-class (length files) (length patterns) (length unasked) there.0 low))
 
   -- one of them matches the path of each outcome
-  pub outcome-matched : (o : Outcome) → IsOutcome (telling_patterns rules patterns unasked) (all_classes rules patterns unasked) o → is_matched patterns o.path.items ≡ true
+  pub outcome-matched : (o : Outcome) → IsOutcome (telling_among files patterns unasked) (classes_among files patterns unasked) o → is_matched patterns o.path.items ≡ true
   outcome-matched o is =
-      let files = file_patterns rules in
       let wanted = is.told.wanted in
       let found = (is.matching wanted.0).0 wanted.1 in
       let bounds = only-wanted (length files) (length patterns) (length unasked) wanted.0 wanted.2 in

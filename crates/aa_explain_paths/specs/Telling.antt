@@ -5,11 +5,15 @@ use Rattle.aa_glob_sets.specs.Wanted.{wanted_class}
 use Rattle.aa_profile_data.specs.FileRules.{file_patterns}
 use Rattle.aa_profile_data.specs.declared.profile.Rule.{Rule}
 
--- those of the rules on files, behind them those that are wanted, and those that are passed over
-abbrev pub telling_patterns : List Rule → List (List ℕ) → List (List ℕ) → List (List ℕ)
-telling_patterns rules patterns unasked = (file_patterns rules ++ patterns) ++ unasked
+-- some patterns, behind them those that are wanted, and those that are passed over
+abbrev pub telling_among : List (List ℕ) → List (List ℕ) → List (List ℕ) → List (List ℕ)
+telling_among others wanted unasked = (others ++ wanted) ++ unasked
 
--- the class of the patterns of rules
+-- the same, where the first are those of the rules on files
+abbrev pub telling_patterns : List Rule → List (List ℕ) → List (List ℕ) → List (List ℕ)
+telling_patterns rules patterns unasked = telling_among (file_patterns rules) patterns unasked
+
+-- the class of patterns that are neither wanted nor passed over
 abbrev pub other_class : ℕ
 other_class = 0
 
@@ -18,5 +22,9 @@ abbrev pub classes_of : ℕ → ℕ → ℕ → List ℕ
 classes_of rules wanted unasked = (replicate rules other_class ++ replicate wanted wanted_class) ++ replicate unasked passed_over_class
 
 -- the classes of all patterns that tell paths apart
+abbrev pub classes_among : List (List ℕ) → List (List ℕ) → List (List ℕ) → List ℕ
+classes_among others wanted unasked = classes_of (length others) (length wanted) (length unasked)
+
+-- the same, where the first are those of the rules on files
 abbrev pub all_classes : List Rule → List (List ℕ) → List (List ℕ) → List ℕ
-all_classes rules patterns unasked = classes_of (length (file_patterns rules)) (length patterns) (length unasked)
+all_classes rules patterns unasked = classes_among (file_patterns rules) patterns unasked

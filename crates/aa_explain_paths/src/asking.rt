@@ -13,10 +13,11 @@ ghost use Rattle.aa_explain_paths.specs.code.Breaking.{answer_of, breaking_at, b
 
 use crate::letting::{breaking_letters, breaks_for, first_owner};
 use crate::matched::MatchedRules;
-use crate::patterns::{standing_paths, unasked_patterns};
+use crate::patterns::{file_count, standing_paths, unasked_patterns};
 use crate::question::{Breaking, PathAnswer, PathQuestion};
 use crate::relevant::relevant_rules;
-use aa_decide_ready::{file_places, picked};
+use aa_decide_ready::{file_places, picked, with_files};
+use aa_glob_automaton::AutomatonBuilder;
 use aa_glob_paths::{Outcome, outcomes_stand_for_all};
 use aa_profile_access::Perms;
 use aa_profile_data::{Rule, which_rules_match};
@@ -102,7 +103,16 @@ fn ask_relevant(
 {
     outcomes_stand_for_all();
     let unasked = unasked_patterns(alloc)?;
-    let found = standing_paths(alloc, relevant, question.patterns, &unasked, limit)?;
+    let none = AutomatonBuilder::new(alloc)?;
+    let files = with_files(none, alloc, relevant)?;
+    let found = standing_paths(
+        alloc,
+        files,
+        file_count(relevant),
+        question.patterns,
+        &unasked,
+        limit,
+    )?;
     match found {
         None => Ok(PathAnswer::TooMany),
         Some(paths) => answer_by(alloc, relevant, question, paths),

@@ -14,10 +14,15 @@ use aa_decide_rules::{Mediation, found_verdict, what_matching_rules_decide};
 use aa_profile_access::{Perms, Request};
 use bitflags::Flags;
 
-// What rules say in enforce mode of these letters of a file.
-fn verdict_on(matched: MatchedRules<'_>, letters: Perms, owned: bool) -> Verdict
+/// What rules say in enforce mode of these letters of a file, by those that match its path; `audit` says whether each rule is audited. It takes no memory.
+pub fn matched_verdict(
+    audit: bool,
+    matched: MatchedRules<'_>,
+    letters: Perms,
+    owned: bool,
+) -> Verdict
     requires { AreMatched matched }
-    ensures { result ≡ verdict Enforcing false matched.entry.rules.now (ForFile letters.0 owned matched.entry.path.now) }
+    ensures { result ≡ verdict Enforcing audit matched.entry.rules.now (ForFile letters.0 owned matched.entry.path.now) }
 {
     what_matching_rules_decide();
     let request = Request::File {
@@ -27,7 +32,7 @@ fn verdict_on(matched: MatchedRules<'_>, letters: Perms, owned: bool) -> Verdict
     };
     found_verdict(
         Mediation::Enforcing,
-        false,
+        audit,
         matched.rules,
         matched.places,
         &request,
@@ -40,7 +45,7 @@ fn are_let(matched: MatchedRules<'_>, letters: Perms, owned: bool) -> bool
     requires { AreMatched matched }
     ensures { result ≡ are_let matched.entry.rules.now letters.0 owned matched.entry.path.now }
 {
-    let verdict = verdict_on(matched, letters, owned);
+    let verdict = matched_verdict(false, matched, letters, owned);
     matches!(verdict.answer, Answer::Allow)
 }
 

@@ -1,14 +1,14 @@
 //! The patterns by which paths are told apart.
 
-ghost use Rattle.std.specs.Prelude.{◌≡◌, ◌++◌, IfOk, IfSome, None, OnOk, length, replicate};
+ghost use Rattle.std.specs.Prelude.{◌≡◌, ◌≤◌, ◌++◌, ℕ, IfOk, IfSome, List, None, OnOk, length, replicate};
 ghost use Rattle.aa_explain_paths.specs.Meant.{unasked_patterns};
-ghost use Rattle.aa_explain_paths.specs.Telling.{all_classes, telling_patterns};
+ghost use Rattle.aa_explain_paths.specs.Telling.{classes_among, classes_of, telling_among};
 ghost use Rattle.aa_glob_automaton.specs.Automata.{IsAutomatonOf};
+ghost use Rattle.aa_glob_automaton.specs.Built.{IsBuilt};
 ghost use Rattle.aa_glob_paths.specs.AllPaths.{TellAllPaths};
 ghost use Rattle.aa_glob_paths.specs.TooMany.{AreMoreTextsThan};
 ghost use Rattle.aa_profile_data.specs.FileRules.{file_patterns};
 
-use aa_decide_ready::with_files;
 use aa_glob_automaton::{Automaton, AutomatonBuilder};
 use aa_glob_paths::{Outcome, PASSED_OVER, WANTED, outcomes};
 use aa_glob_pattern::Pattern;
@@ -41,22 +41,6 @@ pub fn unasked_patterns(alloc: Global) -> Result<Vec<Pattern>, AllocError>
     Ok(patterns)
 }
 
-// The automaton of the patterns of the rules on files among some, behind these of more patterns, and of some more behind those.
-fn telling_automaton(
-    alloc: Global,
-    rules: &[Rule],
-    patterns: &[Pattern],
-    unasked: &[Pattern],
-) -> Result<Automaton, AllocError>
-    ensures { IfOk result (λ automaton. IsAutomatonOf automaton (telling_patterns rules.now patterns.now unasked.now)) }
-{
-    let none = AutomatonBuilder::new(alloc)?;
-    let of_rules = with_files(none, alloc, rules)?;
-    let of_patterns = of_rules.add_each(alloc, patterns)?;
-    let all = of_patterns.add_each(alloc, unasked)?;
-    Ok(all.finish())
-}
-
 // Appends a class to others, so many times.
 fn push_class(classes: &mut Vec<u32>, class: u32, count: usize) -> Result<(), AllocError>
     ensures { OnOk result (classes.new.items ≡ classes.old.items ++ replicate count class) }
@@ -67,9 +51,10 @@ fn push_class(classes: &mut Vec<u32>, class: u32, count: usize) -> Result<(), Al
     Ok(())
 }
 
-// How many of some rules are on files.
-fn file_count(rules: &[Rule]) -> usize
-    ensures { result ≡ length (file_patterns rules.now) }
+/// How many of some rules are on files. It takes no memory.
+pub fn file_count(rules: &[Rule]) -> usize
+    ensures counted { result ≡ length (file_patterns rules.now) }
+    ensures few { result ≤ length rules.now }
 {
     let mut count: usize = 0;
     let mut rest = rules;
@@ -82,41 +67,66 @@ fn file_count(rules: &[Rule]) -> usize
     count
 }
 
-// The classes of all these patterns.
+// The classes of so many patterns, behind which stand some that are wanted, and some that are passed over.
 fn telling_classes(
     alloc: Global,
-    rules: &[Rule],
-    patterns: &[Pattern],
-    unasked: &[Pattern],
+    others: usize,
+    wanted: usize,
+    unasked: usize,
 ) -> Result<Vec<u32>, AllocError>
-    ensures { IfOk result (λ classes. classes.items ≡ all_classes rules.now patterns.now unasked.now) }
+    ensures { IfOk result (λ classes. classes.items ≡ classes_of others wanted unasked) }
 {
     let mut classes = Vec::new(alloc);
-    push_class(&mut classes, 0, file_count(rules))?;
-    push_class(&mut classes, WANTED, patterns.len())?;
-    push_class(&mut classes, PASSED_OVER, unasked.len())?;
+    push_class(&mut classes, 0, others)?;
+    push_class(&mut classes, WANTED, wanted)?;
+    push_class(&mut classes, PASSED_OVER, unasked)?;
     Ok(classes)
 }
 
-/// Paths that stand for all that one of some patterns matches, and none of some more, by all these and the patterns of the rules on files among some; none
-/// where they are too many.
+// The automaton of some patterns with these behind them, and those behind these.
+fn telling_automaton(
+    alloc: Global,
+    others: AutomatonBuilder,
+    wanted: &[Pattern],
+    unasked: &[Pattern],
+) -> Result<Automaton, AllocError>
+    ensures { IfOk result (λ automaton. (patterns : List (List ℕ))
+        → IsBuilt others patterns
+        → IsAutomatonOf automaton (telling_among patterns wanted.now unasked.now)) }
+{
+    let with_wanted = others.add_each(alloc, wanted)?;
+    let all = with_wanted.add_each(alloc, unasked)?;
+    Ok(all.finish())
+}
+
+/// Paths that stand for all that one of some patterns matches that are wanted, and none of those that are passed over, by all these and by others: those of
+/// `others`, of which there are so many. None where these paths are too many: more than `limit` sets of states were to be looked at.
 ///
 /// # Errors
 ///
 /// Where memory runs out, and where there are more than 4,294,967,295 patterns or states.
 pub fn standing_paths(
     alloc: Global,
-    rules: &[Rule],
-    patterns: &[Pattern],
+    others: AutomatonBuilder,
+    count: usize,
+    wanted: &[Pattern],
     unasked: &[Pattern],
     limit: usize,
 ) -> Result<Option<Vec<Outcome>>, AllocError>
-    ensures told { IfOk result (λ found. IfSome found (λ outcomes.
-        TellAllPaths (telling_patterns rules.now patterns.now unasked.now) (all_classes rules.now patterns.now unasked.now) outcomes.items)) }
-    ensures full { IfOk result (λ found. found ≡ None → AreMoreTextsThan (telling_patterns rules.now patterns.now unasked.now) limit) }
+    requires { (patterns : List (List ℕ)) × IsBuilt others patterns × (length patterns ≡ count) }
+    ensures told { IfOk result (λ found. (patterns : List (List ℕ))
+        → IsBuilt others patterns
+        → length patterns ≡ count
+        → IfSome found (λ outcomes.
+        TellAllPaths (telling_among patterns wanted.now unasked.now) (classes_among patterns wanted.now unasked.now) outcomes.items)) }
+    ensures full { IfOk result (λ found. (patterns : List (List ℕ))
+        → IsBuilt others patterns
+        → length patterns ≡ count
+        → found ≡ None
+        → AreMoreTextsThan (telling_among patterns wanted.now unasked.now) limit) }
 {
-    let automaton = telling_automaton(alloc, rules, patterns, unasked)?;
-    let classes = telling_classes(alloc, rules, patterns, unasked)?;
+    let automaton = telling_automaton(alloc, others, wanted, unasked)?;
+    let classes = telling_classes(alloc, count, wanted.len(), unasked.len())?;
     let found = outcomes(alloc, &automaton, &classes, limit)?;
     Ok(found)
 }

@@ -1,11 +1,9 @@
-use Rattle.std.proofs.Common.{◌++◌, []}
-use Rattle.aa_profile_data.specs.FileRules.{file_patterns}
-use Rattle.aa_explain_paths.specs.Telling.{telling_patterns}
+use Rattle.std.proofs.Common.{◌++◌}
+use Rattle.aa_explain_paths.specs.Telling.{telling_among}
 use Rattle.aa_explain_paths.proofs.patterns.telling_automaton.Goals as goal
 
 pub returns : goal.returns
-returns c =
-    let files = file_patterns c.args.rules.now in
-    let patterns = c.args.patterns.now in
-    c.finish.ensures (telling_patterns c.args.rules.now patterns c.args.unasked.now)
-    (c.in_ok-all.ensures (files ++ patterns) (c.in_ok-of_patterns.ensures files (c.in_ok-of_rules.ensures [] c.in_ok-none.ensures)))
+returns c = λ patterns built.
+    let wanted = c.args.wanted.now in
+    c.finish.ensures (telling_among patterns wanted c.args.unasked.now)
+    (c.in_ok-all.ensures (patterns ++ wanted) (c.in_ok-with_wanted.ensures patterns built))

@@ -1,0 +1,38 @@
+use Rattle.std.proofs.Common.{◌≡◌, ◌∙◌, ◌∷◌, ◌-◌, ap, drop, length, refl, subst, sym, take}
+use Rattle.std.specs.List.{All}
+use Rattle.std.specs.Prelude.{option_map}
+use Rattle.std.proofs.lemmas.List.Elements.{All-head, All-rest}
+use Rattle.aa_explain_changes.specs.Rules.{seen_change}
+use Rattle.aa_explain_changes.specs.code.Kinds.{IsKind, first_told, paths_of_kinds}
+use Rattle.aa_explain_changes.proofs.KindLemmas.{split-first}
+use Rattle.aa_explain_changes.proofs.RuleLemmas.{first-here, first-later}
+use Rattle.aa_explain_changes.proofs.rules.first_change.Goals as goal
+
+pub returns-in-Some : goal.returns-in-Some
+returns-in-Some c = λ sides are lone.
+    let rule = c.args.lone.rule.now in
+    let kind = c.kind-item.result in
+    let all = c.loop-rest.rest.now in
+    let rest = take (length all - 1) (drop 1 all) in
+    let inv = c.loop-rest.invariant sides are lone in
+    let split : all ≡ kind ∷ rest = split-first all kind _ c.in-len1-up.len_at_least c.kind-item.is in
+    let is = All-head (IsKind sides) kind rest (subst (All (IsKind sides)) split inv.0) in
+    let told = c.in_ok-change.ensures sides is (c.is_matched-matched.ensures sides rule is lone) in
+    sym (first-here sides rule kind.path.items (paths_of_kinds rest) (seen_change c.in-Some.change) (sym told ∙ ap (option_map seen_change) c.in-Some.is))
+    ∙ ap (λ l. first_told sides rule (paths_of_kinds l)) (sym split) ∙ inv.1
+
+pub loop-rest-preserved : goal.loop-rest-preserved
+loop-rest-preserved c = λ sides are lone.
+    let rule = c.args.lone.rule.now in
+    let kind = c.kind-item.result in
+    let all = c.loop-rest.rest.now in
+    let rest = take (length all - 1) (drop 1 all) in
+    let inv = c.loop-rest.invariant sides are lone in
+    let split : all ≡ kind ∷ rest = split-first all kind _ c.in-len1-up.len_at_least c.kind-item.is in
+    let here = subst (All (IsKind sides)) split inv.0 in
+    let is = All-head (IsKind sides) kind rest here in
+    let told = c.in_ok-change.ensures sides is (c.is_matched-matched.ensures sides rule is lone) in (
+      All-rest (IsKind sides) kind rest (kind ∷ rest) refl here,
+      sym (first-later sides rule kind.path.items (paths_of_kinds rest) (sym told ∙ ap (option_map seen_change) c.in-None.is))
+          ∙ ap (λ l. first_told sides rule (paths_of_kinds l)) (sym split) ∙ inv.1,
+    )

@@ -1,0 +1,45 @@
+-- Which rules can change an answer, and what follows where nothing is told.
+use Rattle.std.specs.Prelude.{◌≡◌, ◌⊎◌, ℕ, Bool, false, true, List, map, Contains, None}
+use Rattle.std.specs.List.{All}
+use Rattle.aa_decide_audit.specs.declared.verdict.Answer.TheVariants.{Allow}
+use Rattle.aa_explain_paths.specs.Claims.{single_letters}
+use Rattle.aa_explain_paths.specs.Meant.{may_be_asked}
+use Rattle.aa_glob_nfa.specs.Graphs.{AreBytes}
+use Rattle.aa_explain_changes.specs.Changes.{change_of, is_change}
+use Rattle.aa_explain_changes.specs.FileChanges.{AreFileChanges, RuleChange, seen_rule_change}
+use Rattle.aa_explain_changes.specs.Lone.{LoneRule, new_lone, old_lone}
+use Rattle.aa_explain_changes.specs.Rules.{covers_letter, is_matched_by}
+use Rattle.aa_explain_changes.specs.Sides.{Sides, side_verdict}
+use Rattle.aa_explain_changes.specs.declared.asking.FileChanges.{FileChanges}
+use Rattle.aa_explain_changes.specs.declared.change.Change.TheVariants.{Same}
+
+-- one of some rules covers letters of a file
+abbrev pub SomeCovers : List LoneRule → List ℕ → Bool → ℕ → Type 0
+SomeCovers rules path owned letters =
+    (lone : LoneRule) × Contains rules lone × (covers_letter lone.rule (is_matched_by lone.rule path) owned letters ≡ true)
+
+-- where an answer changes, a rule covers what is asked that one side alone has
+abbrev pub ChangedRulesDecide : Type 0
+ChangedRulesDecide =
+    (sides : Sides) (path : List ℕ) (owned : Bool) (letters : ℕ)
+    → is_change (change_of sides path owned letters) ≡ true
+    → SomeCovers (old_lone sides) path owned letters ⊎ SomeCovers (new_lone sides) path owned letters
+
+-- nothing is told of any of some rules
+abbrev pub NothingIsTold : List RuleChange → Type 0
+NothingIsTold changes = All (λ (change : RuleChange). change.told ≡ None) changes
+
+-- where nothing is told of a rule of either side, no answer to a letter changes, of no path that the kernel may ask about
+abbrev pub NoChangeIsHidden : Type 0
+NoChangeIsHidden =
+    (sides : Sides) (changes : FileChanges) → AreFileChanges sides changes
+    → NothingIsTold (map seen_rule_change changes.old.items) → NothingIsTold (map seen_rule_change changes.new.items)
+    → (path : List ℕ) → AreBytes path → may_be_asked path ≡ true → (owned : Bool) (letter : ℕ) → Contains single_letters letter
+    → change_of sides path owned letter ≡ Same
+
+-- where none is told to be lost, each letter that was allowed is allowed
+abbrev pub NothingAllowedIsRefused : Type 0
+NothingAllowedIsRefused =
+    (sides : Sides) (changes : FileChanges) → AreFileChanges sides changes → changes.lost ≡ false
+    → (path : List ℕ) → AreBytes path → may_be_asked path ≡ true → (owned : Bool) (letter : ℕ) → Contains single_letters letter
+    → (side_verdict sides.old path owned letter).answer ≡ Allow → (side_verdict sides.new path owned letter).answer ≡ Allow

@@ -1,0 +1,155 @@
+//! What is told of a rule that one side alone has.
+
+ghost use Rattle.std.specs.Prelude.{◌≡◌, IfOk, Some, map, option_map, slice_get};
+ghost use Rattle.std.specs.List.{All};
+ghost use Rattle.aa_explain_changes.specs.Changes.{changes_of};
+ghost use Rattle.aa_explain_changes.specs.FileChanges.{seen_rule_change};
+ghost use Rattle.aa_explain_changes.specs.Lone.{seen_lone};
+ghost use Rattle.aa_explain_changes.specs.Rules.{is_matched_by, seen_change, told_for};
+ghost use Rattle.aa_explain_changes.specs.Sides.{Sides as SeenSides};
+ghost use Rattle.aa_explain_changes.specs.code.Kinds.{AreLoneOf, IsKind, IsLoneOf, first_told, letter_list, paths_of_kinds, rules_of, told_if, told_of};
+ghost use Rattle.aa_profile_data.specs.declared.profile.FileRule.{FileRule as SeenFileRule};
+ghost use Rattle.aa_profile_data.specs.declared.profile.Rule.TheVariants.{File};
+
+use crate::change::Change;
+use crate::kinds::Kind;
+use crate::letters::LetterChanges;
+use crate::lone::LoneRule;
+use aa_profile_access::Perms;
+use aa_profile_data::FileRule;
+use std::alloc::{AllocError, Global};
+
+/// A path on which answers change that a rule takes part in.
+#[derive(Drop)]
+pub struct FileChange {
+    /// The path.
+    pub path: Vec<u8>,
+    /// Whether the task's user owns its file: where answers change of another's, not.
+    pub owned: bool,
+    /// How they change: `Lost` where the rule covers a letter that isn't allowed any more, or else `Gained` where it covers one that is now, or else
+    /// `Otherwise`.
+    pub change: Change,
+    /// The letters that the rule covers and whose answers change so.
+    pub letters: Perms,
+}
+
+/// A rule that one side alone has, and what it changes.
+#[derive(Drop)]
+pub struct RuleChange<'a> {
+    /// The rule.
+    pub lone: LoneRule<'a>,
+    /// A shortest path on which answers change that it takes part in; none, where there is no such path.
+    pub change: Option<FileChange>,
+}
+
+// Whether the pattern of a rule matches the path of a kind.
+fn is_matched(is_old: bool, number: usize, kind: &Kind) -> bool
+    ensures { (sides : SeenSides) (rule : SeenFileRule)
+        → IsKind sides kind.now
+        → slice_get (rules_of sides is_old) number ≡ Some (File rule)
+        → result ≡ is_matched_by rule kind.now.path.items }
+{
+    if is_old {
+        kind.old.contains(&number)
+    } else {
+        kind.new.contains(&number)
+    }
+}
+
+// What is told of a path, whose answers to letters change so, of a file of the task's user or of another.
+fn told_for(
+    alloc: Global,
+    rule: &FileRule,
+    matched: bool,
+    path: &[u8],
+    owned: bool,
+    letters: &LetterChanges,
+) -> Result<FileChange, AllocError>
+    ensures { IfOk result (λ told. (sides : SeenSides)
+        → letter_list letters.now ≡ changes_of sides path.now owned
+        → matched ≡ is_matched_by rule.now path.now
+        → seen_change told ≡ told_for sides rule.now path.now owned) }
+{
+    let change = letters.change_told(rule, matched, owned);
+    Ok(FileChange {
+        path: Vec::from_slice(alloc, path)?,
+        owned,
+        change,
+        letters: letters.changed_by(change, rule, matched, owned),
+    })
+}
+
+// What is told of the path of a kind, if answers change on it that a rule takes part in, whose pattern matches it or not.
+fn change_at(
+    alloc: Global,
+    rule: &FileRule,
+    matched: bool,
+    kind: &Kind,
+) -> Result<Option<FileChange>, AllocError>
+    ensures { IfOk result (λ found. (sides : SeenSides)
+        → IsKind sides kind.now
+        → matched ≡ is_matched_by rule.now kind.now.path.items
+        → option_map seen_change found ≡ told_if sides rule.now kind.now.path.items) }
+{
+    if kind.others.changes_by(rule, matched, false) {
+        let told = told_for(alloc, rule, matched, &kind.path, false, &kind.others)?;
+        return Ok(Some(told));
+    }
+    if kind.owned.changes_by(rule, matched, true) {
+        let told = told_for(alloc, rule, matched, &kind.path, true, &kind.owned)?;
+        return Ok(Some(told));
+    }
+    Ok(None)
+}
+
+// What is told of a rule by these kinds.
+fn first_change(
+    alloc: Global,
+    is_old: bool,
+    lone: LoneRule<'_>,
+    kinds: &[Kind],
+) -> Result<Option<FileChange>, AllocError>
+    ensures { IfOk result (λ found. (sides : SeenSides)
+        → All (IsKind sides) kinds.now
+        → IsLoneOf sides is_old (seen_lone lone.entry)
+        → option_map seen_change found ≡ first_told sides lone.entry.rule.now (paths_of_kinds kinds.now)) }
+{
+    let mut rest = kinds;
+    while let [kind, behind @ ..] = rest {
+        let matched = is_matched(is_old, lone.number, kind);
+        match change_at(alloc, lone.rule, matched, kind)? {
+            Some(change) => return Ok(Some(change)),
+            None => {}
+        }
+        rest = behind;
+    }
+    Ok(None)
+}
+
+/// What is told of some rules of one side by these kinds, in their order.
+///
+/// # Errors
+///
+/// Where memory runs out.
+pub fn rule_changes<'a>(
+    alloc: Global,
+    is_old: bool,
+    lone: &[LoneRule<'a>],
+    kinds: &[Kind],
+) -> Result<Vec<RuleChange<'a>>, AllocError>
+    ensures { IfOk result (λ told. (sides : SeenSides)
+        → All (IsKind sides) kinds.now
+        → AreLoneOf sides is_old (map seen_lone lone.now)
+        → map seen_rule_change told.items ≡ map (told_of sides (paths_of_kinds kinds.now)) (map seen_lone lone.now)) }
+{
+    let mut told = Vec::with_capacity(alloc, lone.len())?;
+    let mut rest = lone;
+    while let [one, behind @ ..] = rest {
+        told.push(RuleChange {
+            lone: *one,
+            change: first_change(alloc, is_old, *one, kinds)?,
+        })?;
+        rest = behind;
+    }
+    Ok(told)
+}
