@@ -3,6 +3,9 @@ pub mod FirstLemmas
 pub mod KindLemmas
 pub mod LawLemmas
 pub mod LoneLemmas
+pub mod MaskLemmas
 pub mod PlaceLemmas
 pub mod RuleLemmas
+pub mod SetLemmas
+pub mod SingleLemmas
 pub mod StandLemmas

@@ -1,15 +1,19 @@
 -- Which rules can change an answer, and what follows where nothing is told.
-use Rattle.std.specs.Prelude.{◌≡◌, ◌⊎◌, ℕ, Bool, false, true, List, map, Contains, None}
+use Rattle.std.specs.Prelude.{◌≡◌, ◌⊎◌, ℕ, ◌<◌, Bool, false, true, List, map, Contains, None}
 use Rattle.std.specs.List.{All}
 use Rattle.aa_decide_audit.specs.declared.verdict.Answer.TheVariants.{Allow}
+use Rattle.aa_decide_rules.specs.Verdict.{verdict}
+use Rattle.aa_decide_rules.specs.declared.verdict.Mediation.{Mediation}
 use Rattle.aa_explain_paths.specs.Claims.{single_letters}
 use Rattle.aa_explain_paths.specs.Meant.{may_be_asked}
 use Rattle.aa_glob_nfa.specs.Graphs.{AreBytes}
+use Rattle.aa_profile_access.specs.Access.{all_letters}
+use Rattle.aa_profile_access.specs.Request.{ForFile}
 use Rattle.aa_explain_changes.specs.Changes.{change_of, is_change}
 use Rattle.aa_explain_changes.specs.FileChanges.{AreFileChanges, RuleChange, seen_rule_change}
 use Rattle.aa_explain_changes.specs.Lone.{LoneRule, new_lone, old_lone}
 use Rattle.aa_explain_changes.specs.Rules.{covers_letter, is_matched_by}
-use Rattle.aa_explain_changes.specs.Sides.{Sides, side_verdict}
+use Rattle.aa_explain_changes.specs.Sides.{Side, Sides, side_verdict}
 use Rattle.aa_explain_changes.specs.declared.asking.FileChanges.{FileChanges}
 use Rattle.aa_explain_changes.specs.declared.change.Change.TheVariants.{Same}
 
@@ -43,3 +47,11 @@ NothingAllowedIsRefused =
     (sides : Sides) (changes : FileChanges) → AreFileChanges sides changes → changes.lost ≡ false
     → (path : List ℕ) → AreBytes path → may_be_asked path ≡ true → (owned : Bool) (letter : ℕ) → Contains single_letters letter
     → (side_verdict sides.old path owned letter).answer ≡ Allow → (side_verdict sides.new path owned letter).answer ≡ Allow
+
+-- Two sides that say the same of each letter by itself say the same of any letters, in whatever mode.
+abbrev pub LettersDecideSets : Type 0
+LettersDecideSets =
+    (old new : Side) (path : List ℕ) (owned : Bool)
+    → ((letter : ℕ) → Contains single_letters letter → side_verdict old path owned letter ≡ side_verdict new path owned letter)
+    → (mediation : Mediation) (letters : ℕ) → letters < all_letters
+    → verdict mediation old.audit old.rules (ForFile letters owned path) ≡ verdict mediation new.audit new.rules (ForFile letters owned path)

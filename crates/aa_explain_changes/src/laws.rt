@@ -1,6 +1,6 @@
 //! Which rules can change an answer, and what follows where nothing is told, as laws over the definitions that the calls are proved to follow.
 
-ghost use Rattle.aa_explain_changes.specs.Laws.{ChangedRulesDecide, NoChangeIsHidden, NothingAllowedIsRefused};
+ghost use Rattle.aa_explain_changes.specs.Laws.{ChangedRulesDecide, LettersDecideSets, NoChangeIsHidden, NothingAllowedIsRefused};
 
 use aa_decide_rules::what_rules_decide;
 
@@ -20,3 +20,8 @@ pub fn no_change_is_hidden()
 {
     changed_rules_decide();
 }
+
+/// Two sides that say the same of each letter of a file say the same of any letters of it together, in whatever mode: the verdicts are one, with tag and mask.
+pub fn letters_decide_sets()
+    ensures { LettersDecideSets }
+{}

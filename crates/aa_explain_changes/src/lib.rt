@@ -12,7 +12,7 @@ mod sides;
 
 pub use asking::{FileChanges, changes_of_files};
 pub use change::{Change, change_between};
-pub use laws::{changed_rules_decide, no_change_is_hidden};
+pub use laws::{changed_rules_decide, letters_decide_sets, no_change_is_hidden};
 pub use lone::LoneRule;
 pub use rules::{FileChange, RuleChange};
 pub use sides::{Side, Sides};
