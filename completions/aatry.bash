@@ -69,7 +69,7 @@ _aatry_offer_options() {
     why | who) _aatry_offer '-b --verbose --json --language --color -h --help --' ;;
     never | always) _aatry_offer '-b --limit --names --verbose --json --language --color -h --help --' ;;
     log) _aatry_offer '-b --denied --globs --profile --rules --since --strict --verbose --json --language --color -h --help --' ;;
-    diff) _aatry_offer '--log --questions --stat --verbose --json --language --color -h --help --' ;;
+    diff) _aatry_offer '--all --limit --log --questions --quiet-audit --stat --verbose --json --language --color -h --help --' ;;
     session) _aatry_offer '-b --language --color -h --help --' ;;
     test) _aatry_offer '-b --accept --language --color -h --help --' ;;
     esac

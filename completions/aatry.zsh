@@ -86,7 +86,9 @@ _aatry() {
         '--rules[Tells rules to add]' '--globs[Offers wider rules beside these]' \
         '--strict[Ends with 1 where a line was not answered]' '*:FILE:_files' ;;
     diff) _arguments -S $language $records $verbose $help '--stat[Tells how much differs]' '--log=[Asks both what a log asked]:FILE:_files' \
-        '--questions=[Asks both the questions of a file]:FILE:_files' ':OLD:_files -/' ':NEW:_files -/' ;;
+        '--questions=[Asks both the questions of a file]:FILE:_files' '--all[Compares the answers of all paths]' \
+        '--quiet-audit[With --all, passes over audit lines]' '--limit=[With --all, how many sets of states are looked at]:N' \
+        ':OLD:_files -/' ':NEW:_files -/' '*:WHO: ' ;;
     session) _arguments -S $base $language $help ;;
     test) _arguments -S $base $language $help '--accept[Writes what is told in place of what is wanted]' '*:FILE:_files' ;;
     esac

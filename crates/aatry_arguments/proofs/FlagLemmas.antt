@@ -1,5 +1,5 @@
 -- What holds of words that are flags.
-use Rattle.std.proofs.Common.{◌≡◌, ◌++◌, ℕ, Bool, true, false, List, [], ◌∷◌, refl, ap, codes}
+use Rattle.std.proofs.Common.{◌≡◌, ◌++◌, ℕ, Bool, true, false, List, [], ◌∷◌, append-nil, refl, ap, subst, codes}
 use Rattle.std.specs.List.{list_all}
 use Rattle.std.specs.Str.{bytes_eq, chars}
 use Rattle.std.proofs.lemmas.Slice.Eq.{bytes_eq-Decides}
@@ -19,7 +19,7 @@ none_given flag (word ∷ words) none = by (λ left. none_given flag words left)
     by rest false e false f = let left : is_given flag words ≡ false = rw (e, f) at none in rw (e, f) (ap (λ others. word ∷ others) (rest left))
 
 -- a word that is no option is another than one that is
-no_option : (option word : List ℕ) → is_option option ≡ true → is_option word ≡ false → bytes_eq word option ≡ false
+pub no_option : (option word : List ℕ) → is_option option ≡ true → is_option word ≡ false → bytes_eq word option ≡ false
 no_option option word is none = by (bytes_eq word option) refl
   where
     by : (b : Bool) → bytes_eq word option ≡ b → b ≡ false
@@ -27,7 +27,7 @@ no_option option word is none = by (bytes_eq word option) refl
     by true h = let same : is_option word ≡ is_option option = ap is_option ((bytes_eq-Decides word option).0 h) in cc
 
 -- `--` is an option
-dashes_option : is_option (codes "--") ≡ true
+pub dashes_option : is_option (codes "--") ≡ true
 unfolding chars
 dashes_option = refl
 
@@ -44,3 +44,7 @@ names_before flag (name ∷ names) words is named none = by (is_option name) ref
         let left : list_all is_name names ≡ true = rw h at named in
         let on : ends_options name ≡ false = no_option (codes "--") name dashes_option h in
         rw (on, no_option flag name is h) (rest left)
+
+-- among words that are no options no flag is given
+pub names_alone : (flag : List ℕ) (names : List (List ℕ)) → is_option flag ≡ true → list_all is_name names ≡ true → is_given flag names ≡ false
+names_alone flag names is named = subst (λ words. is_given flag words ≡ false) (append-nil names) (names_before flag names [] is named refl)

@@ -1,5 +1,6 @@
 mod AskedLemmas
 mod CheckLemmas
+mod DiffAllLemmas
 mod DiffLawLemmas
 mod DiffLemmas
 mod FlagLemmas

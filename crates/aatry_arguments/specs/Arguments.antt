@@ -4,7 +4,9 @@ use Rattle.std.specs.Str.{bytes_eq}
 use Rattle.aa_options.specs.Options.{Asked, ForHelp, ForVersion, Nothing, asked_as}
 use Rattle.aatry_arguments.specs.AskingWords.{AskingAsked, asked_words}
 use Rattle.aatry_arguments.specs.CheckWords.{CheckAsked, asked_check}
+use Rattle.aatry_arguments.specs.DiffAllWords.{PathComparisonAsked, all_flag, asked_all}
 use Rattle.aatry_arguments.specs.DiffWords.{ComparisonAsked, asked_diff}
+use Rattle.aatry_arguments.specs.Flags.{is_given, without_flag}
 use Rattle.aatry_arguments.specs.LogWords.{LogsAsked, asked_logs}
 use Rattle.aatry_arguments.specs.PathsWords.{AllPathsAsked, asked_paths}
 use Rattle.aatry_arguments.specs.SessionWords.{SessionAsked, asked_session}
@@ -19,6 +21,7 @@ pub data CommandAsked : Type 0 where
   ForPaths : AllPathsAsked → CommandAsked
   ForLog : LogsAsked → CommandAsked
   ForDiff : ComparisonAsked → CommandAsked
+  ForDiffAll : PathComparisonAsked → CommandAsked
   ForSession : SessionAsked → CommandAsked
 
 -- a word that asks for help in the place of a command
@@ -28,6 +31,11 @@ is_help_word word = bytes_eq word (codes "-h") || bytes_eq word (codes "--help")
 -- a word that asks for the version in the place of a command
 abbrev pub is_version_word : List ℕ → Bool
 is_version_word word = bytes_eq word (codes "-V") || bytes_eq word (codes "--version")
+
+-- what the words behind `diff` ask for: a comparison for all paths, where the flag is among them, and else one of profiles and requests
+abbrev pub asked_diffs : List (List ℕ) → Asked CommandAsked
+asked_diffs words =
+    if is_given all_flag words then asked_as ForDiffAll (asked_all (without_flag all_flag words)) else asked_as ForDiff (asked_diff words)
 
 -- what a first word asks for, with the words behind it: it is the name of a command, or asks for help or the version
 abbrev pub asked_by_first : List ℕ → List (List ℕ) → Asked CommandAsked
@@ -39,7 +47,7 @@ asked_by_first first words =
     else if bytes_eq first (codes "never") then asked_as ForPaths (asked_paths false words)
     else if bytes_eq first (codes "always") then asked_as ForPaths (asked_paths true words)
     else if bytes_eq first (codes "log") then asked_as ForLog (asked_logs words)
-    else if bytes_eq first (codes "diff") then asked_as ForDiff (asked_diff words)
+    else if bytes_eq first (codes "diff") then asked_diffs words
     else if bytes_eq first (codes "session") then asked_as ForSession (asked_session words)
     else if is_help_word first then ForHelp
     else if is_version_word first then ForVersion

@@ -3,7 +3,8 @@ use Rattle.std.specs.Prelude.{◌≡◌, option_map, string_bytes}
 use Rattle.aa_options.specs.Texts.{texts}
 use Rattle.aatry_arguments.specs.AskingWords.{AskingAsked, asking_with}
 use Rattle.aatry_arguments.specs.CheckWords.{CheckAsked, check_with}
-use Rattle.aatry_arguments.specs.Arguments.{CommandAsked, ForCheck, ForDiff, ForLog, ForPaths, ForSession, ForTest, ForWho, ForWhy}
+use Rattle.aatry_arguments.specs.Arguments.{CommandAsked, ForCheck, ForDiff, ForDiffAll, ForLog, ForPaths, ForSession, ForTest, ForWho, ForWhy}
+use Rattle.aatry_arguments.specs.DiffAllWords.{PathComparisonAsked, path_comparison_with}
 use Rattle.aatry_arguments.specs.DiffWords.{ComparisonAsked, LogAt, QuestionsAt, SourceAsked, comparison_with}
 use Rattle.aatry_arguments.specs.Forms.{CallAsked}
 use Rattle.aatry_arguments.specs.LogWords.{LogLinesAsked, LogTellingAsked, LogsAsked, lines_with, logs_with, telling_with}
@@ -18,6 +19,7 @@ use Rattle.aatry_arguments.specs.declared.arguments.Comparison.{Comparison}
 use Rattle.aatry_arguments.specs.declared.arguments.LogLines.{LogLines}
 use Rattle.aatry_arguments.specs.declared.arguments.LogTelling.{LogTelling}
 use Rattle.aatry_arguments.specs.declared.arguments.Logs.{Logs}
+use Rattle.aatry_arguments.specs.declared.arguments.PathComparison.{PathComparison}
 use Rattle.aatry_arguments.specs.declared.arguments.RequestSource.{RequestSource}
 use Rattle.aatry_arguments.specs.declared.arguments.RequestSource.TheVariants.{Log, Questions}
 use Rattle.aatry_arguments.specs.declared.arguments.Session.{Session}
@@ -66,6 +68,12 @@ meant_comparison comparison =
     comparison_with (string_bytes comparison.old) (string_bytes comparison.new) (option_map meant_source comparison.source)
     comparison.stat
 
+-- the comparison for all paths that is meant
+abbrev pub meant_path_comparison : PathComparison → PathComparisonAsked
+meant_path_comparison comparison =
+    path_comparison_with (string_bytes comparison.old) (string_bytes comparison.new) (texts comparison.who) comparison.stat comparison.quiet_audit
+    comparison.limit
+
 -- the session that is meant
 abbrev pub meant_session : Session → SessionAsked
 meant_session session = session_with (string_bytes session.base)
@@ -79,6 +87,7 @@ meant_command (command.Why asking) = ForWhy (meant_asking asking)
 meant_command (command.Paths paths) = ForPaths (meant_paths paths)
 meant_command (command.Log logs) = ForLog (meant_logs logs)
 meant_command (command.Diff comparison) = ForDiff (meant_comparison comparison)
+meant_command (command.DiffAll comparison) = ForDiffAll (meant_path_comparison comparison)
 meant_command (command.Session session) = ForSession (meant_session session)
 
 -- the call that is meant

@@ -2,6 +2,7 @@ pub mod Arguments
 pub mod AskingWords
 pub mod CheckLine
 pub mod CheckWords
+pub mod DiffAllWords
 pub mod DiffLine
 pub mod DiffWords
 pub mod Flags

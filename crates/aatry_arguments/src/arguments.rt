@@ -33,6 +33,8 @@ pub enum Command {
     Log(Logs),
     /// Two folders of policy are to be compared.
     Diff(Comparison),
+    /// Two folders of policy are to be compared for all paths.
+    DiffAll(PathComparison),
     /// Commands are to be taken over a folder of policy, as they come.
     Session(Session),
 }
@@ -125,6 +127,23 @@ pub struct Comparison {
     pub source: Option<RequestSource>,
     /// Whether it is to be told how much of each profile, child and hat differs, and not what does.
     pub stat: bool,
+}
+
+/// Which folders of policy are to be compared for all paths, and for whom.
+#[derive(Drop)]
+pub struct PathComparison {
+    /// The old folder of policy.
+    pub old: String,
+    /// The new folder of policy.
+    pub new: String,
+    /// The full names of the profiles, children and hats that are to be compared, in this order. Where there is none, all are meant.
+    pub who: Vec<String>,
+    /// Whether it is to be told how much of each profile, child and hat differs, and not what does.
+    pub stat: bool,
+    /// Whether answers that differ in nothing but what is written to the log count as the same.
+    pub quiet_audit: bool,
+    /// How many sets of states are to be looked at, at most, for each of those who are compared.
+    pub limit: usize,
 }
 
 /// Where requests are told of.

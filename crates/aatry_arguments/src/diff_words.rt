@@ -12,30 +12,37 @@ use crate::flags::{is_given, without_flag};
 use aa_options::{ArgumentFault, parse};
 use std::alloc::{AllocError, Global};
 
-// The flag that asks for how much differs.
-const STAT: &str = "--stat";
+/// The flag that asks for how much differs.
+pub const STAT: &str = "--stat";
 
-// What help says of `diff`.
-const HELP: &str = "\
+/// What help says of `diff`.
+pub const HELP: &str = "\
 Tells which profiles of two folders of policy differ, and which requests they answer otherwise
 
 Usage: aatry diff OLD NEW
        aatry diff OLD NEW --log FILE
        aatry diff OLD NEW --questions FILE
+       aatry diff --all OLD NEW [WHO]..
 
 Arguments:
-  OLD  A folder of policy
-  NEW  The folder of policy that is to take its place
+  OLD      A folder of policy
+  NEW      The folder of policy that is to take its place
+  [WHO]..  Profiles, children or hats, by their full names; all, where none is given
 
 Options:
   --log <FILE>        A log that tells of requests, as audit.log or syslog
   --questions <FILE>  A file of questions, each a line of the words behind ask of aaset
-  --stat              Tells how many lines of each profile differ, and not which
+  --stat              Tells how many lines of each profile differ, and not which; with --all, in a
+                      word how the answers of each change, and not which
+  --all               Compares what is answered of all paths, capabilities and pairs of sockets
+  --quiet-audit       With --all, answers that differ in how they are logged alone are the same
+  --limit <N>         With --all, how many sets of states are looked at, at most, for each WHO;
+                      262144 if none is given
   --verbose           Tells each file first that is left out, and why
   --json              Tells in records of JSON, one a line
   -h, --help          Prints help
 
-One FILE can be given. Where an option is given again, the last counts.
+One FILE can be given, and none with --all. Where an option is given again, the last counts.
 
 All files below OLD and NEW are read, as check reads them; those at their tops that are refused are
 left out, and how many these are stands on standard error. Of each profile, child and hat that
@@ -51,11 +58,26 @@ rules that OLD or NEW alone answers by:
   QUESTION: ANSWER OF OLD -> ANSWER OF NEW (HOW OFTEN IT CAME)
 The last line counts the lines, requests and questions of FILE, and what is answered otherwise.
 
+With --all no lines of profiles are compared, but what OLD and NEW answer to whatever can be asked:
+of each path, each capability, and each pair of a domain and a type of sockets, all as in enforce
+mode. Of each WHO of which something is answered otherwise one of these is told:
+  wider: NAME      Something is allowed now that wasn't, and nothing isn't any more
+  narrower: NAME   The other way round; and both: NAME where there is both
+  otherwise: NAME  Something is logged or denied otherwise, or the mode changes
+  gone: NAME       OLD has it alone; new: NAME, NEW has; absent: NAME, neither has
+  too many: NAME   There are more sets of states than the limit
+Below stands what changes: the mode; each rule on files of OLD alone, behind -, and of NEW alone,
+behind +, with a shortest path on which it changes an answer, or that it changes nothing; each
+capability; and each pair of sockets. The last line counts them.
+
 Exit status:
-  0  Nothing differs, or help was asked for
-  1  Some profile differs, some question is answered otherwise, or a file is newly left out
+  0  Nothing differs, or help was asked for; with --all, no path, capability or pair of sockets is
+     answered otherwise by any profile of both, and none is new or gone
+  1  Some profile differs, some question is answered otherwise, or a file is newly left out; with
+     --all, wherever the status is none of the others
   2  The arguments are bad, or FILE, OLD or NEW, or what lies below these, can't be read
-  3  Writing failed, or memory ran out
+  3  Writing failed, or memory ran out; with --all, also where there are too many sets for some
+     profile, which is named
 ";
 
 // Where requests are told of, if anywhere; none where both a log and a file of questions are given.

@@ -159,8 +159,9 @@ fn call_behind(alloc: Global, words: &[String]) -> Result<Call, ArgumentFault>
 ///
 /// The word `--json`, ahead of the first `--`, asks for records, and is none of the words above: the command is the one that the others ask for. Nor
 /// is `--verbose` there, which asks for lines that tell at length, each file that is left out too; nor `--strict` behind `log`, which asks for a
-/// status that tells of lines without an answer, or `--rules`, which asks for rules that can be pasted; nor `--accept` behind `test`. Nor are
-/// the word `--language` and the one behind it, or a word that begins with `--language=`, ahead of the first `--`: they name a language by its
+/// status that tells of lines without an answer, or `--rules`, which asks for rules that can be pasted; nor `--accept` behind `test`; nor `--all`
+/// behind `diff`, which asks for a comparison for all paths: there names may stand behind the two folders, and `--log` and `--questions` can't be given.
+/// Nor are the word `--language` and the one behind it, or a word that begins with `--language=`, ahead of the first `--`: they name a language by its
 /// number, 3 or 4. Where one is named again, the last counts, and where none is, policy is read by language 4 (docs/policy.md, "Languages").
 ///
 /// # Errors
@@ -170,9 +171,9 @@ fn call_behind(alloc: Global, words: &[String]) -> Result<Call, ArgumentFault>
 /// - `Version` where the second word is `--version` or `-V`.
 /// - `Bad` where the second word is any other. Behind a command, where the first option that takes no path is any other, or where one that takes a
 ///   path comes before it without one. Behind `test`, where there is no FILE. Behind `who` and `why`, where the question has no word. Behind `diff`,
-///   where the folders aren't two, or both `--log` and `--questions` are given. Behind `session`, where there is a word that is no option. Where
-///   records are asked for of `test` or `session`, or lines that tell at length of `check`, `test` or `session`, or a word that has to name a language
-///   names none.
+///   where the folders aren't two, or both `--log` and `--questions` are given; with `--all`, where there are less than two words that are no options,
+///   one of those two options is given, or `--limit` has no number. Behind `session`, where there is a word that is no option. Where records are asked
+///   for of `test` or `session`, or lines that tell at length of `check`, `test` or `session`, or a word that has to name a language names none.
 /// - `Memory` where memory ran out.
 pub fn call_of(alloc: Global, words: &[String]) -> Result<Call, ArgumentFault>
     ensures { IsGivenFor meant_call (asked_call (drop 1 (map string_bytes words.now))) result }

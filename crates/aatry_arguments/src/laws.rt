@@ -8,6 +8,7 @@ ghost use Rattle.aa_options.specs.Options.{ForThis, Nothing, asked_as};
 ghost use Rattle.aatry_arguments.specs.AskingWords.{asking_with};
 ghost use Rattle.aatry_arguments.specs.CheckWords.{CheckAsked, asked_behind, below, check_with, with_names};
 ghost use Rattle.aa_options.specs.Options as diff;
+ghost use Rattle.aatry_arguments.specs.DiffAllWords.{all_flag};
 ghost use Rattle.aatry_arguments.specs.DiffWords.{DiffGiven, LogAt, OfLog, OfQuestions, QuestionsAt};
 ghost use Rattle.aatry_arguments.specs.DiffWords.{asked_by, comparison_with, given_behind, stat_flag, with_folders, with_path};
 ghost use Rattle.aa_profile_parsing.specs.Languages.{language_named, word_of};
@@ -143,7 +144,7 @@ pub fn what_sessions_have()
 /// `diff` alone asks for nothing that there is. Two words that are no options ask for the comparison of these folders, with a path behind `--log` or
 /// behind `--questions` by that log or file of questions too, and paths behind both ask for nothing. Such an option gives its path wherever it stands,
 /// also behind a `=` in its word, and of two paths the last counts. Words that are no options are folders, all of them and in their order, and so are
-/// all words behind `--`. Words with the flag `--stat` ask for the same as without it, and that how much differs be told.
+/// all words behind `--`. Words with the flag `--stat`, and without `--all`, ask for the same as without it, and that how much differs be told.
 pub fn what_comparisons_have()
     ensures alone { asked (codes "diff" ∷ []) ≡ Nothing }
     ensures by_none { (old new : List ℕ)
@@ -151,6 +152,7 @@ pub fn what_comparisons_have()
         → is_option new ≡ false
         → asked (codes "diff" ∷ old ∷ new ∷ []) ≡ ForThis (ForDiff (comparison_with old new None false)) }
     ensures by_stat { (words : List (List ℕ))
+        → is_given all_flag words ≡ false
         → is_given stat_flag words ≡ true
         → asked (codes "diff" ∷ words) ≡ asked_as ForDiff (asked_by true (without_flag stat_flag words)) }
     ensures by_log { (old new path : List ℕ)

@@ -5,6 +5,8 @@ mod arguments;
 mod asking_words;
 mod check_line;
 mod check_words;
+mod diff_all_laws;
+mod diff_all_words;
 mod diff_line;
 mod diff_words;
 mod faults;
@@ -21,9 +23,10 @@ mod values;
 
 pub use aa_options::ArgumentFault;
 pub use arguments::{
-    AllPaths, Asking, Call, Check, Command, Comparison, LogLines, LogTelling, Logs, RequestSource,
-    Session, Test,
+    AllPaths, Asking, Call, Check, Command, Comparison, LogLines, LogTelling, Logs, PathComparison,
+    RequestSource, Session, Test,
 };
+pub use diff_all_laws::what_path_comparisons_have;
 pub use forms::call_of;
 pub use laws::{
     how_languages_are_named, how_values_are_named, what_askings_have, what_checks_have,

@@ -128,8 +128,12 @@ fn limited_by(read: Option<WithValue>) -> Option<PathsLimited>
     Some(PathsLimited { limit, words })
 }
 
-// What words name.
-fn limited_in(alloc: Global, words: &[String]) -> Result<Option<PathsLimited>, AllocError>
+/// The limit that words name, and the other words. None where they name it by what is no number.
+///
+/// # Errors
+///
+/// Where memory runs out.
+pub fn limited_in(alloc: Global, words: &[String]) -> Result<Option<PathsLimited>, AllocError>
     ensures { IfOk result (λ limited. option_map seen_limited limited ≡ limited_in (map string_bytes words.now)) }
 {
     Ok(limited_by(value_of(alloc, LIMIT, words)?))

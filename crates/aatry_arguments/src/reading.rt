@@ -7,7 +7,7 @@ ghost use Rattle.aatry_arguments.specs.Given.{IsVersion, meant_command};
 use crate::arguments::Command;
 use crate::asking_words::{who_of, why_of};
 use crate::check_words::check_of;
-use crate::diff_words::diff_of;
+use crate::diff_all_words::diffs_of;
 use crate::faults::help_with;
 use crate::log_words::logs_of;
 use crate::paths_words::paths_of;
@@ -64,7 +64,7 @@ fn command_by(alloc: Global, first: &str, words: &[String]) -> Result<Command, A
         "never" => paths_of(alloc, words, false).map(Command::Paths),
         "always" => paths_of(alloc, words, true).map(Command::Paths),
         "log" => logs_of(alloc, words).map(Command::Log),
-        "diff" => diff_of(alloc, words).map(Command::Diff),
+        "diff" => diffs_of(alloc, words),
         "session" => session_of(alloc, words).map(Command::Session),
         "-h" | "--help" => Err(help_with(alloc, HELP)),
         "-V" | "--version" => Err(version(alloc)),

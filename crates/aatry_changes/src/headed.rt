@@ -22,7 +22,11 @@ fn push_headed_line(word: &str, name: &[u8], out: &mut Vec<u8>) -> Result<(), Al
     Ok(())
 }
 
-// The same as a record.
+/// The record of a profile, child or hat: a word, which is its kind, and the full name (`name`).
+///
+/// # Errors
+///
+/// Where memory runs out.
 pub fn headed_record(alloc: Global, word: &str, name: &[u8]) -> Result<Record, AllocError>
     ensures { IfOk result (λ made. seen_record made ≡ headed_record word.now name.now) }
 {
@@ -31,7 +35,11 @@ pub fn headed_record(alloc: Global, word: &str, name: &[u8]) -> Result<Record, A
     Ok(made)
 }
 
-// Appends what is told of a part before its lines to a text.
+/// Appends what is told of a profile, child or hat before its lines to a text: a line with a word and its full name, or the record of that.
+///
+/// # Errors
+///
+/// Where memory runs out. A beginning may have been appended then.
 pub fn push_headed(
     teller: Teller,
     word: &str,
@@ -57,7 +65,12 @@ fn gone_word(left_out: &LeftOutHeads<'_>, name: &[u8]) -> &'static str
     }
 }
 
-// Appends what is told of such a part to a text.
+/// Appends what is told of a part to a text that the old folder has alone: that it is gone, or unread, where a file of the new folder is left out that has the
+/// name of its profile, as far as that can be read.
+///
+/// # Errors
+///
+/// Where memory runs out. A beginning may have been appended then.
 pub fn push_gone(
     teller: Teller,
     left_out: &LeftOutHeads<'_>,

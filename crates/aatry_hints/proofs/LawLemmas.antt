@@ -2,10 +2,11 @@
 use Rattle.std.proofs.Common.{◌≡◌, ◌&&◌, Bool, false, true, codes, refl}
 use Rattle.std.specs.List.{list_all}
 use Rattle.std.specs.Str.{chars}
+use Rattle.aatry_arguments.specs.DiffAllWords.{asked_all}
 use Rattle.aatry_arguments.specs.LogWords.{asked_logs}
 use Rattle.aatry_arguments.specs.PathsWords.{asked_paths}
 use Rattle.aatry_hints.specs.Commands.{commands}
-use Rattle.aatry_hints.specs.Laws.{refuses_others}
+use Rattle.aatry_hints.specs.Laws.{go_as_told, refuses_others}
 
 of_check : refuses_others (codes "check") ≡ true
 unfolding asked_logs asked_paths chars refuses_others
@@ -42,6 +43,10 @@ of_session = refl
 of_test : refuses_others (codes "test") ≡ true
 unfolding asked_logs asked_paths chars refuses_others
 of_test = refl
+
+pub all_go : go_as_told ≡ true
+unfolding asked_all chars go_as_told
+all_go = refl
 
 -- both hold
 both : {first second : Bool} → first ≡ true → second ≡ true → (first && second) ≡ true

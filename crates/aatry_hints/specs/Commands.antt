@@ -26,7 +26,8 @@ abbrev pub claim_options : List (List ℕ)
 claim_options = codes "-b" ∷ codes "--json" ∷ codes "--verbose" ∷ codes "--names" ∷ codes "--limit" ∷ []
 
 abbrev pub diff_options : List (List ℕ)
-diff_options = codes "--json" ∷ codes "--verbose" ∷ codes "--log" ∷ codes "--questions" ∷ codes "--stat" ∷ []
+diff_options =
+    codes "--json" ∷ codes "--verbose" ∷ codes "--log" ∷ codes "--questions" ∷ codes "--stat" ∷ codes "--all" ∷ codes "--quiet-audit" ∷ codes "--limit" ∷ []
 
 -- the options that a command takes beside those that each takes; none where no command has the name
 abbrev pub own_options : List ℕ → Option (List (List ℕ))

@@ -8,6 +8,7 @@ use Rattle.aatry_report.specs.Shown.{shown}
 use Rattle.aatry_hints.specs.Commands.{commands, not_taken_by, own_options_by, unknown_in}
 use Rattle.aatry_hints.specs.Options.{options}
 use Rattle.aatry_hints.specs.Parts.{Part, command_in, last_behind, parts}
+use Rattle.aatry_hints.specs.Together.{together_hint}
 use Rattle.aatry_hints.specs.Values.{BadValue, bad_value_in, lacking, values_told}
 
 -- a word is the pair by which a line of a log tells of a request
@@ -89,9 +90,13 @@ abbrev pub values_hint : Option (List ℕ) → List Part → Option (List ℕ)
 values_hint command parts =
     line_or (bad_value_told (bad_value_in (unwrap_or (own_options_by command) []) parts)) (no_value_told (lacking (last_behind None parts)))
 
--- the same of options that the command doesn't take, and else of values
+-- the same of options that don't go together, and else of values
+abbrev pub going_hint : Option (List ℕ) → List Part → Option (List ℕ)
+going_hint command parts = line_or (together_hint command parts) (values_hint command parts)
+
+-- the same of options that the command doesn't take, and else of others
 abbrev pub taken_hint : Option (List ℕ) → List Part → Option (List ℕ)
-taken_hint command parts = line_or (not_taken_told command (not_taken_by (own_options_by command) parts)) (values_hint command parts)
+taken_hint command parts = line_or (not_taken_told command (not_taken_by (own_options_by command) parts)) (going_hint command parts)
 
 -- the same of options that there aren't, and else of others
 abbrev pub options_hint : Option (List ℕ) → List Part → Option (List ℕ)

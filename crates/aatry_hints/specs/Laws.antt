@@ -1,10 +1,11 @@
 -- What the law says of commands and options.
-use Rattle.std.specs.Prelude.{ℕ, Bool, true, false, ◌||◌, ◌++◌, List, [], ◌∷◌, None, Some}
+use Rattle.std.specs.Prelude.{ℕ, Bool, true, false, not, ◌&&◌, ◌||◌, ◌++◌, List, [], ◌∷◌, None, Some, codes}
 use Rattle.std.specs.List.{list_all}
 use Rattle.aa_options.specs.Options.{Asked, ForHelp, ForThis, ForVersion, Nothing}
 use Rattle.aatry_arguments.specs.Forms.{CallAsked, asked_call}
 use Rattle.aatry_hints.specs.Commands.{is_taken, own_options}
 use Rattle.aatry_hints.specs.Options.{letters, options}
+use Rattle.aatry_hints.specs.Together.{with_all, without_all}
 
 -- nothing is asked for that there is
 abbrev pub is_nothing : Asked CallAsked → Bool
@@ -23,3 +24,19 @@ is_taken_or_refused command option = elim (own_options command) [
 -- so it is of each option that there is
 unfoldable pub refuses_others : List ℕ → Bool
 refuses_others command = list_all (is_taken_or_refused command) (options ++ letters)
+
+-- words behind `diff` and two folders ask for nothing
+abbrev pub is_nothing_behind : List (List ℕ) → Bool
+is_nothing_behind words = is_nothing (asked_call (codes "diff" ∷ codes "old" ∷ codes "new" ∷ words))
+
+-- with an option and a word behind it they ask for something with `--all`, and for nothing without it
+abbrev pub needs_all : List ℕ → Bool
+needs_all option = not (is_nothing_behind (codes "--all" ∷ option ∷ codes "5" ∷ [])) && is_nothing_behind (option ∷ codes "5" ∷ [])
+
+-- and the other way round
+abbrev pub bars_all : List ℕ → Bool
+bars_all option = is_nothing_behind (codes "--all" ∷ option ∷ codes "5" ∷ []) && not (is_nothing_behind (option ∷ codes "5" ∷ []))
+
+-- so it is of the options of which it is told
+unfoldable pub go_as_told : Bool
+go_as_told = list_all needs_all with_all && list_all bars_all without_all

@@ -4,4 +4,5 @@ pub mod Laws
 pub mod Options
 pub mod Parts
 pub mod Seen
+pub mod Together
 pub mod Values

@@ -8,8 +8,8 @@ use Rattle.aa_bytes.specs.Texts.{begins_with, has_byte, is_empty}
 abbrev pub options : List (List ℕ)
 options =
     codes "--json" ∷ codes "--verbose" ∷ codes "--language" ∷ codes "--color" ∷ codes "--names" ∷ codes "--limit" ∷ codes "--strict" ∷ codes "--denied"
-    ∷ codes "--profile" ∷ codes "--since" ∷ codes "--rules" ∷ codes "--globs" ∷ codes "--log" ∷ codes "--questions" ∷ codes "--stat" ∷ codes "--accept"
-    ∷ codes "--help" ∷ codes "--version" ∷ []
+    ∷ codes "--profile" ∷ codes "--since" ∷ codes "--rules" ∷ codes "--globs" ∷ codes "--log" ∷ codes "--questions" ∷ codes "--stat" ∷ codes "--all"
+    ∷ codes "--quiet-audit" ∷ codes "--accept" ∷ codes "--help" ∷ codes "--version" ∷ []
 
 abbrev pub letters : List (List ℕ)
 letters = codes "-b" ∷ codes "-h" ∷ codes "-V" ∷ []
@@ -24,7 +24,7 @@ paths = codes "-b" ∷ codes "--log" ∷ codes "--questions" ∷ []
 
 -- those that are read out of the words ahead of others, the first of them first
 abbrev pub read_first : List (List ℕ)
-read_first = codes "--color" ∷ codes "--language" ∷ codes "--verbose" ∷ codes "--json" ∷ codes "--profile" ∷ []
+read_first = codes "--color" ∷ codes "--language" ∷ codes "--verbose" ∷ codes "--json" ∷ codes "--profile" ∷ codes "--all" ∷ []
 
 -- what `=` is
 abbrev pub equals_sign : ℕ

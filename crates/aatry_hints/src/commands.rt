@@ -34,7 +34,16 @@ const LOG: [&str; 9] = [
 
 const CLAIM: [&str; 5] = ["-b", "--json", "--verbose", "--names", "--limit"];
 
-const DIFF: [&str; 5] = ["--json", "--verbose", "--log", "--questions", "--stat"];
+const DIFF: [&str; 8] = [
+    "--json",
+    "--verbose",
+    "--log",
+    "--questions",
+    "--stat",
+    "--all",
+    "--quiet-audit",
+    "--limit",
+];
 
 const SESSION: [&str; 1] = ["-b"];
 

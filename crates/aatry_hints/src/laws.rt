@@ -3,9 +3,15 @@
 ghost use Rattle.std.specs.Prelude.{◌≡◌, true};
 ghost use Rattle.std.specs.List.{list_all};
 ghost use Rattle.aatry_hints.specs.Commands.{commands};
-ghost use Rattle.aatry_hints.specs.Laws.{refuses_others};
+ghost use Rattle.aatry_hints.specs.Laws.{go_as_told, refuses_others};
 
 /// With an option alone that it isn't said to take, of those that there are, a command asks for nothing. So what is told of such options is true.
 pub fn what_commands_refuse()
     ensures { list_all refuses_others commands ≡ true }
+{}
+
+/// Behind `diff` and two folders, each option that is said to go with `--all` alone asks for something beside it, and for nothing without it; and each that is
+/// said to go without it alone asks for nothing beside it, and for something without it.
+pub fn what_goes_with_all()
+    ensures { go_as_told ≡ true }
 {}

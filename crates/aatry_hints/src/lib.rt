@@ -6,9 +6,10 @@ mod hints;
 mod laws;
 mod options;
 mod parts;
+mod together;
 mod told;
 mod values;
 
 pub use hints::cut_line;
-pub use laws::what_commands_refuse;
+pub use laws::{what_commands_refuse, what_goes_with_all};
 pub use told::hint;

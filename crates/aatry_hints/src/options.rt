@@ -6,7 +6,7 @@ ghost use Rattle.aatry_hints.specs.Options.{begins_as_one, is_known, is_option, 
 use aa_bytes::{begins_with, behind, has_byte, length_while};
 
 /// The options that a command may have, by their long names.
-pub const OPTIONS: [&str; 18] = [
+pub const OPTIONS: [&str; 20] = [
     "--json",
     "--verbose",
     "--language",
@@ -22,6 +22,8 @@ pub const OPTIONS: [&str; 18] = [
     "--log",
     "--questions",
     "--stat",
+    "--all",
+    "--quiet-audit",
     "--accept",
     "--help",
     "--version",
@@ -46,7 +48,14 @@ pub const VALUED: [&str; 8] = [
 pub const PATHS: [&str; 3] = ["-b", "--log", "--questions"];
 
 // Those that are read out of the words ahead of others, the first of them first.
-const READ_FIRST: [&str; 5] = ["--color", "--language", "--verbose", "--json", "--profile"];
+const READ_FIRST: [&str; 6] = [
+    "--color",
+    "--language",
+    "--verbose",
+    "--json",
+    "--profile",
+    "--all",
+];
 
 /// Whether a word is among some. It takes no memory.
 pub fn is_word_of(names: &[&str], word: &[u8]) -> bool

@@ -2,7 +2,7 @@
 
 ghost use Rattle.std.specs.Prelude.{◌≡◌, [], IfOk, map, option_map, string_bytes, unwrap_or};
 ghost use Rattle.aatry_hints.specs.Commands.{own_options_by};
-ghost use Rattle.aatry_hints.specs.Hints.{bad_value_told, hint, no_option_told, no_value_told, not_taken_told, options_hint, refused_told, taken_hint, unknown_told, values_hint, wanted_told};
+ghost use Rattle.aatry_hints.specs.Hints.{bad_value_told, going_hint, hint, no_option_told, no_value_told, not_taken_told, options_hint, refused_told, taken_hint, unknown_told, values_hint, wanted_told};
 ghost use Rattle.aatry_hints.specs.Options.{options};
 ghost use Rattle.aatry_hints.specs.Parts.{parts};
 ghost use Rattle.aatry_hints.specs.Seen.{seen_bad};
@@ -12,6 +12,7 @@ use crate::commands::{not_taken_by, own_options_by, unknown_in};
 use crate::hints::misspelled_by;
 use crate::options::OPTIONS;
 use crate::parts::{command_in, last_part};
+use crate::together::together_hint;
 use crate::values::{BadValue, bad_value_in, lacking, values_told};
 use aatry_near::nearest_text;
 use aatry_report::push_shown;
@@ -140,7 +141,22 @@ fn values_hint(
     }
 }
 
-// The same of options that the command doesn't take, and else of values.
+// The same of options that don't go together, and else of values.
+fn going_hint(
+    alloc: Global,
+    command: Option<&[u8]>,
+    words: &[String],
+) -> Result<Option<Vec<u8>>, AllocError>
+    ensures { IfOk result (λ line. option_map (λ line. line.items) line
+        ≡ going_hint (option_map (λ command. command.now) command.entry) (parts (map string_bytes words.now))) }
+{
+    match together_hint(alloc, command, words)? {
+        Some(line) => Ok(Some(line)),
+        None => values_hint(alloc, command, words),
+    }
+}
+
+// The same of options that the command doesn't take, and else of others.
 fn taken_hint(
     alloc: Global,
     command: Option<&[u8]>,
@@ -152,7 +168,7 @@ fn taken_hint(
     let name = not_taken_by(own_options_by(command), words);
     match not_taken_told(alloc, command, name)? {
         Some(line) => Ok(Some(line)),
-        None => values_hint(alloc, command, words),
+        None => going_hint(alloc, command, words),
     }
 }
 
@@ -173,7 +189,8 @@ fn options_hint(
 
 /// The line that is told of the words of a start behind the program's own name that ask for nothing, if it shows what was meant. It is of the first of these
 /// that there is: a word in the place of a command that is none and near to one; a word of an option's form that is none; an option that the command doesn't
-/// take; an option with a value that it doesn't take; and an option at the end that lacks its value.
+/// take; one of `diff` that goes with `--all` alone, or without it alone; an option with a value that it doesn't take; and an option at the end that lacks its
+/// value.
 ///
 /// # Errors
 ///

@@ -4,7 +4,7 @@ use Rattle.std.specs.Io.KnownBytes.{Appends}
 use Rattle.aa_set_lines.specs.Streams.{AppendsFront}
 use Rattle.aa_text_files.specs.Files.{File}
 use Rattle.aa_profile_parsing.specs.declared.language.Language.{Language}
-use Rattle.aatry_arguments.specs.Arguments.{CommandAsked, ForCheck, ForDiff, ForLog, ForPaths, ForSession, ForTest, ForWho, ForWhy}
+use Rattle.aatry_arguments.specs.Arguments.{CommandAsked, ForCheck, ForDiff, ForDiffAll, ForLog, ForPaths, ForSession, ForTest, ForWho, ForWhy}
 use Rattle.aa_options.specs.Options.{Asked, ForHelp, ForThis, ForVersion, Nothing}
 use Rattle.aatry_arguments.specs.Forms.{CallAsked, asked_call}
 use Rattle.aa_options.specs.declared.fault.ArgumentFault.{ArgumentFault}
@@ -17,6 +17,7 @@ use Rattle.aatry_check.specs.Below.{IsChecked}
 use Rattle.aatry_check.specs.Ends.{IsEndOfCheck}
 use Rattle.aatry_diff.specs.Below.{IsComparedBelow}
 use Rattle.aatry_diff.specs.Ends.{IsEndOfDiff}
+use Rattle.aatry_diff_paths.specs.Below.{ArePathsCompared, IsEndOfPathComparison}
 use Rattle.aatry_log.specs.Below.{IsLogToldBelow}
 use Rattle.aatry_log.specs.Ends.{IsEndOfLog}
 use Rattle.aatry_test.specs.Below.{IsTestedAndReplaced}
@@ -123,6 +124,7 @@ IsDoneBy language form verbose folders known store input (ForWhy asking) output 
 IsDoneBy language form verbose folders known store input (ForPaths paths) output status = IsPathsDone (IsPathsToldBelow form verbose language folders known paths.asking.base paths.asking.words (claim_of paths.always) paths.names paths.limit) (IsEndOfPaths language folders known paths.asking.base paths.asking.words) output status × IsKept store
 IsDoneBy language form verbose folders known store input (ForLog logs) output status = IsReadingDone (IsLogToldBelow form verbose language folders known input.left logs) (IsEndOfLog folders known logs) store output status
 IsDoneBy language form verbose folders known store input (ForDiff comparison) output status = IsReadingDone (IsComparedBelow form verbose language folders known comparison) (IsEndOfDiff folders known comparison) store output status
+IsDoneBy language form verbose folders known store input (ForDiffAll comparison) output status = IsPathsDone (ArePathsCompared form verbose language folders known comparison) (IsEndOfPathComparison folders comparison) output status × IsKept store
 IsDoneBy language form verbose folders known store input (ForSession session) output status = IsSessionDone language folders known session.base input output status × IsKept store
 
 -- What is asked for is done: a command, or help or the version is shown, if memory allows; all else is reported as bad arguments.

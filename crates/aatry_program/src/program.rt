@@ -2,10 +2,11 @@
 
 ghost use Rattle.std.specs.Prelude.{◌≡◌, ◌≤◌, ◌^◌, MatchResult, drop, map, string_bytes};
 ghost use Rattle.aatry_arguments.specs.Forms.{asked_call};
-ghost use Rattle.aatry_arguments.specs.Given.{meant_command};
+ghost use Rattle.aatry_arguments.specs.Given.{meant_command, meant_path_comparison};
 ghost use Rattle.aaset_start.specs.Gathering.{texts_of};
 ghost use Rattle.aatry_program.specs.Program.{IsCommandDone, IsDone, IsDoneBy, IsFaultShown, IsOutcomeShown, IsPathsDone, IsPathsOutcomeShown, IsSessionDone, IsShown, IsStarted};
 ghost use Rattle.aatry_program.specs.Program.{input_of, output_of, store_of};
+ghost use Rattle.aatry_diff_paths.specs.Below.{ArePathsCompared, IsEndOfPathComparison};
 ghost use Rattle.aatry_never.specs.Ends.{IsEndOfPaths};
 ghost use Rattle.aatry_never.specs.Never.{IsPathsToldBelow, claim_of};
 ghost use Rattle.aatry_program.specs.Questions.{IsEndOf, IsToldBelow};
@@ -20,9 +21,12 @@ use crate::streams::Streams;
 use aa_profile_parsing::Language;
 use aa_set_lines::{Sink, Source, write_all};
 use aaset_start::FileSystem;
-use aatry_arguments::{AllPaths, ArgumentFault, Asking, Call, Command, Session, call_of};
+use aatry_arguments::{
+    AllPaths, ArgumentFault, Asking, Call, Command, PathComparison, Session, call_of,
+};
 use aatry_check::check_folder;
 use aatry_diff::diff_folders;
+use aatry_diff_paths::diff_paths_folders;
 use aatry_folder::{Fault, Folders, Report};
 use aatry_hints::hint;
 use aatry_log::log_folder;
@@ -135,10 +139,9 @@ fn tell_question<F: Folders, D: FileSystem, S, W: Sink, E: Sink>(
     }
 }
 
-// Shows what a question about all paths came to, or reports why it came to nothing, and gives the exit status. Where its words ask nothing, a line tells why.
-fn show_paths<S, W: Sink, E: Sink>(
+// Shows what was found of all paths, or reports why nothing was, and gives the exit status.
+fn show_found<S, W: Sink, E: Sink>(
     alloc: Global,
-    line: &[u8],
     outcome: Result<PathsReport, Fault>,
     streams: &mut Streams<S, W, E>,
 ) -> u8
@@ -156,8 +159,22 @@ fn show_paths<S, W: Sink, E: Sink>(
             note(&mut streams.errors, found.notes.as_slice());
             status
         }
-        Err(Fault::BadQuestion) => report_line(&mut streams.errors, line, &Fault::BadQuestion),
         Err(fault) => report(alloc, &mut streams.errors, &fault),
+    }
+}
+
+// Shows what a question about all paths came to, or reports why it came to nothing, and gives the exit status. Where its words ask nothing, a line tells why.
+fn show_paths<S, W: Sink, E: Sink>(
+    alloc: Global,
+    line: &[u8],
+    outcome: Result<PathsReport, Fault>,
+    streams: &mut Streams<S, W, E>,
+) -> u8
+    ensures { IsPathsOutcomeShown outcome (output_of (W.written streams.old.output) (W.written streams.new.output) (W.failed streams.new.output)) result }
+{
+    match outcome {
+        Err(Fault::BadQuestion) => report_line(&mut streams.errors, line, &Fault::BadQuestion),
+        outcome => show_found(alloc, outcome, streams),
     }
 }
 
@@ -184,6 +201,23 @@ fn tell_paths<F: Folders, D: FileSystem, S, W: Sink, E: Sink>(
         ),
         Err(_) => report(teller.alloc, &mut streams.errors, &Fault::NoMemory),
     }
+}
+
+// Compares two folders for all paths, and shows what it comes to.
+fn compare_paths<F: Folders, D: FileSystem, S, W: Sink, E: Sink>(
+    teller: Teller,
+    language: Language,
+    asked: PathComparison,
+    folders: &F,
+    disk: &D,
+    streams: &mut Streams<S, W, E>,
+) -> u8
+    ensures { IsPathsDone (ArePathsCompared teller.form teller.verbose language (F.told folders.now) (D.known disk.now) (meant_path_comparison asked))
+        (IsEndOfPathComparison (F.told folders.now) (meant_path_comparison asked))
+        (output_of (W.written streams.old.output) (W.written streams.new.output) (W.failed streams.new.output)) result }
+{
+    let outcome = diff_paths_folders(teller, language, folders, disk, asked);
+    show_found(teller.alloc, outcome, streams)
 }
 
 // Does what a call asks for.
@@ -267,6 +301,14 @@ fn perform<F: Folders, D: FileSystem, T: FileStore, S: Source, W: Sink, E: Sink>
             let outcome = diff_folders(teller, language, &disk.folders, &disk.files, asked);
             show_outcome(alloc, outcome, streams)
         }
+        Command::DiffAll(asked) => compare_paths(
+            teller,
+            language,
+            asked,
+            &disk.folders,
+            &disk.files,
+            streams,
+        ),
         Command::Session(asked) => have_session(
             alloc,
             language,
@@ -344,7 +386,8 @@ fn do_asked<F: Folders, D: FileSystem, T: FileStore, S: Source, W: Sink, E: Sink
 /// status is 0 where each file that was checked was taken, each transcript that was tested passed or was accepted, a question has an answer,
 /// somebody would be let through, what is claimed of all paths holds, nothing differs between two folders, logs were read, a session ended, or a text was
 /// asked for and shown; 1 where one of these isn't so; 2 where the arguments or a question are no good, or a folder of policy or another file can't be read; and 3 where a stream or
-/// memory failed, a transcript can't be replaced, or a claim about all paths isn't refuted, and nothing is known of somebody.
+/// memory failed, a transcript can't be replaced, or a claim about all paths isn't refuted, or nothing is known to differ of all paths, and nothing is known of
+/// somebody.
 pub fn start<F: Folders, D: FileSystem, T: FileStore, S: Source, W: Sink, E: Sink>(
     alloc: Global,
     words: Result<Vec<String>, Fault>,

@@ -1,9 +1,9 @@
-use Rattle.std.proofs.Common.{ap, refl}
+use Rattle.std.proofs.Common.{◌∙◌, ap, refl}
 use Rattle.aa_options.specs.Options.{asked_as}
 use Rattle.aatry_arguments.specs.Arguments.{ForDiff}
 use Rattle.aatry_arguments.specs.DiffWords.{asked_by, stat_flag}
 use Rattle.aatry_arguments.specs.Flags.{without_flag}
-use Rattle.aatry_arguments.proofs.DiffLawLemmas.{compared_by_both, compared_by_log, compared_by_none, compared_by_questions, last_log, last_questions, log_in_word, log_word, plain_words, questions_in_word, questions_word}
+use Rattle.aatry_arguments.proofs.DiffLawLemmas.{compared_by_both, compared_by_log, compared_by_none, compared_by_questions, last_log, last_questions, log_in_word, log_word, not_all, plain_words, questions_in_word, questions_word}
 use Rattle.aatry_arguments.proofs.laws.what_comparisons_have.Goals as goal
 
 pub returns-clause-alone : goal.returns-clause-alone
@@ -13,7 +13,7 @@ pub returns-clause-by_none : goal.returns-clause-by_none
 returns-clause-by_none c old new o n = compared_by_none old new o n
 
 pub returns-clause-by_stat : goal.returns-clause-by_stat
-returns-clause-by_stat c words given = ap (λ stat. asked_as ForDiff (asked_by stat (without_flag stat_flag words))) given
+returns-clause-by_stat c words none given = not_all words none ∙ ap (λ stat. asked_as ForDiff (asked_by stat (without_flag stat_flag words))) given
 
 pub returns-clause-by_log : goal.returns-clause-by_log
 returns-clause-by_log c old new path o n p = compared_by_log old new path o n p

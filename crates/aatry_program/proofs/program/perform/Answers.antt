@@ -57,3 +57,6 @@ returns-in-Session g c = rw c.in-Session.is (c.have_session.ensures, refl)
 
 pub returns-in-Paths : goal.returns-in-Paths
 returns-in-Paths g c = rw c.in-Paths.is (c.tell_paths.ensures, refl)
+
+pub returns-in-DiffAll : goal.returns-in-DiffAll
+returns-in-DiffAll g c = rw c.in-DiffAll.is (c.compare_paths.ensures, refl)

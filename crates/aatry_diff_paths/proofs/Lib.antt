@@ -1,0 +1,3 @@
+mod BelowLemmas
+mod LawLemmas
+mod StepLemmas

@@ -1,0 +1,7 @@
+pub mod Below
+pub mod Finding
+pub mod Kinds
+pub mod Laws
+pub mod Others
+pub mod Summary
+pub mod Telling
