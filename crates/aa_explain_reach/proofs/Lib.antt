@@ -1,0 +1,5 @@
+pub mod ChainLemmas
+pub mod GoingLemmas
+pub mod ListLemmas
+pub mod ReachLemmas
+pub mod StarterLemmas

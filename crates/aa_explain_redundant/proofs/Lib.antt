@@ -1,0 +1,8 @@
+pub mod CopyLemmas
+pub mod ExampleLemmas
+pub mod KindLemmas
+pub mod LeftLemmas
+pub mod PathLemmas
+pub mod ReasonLemmas
+pub mod SameLemmas
+pub mod StandLemmas

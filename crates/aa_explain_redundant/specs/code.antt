@@ -1,0 +1,6 @@
+-- What the code's own forms mean. No public contract names these.
+pub mod Comparing
+pub mod Copies
+pub mod Examples
+pub mod Kinds
+pub mod Telling

@@ -1,0 +1,139 @@
+//! Which written rules decide nothing, of all paths.
+
+ghost use Rattle.std.specs.Prelude.{◌≡◌, ◌++◌, ◌∷◌, [], IfOk, IfSome, None, OnOk, map};
+ghost use Rattle.std.specs.List.{All};
+ghost use Rattle.aa_glob_paths.specs.AllPaths.{TellAllPaths};
+ghost use Rattle.aa_glob_paths.specs.TooMany.{AreMoreTextsThan};
+ghost use Rattle.aa_explain_redundant.specs.Left.{numbered};
+ghost use Rattle.aa_explain_redundant.specs.Seen.{seen_numbered, seen_redundant, seen_written};
+ghost use Rattle.aa_explain_redundant.specs.Answers.{IsAnswerOf};
+ghost use Rattle.aa_explain_redundant.specs.Trying.{tried_patterns, trying_patterns};
+ghost use Rattle.aa_explain_redundant.specs.code.Kinds.{IsKind, paths_of_kinds, told_by, trying_classes};
+ghost use Rattle.aa_explain_redundant.specs.code.Telling.{reasons_by};
+
+use crate::kinds::{Kind, kinds_of};
+use crate::reasons::{Redundant, reasons_by};
+use crate::trying::told_by;
+use crate::written::{NumberedRule, WrittenRules, is_made_of, numbered};
+use aa_decide_ready::{file_places, with_files};
+use aa_explain_paths::{file_count, standing_paths, unasked_patterns};
+use aa_glob_automaton::AutomatonBuilder;
+use aa_glob_paths::{Outcome, outcomes_stand_for_all};
+use aa_glob_pattern::Pattern;
+use aa_profile_data::Rule;
+use std::alloc::{AllocError, Global};
+
+// Appends the pattern of a rule on files, if it was made of one of the written rules that are tried.
+fn push_tried(
+    alloc: Global,
+    tried: &[usize],
+    one: NumberedRule<'_>,
+    patterns: &mut Vec<Pattern>,
+) -> Result<(), AllocError>
+    ensures { OnOk result (patterns.new.items ≡ patterns.old.items ++ tried_patterns tried.now (seen_numbered one.entry ∷ [])) }
+{
+    if is_made_of(tried, one) {
+        if let Rule::File(rule) = one.rule {
+            patterns.push(rule.pattern.try_copy(alloc)?)?;
+        }
+    }
+    Ok(())
+}
+
+/// The patterns of the rules on files that were made of the written rules that are tried.
+///
+/// # Errors
+///
+/// Where memory runs out.
+pub fn tried_patterns(
+    alloc: Global,
+    tried: &[usize],
+    rules: &[NumberedRule<'_>],
+) -> Result<Vec<Pattern>, AllocError>
+    ensures { IfOk result (λ patterns. patterns.items ≡ tried_patterns tried.now (map seen_numbered rules.now)) }
+{
+    let mut patterns = Vec::new(alloc);
+    let mut rest = rules;
+    while let [one, behind @ ..] = rest {
+        push_tried(alloc, tried, *one, &mut patterns)?;
+        rest = behind;
+    }
+    Ok(patterns)
+}
+
+// Paths that stand for all that one of these patterns matches; none where they are too many.
+fn trying_outcomes(
+    alloc: Global,
+    rules: WrittenRules<'_>,
+    tried: &[usize],
+    wanted: &[Pattern],
+    limit: usize,
+) -> Result<Option<Vec<Outcome>>, AllocError>
+    requires { wanted.now ≡ tried_patterns tried.now (numbered (seen_written rules)) }
+    ensures told { IfOk result (λ found. IfSome found (λ outcomes.
+        TellAllPaths (trying_patterns (seen_written rules.entry) tried.now) (trying_classes (seen_written rules.entry) tried.now) outcomes.items)) }
+    ensures full { IfOk result (λ found. found ≡ None → AreMoreTextsThan (trying_patterns (seen_written rules.entry) tried.now) limit) }
+{
+    let unasked = unasked_patterns(alloc)?;
+    let none = AutomatonBuilder::new(alloc)?;
+    let files = with_files(none, alloc, rules.rules)?;
+    standing_paths(
+        alloc,
+        files,
+        file_count(rules.rules),
+        wanted,
+        &unasked,
+        limit,
+    )
+}
+
+// What is told of the written rules that are tried, by these kinds.
+fn told_with_reasons(
+    alloc: Global,
+    audit: bool,
+    tried: &[usize],
+    rules: &[NumberedRule<'_>],
+    kinds: &[Kind<'_>],
+) -> Result<Vec<Redundant>, AllocError>
+    requires { All (IsKind (map seen_numbered rules.now)) kinds.now }
+    ensures { IfOk result (λ found. map seen_redundant found.items
+        ≡ reasons_by (told_by audit (map seen_numbered rules.now) (paths_of_kinds kinds.now) tried.now) (map seen_numbered rules.now) kinds.now) }
+{
+    let told = told_by(alloc, audit, tried, rules, kinds)?;
+    reasons_by(alloc, &told, rules, kinds)
+}
+
+/// Those of some written rules that decide nothing, in the order in which they are tried, and why: without them, all together, the same is said of each path
+/// of any bytes that the kernel may ask about. That is: each letter of its file is answered the same in enforce mode, and logged the same, of the task's user
+/// and of others; and the start of its program is denied or leads where it did. So any letters together are answered the same, in whatever mode
+/// (`without_redundant_rules`). Of a written rule its rules on files are tried, all together: those on capabilities and sockets stay, and a written rule
+/// without any on files isn't told.
+///
+/// They are tried one after another, in the order of `tried`, by the numbers of `rules.written`. One that is told is gone for those behind it: of two that are
+/// equal that one is told which is tried first. Where one isn't told, something else is said of some path without it and those that were told before it.
+///
+/// None where paths are too many: more than `limit` sets of states of the patterns' automaton were to be looked at.
+///
+/// # Errors
+///
+/// Where memory runs out, and where there are more than 4,294,967,295 patterns or states.
+pub fn redundant_rules(
+    alloc: Global,
+    rules: WrittenRules<'_>,
+    tried: &[usize],
+    limit: usize,
+) -> Result<Option<Vec<Redundant>>, AllocError>
+    ensures { IfOk result (IsAnswerOf (seen_written rules.entry) tried.now limit) }
+{
+    outcomes_stand_for_all();
+    let each = numbered(alloc, rules)?;
+    let wanted = tried_patterns(alloc, tried, &each)?;
+    match trying_outcomes(alloc, rules, tried, &wanted, limit)? {
+        None => Ok(None),
+        Some(outcomes) => {
+            let numbers = file_places(alloc, rules.rules)?;
+            let kinds = kinds_of(alloc, &each, &numbers, outcomes)?;
+            Ok(Some(told_with_reasons(alloc, rules.audit, tried, &each, &kinds)?))
+        }
+    }
+}

@@ -1,0 +1,2 @@
+-- What is about the code: starts that are told so far. No public contract names these.
+pub mod Telling
