@@ -65,9 +65,10 @@ _aatry_offer_letting() {
 # Offers options of the command.
 _aatry_offer_options() {
     case $1 in
-    check) _aatry_offer '-b --json --language --color -h --help --' ;;
+    check) _aatry_offer '-b --included --limit --rules --json --language --color -h --help --' ;;
     why | who) _aatry_offer '-b --verbose --json --language --color -h --help --' ;;
     never | always) _aatry_offer '-b --limit --names --verbose --json --language --color -h --help --' ;;
+    reach) _aatry_offer '-b --dot --limit --verbose --json --language --color -h --help --' ;;
     log) _aatry_offer '-b --denied --globs --profile --rules --since --strict --verbose --json --language --color -h --help --' ;;
     diff) _aatry_offer '--all --limit --log --questions --quiet-audit --stat --verbose --json --language --color -h --help --' ;;
     session) _aatry_offer '-b --language --color -h --help --' ;;
@@ -92,7 +93,7 @@ _aatry() {
     COMPREPLY=()
     if [ "$word" = = ]; then word=; fi
     if [ "$COMP_CWORD" -eq 1 ]; then
-        _aatry_offer 'check why log who never always diff session test -h --help -V --version'
+        _aatry_offer 'check why log who never always reach diff session test -h --help -V --version'
         return
     fi
 
@@ -144,6 +145,7 @@ _aatry() {
         never:1 | always:1) _aatry_offer 'owner other any' ;;
         never:0 | always:0 | never:2 | always:2) ;;
         never:* | always:*) _aatry_offer_names ;;
+        reach:*) _aatry_offer_names unconfined ;;
         diff:*) mapfile -t COMPREPLY < <(compgen -d -- "$word") ;;
         test:* | log:*) mapfile -t COMPREPLY < <(compgen -f -- "$word") ;;
         check:*) if [[ $word != */* ]]; then _aatry_offer_files; fi ;;

@@ -140,14 +140,17 @@ function __aatry_files
 end
 
 complete -c aatry -f
-complete -c aatry -n __aatry_is_none -a 'check why log who never always diff session test'
+complete -c aatry -n __aatry_is_none -a 'check why log who never always reach diff session test'
 complete -c aatry -n __aatry_is_none -s V -l version -d 'Prints the version'
 complete -c aatry -s h -l help -d 'Prints help'
 complete -c aatry -l language -x -a '3 4' -d 'Reads policy by language N'
 complete -c aatry -l color -x -a 'auto always never' -d 'When lines are in colours'
-complete -c aatry -n '__aatry_is check why log who never always session test' -s b -x -a '(__fish_complete_directories)' -d 'The folder of policy'
-complete -c aatry -n '__aatry_is check why log who never always diff' -l json -d 'Tells in records of JSON'
-complete -c aatry -n '__aatry_is why log who never always diff' -l verbose -d 'Tells each file first that is left out, and why'
+complete -c aatry -n '__aatry_is check why log who never always reach session test' -s b -x -a '(__fish_complete_directories)' -d 'The folder of policy'
+complete -c aatry -n '__aatry_is check why log who never always reach diff' -l json -d 'Tells in records of JSON'
+complete -c aatry -n '__aatry_is why log who never always reach diff' -l verbose -d 'Tells each file first that is left out, and why'
+complete -c aatry -n '__aatry_is check' -l rules -d 'Tells rules that decide nothing'
+complete -c aatry -n '__aatry_is check' -l included -d 'With --rules, tries rules of included files, too'
+complete -c aatry -n '__aatry_is check' -l limit -x -d 'With --rules, how many sets of states are looked at'
 complete -c aatry -n '__aatry_is log' -l denied -d 'Passes over requests that were not denied'
 complete -c aatry -n '__aatry_is log' -l profile -x -a '(__aatry_names)' -d 'Passes over requests of others'
 complete -c aatry -n '__aatry_is log' -l since -x -d 'Passes over what came before'
@@ -156,6 +159,8 @@ complete -c aatry -n '__aatry_is log' -l globs -d 'Offers wider rules beside the
 complete -c aatry -n '__aatry_is log' -l strict -d 'Ends with 1 where a line was not answered'
 complete -c aatry -n '__aatry_is never always' -l names -d 'Tells no rules'
 complete -c aatry -n '__aatry_is never always' -l limit -x -d 'How many sets of states are looked at'
+complete -c aatry -n '__aatry_is reach' -l dot -d 'Tells a graph for graphviz'
+complete -c aatry -n '__aatry_is reach' -l limit -x -d 'How many sets of states are looked at'
 complete -c aatry -n '__aatry_is test' -l accept -d 'Writes what is told in place of what is wanted'
 complete -c aatry -n '__aatry_is diff' -l stat -d 'Tells how much differs'
 complete -c aatry -n '__aatry_is diff' -l all -d 'Compares the answers of all paths'
@@ -166,5 +171,6 @@ complete -c aatry -n '__aatry_is diff' -l questions -r -F -d 'Asks both the ques
 complete -c aatry -n '__aatry_is check' -a '(__aatry_files)'
 complete -c aatry -n '__aatry_is why who' -a '(__aatry_asked)'
 complete -c aatry -n '__aatry_is never always' -a '(__aatry_claimed)'
+complete -c aatry -n '__aatry_is reach' -a 'unconfined (__aatry_names)'
 complete -c aatry -n '__aatry_is log test' -F
 complete -c aatry -n '__aatry_is diff' -a '(__fish_complete_directories)'

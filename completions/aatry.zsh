@@ -69,7 +69,7 @@ _aatry() {
     verbose=('--verbose[Tells each file first that is left out, and why]')
     help=('(- *)'{-h,--help}'[Prints help]')
     if (( CURRENT == 2 )); then
-        _values command check why log who never always diff session test
+        _values command check why log who never always reach diff session test
         compadd -- -h --help -V --version
         return
     fi
@@ -77,10 +77,14 @@ _aatry() {
     shift words
     (( CURRENT-- ))
     case $command in
-    check) _arguments -S $base $language $records $help '*:NAME: _aatry_files' ;;
+    check) _arguments -S $base $language $records $help '--rules[Tells rules that decide nothing]' \
+        '--included[With --rules, tries rules of included files, too]' '--limit=[With --rules, how many sets of states are looked at]:N' \
+        '*:NAME: _aatry_files' ;;
     why | who) _arguments -S $base $language $records $verbose $help "*::word: _aatry_question $command" ;;
     never | always) _arguments -S $base $language $records $verbose $help '--names[Tells no rules]' \
         '--limit=[How many sets of states are looked at]:N' ':ACCESS' ':OWNED:(owner other any)' ':PATTERN' '*:WHO: _aatry_names' ;;
+    reach) _arguments -S $base $language $records $verbose $help '--dot[Tells a graph for graphviz]' \
+        '--limit=[How many sets of states are looked at]:N' '*:WHO: _aatry_names unconfined' ;;
     log) _arguments -S $base $language $records $verbose $help '--denied[Passes over requests that were not denied]' \
         '--profile=[Passes over requests of others]:NAME: _aatry_names' '--since=[Passes over what came before]:WHEN' \
         '--rules[Tells rules to add]' '--globs[Offers wider rules beside these]' \

@@ -1,11 +1,13 @@
 -- What words ask for that are read as those behind `check`.
-use Rattle.std.proofs.Common.{◌≡◌, Result, Ok, Err, refl, sym, subst}
+use Rattle.std.proofs.Common.{◌≡◌, ℕ, Bool, true, false, List, Result, Ok, Err, refl, sym, subst}
 use Rattle.aa_options.specs.Given.{IsGivenFor}
 use Rattle.aa_options.proofs.FaultLemmas.{memory_given}
-use Rattle.aatry_arguments.specs.Arguments.{CommandAsked, ForCheck}
+use Rattle.aatry_arguments.specs.Arguments.{CommandAsked, ForCheck, ForRules, asked_checks}
 use Rattle.aa_options.specs.Options.{Asked, ForThis, ForHelp, ForVersion, Nothing, asked_as, asked_then}
-use Rattle.aatry_arguments.specs.CheckWords.{CheckAsked}
+use Rattle.aatry_arguments.specs.CheckWords.{CheckAsked, asked_check}
+use Rattle.aatry_arguments.specs.Flags.{is_given, without_flag}
 use Rattle.aatry_arguments.specs.Given.{IsHelp, IsPassedOn}
+use Rattle.aatry_arguments.specs.RulesWords.{RulesCheckAsked, asked_rules, redundant_flag}
 use Rattle.aa_options.specs.declared.fault.ArgumentFault.{ArgumentFault}
 use Rattle.aa_options.specs.declared.fault.ArgumentFault.TheVariants.{Help, Version, Bad, Memory}
 
@@ -51,10 +53,10 @@ passes (Version text) = refl
 passes Bad = refl
 passes Memory = refl
 
--- where a check is asked for, what would be asked of another command is known
-pub asked_of_check : {A : Type 0} (command : A → CommandAsked) (made : CheckAsked → Asked A) (asked : Asked CheckAsked) (check : CheckAsked)
+-- where a check of files is asked for, what would be asked of another command is known
+of_files : {A : Type 0} (command : A → CommandAsked) (made : CheckAsked → Asked A) (asked : Asked CheckAsked) (check : CheckAsked)
     → asked_as ForCheck asked ≡ ForThis (ForCheck check) → asked_as command (asked_then made asked) ≡ asked_as command (made check)
-asked_of_check command made (ForThis asked) check same = rw (same_check same) refl
+of_files command made (ForThis asked) check same = rw (same_check same) refl
   where
     checked : Asked CommandAsked → CheckAsked
     checked (ForThis (ForCheck asked)) = asked
@@ -62,6 +64,25 @@ asked_of_check command made (ForThis asked) check same = rw (same_check same) re
 
     same_check : {a b : CheckAsked} → ForThis (ForCheck a) ≡ ForThis (ForCheck b) → a ≡ b
     same_check same = cc
-asked_of_check command made ForHelp check same = cc
-asked_of_check command made ForVersion check same = cc
-asked_of_check command made Nothing check same = cc
+of_files command made ForHelp check same = cc
+of_files command made ForVersion check same = cc
+of_files command made Nothing check same = cc
+
+-- words that ask for a check of files don't ask for rules
+no_rules : (asked : Asked RulesCheckAsked) (check : CheckAsked) → asked_as ForRules asked ≡ ForThis (ForCheck check) → ⊥
+no_rules (ForThis rules) check same = cc
+no_rules ForHelp check same = cc
+no_rules ForVersion check same = cc
+no_rules Nothing check same = cc
+
+pub asked_of_check : {A : Type 0} (command : A → CommandAsked) (made : CheckAsked → Asked A) (words : List (List ℕ)) (check : CheckAsked)
+    → asked_checks words ≡ ForThis (ForCheck check) → asked_as command (asked_then made (asked_check words)) ≡ asked_as command (made check)
+asked_of_check command made words check asks = by (is_given redundant_flag words) refl
+  where
+    by : (b : Bool) → is_given redundant_flag words ≡ b → asked_as command (asked_then made (asked_check words)) ≡ asked_as command (made check)
+    by true is =
+        let rules : asked_as ForRules (asked_rules (without_flag redundant_flag words)) ≡ ForThis (ForCheck check) = rw is at asks in
+        absurd (no_rules (asked_rules (without_flag redundant_flag words)) check rules)
+    by false is =
+        let files : asked_as ForCheck (asked_check words) ≡ ForThis (ForCheck check) = rw is at asks in
+        of_files command made (asked_check words) check files

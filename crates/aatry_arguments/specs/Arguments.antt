@@ -9,16 +9,20 @@ use Rattle.aatry_arguments.specs.DiffWords.{ComparisonAsked, asked_diff}
 use Rattle.aatry_arguments.specs.Flags.{is_given, without_flag}
 use Rattle.aatry_arguments.specs.LogWords.{LogsAsked, asked_logs}
 use Rattle.aatry_arguments.specs.PathsWords.{AllPathsAsked, asked_paths}
+use Rattle.aatry_arguments.specs.ReachWords.{ReachAsked, asked_reach}
+use Rattle.aatry_arguments.specs.RulesWords.{RulesCheckAsked, asked_rules, redundant_flag}
 use Rattle.aatry_arguments.specs.SessionWords.{SessionAsked, asked_session}
 use Rattle.aatry_arguments.specs.TestWords.{TestAsked, asked_test}
 
 -- a command that is asked for
 pub data CommandAsked : Type 0 where
   ForCheck : CheckAsked → CommandAsked
+  ForRules : RulesCheckAsked → CommandAsked
   ForTest : TestAsked → CommandAsked
   ForWho : AskingAsked → CommandAsked
   ForWhy : AskingAsked → CommandAsked
   ForPaths : AllPathsAsked → CommandAsked
+  ForReach : ReachAsked → CommandAsked
   ForLog : LogsAsked → CommandAsked
   ForDiff : ComparisonAsked → CommandAsked
   ForDiffAll : PathComparisonAsked → CommandAsked
@@ -37,15 +41,21 @@ abbrev pub asked_diffs : List (List ℕ) → Asked CommandAsked
 asked_diffs words =
     if is_given all_flag words then asked_as ForDiffAll (asked_all (without_flag all_flag words)) else asked_as ForDiff (asked_diff words)
 
+-- what the words behind `check` ask for: which rules decide nothing, where the flag is among them, and else for a check of files
+abbrev pub asked_checks : List (List ℕ) → Asked CommandAsked
+asked_checks words =
+    if is_given redundant_flag words then asked_as ForRules (asked_rules (without_flag redundant_flag words)) else asked_as ForCheck (asked_check words)
+
 -- what a first word asks for, with the words behind it: it is the name of a command, or asks for help or the version
 abbrev pub asked_by_first : List ℕ → List (List ℕ) → Asked CommandAsked
 asked_by_first first words =
-    if bytes_eq first (codes "check") then asked_as ForCheck (asked_check words)
+    if bytes_eq first (codes "check") then asked_checks words
     else if bytes_eq first (codes "test") then asked_as ForTest (asked_test words)
     else if bytes_eq first (codes "who") then asked_as ForWho (asked_words words)
     else if bytes_eq first (codes "why") then asked_as ForWhy (asked_words words)
     else if bytes_eq first (codes "never") then asked_as ForPaths (asked_paths false words)
     else if bytes_eq first (codes "always") then asked_as ForPaths (asked_paths true words)
+    else if bytes_eq first (codes "reach") then asked_as ForReach (asked_reach words)
     else if bytes_eq first (codes "log") then asked_as ForLog (asked_logs words)
     else if bytes_eq first (codes "diff") then asked_diffs words
     else if bytes_eq first (codes "session") then asked_as ForSession (asked_session words)

@@ -3,12 +3,14 @@ use Rattle.std.specs.Prelude.{◌≡◌, option_map, string_bytes}
 use Rattle.aa_options.specs.Texts.{texts}
 use Rattle.aatry_arguments.specs.AskingWords.{AskingAsked, asking_with}
 use Rattle.aatry_arguments.specs.CheckWords.{CheckAsked, check_with}
-use Rattle.aatry_arguments.specs.Arguments.{CommandAsked, ForCheck, ForDiff, ForDiffAll, ForLog, ForPaths, ForSession, ForTest, ForWho, ForWhy}
+use Rattle.aatry_arguments.specs.Arguments.{CommandAsked, ForCheck, ForDiff, ForDiffAll, ForLog, ForPaths, ForReach, ForRules, ForSession, ForTest, ForWho, ForWhy}
 use Rattle.aatry_arguments.specs.DiffAllWords.{PathComparisonAsked, path_comparison_with}
 use Rattle.aatry_arguments.specs.DiffWords.{ComparisonAsked, LogAt, QuestionsAt, SourceAsked, comparison_with}
 use Rattle.aatry_arguments.specs.Forms.{CallAsked}
 use Rattle.aatry_arguments.specs.LogWords.{LogLinesAsked, LogTellingAsked, LogsAsked, lines_with, logs_with, telling_with}
 use Rattle.aatry_arguments.specs.PathsWords.{AllPathsAsked, paths_with}
+use Rattle.aatry_arguments.specs.ReachWords.{ReachAsked, reach_with}
+use Rattle.aatry_arguments.specs.RulesWords.{RulesCheckAsked, rules_check_with}
 use Rattle.aatry_arguments.specs.SessionWords.{SessionAsked, session_with}
 use Rattle.aatry_arguments.specs.TestWords.{TestAsked, test_with}
 use Rattle.aatry_arguments.specs.declared.arguments.AllPaths.{AllPaths}
@@ -20,8 +22,10 @@ use Rattle.aatry_arguments.specs.declared.arguments.LogLines.{LogLines}
 use Rattle.aatry_arguments.specs.declared.arguments.LogTelling.{LogTelling}
 use Rattle.aatry_arguments.specs.declared.arguments.Logs.{Logs}
 use Rattle.aatry_arguments.specs.declared.arguments.PathComparison.{PathComparison}
+use Rattle.aatry_arguments.specs.declared.arguments.Reach.{Reach}
 use Rattle.aatry_arguments.specs.declared.arguments.RequestSource.{RequestSource}
 use Rattle.aatry_arguments.specs.declared.arguments.RequestSource.TheVariants.{Log, Questions}
+use Rattle.aatry_arguments.specs.declared.arguments.RulesCheck.{RulesCheck}
 use Rattle.aatry_arguments.specs.declared.arguments.Session.{Session}
 use Rattle.aatry_arguments.specs.declared.arguments.Test.{Test}
 use Rattle.aatry_arguments.specs.declared.arguments.Command.{Command}
@@ -32,6 +36,10 @@ use Rattle.aa_options.specs.declared.fault.ArgumentFault.TheVariants.{Help, Vers
 -- the check that is meant
 abbrev pub meant_check : Check → CheckAsked
 meant_check check = check_with (string_bytes check.base) (texts check.names)
+
+-- the check for rules that decide nothing that is meant
+abbrev pub meant_rules : RulesCheck → RulesCheckAsked
+meant_rules rules = rules_check_with rules.included rules.limit (meant_check rules.check)
 
 -- the test that is meant
 abbrev pub meant_test : Test → TestAsked
@@ -44,6 +52,10 @@ meant_asking asking = asking_with (string_bytes asking.base) (texts asking.words
 -- the question about all paths that is meant
 abbrev pub meant_paths : AllPaths → AllPathsAsked
 meant_paths paths = paths_with paths.always paths.names paths.limit (meant_asking paths.asking)
+
+-- the question under which profiles programs may run that is meant
+abbrev pub meant_reach : Reach → ReachAsked
+meant_reach reach = reach_with reach.dot reach.limit (meant_asking reach.asking)
 
 -- which lines of logs are meant
 abbrev pub meant_lines : LogLines → LogLinesAsked
@@ -81,10 +93,12 @@ meant_session session = session_with (string_bytes session.base)
 -- the command that is meant
 abbrev pub meant_command : Command → CommandAsked
 meant_command (command.Check check) = ForCheck (meant_check check)
+meant_command (command.CheckRules rules) = ForRules (meant_rules rules)
 meant_command (command.Test test) = ForTest (meant_test test)
 meant_command (command.Who asking) = ForWho (meant_asking asking)
 meant_command (command.Why asking) = ForWhy (meant_asking asking)
 meant_command (command.Paths paths) = ForPaths (meant_paths paths)
+meant_command (command.Reach reach) = ForReach (meant_reach reach)
 meant_command (command.Log logs) = ForLog (meant_logs logs)
 meant_command (command.Diff comparison) = ForDiff (meant_comparison comparison)
 meant_command (command.DiffAll comparison) = ForDiffAll (meant_path_comparison comparison)

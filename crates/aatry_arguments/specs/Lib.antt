@@ -11,6 +11,8 @@ pub mod Given
 pub mod Languages
 pub mod LogWords
 pub mod PathsWords
+pub mod ReachWords
+pub mod RulesWords
 pub mod SeenValues
 pub mod SessionWords
 pub mod TestWords

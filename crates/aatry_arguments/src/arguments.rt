@@ -21,6 +21,8 @@ pub struct Call {
 pub enum Command {
     /// Files of a folder of policy are to be checked.
     Check(Check),
+    /// Rules that decide nothing are to be looked for in files of a folder of policy.
+    CheckRules(RulesCheck),
     /// Transcripts are to be tested over a folder of policy.
     Test(Test),
     /// Who would be let is asked of a folder of policy: the words are those of a question from which who asks is left out.
@@ -29,6 +31,8 @@ pub enum Command {
     Why(Asking),
     /// It is asked of a folder of policy whether something is never let, or always, of all files of a pattern: the words are those of the question.
     Paths(AllPaths),
+    /// It is asked of a folder of policy under which profiles programs may run that somebody starts: the words are the names of those who do.
+    Reach(Reach),
     /// What logs tell of is asked of a folder of policy.
     Log(Logs),
     /// Two folders of policy are to be compared.
@@ -46,6 +50,17 @@ pub struct Check {
     pub base: String,
     /// The files of the folder to check, in this order. Where there is none, all files at its top are meant.
     pub names: Vec<String>,
+}
+
+/// In which files rules that decide nothing are to be looked for.
+#[derive(Drop)]
+pub struct RulesCheck {
+    /// The folder of policy, and the files.
+    pub check: Check,
+    /// Whether rules of included files are to be tried, too.
+    pub included: bool,
+    /// How many sets of states are to be looked at, at most, for each profile, child and hat.
+    pub limit: usize,
 }
 
 /// Which transcripts are to be tested.
@@ -78,6 +93,17 @@ pub struct AllPaths {
     /// Whether names alone are to be told, without rules.
     pub names: bool,
     /// How many sets of states are to be looked at, at most, for each of those who are asked about.
+    pub limit: usize,
+}
+
+/// Under which profiles programs may run is asked of a folder of policy.
+#[derive(Drop)]
+pub struct Reach {
+    /// The folder of policy, and the names of those who start programs: one at least.
+    pub asking: Asking,
+    /// Whether it is to be told as a graph.
+    pub dot: bool,
+    /// How many sets of states are to be looked at, at most, for each who starts programs.
     pub limit: usize,
 }
 

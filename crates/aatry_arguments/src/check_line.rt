@@ -21,11 +21,19 @@ Of each file one of these is told:
 Rules of kinds that decide nothing here, as mount or dbus, are read and counted. With --json, which
 stands ahead of any --, each file is told as a record of JSON, on a line of its own.
 
+With --rules the written rules on files are told in place of that which decide nothing: without all
+of these nothing is answered otherwise, nor logged, nor started under another profile, of no path.
+Below each stand a path and the rules that decide there. All files below DIR are loaded, as why loads
+them. Ahead of any -- may stand beside it
+  --included   Tries rules of included files, too, and not only the profile's own
+  --limit <N>  How many sets of states are looked at, at most, for each profile, child and hat;
+               262144 if none is given
+
 Exit status:
-  0  Each file was taken, or help was asked for
-  1  Some file was refused
+  0  Each file was taken, or help was asked for; with --rules: each rule that was tried decides something
+  1  Some file was refused; with --rules: some rule decides nothing
   2  The arguments are bad, or DIR, or a file or folder below it, can't be read
-  3  Writing failed, or memory ran out";
+  3  Writing failed, or memory ran out; with --rules: too many sets for somebody, and no rule is told";
 
 // The option for the folder of policy.
 fn base_argument<'a>(alloc: Global) -> Arg<'a>

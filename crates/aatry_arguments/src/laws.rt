@@ -3,10 +3,10 @@
 ghost use Rattle.std.specs.Prelude.{◌≡◌, ◌++◌, ℕ, None, Some, false, true, List, Option, [], ◌∷◌, codes};
 ghost use Rattle.std.specs.List.{list_all};
 ghost use Rattle.aa_options.specs.Options.{Open, is_name, is_option};
-ghost use Rattle.aatry_arguments.specs.Arguments.{ForCheck, ForDiff, ForLog, ForSession, ForTest, ForWho, ForWhy, asked, asked_by_first};
+ghost use Rattle.aatry_arguments.specs.Arguments.{ForCheck, ForDiff, ForLog, ForReach, ForRules, ForSession, ForTest, ForWho, ForWhy, asked, asked_by_first};
 ghost use Rattle.aa_options.specs.Options.{ForThis, Nothing, asked_as};
-ghost use Rattle.aatry_arguments.specs.AskingWords.{asking_with};
-ghost use Rattle.aatry_arguments.specs.CheckWords.{CheckAsked, asked_behind, below, check_with, with_names};
+ghost use Rattle.aatry_arguments.specs.AskingWords.{asked_words, asking_with};
+ghost use Rattle.aatry_arguments.specs.CheckWords.{CheckAsked, asked_behind, asked_check, below, check_with, with_names};
 ghost use Rattle.aa_options.specs.Options as diff;
 ghost use Rattle.aatry_arguments.specs.DiffAllWords.{all_flag};
 ghost use Rattle.aatry_arguments.specs.DiffWords.{DiffGiven, LogAt, OfLog, OfQuestions, QuestionsAt};
@@ -16,6 +16,9 @@ ghost use Rattle.aa_profile_parsing.specs.declared.language.Language.{Language};
 ghost use Rattle.aatry_arguments.specs.Languages.{by_language};
 ghost use Rattle.aatry_arguments.specs.LogWords.{all_lines, denied_flag, globs_flag, lines_with, logs_with, plain_telling, profile_option, rules_flag, since_option, strict_flag, telling_with};
 ghost use Rattle.aatry_arguments.specs.Flags.{is_given, without_flag};
+ghost use Rattle.aatry_arguments.specs.PathsWords.{limit_option};
+ghost use Rattle.aatry_arguments.specs.ReachWords.{dot_flag, reach_with};
+ghost use Rattle.aatry_arguments.specs.RulesWords.{asked_rules, included_flag, redundant_flag, rules_check_with};
 ghost use Rattle.aatry_arguments.specs.SessionWords.{session_with};
 ghost use Rattle.aatry_arguments.specs.TestWords.{accept_flag, test_with};
 ghost use Rattle.aatry_arguments.specs.Values.{IsWithout, ValueOption, value_in};
@@ -40,6 +43,32 @@ pub fn what_checks_have()
         → asked_behind (Open check) (codes "-b" ∷ first ∷ codes "-b" ∷ last ∷ words) ≡ asked_behind (Open (below last check)) words }
     ensures both { asked (codes "check" ∷ codes "x" ∷ codes "-b/srv" ∷ codes "y" ∷ [])
         ≡ ForThis (ForCheck (check_with (codes "/srv") (codes "x" ∷ codes "y" ∷ []))) }
+{}
+
+/// `check --rules` alone asks which rules decide nothing in all files at the top of /etc/apparmor.d, by 262,144 sets, of their own rules. Words without
+/// `--rules`, ahead of a `--`, ask for a check of files. Wherever `--rules` stands there, words ask for what they would with it at their front; so it is with
+/// `--included`, by which included rules are tried, too. Words without these and without `--limit` that would ask for a check of files ask of it for
+/// rules in these files.
+pub fn what_rule_checks_have()
+    ensures alone { asked (codes "check" ∷ codes "--rules" ∷ []) ≡ ForThis (ForRules (rules_check_with false 262144 (check_with (codes "/etc/apparmor.d") []))) }
+    ensures nowhere { (words : List (List ℕ))
+        → is_given redundant_flag words ≡ false
+        → asked (codes "check" ∷ words) ≡ asked_as ForCheck (asked_check words) }
+    ensures anywhere { (words : List (List ℕ))
+        → is_given redundant_flag words ≡ true
+        → asked (codes "check" ∷ words) ≡ asked_as ForRules (asked_rules (without_flag redundant_flag words)) }
+    ensures files { (words : List (List ℕ)) (base : List ℕ) (names : List (List ℕ))
+        → is_given redundant_flag words ≡ false
+        → is_given included_flag words ≡ false
+        → IsWithout limit_option words
+        → asked (codes "check" ∷ words) ≡ ForThis (ForCheck (check_with base names))
+        → asked (codes "check" ∷ codes "--rules" ∷ words) ≡ ForThis (ForRules (rules_check_with false 262144 (check_with base names))) }
+    ensures included { (words : List (List ℕ)) (base : List ℕ) (names : List (List ℕ))
+        → is_given redundant_flag words ≡ false
+        → is_given included_flag words ≡ true
+        → IsWithout limit_option words
+        → asked_check (without_flag included_flag words) ≡ ForThis (check_with base names)
+        → asked (codes "check" ∷ codes "--rules" ∷ words) ≡ ForThis (ForRules (rules_check_with true 262144 (check_with base names))) }
 {}
 
 /// `test` alone asks for nothing that there is, and so does any `test` whose words would ask of `check` to check all files at the top of a folder.
@@ -78,6 +107,22 @@ pub fn what_askings_have()
     ensures why { (words : List (List ℕ)) (base word : List ℕ) (more : List (List ℕ))
         → asked_by_first (codes "check") words ≡ ForThis (ForCheck (check_with base (word ∷ more)))
         → asked_by_first (codes "why") words ≡ ForThis (ForWhy (asking_with base (word ∷ more))) }
+{}
+
+/// `reach` alone asks for nothing that there is. Words without `--dot` and without `--limit` that would ask a question of `who` ask under which profiles programs
+/// may run that are started by those whose names they are, over the same folder, by 262,144 sets; and with `--dot` as a graph.
+pub fn what_reaches_have()
+    ensures alone { asked (codes "reach" ∷ []) ≡ Nothing }
+    ensures names { (words : List (List ℕ)) (base name : List ℕ) (names : List (List ℕ))
+        → is_given dot_flag words ≡ false
+        → IsWithout limit_option words
+        → asked_words words ≡ ForThis (asking_with base (name ∷ names))
+        → asked (codes "reach" ∷ words) ≡ ForThis (ForReach (reach_with false 262144 (asking_with base (name ∷ names)))) }
+    ensures dot { (words : List (List ℕ)) (base name : List ℕ) (names : List (List ℕ))
+        → is_given dot_flag words ≡ true
+        → IsWithout limit_option words
+        → asked_words (without_flag dot_flag words) ≡ ForThis (asking_with base (name ∷ names))
+        → asked (codes "reach" ∷ words) ≡ ForThis (ForReach (reach_with true 262144 (asking_with base (name ∷ names)))) }
 {}
 
 /// `log` alone asks by all lines of standard input, of /etc/apparmor.d; `log --strict` for the status too, `log --rules` for rules, and with `--globs` for

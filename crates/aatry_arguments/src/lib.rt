@@ -16,7 +16,9 @@ mod languages;
 mod laws;
 mod log_words;
 mod paths_words;
+mod reach_words;
 mod reading;
+mod rules_words;
 mod session_words;
 mod test_words;
 mod values;
@@ -24,12 +26,13 @@ mod values;
 pub use aa_options::ArgumentFault;
 pub use arguments::{
     AllPaths, Asking, Call, Check, Command, Comparison, LogLines, LogTelling, Logs, PathComparison,
-    RequestSource, Session, Test,
+    Reach, RequestSource, RulesCheck, Session, Test,
 };
 pub use diff_all_laws::what_path_comparisons_have;
 pub use forms::call_of;
 pub use laws::{
     how_languages_are_named, how_values_are_named, what_askings_have, what_checks_have,
-    what_comparisons_have, what_logs_have, what_sessions_have, what_tests_have,
+    what_comparisons_have, what_logs_have, what_reaches_have, what_rule_checks_have,
+    what_sessions_have, what_tests_have,
 };
 pub use values::{NamedOption, WithValue, value_of};

@@ -1,3 +1,1 @@
 mod BelowLemmas
-mod LawLemmas
-mod StepLemmas

@@ -19,8 +19,8 @@ use Rattle.aatry_policy.specs.Parts.{set_parts}
 use Rattle.aatry_policy.specs.declared.folder.LoadedFolder.{LoadedFolder}
 use Rattle.aatry_report.specs.declared.form.Form.{Form}
 use Rattle.aatry_uncertain.specs.LeftOutHeads.{LeftOutHead, heads_left_out}
-use Rattle.aatry_diff_paths.specs.Finding.{AreFound, Found, names_or}
-use Rattle.aatry_diff_paths.specs.Kinds.{has_otherwise, has_undecided, kinds_of}
+use Rattle.aatry_path_changes.specs.Finding.{AreFound, Found, names_or}
+use Rattle.aatry_path_changes.specs.Kinds.{has_otherwise, has_undecided, kinds_of}
 use Rattle.aatry_diff_paths.specs.Summary.{summary_text}
 use Rattle.aatry_diff_paths.specs.Telling.{all_text}
 use Rattle.aatry_diff_paths.specs.declared.below.Asked.{Asked}

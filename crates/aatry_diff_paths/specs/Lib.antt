@@ -1,7 +1,3 @@
 pub mod Below
-pub mod Finding
-pub mod Kinds
-pub mod Laws
-pub mod Others
 pub mod Summary
 pub mod Telling

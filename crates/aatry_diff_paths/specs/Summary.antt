@@ -6,8 +6,8 @@ use Rattle.aa_bytes.specs.Bytes.{line_feed}
 use Rattle.aatry_report.specs.Records.{record_line, record_of, with_number}
 use Rattle.aatry_report.specs.declared.form.Form.{Form}
 use Rattle.aatry_report.specs.declared.form.Form.TheVariants.{Lines, Records}
-use Rattle.aatry_diff_paths.specs.declared.kinds.Kind.{Kind}
-use Rattle.aatry_diff_paths.specs.declared.kinds.Kind.TheVariants.{Absent, Both, Gone, Narrower, New, Otherwise, Same, TooMany, Wider}
+use Rattle.aatry_path_changes.specs.declared.kinds.Kind.{Kind}
+use Rattle.aatry_path_changes.specs.declared.kinds.Kind.TheVariants.{Absent, Both, Gone, Narrower, New, Otherwise, Same, TooMany, Wider}
 
 abbrev pub same_kind : Kind → Kind → Bool
 same_kind Same Same = true

@@ -33,15 +33,15 @@ use Rattle.aatry_shared.specs.PartFeatures.{state_text}
 use Rattle.aatry_shared.specs.declared.side.Side.{Side}
 use Rattle.aatry_shared.specs.declared.side.Side.TheVariants.{New, Old}
 use Rattle.aatry_uncertain.specs.LeftOutHeads.{LeftOutHead}
-use Rattle.aatry_diff_paths.specs.Finding.{Both, Finding, Found, OfAbsent, OfBoth, OfGone, OfNew, sides_of}
-use Rattle.aatry_diff_paths.specs.Kinds.{is_same, kind_of_both}
-use Rattle.aatry_diff_paths.specs.Others.{answers_of}
-use Rattle.aatry_diff_paths.specs.declared.kinds.Kind.{Kind}
-use Rattle.aatry_diff_paths.specs.declared.kinds.Kind.TheVariants as kind
-use Rattle.aatry_diff_paths.specs.declared.others.Answers.{Answers}
-use Rattle.aatry_diff_paths.specs.declared.others.Other.{Other}
-use Rattle.aatry_diff_paths.specs.declared.others.Other.TheVariants.{Capability, Sockets}
-use Rattle.aatry_diff_paths.specs.declared.others.OtherChange.{OtherChange}
+use Rattle.aatry_path_changes.specs.Finding.{Both, Finding, Found, OfAbsent, OfBoth, OfGone, OfNew, sides_of}
+use Rattle.aatry_path_changes.specs.Kinds.{is_same, kind_of_both}
+use Rattle.aatry_path_changes.specs.Others.{answers_of}
+use Rattle.aatry_path_changes.specs.declared.kinds.Kind.{Kind}
+use Rattle.aatry_path_changes.specs.declared.kinds.Kind.TheVariants as kind
+use Rattle.aatry_path_changes.specs.declared.others.Answers.{Answers}
+use Rattle.aatry_path_changes.specs.declared.others.Other.{Other}
+use Rattle.aatry_path_changes.specs.declared.others.Other.TheVariants.{Capability, Sockets}
+use Rattle.aatry_path_changes.specs.declared.others.OtherChange.{OtherChange}
 
 -- how an answer is logged: not, or by a line, and with which letters of a file
 abbrev pub mask_text : ℕ → List ℕ

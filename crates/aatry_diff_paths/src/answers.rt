@@ -4,10 +4,10 @@ ghost use Rattle.std.specs.Prelude.{◌≡◌, ◌++◌, IfOk, OnOk};
 ghost use Rattle.aatry_diff_paths.specs.Telling.{answer_text, answers_text, is_otherwise, log_text, mask_text, tells_logs, with_answers};
 ghost use Rattle.aatry_report.specs.SeenRecord.{seen_record};
 
-use crate::others::Answers;
 use aa_decide_audit::{Tag, Verdict};
 use aa_explain_changes::{Change, change_between};
 use aa_profile_access::Perms;
+use aatry_path_changes::Answers;
 use aatry_report::Record;
 use bitflags::Flags;
 use std::alloc::{AllocError, Global};

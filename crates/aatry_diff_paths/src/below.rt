@@ -3,15 +3,13 @@
 ghost use Rattle.std.specs.Prelude.{◌≡◌, ◌++◌, IfErr, IfOk, OnOk, map, string_bytes};
 ghost use Rattle.aatry_arguments.specs.Given.{meant_path_comparison};
 ghost use Rattle.aatry_diff_paths.specs.Below.{ArePathsCompared, IsCompared, IsEndOfPathComparison, IsFoundTold, compared_text, seen_how, seen_loaded};
-ghost use Rattle.aatry_diff_paths.specs.Finding.{seen_found};
+ghost use Rattle.aatry_path_changes.specs.Finding.{seen_found};
 ghost use Rattle.aatry_never.specs.Never.{seen_paths_report};
 ghost use Rattle.aatry_policy.specs.FolderParts.{seen_folder as seen_parts};
 ghost use Rattle.aatry_policy.specs.Folders.{seen_folder};
 ghost use Rattle.aatry_uncertain.specs.LeftOutHeads.{heads_loaded};
 ghost use Rattle.aatry_uncertain.specs.SeenHeads.{all_left_out};
 
-use crate::finding::{Found, Question, find_asked};
-use crate::kinds::{has_otherwise, has_undecided, kinds_of};
 use crate::summary::push_summary;
 use crate::telling::{How, push_all};
 use aa_profile_parsing::Language;
@@ -20,6 +18,7 @@ use aatry_arguments::PathComparison;
 use aatry_changes::Compared;
 use aatry_folder::{Fault, Folders, PolicyFolder, Report, failed_by, policy_below};
 use aatry_never::PathsReport;
+use aatry_path_changes::{Found, Question, find_asked, has_otherwise, has_undecided, kinds_of};
 use aatry_policy::{FolderParts, LoadedFolder, by_parts, load_folder, parts_of};
 use aatry_report::Teller;
 use aatry_uncertain::{LeftOutHeads, heads_left_out};
@@ -192,8 +191,9 @@ fn compare(
 ///
 /// Of somebody whom both folders have it is told in a word whether something is allowed now that wasn't, and something isn't any more (`wider`, `narrower`,
 /// `both`), or whether answers change otherwise alone (`otherwise`), and below that by what: the mode, rules on files that one side alone has, each with a
-/// shortest path on which answers change that it takes part in (`aa_explain_changes::changes_of_files`), capabilities and sockets. All is asked as in
-/// enforce mode. One failed where something differs of somebody, or nobody has a name; and it is undecided where paths are too many of somebody.
+/// shortest path on which answers change that it takes part in (`aa_explain_changes::changes_of_files`), capabilities and sockets. Rules are asked as in enforce
+/// mode, and a mode that lets more through is wider. One failed where something differs of somebody, or nobody has a name; and it is undecided where paths are too
+/// many of somebody.
 ///
 /// # Errors
 ///

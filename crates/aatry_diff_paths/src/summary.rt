@@ -4,7 +4,7 @@ ghost use Rattle.std.specs.Prelude.{◌≡◌, ◌++◌, IfOk, OnOk};
 ghost use Rattle.aatry_diff_paths.specs.Summary.{changed_shares, count_of, other_shares, same_count, same_kind, share, share_of, summary_line, summary_record, summary_text, with_count};
 ghost use Rattle.aatry_report.specs.SeenRecord.{seen_record};
 
-use crate::kinds::Kind;
+use aatry_path_changes::Kind;
 use aatry_report::{Form, Record, Teller, push_number};
 use std::alloc::{AllocError, Global};
 

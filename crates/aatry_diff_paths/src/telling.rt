@@ -2,19 +2,18 @@
 
 ghost use Rattle.std.specs.Prelude.{◌≡◌, ◌++◌, OnOk, Some, map};
 ghost use Rattle.aa_explain_changes.specs.Sides.{seen_sides};
-ghost use Rattle.aatry_diff_paths.specs.Finding.{seen_both, seen_found};
+ghost use Rattle.aatry_path_changes.specs.Finding.{seen_both, seen_found};
 ghost use Rattle.aatry_diff_paths.specs.Telling.{absent_text, all_text, below_text, both_by, both_text, files_text, found_text, kind_word, many_word};
 ghost use Rattle.aatry_policy.specs.FolderParts.{seen_folder};
 ghost use Rattle.aatry_policy.specs.SeenProfiles.{seen_part};
 ghost use Rattle.aatry_shared.specs.Sides.{FindIn};
 ghost use Rattle.aatry_uncertain.specs.SeenHeads.{all_left_out};
 
-use crate::finding::{BothFound, Finding, Found, sides_of};
-use crate::kinds::{Kind, is_same, kind_of_both};
 use crate::told_changes::push_rules;
 use crate::told_others::{push_mode, push_others};
 use aa_explain_changes::{FileChanges, Sides};
 use aatry_changes::{Compared, headed_record, push_gone, push_headed};
+use aatry_path_changes::{BothFound, Finding, Found, Kind, is_same, kind_of_both, sides_of};
 use aatry_report::{Form, Teller, push_shown};
 use aatry_shared::{Finders, PartPair, Side, SidePart, finders_in};
 use std::alloc::AllocError;

@@ -10,12 +10,12 @@ ghost use Rattle.aatry_policy.specs.SeenProfiles.{seen_part};
 ghost use Rattle.aatry_report.specs.SeenRecord.{seen_record};
 
 use crate::answers::{push_answers, put_answers};
-use crate::others::{Answers, answers_to};
 use aa_explain_changes::{FileChange, RuleChange, Sides};
 use aa_explain_diff::Feature;
 use aa_profile_access::Request;
 use aatry_changes::headed_record;
 use aatry_claims::owner_word;
+use aatry_path_changes::{Answers, answers_to};
 use aatry_report::{Form, Record, Teller, push_shown};
 use aatry_shared::{SidePart, push_lines};
 use aatry_why_lines::Finder;

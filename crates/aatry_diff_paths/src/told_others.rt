@@ -8,12 +8,11 @@ ghost use Rattle.aatry_report.specs.SeenRecord.{seen_record};
 ghost use Rattle.aatry_shared.specs.PartFeatures.{state_text};
 
 use crate::answers::{push_answers, put_answers};
-use crate::kinds::same_state;
-use crate::others::{Other, OtherChange};
 use aa_profile_data::Mode;
 use aa_profile_tables::{capability_name, domain_name, kind_name};
 use aa_set_answers::mode_word;
 use aatry_changes::headed_record;
+use aatry_path_changes::{Other, OtherChange, same_state};
 use aatry_report::{Form, Record, Teller};
 use std::alloc::{AllocError, Global};
 

@@ -7,13 +7,16 @@ use Rattle.aatry_hints.specs.Parts.{Given, Part, Plain}
 -- the commands, as help tells them
 abbrev pub commands : List (List ℕ)
 commands =
-    codes "check" ∷ codes "why" ∷ codes "log" ∷ codes "who" ∷ codes "never" ∷ codes "always" ∷ codes "diff" ∷ codes "session" ∷ codes "test" ∷ []
+    codes "check" ∷ codes "why" ∷ codes "log" ∷ codes "who" ∷ codes "never" ∷ codes "always" ∷ codes "reach" ∷ codes "diff" ∷ codes "session" ∷ codes "test" ∷ []
 
 -- the options that each of them takes
 abbrev pub common_options : List (List ℕ)
 common_options = codes "--language" ∷ codes "--color" ∷ codes "--help" ∷ codes "-h" ∷ []
 
--- those that some take: of `why` and `who`, of `log`, of `never` and `always`, and of `diff`
+-- those that some take: of `check`, of `why` and `who`, of `log`, of `never` and `always`, of `reach`, and of `diff`
+abbrev pub check_options : List (List ℕ)
+check_options = codes "-b" ∷ codes "--json" ∷ codes "--verbose" ∷ codes "--rules" ∷ codes "--included" ∷ codes "--limit" ∷ []
+
 abbrev pub asking_options : List (List ℕ)
 asking_options = codes "-b" ∷ codes "--json" ∷ codes "--verbose" ∷ []
 
@@ -25,6 +28,9 @@ log_options =
 abbrev pub claim_options : List (List ℕ)
 claim_options = codes "-b" ∷ codes "--json" ∷ codes "--verbose" ∷ codes "--names" ∷ codes "--limit" ∷ []
 
+abbrev pub reach_options : List (List ℕ)
+reach_options = codes "-b" ∷ codes "--json" ∷ codes "--verbose" ∷ codes "--dot" ∷ codes "--limit" ∷ []
+
 abbrev pub diff_options : List (List ℕ)
 diff_options =
     codes "--json" ∷ codes "--verbose" ∷ codes "--log" ∷ codes "--questions" ∷ codes "--stat" ∷ codes "--all" ∷ codes "--quiet-audit" ∷ codes "--limit" ∷ []
@@ -32,12 +38,13 @@ diff_options =
 -- the options that a command takes beside those that each takes; none where no command has the name
 abbrev pub own_options : List ℕ → Option (List (List ℕ))
 own_options command =
-    if bytes_eq command (codes "check") then Some (codes "-b" ∷ codes "--json" ∷ []) else
+    if bytes_eq command (codes "check") then Some check_options else
     if bytes_eq command (codes "why") then Some asking_options else
     if bytes_eq command (codes "log") then Some log_options else
     if bytes_eq command (codes "who") then Some asking_options else
     if bytes_eq command (codes "never") then Some claim_options else
     if bytes_eq command (codes "always") then Some claim_options else
+    if bytes_eq command (codes "reach") then Some reach_options else
     if bytes_eq command (codes "diff") then Some diff_options else
     if bytes_eq command (codes "session") then Some (codes "-b" ∷ []) else
     if bytes_eq command (codes "test") then Some (codes "-b" ∷ codes "--accept" ∷ []) else None

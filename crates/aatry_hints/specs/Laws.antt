@@ -5,7 +5,7 @@ use Rattle.aa_options.specs.Options.{Asked, ForHelp, ForThis, ForVersion, Nothin
 use Rattle.aatry_arguments.specs.Forms.{CallAsked, asked_call}
 use Rattle.aatry_hints.specs.Commands.{is_taken, own_options}
 use Rattle.aatry_hints.specs.Options.{letters, options}
-use Rattle.aatry_hints.specs.Together.{with_all, without_all}
+use Rattle.aatry_hints.specs.Together.{Together}
 
 -- nothing is asked for that there is
 abbrev pub is_nothing : Asked CallAsked → Bool
@@ -25,18 +25,20 @@ is_taken_or_refused command option = elim (own_options command) [
 unfoldable pub refuses_others : List ℕ → Bool
 refuses_others command = list_all (is_taken_or_refused command) (options ++ letters)
 
--- words behind `diff` and two folders ask for nothing
-abbrev pub is_nothing_behind : List (List ℕ) → Bool
-is_nothing_behind words = is_nothing (asked_call (codes "diff" ∷ codes "old" ∷ codes "new" ∷ words))
+-- words behind a command and two more ask for nothing
+abbrev pub is_nothing_behind : Together → List (List ℕ) → Bool
+is_nothing_behind together words = is_nothing (asked_call (together.command ∷ codes "old" ∷ codes "new" ∷ words))
 
--- with an option and a word behind it they ask for something with `--all`, and for nothing without it
-abbrev pub needs_all : List ℕ → Bool
-needs_all option = not (is_nothing_behind (codes "--all" ∷ option ∷ codes "5" ∷ [])) && is_nothing_behind (option ∷ codes "5" ∷ [])
+-- with an option and a word behind it they ask for something with the flag, and for nothing without it
+abbrev pub needs_flag : Together → List ℕ → Bool
+needs_flag together option =
+    not (is_nothing_behind together (together.flag ∷ option ∷ codes "5" ∷ [])) && is_nothing_behind together (option ∷ codes "5" ∷ [])
 
 -- and the other way round
-abbrev pub bars_all : List ℕ → Bool
-bars_all option = is_nothing_behind (codes "--all" ∷ option ∷ codes "5" ∷ []) && not (is_nothing_behind (option ∷ codes "5" ∷ []))
+abbrev pub bars_flag : Together → List ℕ → Bool
+bars_flag together option =
+    is_nothing_behind together (together.flag ∷ option ∷ codes "5" ∷ []) && not (is_nothing_behind together (option ∷ codes "5" ∷ []))
 
 -- so it is of the options of which it is told
-unfoldable pub go_as_told : Bool
-go_as_told = list_all needs_all with_all && list_all bars_all without_all
+unfoldable pub go_as_told : Together → Bool
+go_as_told together = list_all (needs_flag together) together.only_with && list_all (bars_flag together) together.only_without

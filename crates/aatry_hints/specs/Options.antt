@@ -7,8 +7,8 @@ use Rattle.aa_bytes.specs.Texts.{begins_with, has_byte, is_empty}
 -- the options that a command may have, by their long names, and the others by their letters
 abbrev pub options : List (List ℕ)
 options =
-    codes "--json" ∷ codes "--verbose" ∷ codes "--language" ∷ codes "--color" ∷ codes "--names" ∷ codes "--limit" ∷ codes "--strict" ∷ codes "--denied"
-    ∷ codes "--profile" ∷ codes "--since" ∷ codes "--rules" ∷ codes "--globs" ∷ codes "--log" ∷ codes "--questions" ∷ codes "--stat" ∷ codes "--all"
+    codes "--json" ∷ codes "--verbose" ∷ codes "--language" ∷ codes "--color" ∷ codes "--names" ∷ codes "--dot" ∷ codes "--limit" ∷ codes "--strict" ∷ codes "--denied"
+    ∷ codes "--profile" ∷ codes "--since" ∷ codes "--rules" ∷ codes "--included" ∷ codes "--globs" ∷ codes "--log" ∷ codes "--questions" ∷ codes "--stat" ∷ codes "--all"
     ∷ codes "--quiet-audit" ∷ codes "--accept" ∷ codes "--help" ∷ codes "--version" ∷ []
 
 abbrev pub letters : List (List ℕ)

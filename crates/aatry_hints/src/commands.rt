@@ -8,15 +8,22 @@ use crate::options::{is_known, is_word_of};
 use crate::parts::{Part, first_part};
 
 /// The commands.
-pub const COMMANDS: [&str; 9] = [
-    "check", "why", "log", "who", "never", "always", "diff", "session", "test",
+pub const COMMANDS: [&str; 10] = [
+    "check", "why", "log", "who", "never", "always", "reach", "diff", "session", "test",
 ];
 
 // The options that each of them takes.
 const COMMON: [&str; 4] = ["--language", "--color", "--help", "-h"];
 
 // Those that one of them, or some, take beside these.
-const CHECK: [&str; 2] = ["-b", "--json"];
+const CHECK: [&str; 6] = [
+    "-b",
+    "--json",
+    "--verbose",
+    "--rules",
+    "--included",
+    "--limit",
+];
 
 const ASKING: [&str; 3] = ["-b", "--json", "--verbose"];
 
@@ -33,6 +40,8 @@ const LOG: [&str; 9] = [
 ];
 
 const CLAIM: [&str; 5] = ["-b", "--json", "--verbose", "--names", "--limit"];
+
+const REACH: [&str; 5] = ["-b", "--json", "--verbose", "--dot", "--limit"];
 
 const DIFF: [&str; 8] = [
     "--json",
@@ -65,6 +74,8 @@ fn own_options(command: &[u8]) -> Option<&'static [&'static str]>
         Some(&CLAIM)
     } else if command == b"always".as_slice() {
         Some(&CLAIM)
+    } else if command == b"reach".as_slice() {
+        Some(&REACH)
     } else if command == b"diff".as_slice() {
         Some(&DIFF)
     } else if command == b"session".as_slice() {

@@ -4,6 +4,7 @@ ghost use Rattle.std.specs.Prelude.{◌≡◌, true};
 ghost use Rattle.std.specs.List.{list_all};
 ghost use Rattle.aatry_hints.specs.Commands.{commands};
 ghost use Rattle.aatry_hints.specs.Laws.{go_as_told, refuses_others};
+ghost use Rattle.aatry_hints.specs.Together.{with_all, with_rules};
 
 /// With an option alone that it isn't said to take, of those that there are, a command asks for nothing. So what is told of such options is true.
 pub fn what_commands_refuse()
@@ -11,7 +12,8 @@ pub fn what_commands_refuse()
 {}
 
 /// Behind `diff` and two folders, each option that is said to go with `--all` alone asks for something beside it, and for nothing without it; and each that is
-/// said to go without it alone asks for nothing beside it, and for something without it.
-pub fn what_goes_with_all()
-    ensures { go_as_told ≡ true }
+/// said to go without it alone asks for nothing beside it, and for something without it. So it is behind `check` and two files with `--rules`.
+pub fn what_goes_together()
+    ensures all { go_as_told with_all ≡ true }
+    ensures rules { go_as_told with_rules ≡ true }
 {}

@@ -11,5 +11,5 @@ mod told;
 mod values;
 
 pub use hints::cut_line;
-pub use laws::{what_commands_refuse, what_goes_with_all};
+pub use laws::{what_commands_refuse, what_goes_together};
 pub use told::hint;

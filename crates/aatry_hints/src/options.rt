@@ -6,18 +6,20 @@ ghost use Rattle.aatry_hints.specs.Options.{begins_as_one, is_known, is_option, 
 use aa_bytes::{begins_with, behind, has_byte, length_while};
 
 /// The options that a command may have, by their long names.
-pub const OPTIONS: [&str; 20] = [
+pub const OPTIONS: [&str; 22] = [
     "--json",
     "--verbose",
     "--language",
     "--color",
     "--names",
+    "--dot",
     "--limit",
     "--strict",
     "--denied",
     "--profile",
     "--since",
     "--rules",
+    "--included",
     "--globs",
     "--log",
     "--questions",

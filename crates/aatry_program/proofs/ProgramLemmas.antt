@@ -1,7 +1,7 @@
 -- What is done is what the words ask for.
 use Rattle.std.proofs.Common.{◌≡◌, ◌⊎◌, ℕ, Bool, List, [], Result, Ok, Err, IfErr, IfOk, MatchResult, OnOk, inl, inr, refl, string_bytes, subst, sym}
 use Rattle.aa_profile_parsing.specs.declared.language.Language.{Language}
-use Rattle.aatry_arguments.specs.Arguments.{CommandAsked, ForCheck, ForDiff, ForDiffAll, ForLog, ForPaths, ForSession, ForTest, ForWho, ForWhy}
+use Rattle.aatry_arguments.specs.Arguments.{CommandAsked, ForCheck, ForDiff, ForDiffAll, ForLog, ForPaths, ForReach, ForRules, ForSession, ForTest, ForWho, ForWhy}
 use Rattle.aa_options.specs.Options.{Asked, ForHelp, ForThis, ForVersion, Nothing}
 use Rattle.aatry_arguments.specs.Forms.{CallAsked}
 use Rattle.aa_options.specs.Given.{IsGivenFor}
@@ -87,6 +87,8 @@ no_memory_done language form verbose folders known store input (ForPaths paths) 
 no_memory_done language form verbose folders known store input (ForLog logs) output status kept is = (inr (fault.NoMemory, inl tt, is), kept)
 no_memory_done language form verbose folders known store input (ForDiff comparison) output status kept is = (inr (fault.NoMemory, inl tt, is), kept)
 no_memory_done language form verbose folders known store input (ForDiffAll comparison) output status kept is = (inr (fault.NoMemory, inl tt, is), kept)
+no_memory_done language form verbose folders known store input (ForRules rules) output status kept is = (inr (fault.NoMemory, tt, is), kept)
+no_memory_done language form verbose folders known store input (ForReach reach) output status kept is = (inr (fault.NoMemory, tt, is), kept)
 no_memory_done language form verbose folders known store input (ForSession session) output status kept is = (inr (fault.NoMemory, inl (tt, is.0), is.1), kept)
 
 -- where no command is given, a text is shown that was asked for, or the status tells why

@@ -4,9 +4,10 @@ use Rattle.std.specs.Io.KnownBytes.{Appends}
 use Rattle.aa_set_lines.specs.Streams.{AppendsFront}
 use Rattle.aa_text_files.specs.Files.{File}
 use Rattle.aa_profile_parsing.specs.declared.language.Language.{Language}
-use Rattle.aatry_arguments.specs.Arguments.{CommandAsked, ForCheck, ForDiff, ForDiffAll, ForLog, ForPaths, ForSession, ForTest, ForWho, ForWhy}
+use Rattle.aatry_arguments.specs.Arguments.{CommandAsked, ForCheck, ForDiff, ForDiffAll, ForLog, ForPaths, ForReach, ForRules, ForSession, ForTest, ForWho, ForWhy}
 use Rattle.aa_options.specs.Options.{Asked, ForHelp, ForThis, ForVersion, Nothing}
 use Rattle.aatry_arguments.specs.Forms.{CallAsked, asked_call}
+use Rattle.aatry_arguments.specs.RulesWords.{RulesCheckAsked}
 use Rattle.aa_options.specs.declared.fault.ArgumentFault.{ArgumentFault}
 use Rattle.aa_options.specs.declared.fault.ArgumentFault.TheVariants.{Help, Version, Bad, Memory}
 use Rattle.aatry_who.specs.Ends.{IsEndOfWho}
@@ -15,6 +16,8 @@ use Rattle.aatry_why.specs.Ends.{IsEndOfWhy}
 use Rattle.aatry_why.specs.Why.{IsWhyToldBelow}
 use Rattle.aatry_check.specs.Below.{IsChecked}
 use Rattle.aatry_check.specs.Ends.{IsEndOfCheck}
+use Rattle.aatry_check_rules.specs.Below.{AreRulesChecked, IsEndOfRules}
+use Rattle.aatry_check_rules.specs.declared.below.RulesHow.{RulesHow}
 use Rattle.aatry_diff.specs.Below.{IsComparedBelow}
 use Rattle.aatry_diff.specs.Ends.{IsEndOfDiff}
 use Rattle.aatry_diff_paths.specs.Below.{ArePathsCompared, IsEndOfPathComparison}
@@ -32,6 +35,7 @@ use Rattle.aatry_never.specs.Ends.{IsEndOfPaths}
 use Rattle.aatry_never.specs.Never.{IsPathsToldBelow, PathsReport, claim_of, seen_paths_report}
 use Rattle.aatry_never.specs.declared.never.PathsReport.{PathsReport as CodePathsReport}
 use Rattle.aatry_program.specs.Status.{failure_status, paths_status, status_of}
+use Rattle.aatry_reach.specs.Reach.{IsEndOfReach, IsReachTold}
 use Rattle.aatry_report.specs.declared.form.Form.{Form}
 use Rattle.aatry_folder.specs.Told.{ToldFolders}
 use Rattle.aaset_start.specs.Known.{Known}
@@ -114,6 +118,10 @@ IsSessionDone language folders known base input output status =
     (IsSession language folders known base input.prompt input.left output.before output.after × (status ≡ 0))
     ⊎ ((fault : Fault) × IsBrokenSession language folders known base input.prompt input.left output.before output.after fault × (status ≡ status_of fault))
 
+-- how rules that decide nothing are looked for
+abbrev pub rules_how : RulesCheckAsked → RulesHow
+rules_how rules = record { included = rules.included; limit = rules.limit }
+
 -- A command is done by a language: what it comes to is shown in a form, at length or not, of a test in lines alone; and a session is had. A test alone may
 -- replace files.
 abbrev pub IsDoneBy : Language → Form → Bool → ToldFolders → Known → Store → Input → CommandAsked → Output → ℕ → Type 0
@@ -125,6 +133,8 @@ IsDoneBy language form verbose folders known store input (ForPaths paths) output
 IsDoneBy language form verbose folders known store input (ForLog logs) output status = IsReadingDone (IsLogToldBelow form verbose language folders known input.left logs) (IsEndOfLog folders known logs) store output status
 IsDoneBy language form verbose folders known store input (ForDiff comparison) output status = IsReadingDone (IsComparedBelow form verbose language folders known comparison) (IsEndOfDiff folders known comparison) store output status
 IsDoneBy language form verbose folders known store input (ForDiffAll comparison) output status = IsPathsDone (ArePathsCompared form verbose language folders known comparison) (IsEndOfPathComparison folders comparison) output status × IsKept store
+IsDoneBy language form verbose folders known store input (ForRules rules) output status = IsPathsDone (AreRulesChecked form verbose language folders known rules.check (rules_how rules)) (IsEndOfRules folders rules.check) output status × IsKept store
+IsDoneBy language form verbose folders known store input (ForReach reach) output status = IsPathsDone (IsReachTold form verbose language folders known reach) (IsEndOfReach folders reach) output status × IsKept store
 IsDoneBy language form verbose folders known store input (ForSession session) output status = IsSessionDone language folders known session.base input output status × IsKept store
 
 -- What is asked for is done: a command, or help or the version is shown, if memory allows; all else is reported as bad arguments.

@@ -2,13 +2,15 @@
 
 ghost use Rattle.std.specs.Prelude.{◌≡◌, ◌≤◌, ◌^◌, MatchResult, drop, map, string_bytes};
 ghost use Rattle.aatry_arguments.specs.Forms.{asked_call};
-ghost use Rattle.aatry_arguments.specs.Given.{meant_command, meant_path_comparison};
+ghost use Rattle.aatry_arguments.specs.Given.{meant_command, meant_path_comparison, meant_reach, meant_rules};
 ghost use Rattle.aaset_start.specs.Gathering.{texts_of};
-ghost use Rattle.aatry_program.specs.Program.{IsCommandDone, IsDone, IsDoneBy, IsFaultShown, IsOutcomeShown, IsPathsDone, IsPathsOutcomeShown, IsSessionDone, IsShown, IsStarted};
+ghost use Rattle.aatry_program.specs.Program.{IsCommandDone, IsDone, IsDoneBy, IsFaultShown, IsOutcomeShown, IsPathsDone, IsPathsOutcomeShown, IsSessionDone, IsShown, IsStarted, rules_how};
 ghost use Rattle.aatry_program.specs.Program.{input_of, output_of, store_of};
+ghost use Rattle.aatry_check_rules.specs.Below.{AreRulesChecked, IsEndOfRules};
 ghost use Rattle.aatry_diff_paths.specs.Below.{ArePathsCompared, IsEndOfPathComparison};
 ghost use Rattle.aatry_never.specs.Ends.{IsEndOfPaths};
 ghost use Rattle.aatry_never.specs.Never.{IsPathsToldBelow, claim_of};
+ghost use Rattle.aatry_reach.specs.Reach.{IsEndOfReach, IsReachTold};
 ghost use Rattle.aatry_program.specs.Questions.{IsEndOf, IsToldBelow};
 ghost use Rattle.aatry_program.specs.Status.{status_of};
 ghost use Rattle.aatry_folder.specs.declared.fault.Fault.TheVariants.{BadArguments};
@@ -22,15 +24,18 @@ use aa_profile_parsing::Language;
 use aa_set_lines::{Sink, Source, write_all};
 use aaset_start::FileSystem;
 use aatry_arguments::{
-    AllPaths, ArgumentFault, Asking, Call, Command, PathComparison, Session, call_of,
+    AllPaths, ArgumentFault, Asking, Call, Command, PathComparison, Reach, RulesCheck, Session,
+    call_of,
 };
 use aatry_check::check_folder;
+use aatry_check_rules::{RulesHow, check_rules_folder};
 use aatry_diff::diff_folders;
 use aatry_diff_paths::diff_paths_folders;
 use aatry_folder::{Fault, Folders, Report};
 use aatry_hints::hint;
 use aatry_log::log_folder;
 use aatry_never::{PathsReport, paths_fault, paths_folder};
+use aatry_reach::reach_folder;
 use aatry_report::Teller;
 use aatry_session_run::session_folder;
 use aatry_test::{FileStore, test_folder};
@@ -220,6 +225,46 @@ fn compare_paths<F: Folders, D: FileSystem, S, W: Sink, E: Sink>(
     show_found(teller.alloc, outcome, streams)
 }
 
+// Looks for rules that decide nothing, and shows what it comes to.
+fn check_rules<F: Folders, D: FileSystem, S, W: Sink, E: Sink>(
+    teller: Teller,
+    language: Language,
+    asked: RulesCheck,
+    folders: &F,
+    disk: &D,
+    streams: &mut Streams<S, W, E>,
+) -> u8
+    ensures { IsPathsDone (AreRulesChecked teller.form teller.verbose language (F.told folders.now) (D.known disk.now) (meant_rules asked).check (rules_how (meant_rules asked)))
+        (IsEndOfRules (F.told folders.now) (meant_rules asked).check)
+        (output_of (W.written streams.old.output) (W.written streams.new.output) (W.failed streams.new.output)) result }
+{
+    let RulesCheck {
+        check,
+        included,
+        limit,
+    } = asked;
+    let how = RulesHow { included, limit };
+    let outcome = check_rules_folder(teller, language, folders, disk, check, how);
+    show_found(teller.alloc, outcome, streams)
+}
+
+// Tells under which profiles programs may run that somebody starts, and shows what it comes to.
+fn tell_reach<F: Folders, D: FileSystem, S, W: Sink, E: Sink>(
+    teller: Teller,
+    language: Language,
+    asked: Reach,
+    folders: &F,
+    disk: &D,
+    streams: &mut Streams<S, W, E>,
+) -> u8
+    ensures { IsPathsDone (IsReachTold teller.form teller.verbose language (F.told folders.now) (D.known disk.now) (meant_reach asked))
+        (IsEndOfReach (F.told folders.now) (meant_reach asked))
+        (output_of (W.written streams.old.output) (W.written streams.new.output) (W.failed streams.new.output)) result }
+{
+    let outcome = reach_folder(teller, language, folders, disk, asked);
+    show_found(teller.alloc, outcome, streams)
+}
+
 // Does what a call asks for.
 fn perform<F: Folders, D: FileSystem, T: FileStore, S: Source, W: Sink, E: Sink>(
     alloc: Global,
@@ -302,6 +347,22 @@ fn perform<F: Folders, D: FileSystem, T: FileStore, S: Source, W: Sink, E: Sink>
             show_outcome(alloc, outcome, streams)
         }
         Command::DiffAll(asked) => compare_paths(
+            teller,
+            language,
+            asked,
+            &disk.folders,
+            &disk.files,
+            streams,
+        ),
+        Command::CheckRules(asked) => check_rules(
+            teller,
+            language,
+            asked,
+            &disk.folders,
+            &disk.files,
+            streams,
+        ),
+        Command::Reach(asked) => tell_reach(
             teller,
             language,
             asked,

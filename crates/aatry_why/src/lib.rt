@@ -17,6 +17,7 @@ mod unasked;
 mod uncertain;
 mod why;
 
+pub use destinations::destination_text;
 pub use laws::which_rules_why_tells;
 pub use records::put_started;
 pub use sources::Sources;

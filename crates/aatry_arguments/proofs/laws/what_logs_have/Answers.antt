@@ -77,4 +77,4 @@ unfolding asked_logs
 returns-clause-paths c words base names profile since strict rules globs denied asks =
     let named : named_in words ≡ Some (record { profile = None; since = None; words = words }) = ap named_then profile ∙ ap (named_with None) since in
     ap (asked_as ForLog) (ap asked_by_named named ∙ by_no_flags words strict rules globs denied)
-    ∙ asked_of_check ForLog (logs_of plain_telling all_lines) (asked_check words) (check_with base names) asks
+    ∙ asked_of_check ForLog (logs_of plain_telling all_lines) words (check_with base names) asks

@@ -15,15 +15,15 @@ pub returns-clause-none : goal.returns-clause-none
 returns-clause-none c words base none asks =
     ap (λ accept. asked_as ForTest (asked_then (test_of accept) (asked_check (without_flag accept_flag words)))) none
     ∙ ap (λ others. asked_as ForTest (asked_then (test_of false) (asked_check others))) (none_given accept_flag words none)
-    ∙ asked_of_check ForTest (test_of false) (asked_check words) (check_with base []) asks
+    ∙ asked_of_check ForTest (test_of false) words (check_with base []) asks
 
 pub returns-clause-some : goal.returns-clause-some
 returns-clause-some c words base name names none asks =
     ap (λ accept. asked_as ForTest (asked_then (test_of accept) (asked_check (without_flag accept_flag words)))) none
     ∙ ap (λ others. asked_as ForTest (asked_then (test_of false) (asked_check others))) (none_given accept_flag words none)
-    ∙ asked_of_check ForTest (test_of false) (asked_check words) (check_with base (name ∷ names)) asks
+    ∙ asked_of_check ForTest (test_of false) words (check_with base (name ∷ names)) asks
 
 pub returns-clause-accepted : goal.returns-clause-accepted
 returns-clause-accepted c words base name names given asks =
     ap (λ accept. asked_as ForTest (asked_then (test_of accept) (asked_check (without_flag accept_flag words)))) given
-    ∙ asked_of_check ForTest (test_of true) (asked_check (without_flag accept_flag words)) (check_with base (name ∷ names)) asks
+    ∙ asked_of_check ForTest (test_of true) (without_flag accept_flag words) (check_with base (name ∷ names)) asks

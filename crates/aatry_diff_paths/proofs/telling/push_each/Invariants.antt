@@ -1,5 +1,5 @@
 use Rattle.std.proofs.Common.{◌≡◌, ◌++◌, length, map}
-use Rattle.aatry_diff_paths.specs.Finding.{seen_found}
+use Rattle.aatry_path_changes.specs.Finding.{seen_found}
 use Rattle.aatry_diff_paths.specs.Telling.{all_text}
 use Rattle.aatry_policy.specs.FolderParts.{seen_folder}
 use Rattle.aatry_uncertain.specs.SeenHeads.{all_left_out}

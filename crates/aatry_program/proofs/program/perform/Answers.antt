@@ -60,3 +60,9 @@ returns-in-Paths g c = rw c.in-Paths.is (c.tell_paths.ensures, refl)
 
 pub returns-in-DiffAll : goal.returns-in-DiffAll
 returns-in-DiffAll g c = rw c.in-DiffAll.is (c.compare_paths.ensures, refl)
+
+pub returns-in-CheckRules : goal.returns-in-CheckRules
+returns-in-CheckRules g c = rw c.in-CheckRules.is (c.check_rules.ensures, refl)
+
+pub returns-in-Reach : goal.returns-in-Reach
+returns-in-Reach g c = rw c.in-Reach.is (c.tell_reach.ensures, refl)

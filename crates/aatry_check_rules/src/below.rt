@@ -1,0 +1,167 @@
+//! The check of the rules of a folder of policy on a disk.
+
+ghost use Rattle.std.specs.Prelude.{◌≡◌, ◌++◌, IfErr, IfOk, OnOk, map, string_bytes};
+ghost use Rattle.aatry_arguments.specs.Given.{meant_check};
+ghost use Rattle.aatry_check_rules.specs.Below.{AreRulesChecked, AreRulesIn, AreRulesTold, IsEndOfRules, checked_text, seen_loaded};
+ghost use Rattle.aatry_redundant_rules.specs.Finding.{seen_found};
+ghost use Rattle.aatry_never.specs.Never.{seen_paths_report};
+ghost use Rattle.aatry_policy.specs.FolderParts.{seen_folder as seen_parts};
+ghost use Rattle.aatry_policy.specs.Folders.{seen_folder};
+
+use crate::summary::push_summary;
+use crate::telling::{push_absents, push_all};
+use aa_profile_parsing::Language;
+use aaset_start::FileSystem;
+use aatry_arguments::Check;
+use aatry_folder::{Fault, Folders, PolicyFolder, Report, failed_by, policy_below};
+use aatry_never::PathsReport;
+use aatry_policy::{FolderParts, LoadedFolder, by_parts, load_folder, parts_of};
+use aatry_redundant_rules::{Found, Question, Which, find, has_absent, some_many, some_told};
+use aatry_report::Teller;
+use std::alloc::{AllocError, Global};
+
+/// Which written rules are tried, and how far.
+#[derive(Clone, Copy)]
+pub struct RulesHow {
+    /// Whether those of included files are tried, too.
+    pub included: bool,
+    /// How many sets of states are looked at, at most, for each profile, child or hat.
+    pub limit: usize,
+}
+
+/// What a check came to.
+#[derive(Clone, Copy)]
+pub struct Outcome {
+    /// Whether some written rule decides nothing, or a file that is named isn't there.
+    pub faulty: bool,
+    /// Whether the paths of some part are too many.
+    pub undecided: bool,
+}
+
+// Appends what is told of all that is found to a text, and what sums up.
+fn push_found(
+    teller: Teller,
+    folder: &FolderParts<'_>,
+    names: &[&[u8]],
+    found: &[Found<'_>],
+    out: &mut Vec<u8>,
+) -> Result<(), AllocError>
+    ensures { OnOk result (out.new.items ≡ out.old.items
+        ++ checked_text teller.form (seen_parts folder.now) (map (λ name. name.now) names.now) (map seen_found found.now)) }
+{
+    push_all(teller, folder.below, found, out)?;
+    push_absents(teller, folder.parts, names, out)?;
+    push_summary(teller, folder.parts, names, found, out)
+}
+
+// Checks the rules of a folder by its parts, and appends what is told of that to a text.
+fn tell_parts(
+    teller: Teller,
+    how: RulesHow,
+    folder: &FolderParts<'_>,
+    names: &[&[u8]],
+    out: &mut Vec<u8>,
+) -> Result<Outcome, AllocError>
+    ensures { IfOk result (λ told. AreRulesTold teller.form how (seen_parts folder.now) (map (λ name. name.now) names.now)
+        out.old.items out.new.items told.faulty told.undecided) }
+{
+    let question = Question {
+        which: Which {
+            included: how.included,
+            files: folder.below.files,
+        },
+        limit: how.limit,
+    };
+    let found = find(teller.alloc, question, names, folder.parts)?;
+    push_found(teller, folder, names, &found, out)?;
+    Ok(Outcome {
+        faulty: some_told(&found) || has_absent(folder.parts, names),
+        undecided: some_many(&found),
+    })
+}
+
+// The same of a folder that is loaded.
+fn tell_loaded(
+    teller: Teller,
+    how: RulesHow,
+    loaded: &LoadedFolder<'_>,
+    names: &[&[u8]],
+    out: &mut Vec<u8>,
+) -> Result<Outcome, AllocError>
+    ensures { IfOk result (λ told. AreRulesTold teller.form how (seen_loaded loaded.now) (map (λ name. name.now) names.now)
+        out.old.items out.new.items told.faulty told.undecided) }
+{
+    let set = loaded.policy.manager.policy_set();
+    let parts = parts_of(teller.alloc, &set, &loaded.policy.origins)?;
+    let folder = by_parts(loaded.folder, &parts);
+    tell_parts(teller, how, &folder, names, out)
+}
+
+// The bytes of words, none of them copied.
+fn slices_of(alloc: Global, words: &[String]) -> Result<Vec<&[u8]>, AllocError>
+    ensures { IfOk result (λ slices. map (λ name. name.now) slices.items ≡ map string_bytes words.now) }
+{
+    let mut slices = Vec::with_capacity(alloc, words.len())?;
+    for word in words {
+        slices.push(word.as_bytes())?;
+    }
+    Ok(slices)
+}
+
+// The same of a folder that was read.
+fn check_read(
+    teller: Teller,
+    how: RulesHow,
+    folder: &PolicyFolder<'_>,
+    names: &[String],
+) -> Result<PathsReport, AllocError>
+    ensures { IfOk result (λ told. AreRulesIn teller.form teller.verbose how (map string_bytes names.now) (seen_folder folder.now) (seen_paths_report told)) }
+{
+    let slices = slices_of(teller.alloc, names)?;
+    let mut report = Report::new(teller.alloc);
+    let loaded = load_folder(teller, folder, &mut report)?;
+    let told = tell_loaded(teller, how, &loaded, &slices, &mut report.text)?;
+    report.failed = failed_by(!told.faulty);
+    Ok(PathsReport {
+        report,
+        undecided: told.undecided,
+    })
+}
+
+/// Checks the rules of a folder of policy, by a language: tells the written rules on files that decide nothing, by the
+/// profiles, children and hats that have them. It reads the folder as `aatry_folder::policy_below` does. Told are the
+/// files that are left out, where they are told, with a note on how many they are; then the parts with such rules; and
+/// what sums up. Where files are named, the parts of these alone are looked at; a name of which no part is, since there
+/// is no such file at the top of the folder, or it is left out, or has no profile, is told as `absent`.
+///
+/// A written rule decides nothing where without it, and without those that are told beside it, the same is said of each
+/// path that the kernel may ask about (`aa_explain_redundant::redundant_rules`): so all that are told of a part can be
+/// taken away together. Tried are the rules that stand in the part's own file, or, as it is asked, those of included
+/// files, too; of two that are equal the later is told. Of each a shortest path is told that it matches, and the rules
+/// that stay and cover something there that it covers. Of parts in mode unconfined, or disabled, no rule is asked, and
+/// none is tried.
+///
+/// One failed where some rule decides nothing, or a file that is named isn't there; and it is undecided where paths are
+/// too many of some part.
+///
+/// # Errors
+///
+/// - `Unreadable` with the first folder or file below the folder that can't be read.
+/// - `TooMany` where there are more than 65,536 files and folders below it.
+/// - `NoMemory` where memory ran out.
+pub fn check_rules_folder<F: Folders, D: FileSystem>(
+    teller: Teller,
+    language: Language,
+    folders: &F,
+    disk: &D,
+    check: Check,
+    how: RulesHow,
+) -> Result<PathsReport, Fault>
+    ensures told { IfOk result (λ told. AreRulesChecked teller.form teller.verbose language (F.told folders.now) (D.known disk.now)
+        (meant_check check) how (seen_paths_report told)) }
+    ensures fault { IfErr result (IsEndOfRules (F.told folders.now) (meant_check check)) }
+{
+    let Check { base, names } = check;
+    let folder = policy_below(teller.alloc, language, folders, disk, base.as_str())?;
+    Ok(check_read(teller, how, &folder, &names)?)
+}

@@ -1,0 +1,211 @@
+//! What sums up.
+
+ghost use Rattle.std.specs.Prelude.{◌≡◌, ◌≤◌, ◌++◌, IfOk, OnOk, count_by, length, map};
+ghost use Rattle.std.specs.List.{sum_by};
+ghost use Rattle.aatry_redundant_rules.specs.Finding.{is_absent, is_many, seen_found};
+ghost use Rattle.aatry_check_rules.specs.Summary.{counts_of, share, summary_by, summary_line, summary_record, summary_text, told_in, told_words, tried_in};
+ghost use Rattle.aatry_policy.specs.SeenProfiles.{seen_part};
+ghost use Rattle.aatry_report.specs.SeenRecord.{seen_record};
+
+use crate::telling::{decide_word, rules_word};
+use aatry_policy::Part;
+use aatry_redundant_rules::{Found, is_absent, is_many};
+use aatry_report::{Form, Record, Teller, push_number};
+use std::alloc::{AllocError, Global};
+
+/// What is counted.
+#[derive(Clone, Copy)]
+pub struct Counts {
+    /// How many parts were looked at.
+    pub all: usize,
+    /// How many of their written rules decide nothing.
+    pub told: usize,
+    /// How many were tried.
+    pub tried: usize,
+    /// Of how many parts paths are too many.
+    pub many: usize,
+    /// Of how many files that are named there is no part.
+    pub absent: usize,
+}
+
+// How many rules of a part are told.
+fn told_in(found: &Found<'_>) -> usize
+    ensures { result ≡ told_in (seen_found found.now) }
+{
+    match &found.told {
+        None => 0,
+        Some(told) => told.len(),
+    }
+}
+
+// How many were tried; of one whose paths are too many none.
+fn tried_in(found: &Found<'_>) -> usize
+    ensures { result ≡ tried_in (seen_found found.now) }
+{
+    match &found.told {
+        None => 0,
+        Some(_) => found.tried,
+    }
+}
+
+// How many rules of all parts are told.
+fn told_count(found: &[Found<'_>]) -> Result<usize, AllocError>
+    ensures { IfOk result (λ count. count ≡ sum_by told_in (map seen_found found.now)) }
+{
+    let mut count: usize = 0;
+    let mut rest = found;
+    while let [one, behind @ ..] = rest {
+        let Some(more) = count.checked_add(told_in(one)) else {
+            return Err(AllocError);
+        };
+        count = more;
+        rest = behind;
+    }
+    Ok(count)
+}
+
+// How many were tried.
+fn tried_count(found: &[Found<'_>]) -> Result<usize, AllocError>
+    ensures { IfOk result (λ count. count ≡ sum_by tried_in (map seen_found found.now)) }
+{
+    let mut count: usize = 0;
+    let mut rest = found;
+    while let [one, behind @ ..] = rest {
+        let Some(more) = count.checked_add(tried_in(one)) else {
+            return Err(AllocError);
+        };
+        count = more;
+        rest = behind;
+    }
+    Ok(count)
+}
+
+// Of how many parts paths are too many.
+fn many_count(found: &[Found<'_>]) -> usize
+    ensures counted { result ≡ count_by is_many (map seen_found found.now) }
+    ensures few { result ≤ length found.now }
+{
+    let mut count: usize = 0;
+    let mut rest = found;
+    while let [one, behind @ ..] = rest {
+        if is_many(one) {
+            count += 1;
+        }
+        rest = behind;
+    }
+    count
+}
+
+// Of how many files that are named there is no part.
+fn absent_count(parts: &[Part<'_>], names: &[&[u8]]) -> usize
+    ensures counted { result ≡ count_by (is_absent (map seen_part parts.now)) (map (λ name. name.now) names.now) }
+    ensures few { result ≤ length names.now }
+{
+    let mut count: usize = 0;
+    let mut rest = names;
+    while let [name, behind @ ..] = rest {
+        if is_absent(parts, name) {
+            count += 1;
+        }
+        rest = behind;
+    }
+    count
+}
+
+// All of these.
+fn counts_of(parts: &[Part<'_>], names: &[&[u8]], found: &[Found<'_>]) -> Result<Counts, AllocError>
+    ensures { IfOk result (λ counts. counts ≡ counts_of (map seen_part parts.now) (map (λ name. name.now) names.now) (map seen_found found.now)) }
+{
+    let told = told_count(found)?;
+    let tried = tried_count(found)?;
+    Ok(Counts {
+        all: found.len(),
+        told,
+        tried,
+        many: many_count(found),
+        absent: absent_count(parts, names),
+    })
+}
+
+// Appends how many there are of something to a text, where there are some.
+fn push_share(count: usize, words: &str, out: &mut Vec<u8>) -> Result<(), AllocError>
+    ensures { OnOk result (out.new.items ≡ out.old.items ++ share count words.now) }
+{
+    if count == 0 {
+        return Ok(());
+    }
+    push_number(out, ", ", count)?;
+    out.extend_from_slice(words.as_bytes())?;
+    Ok(())
+}
+
+// Appends how many parts there are to a text, and how many rules decide nothing, of those that were tried.
+#[tactic(auto, unfolding(crate::specs::Summary::told_words))]
+fn push_told(all: usize, told: usize, tried: usize, out: &mut Vec<u8>) -> Result<(), AllocError>
+    ensures { OnOk result (out.new.items ≡ out.old.items ++ told_words all told tried) }
+{
+    push_number(out, "", all)?;
+    push_number(out, " profiles, children and hats: ", told)?;
+    out.extend_from_slice(rules_word(told).as_bytes())?;
+    push_number(out, " of ", tried)?;
+    out.extend_from_slice(decide_word(told).as_bytes())?;
+    Ok(())
+}
+
+// Appends what sums up to a text as a line.
+#[tactic(auto, unfolding(crate::specs::Summary::summary_line))]
+fn push_line(counts: Counts, out: &mut Vec<u8>) -> Result<(), AllocError>
+    ensures { OnOk result (out.new.items ≡ out.old.items ++ summary_line counts) }
+{
+    push_told(counts.all, counts.told, counts.tried, out)?;
+    push_share(counts.many, " too many", out)?;
+    push_share(counts.absent, " absent", out)?;
+    out.push(b'\n')?;
+    Ok(())
+}
+
+// What sums up, as a record.
+#[tactic(auto, unfolding(crate::specs::Summary::summary_record))]
+fn summary_record(alloc: Global, counts: Counts) -> Result<Record, AllocError>
+    ensures { IfOk result (λ made. seen_record made ≡ summary_record counts) }
+{
+    let mut made = Record::new(alloc, "summary")?;
+    made.put_number(alloc, "all", counts.all)?;
+    made.put_number(alloc, "redundant", counts.told)?;
+    made.put_number(alloc, "tried", counts.tried)?;
+    made.put_number(alloc, "too_many", counts.many)?;
+    made.put_number(alloc, "absent", counts.absent)?;
+    Ok(made)
+}
+
+// Appends what sums up to a text, by what is counted.
+fn push_counts(teller: Teller, counts: Counts, out: &mut Vec<u8>) -> Result<(), AllocError>
+    ensures { OnOk result (out.new.items ≡ out.old.items ++ summary_by teller.form counts) }
+{
+    match teller.form {
+        Form::Lines => push_line(counts, out),
+        Form::Records => summary_record(teller.alloc, counts)?.push(teller.alloc, out),
+    }
+}
+
+/// Appends what sums up to a text: how many parts were looked at, how many of their written rules decide nothing, of
+/// how many that were tried, of how many parts paths are too many, and how many files that are named aren't there,
+/// where there are such; or as a record of the kind `summary` with a number for each: `all`, `redundant`, `tried`,
+/// `too_many` and `absent`.
+///
+/// # Errors
+///
+/// Where memory runs out, and where there are more rules than can be counted. A beginning may have been appended then.
+pub fn push_summary(
+    teller: Teller,
+    parts: &[Part<'_>],
+    names: &[&[u8]],
+    found: &[Found<'_>],
+    out: &mut Vec<u8>,
+) -> Result<(), AllocError>
+    ensures { OnOk result (out.new.items ≡ out.old.items
+        ++ summary_text teller.form (map seen_part parts.now) (map (λ name. name.now) names.now) (map seen_found found.now)) }
+{
+    let counts = counts_of(parts, names, found)?;
+    push_counts(teller, counts, out)
+}

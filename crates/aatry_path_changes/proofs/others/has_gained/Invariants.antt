@@ -1,0 +1,10 @@
+use Rattle.std.proofs.Common.{◌≡◌, length}
+use Rattle.aatry_path_changes.specs.Others.{has_gained}
+use Rattle.aatry_path_changes.proofs.others.has_gained.Given as goal
+
+-- none so far decides: the others do
+abbrev pub invariant-loop-rest : goal.invariant-loop-rest
+invariant-loop-rest l = has_gained l.rest ≡ has_gained l.changes
+
+abbrev pub decreases-loop-rest : goal.decreases-loop-rest
+decreases-loop-rest l = length l.rest

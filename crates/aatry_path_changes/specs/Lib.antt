@@ -1,0 +1,4 @@
+pub mod Finding
+pub mod Kinds
+pub mod Laws
+pub mod Others

@@ -1,0 +1,14 @@
+//! What a change of policy changes of profiles, children and hats, for all paths, all capabilities and all sockets: what is found, and in which word that is
+//! said.
+#![tactic(auto)]
+
+mod finding;
+mod kinds;
+mod laws;
+mod names;
+mod others;
+
+pub use finding::{BothFound, Finding, Found, Question, find_asked, sides_of};
+pub use kinds::{Kind, has_otherwise, has_undecided, is_same, kind_of_both, kinds_of, same_state};
+pub use laws::what_is_the_same_answers_alike;
+pub use others::{Answers, Other, OtherChange, answers_to};

@@ -1,0 +1,10 @@
+use Rattle.std.proofs.Common.{◌≡◌, length, map}
+use Rattle.aatry_reach.specs.Finding.{has_absent, seen_found}
+use Rattle.aatry_reach.proofs.finding.has_absent.Given as goal
+
+-- none so far decides: the others do
+abbrev pub invariant-loop-rest : goal.invariant-loop-rest
+invariant-loop-rest l = has_absent (map seen_found l.rest) ≡ has_absent (map seen_found l.found)
+
+abbrev pub decreases-loop-rest : goal.decreases-loop-rest
+decreases-loop-rest l = length l.rest

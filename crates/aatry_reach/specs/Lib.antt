@@ -1,0 +1,4 @@
+pub mod Finding
+pub mod Graph
+pub mod Reach
+pub mod Telling

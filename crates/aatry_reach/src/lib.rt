@@ -1,0 +1,10 @@
+//! The command `reach`: under which profiles programs may run that somebody starts, and those that these start.
+#![tactic(auto)]
+
+mod finding;
+mod graph;
+mod places;
+mod reach;
+mod telling;
+
+pub use reach::reach_folder;

@@ -1,0 +1,4 @@
+pub mod Finding
+pub mod Laws
+pub mod SeenWhich
+pub mod Written
