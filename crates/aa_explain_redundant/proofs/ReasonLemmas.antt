@@ -13,7 +13,7 @@ use Rattle.aa_glob_paths.specs.Laws.{OutcomesStandForAll, StandForAllPaths, path
 use Rattle.aa_glob_paths.specs.declared.outcome.Outcome.{Outcome}
 use Rattle.aa_profile_data.specs.Matching.{is_matching}
 use Rattle.aa_profile_data.specs.SameRules.{same_rule}
-use Rattle.aa_explain_redundant.proofs.LeftLemmas.{among-there, filter-there, made-named, made-part, none-any}
+use Rattle.aa_explain_redundant.proofs.LeftLemmas.{among-there, any-none, filter-there, made-named, made-part, none-any}
 use Rattle.aa_explain_redundant.proofs.StandLemmas.{made-wanted, matching-alike, outcome-bytes, outcome-may, standing, told-right}
 use Rattle.aa_explain_redundant.specs.Answers.{AreRedundantOf}
 use Rattle.aa_explain_redundant.specs.Left.{Numbered, WrittenRules, is_among, is_made_of, matching, numbered, speaks, stays_named}
@@ -30,6 +30,35 @@ use Rattle.aa_explain_redundant.specs.declared.reasons.Meeting.TheVariants.{Alik
 -- each of a list
 all-there : {X : Type 0} (P : X → Type 0) (xs : List X) → ((x : X) → Contains xs x → P x) → All P xs
 all-there P xs each = λ k d within. each (slice_index_or xs k d) (Contains-get_or xs k d within)
+
+-- by rules of which none is of the written rule, nothing is told of it
+silent-meets : (meeting : Meeting) (number other : ℕ) (rules : List Numbered) → speaks number rules ≡ false → meets_at meeting number other rules ≡ false
+silent-meets meeting number other rules silent =
+    any-none (λ one. is_made_of (number ∷ []) one && meets_one meeting one.rule other rules) rules
+    (λ one at. ap (λ b. b && meets_one meeting one.rule other rules) (none-any (is_made_of (number ∷ [])) rules silent one at))
+
+silent-named : (meeting : Meeting) (number : ℕ) (told : List ℕ) (rules : List Numbered) (found : List ℕ) (other : ℕ) → speaks number rules ≡ false
+    → met_named meeting number told rules found other ≡ found
+silent-named meeting number told rules found other silent =
+    ap (λ b. if stays_named told other && stays_named found other && b then found ++ other ∷ [] else found) (silent-meets meeting number other rules silent)
+    ∙ none (stays_named told other) (stays_named found other)
+  where
+    none : (stays new : Bool) → (if stays && new && false then found ++ other ∷ [] else found) ≡ found
+    none true true = refl
+    none true false = refl
+    none false new = refl
+
+silent-of : (meeting : Meeting) (number : ℕ) (told : List ℕ) (rules : List Numbered) (found : List ℕ) (written : Option ℕ) → speaks number rules ≡ false
+    → met_of meeting number told rules found written ≡ found
+silent-of meeting number told rules found None silent = refl
+silent-of meeting number told rules found (Some other) silent = silent-named meeting number told rules found other silent
+
+pub silent-among : (meeting : Meeting) (number : ℕ) (told : List ℕ) (rules : List Numbered) (found : List ℕ) (some : List Numbered)
+    → speaks number rules ≡ false → met_among meeting number told rules found some ≡ found
+silent-among meeting number told rules found [] silent = refl
+silent-among meeting number told rules found (one ∷ some) silent =
+    ap (λ l. met_among meeting number told rules l some) (silent-of meeting number told rules found one.written silent)
+    ∙ silent-among meeting number told rules found some silent
 
 -- where the same are told, the same is told of them
 pub reasons-same : (found : List Told) (told other : List ℕ) (rules : List Numbered) (kinds : List Kind) → told ≡ other → found ≡ reasons_by told rules kinds

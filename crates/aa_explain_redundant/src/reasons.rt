@@ -238,6 +238,23 @@ fn push_each(
     Ok(())
 }
 
+// The same of each of the rules that match the path of a kind. Most kinds have none of the other written rule, and nothing is told by them.
+fn push_kind(
+    meeting: Meeting,
+    number: usize,
+    told: &[usize],
+    rules: &[NumberedRule<'_>],
+    met: &mut Vec<usize>,
+) -> Result<(), AllocError>
+    ensures { OnOk result (met.new.items ≡ met_among meeting number told.now (map seen_numbered rules.now) met.old.items (map seen_numbered rules.now)) }
+{
+    if speaks(number, rules) {
+        push_each(meeting, number, told, rules, met)
+    } else {
+        Ok(())
+    }
+}
+
 // The written rules that stay and are to be told of another, by the rules that match the paths of these kinds.
 fn met(
     alloc: Global,
@@ -251,7 +268,7 @@ fn met(
     let mut found = Vec::new(alloc);
     let mut rest = kinds;
     while let [kind, behind @ ..] = rest {
-        push_each(meeting, number, told, &kind.rules, &mut found)?;
+        push_kind(meeting, number, told, &kind.rules, &mut found)?;
         rest = behind;
     }
     Ok(found)
