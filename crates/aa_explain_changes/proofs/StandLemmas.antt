@@ -30,7 +30,7 @@ use Rattle.aa_explain_changes.specs.Laws.{ChangedRulesDecide}
 use Rattle.aa_explain_changes.specs.Lone.{LoneRule, all_count, lone_patterns, new_lone, old_lone, patterns_of}
 use Rattle.aa_explain_changes.specs.Rules.{FileChange, IsChange, IsToldOf, changes_at, changes_by, covers_letter, is_matched_by, told_at}
 use Rattle.aa_explain_changes.specs.Sides.{Sides}
-use Rattle.aa_explain_changes.specs.code.Kinds.{AreLoneOf, AreToldBy, IsKind, IsLoneOf, changing_classes, first_told, paths_of_kinds, told_of}
+use Rattle.aa_explain_changes.specs.code.Kinds.{AreLoneOf, AreToldBy, IsLoneOf, changing_classes, first_told, paths_of_kinds, told_of}
 use Rattle.aa_explain_changes.specs.declared.kinds.Kind.{Kind}
 use Rattle.aa_explain_changes.specs.declared.asking.FileChanges.{FileChanges}
 use Rattle.aa_explain_changes.specs.declared.change.Change.{Change}
@@ -327,19 +327,19 @@ old-stand sides = all-there (IsLoneOf sides true) (old_lone sides) (λ l at. lon
 new-stand : (sides : Sides) → AreLoneOf sides false (new_lone sides)
 new-stand sides = all-there (IsLoneOf sides false) (new_lone sides) (λ l at. lone-at (all_count sides) sides.old.rules sides.new.rules l at)
 
--- what is told by kinds, of rules that stand at their numbers
-abbrev pub TellsBy : List Kind → List LoneRule → List LoneRule → FileChanges → Type 0
-TellsBy kinds before now changes =
-    (sides : Sides) → All (IsKind sides) kinds → AreLoneOf sides true before → AreLoneOf sides false now
-    → AreToldBy sides (paths_of_kinds kinds) before now changes
+-- the rules of each side that the other lacks stand there at their numbers, as the code holds them, too
+pub old-held : (sides : Sides) (before : List LoneRule) → before ≡ old_lone sides → AreLoneOf sides true before
+old-held sides before same = subst (AreLoneOf sides true) (sym same) (old-stand sides)
+
+pub new-held : (sides : Sides) (now : List LoneRule) → now ≡ new_lone sides → AreLoneOf sides false now
+new-held sides now same = subst (AreLoneOf sides false) (sym same) (new-stand sides)
 
 module _ (law : ChangedRulesDecide) (sides : Sides) (before now : List LoneRule) (old : before ≡ old_lone sides) (new : now ≡ new_lone sides)
-    (kinds : List Kind) (are : All (IsKind sides) kinds) (changes : FileChanges) (tells : TellsBy kinds before now changes) where
+    (kinds : List Kind) (changes : FileChanges) (tells : AreToldBy sides (paths_of_kinds kinds) before now changes) where
   told-here : AreToldBy sides (paths_of_kinds kinds) (old_lone sides) (new_lone sides) changes
   told-here =
       subst (λ n. AreToldBy sides (paths_of_kinds kinds) (old_lone sides) n changes) new
-      (subst (λ b. AreToldBy sides (paths_of_kinds kinds) b now changes) old
-      (tells sides are (subst (AreLoneOf sides true) (sym old) (old-stand sides)) (subst (AreLoneOf sides false) (sym new) (new-stand sides))))
+      (subst (λ b. AreToldBy sides (paths_of_kinds kinds) b now changes) old tells)
 
   -- by kinds of paths that stand for all it is right
   pub told-standing : OutcomesStandForAll → (outcomes : List Outcome) → TellAllPaths (changing_patterns sides) (changing_classes sides) outcomes

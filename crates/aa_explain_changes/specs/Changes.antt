@@ -7,6 +7,7 @@ use Rattle.aa_decide_audit.specs.declared.verdict.Tag.TheVariants.{Allowed, Audi
 use Rattle.aa_decide_audit.specs.declared.verdict.Verdict.{Verdict}
 use Rattle.aa_explain_paths.specs.Claims.{single_letters}
 use Rattle.aa_explain_changes.specs.Sides.{Sides, side_verdict}
+use Rattle.aa_explain_changes.specs.declared.change.Answers.{Answers}
 use Rattle.aa_explain_changes.specs.declared.change.Change.{Change}
 use Rattle.aa_explain_changes.specs.declared.change.Change.TheVariants.{Gained, Lost, Otherwise, Same}
 
@@ -56,7 +57,11 @@ change_by quiet one other before now = if same_answer before now then same_or qu
 abbrev pub change_between : Bool → Verdict → Verdict → Change
 change_between quiet one other = change_by quiet one other one.answer other.answer
 
--- how the answer to letters of a file changes, owned by the task's user or by another
+-- what both sides say of letters of a file, owned by the task's user or by another
+abbrev pub answers_at : Sides → List ℕ → Bool → ℕ → Answers
+answers_at sides path owned letters = record { old = side_verdict sides.old path owned letters; new = side_verdict sides.new path owned letters }
+
+-- how the answer to them changes
 abbrev pub change_of : Sides → List ℕ → Bool → ℕ → Change
 change_of sides path owned letters = change_between sides.quiet (side_verdict sides.old path owned letters) (side_verdict sides.new path owned letters)
 

@@ -8,8 +8,9 @@ use Rattle.aa_glob_syntax.specs.Matching.{matches}
 use Rattle.aa_glob_syntax.specs.Reading.{items_of}
 use Rattle.aa_profile_access.specs.Access.{common, union}
 use Rattle.aa_profile_data.specs.declared.profile.FileRule.{FileRule}
-use Rattle.aa_explain_changes.specs.Changes.{changes_of, is_change, same_change}
+use Rattle.aa_explain_changes.specs.Changes.{answers_at, changes_of, is_change, same_change}
 use Rattle.aa_explain_changes.specs.Sides.{Sides}
+use Rattle.aa_explain_changes.specs.declared.change.Answers.{Answers}
 use Rattle.aa_explain_changes.specs.declared.change.Change.{Change}
 use Rattle.aa_explain_changes.specs.declared.change.Change.TheVariants.{Gained, Lost, Otherwise}
 use Rattle.aa_explain_changes.specs.declared.rules.FileChange.{FileChange as CodeFileChange}
@@ -63,23 +64,26 @@ pub record IsShortestChange (sides : Sides) (rule : FileRule) (path : List ℕ) 
   pub change : IsChange sides rule path
   pub shortest : (other : List ℕ) → IsChange sides rule other → length path ≤ length other
 
--- What is told of a path: whose file it is, another's where answers change of that; how they change; and the letters that the rule covers and whose answers
--- change so.
+-- What is told of a path: whose file it is, another's where answers change of that; how they change; the letters that the rule covers and whose answers
+-- change so; and what both sides answer to these.
 pub record FileChange : Type 0 where
   pub path : List ℕ
   pub owned : Bool
   pub change : Change
   pub letters : ℕ
+  pub answers : Answers
 
 abbrev pub seen_change : CodeFileChange → FileChange
-seen_change change = record { path = change.path.items; owned = change.owned; change = change.change; letters = change.letters.0 }
+seen_change change =
+    record { path = change.path.items; owned = change.owned; change = change.change; letters = change.letters.0; answers = change.answers }
 
 abbrev pub told_for : Sides → FileRule → List ℕ → Bool → FileChange
 told_for sides rule path owned =
     let matched = is_matched_by rule path in
     let letters = changes_of sides path owned in
     let change = change_told rule matched owned letters in
-    record { path = path; owned = owned; change = change; letters = changed_by change rule matched owned letters }
+    let told = changed_by change rule matched owned letters in
+    record { path = path; owned = owned; change = change; letters = told; answers = answers_at sides path owned told }
 
 abbrev pub told_at : Sides → FileRule → List ℕ → FileChange
 told_at sides rule path = told_for sides rule path (not (changes_for sides rule path false))

@@ -6,7 +6,7 @@ ghost use Rattle.aa_explain_changes.specs.FileChanges.{AreChangesOf, changing_pa
 ghost use Rattle.aa_glob_paths.specs.AllPaths.{TellAllPaths};
 ghost use Rattle.aa_glob_paths.specs.TooMany.{AreMoreTextsThan};
 ghost use Rattle.aa_explain_changes.specs.Lone.{all_count, lone_patterns, new_lone, old_lone, patterns_of, seen_lone};
-ghost use Rattle.aa_explain_changes.specs.Sides.{Sides as SeenSides, seen_sides};
+ghost use Rattle.aa_explain_changes.specs.Sides.{seen_sides};
 ghost use Rattle.aa_explain_changes.specs.code.Kinds.{AreLoneOf, AreToldBy, IsKind, changing_classes, paths_of_kinds};
 
 use crate::change::Change;
@@ -95,18 +95,18 @@ fn changing_outcomes(
 // What is told by these kinds.
 fn told_by<'a>(
     alloc: Global,
+    sides: Sides<'_>,
     lone: &Lone<'a>,
     kinds: &[Kind],
 ) -> Result<FileChanges<'a>, AllocError>
-    ensures { IfOk result (λ changes. (sides : SeenSides)
-        → All (IsKind sides) kinds.now
-        → AreLoneOf sides true (map seen_lone lone.now.old.items)
-        → AreLoneOf sides false (map seen_lone lone.now.new.items)
-        → AreToldBy sides (paths_of_kinds kinds.now) (map seen_lone lone.now.old.items) (map seen_lone lone.now.new.items) changes) }
+    requires kinds { All (IsKind (seen_sides sides)) kinds.now }
+    requires old { AreLoneOf (seen_sides sides) true (map seen_lone lone.now.old.items) }
+    requires new { AreLoneOf (seen_sides sides) false (map seen_lone lone.now.new.items) }
+    ensures { IfOk result (AreToldBy (seen_sides sides.entry) (paths_of_kinds kinds.now) (map seen_lone lone.now.old.items) (map seen_lone lone.now.new.items)) }
 {
     Ok(FileChanges {
-        old: rule_changes(alloc, true, &lone.old, kinds)?,
-        new: rule_changes(alloc, false, &lone.new, kinds)?,
+        old: rule_changes(alloc, sides, true, &lone.old, kinds)?,
+        new: rule_changes(alloc, sides, false, &lone.new, kinds)?,
         gained: some_change_so(kinds, Change::Gained),
         lost: some_change_so(kinds, Change::Lost),
     })
@@ -135,13 +135,13 @@ pub fn changes_of_files<'a>(
     let lone = lone_of(alloc, sides)?;
     let wanted = patterns_of(alloc, &lone)?;
     if wanted.is_empty() {
-        return Ok(Some(told_by(alloc, &lone, &[])?));
+        return Ok(Some(told_by(alloc, sides, &lone, &[])?));
     }
     match changing_outcomes(alloc, sides, &wanted, limit)? {
         None => Ok(None),
         Some(outcomes) => {
             let kinds = kinds_of(alloc, sides, outcomes)?;
-            Ok(Some(told_by(alloc, &lone, &kinds)?))
+            Ok(Some(told_by(alloc, sides, &lone, &kinds)?))
         }
     }
 }

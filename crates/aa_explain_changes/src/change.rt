@@ -19,6 +19,15 @@ pub enum Change {
     Otherwise,
 }
 
+/// What both sides of a change of rules answer to a request.
+#[derive(Clone, Copy)]
+pub struct Answers {
+    /// What was answered before.
+    pub old: Verdict,
+    /// What is now.
+    pub new: Verdict,
+}
+
 impl Change {
     /// Whether it changes. It takes no memory.
     pub fn is_change(self) -> bool

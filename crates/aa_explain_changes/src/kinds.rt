@@ -4,9 +4,10 @@ ghost use Rattle.std.specs.Prelude.{◌≡◌, ℕ, IfOk, List};
 ghost use Rattle.std.specs.List.{All, list_any};
 ghost use Rattle.aa_glob_paths.specs.AllPaths.{IsOutcome};
 ghost use Rattle.aa_glob_paths.specs.Laws.{paths_of};
+ghost use Rattle.aa_explain_changes.specs.Changes.{changes_of};
 ghost use Rattle.aa_explain_changes.specs.FileChanges.{changes_so, changing_patterns};
 ghost use Rattle.aa_explain_changes.specs.Sides.{Sides as SeenSides, seen_sides};
-ghost use Rattle.aa_explain_changes.specs.code.Kinds.{AreSidePlaces, IsKind, paths_of_kinds, places_behind};
+ghost use Rattle.aa_explain_changes.specs.code.Kinds.{AreSidePlaces, IsKind, letter_list, paths_of_kinds, places_behind};
 ghost use Rattle.aa_profile_data.specs.FileRules.{places_from};
 
 use crate::change::Change;
@@ -30,6 +31,15 @@ pub struct Kind {
     pub others: LetterChanges,
     /// How they change on one of the task's user.
     pub owned: LetterChanges,
+}
+
+impl Kind {
+    /// How answers change on a file of the task's user, or of another. It takes no memory.
+    pub fn changes_for(&self, owned: bool) -> LetterChanges
+        ensures { (sides : SeenSides) → IsKind sides self.now → letter_list result ≡ changes_of sides self.now.path.items owned }
+    {
+        if owned { self.owned } else { self.others }
+    }
 }
 
 /// Where the rules on files of both sides stand, for the patterns of them all.

@@ -2,13 +2,13 @@
 
 ghost use Rattle.std.specs.Prelude.{◌≡◌};
 ghost use Rattle.std.specs.List.{list_any};
-ghost use Rattle.aa_explain_changes.specs.Changes.{change_of, changes_of, same_change};
+ghost use Rattle.aa_explain_changes.specs.Changes.{answers_at, change_of, changes_of, same_change};
 ghost use Rattle.aa_explain_changes.specs.FileChanges.{has_change};
 ghost use Rattle.aa_explain_changes.specs.Rules.{change_told, changed_by, changes_by, covers_letter, takes_part, takes_so, with_changed};
 ghost use Rattle.aa_explain_changes.specs.Sides.{seen_sides};
 ghost use Rattle.aa_explain_changes.specs.code.Kinds.{ArePlacesOf, letter_list};
 
-use crate::change::{Change, change_between};
+use crate::change::{Answers, Change, change_between};
 use crate::sides::Sides;
 use aa_decide_rules::covered_by_file;
 use aa_explain_paths::{MatchedRules, matched_verdict};
@@ -39,10 +39,10 @@ pub struct Places<'a> {
     pub new: &'a [usize],
 }
 
-// How the answer to letters changes.
-fn letter_change(sides: Sides<'_>, places: Places<'_>, owned: bool, letter: Perms) -> Change
+/// What both sides answer to letters of a file, of the task's user or of another. It takes no memory, and no pattern is tried.
+pub fn answers_at(sides: Sides<'_>, places: Places<'_>, owned: bool, letters: Perms) -> Answers
     requires { ArePlacesOf (seen_sides sides) places }
-    ensures { result ≡ change_of (seen_sides sides.entry) places.entry.path.now owned letter.0 }
+    ensures { result ≡ answers_at (seen_sides sides.entry) places.entry.path.now owned letters.0 }
 {
     let before = MatchedRules {
         rules: sides.old.rules,
@@ -54,9 +54,19 @@ fn letter_change(sides: Sides<'_>, places: Places<'_>, owned: bool, letter: Perm
         places: places.new,
         path: places.path,
     };
-    let old = matched_verdict(sides.old.audit, before, letter, owned);
-    let new = matched_verdict(sides.new.audit, now, letter, owned);
-    change_between(sides.quiet, old, new)
+    Answers {
+        old: matched_verdict(sides.old.audit, before, letters, owned),
+        new: matched_verdict(sides.new.audit, now, letters, owned),
+    }
+}
+
+// How the answer to letters changes.
+fn letter_change(sides: Sides<'_>, places: Places<'_>, owned: bool, letters: Perms) -> Change
+    requires { ArePlacesOf (seen_sides sides) places }
+    ensures { result ≡ change_of (seen_sides sides.entry) places.entry.path.now owned letters.0 }
+{
+    let answers = answers_at(sides, places, owned, letters);
+    change_between(sides.quiet, answers.old, answers.new)
 }
 
 /// How the answers to all letters of a file change, of the task's user or of another. It takes no memory.

@@ -11,7 +11,7 @@ mod rules;
 mod sides;
 
 pub use asking::{FileChanges, changes_of_files};
-pub use change::{Change, change_between};
+pub use change::{Answers, Change, change_between};
 pub use laws::{changed_rules_decide, letters_decide_sets, no_change_is_hidden};
 pub use lone::LoneRule;
 pub use rules::{FileChange, RuleChange};

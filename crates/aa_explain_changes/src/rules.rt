@@ -2,19 +2,20 @@
 
 ghost use Rattle.std.specs.Prelude.{◌≡◌, IfOk, Some, map, option_map, slice_get};
 ghost use Rattle.std.specs.List.{All};
-ghost use Rattle.aa_explain_changes.specs.Changes.{changes_of};
+ghost use Rattle.aa_explain_changes.specs.Changes.{answers_at};
 ghost use Rattle.aa_explain_changes.specs.FileChanges.{seen_rule_change};
 ghost use Rattle.aa_explain_changes.specs.Lone.{seen_lone};
 ghost use Rattle.aa_explain_changes.specs.Rules.{is_matched_by, seen_change, told_for};
-ghost use Rattle.aa_explain_changes.specs.Sides.{Sides as SeenSides};
-ghost use Rattle.aa_explain_changes.specs.code.Kinds.{AreLoneOf, IsKind, IsLoneOf, first_told, letter_list, paths_of_kinds, rules_of, told_if, told_of};
+ghost use Rattle.aa_explain_changes.specs.Sides.{Sides as SeenSides, seen_sides};
+ghost use Rattle.aa_explain_changes.specs.code.Kinds.{AreLoneOf, IsKind, IsLoneOf, first_told, paths_of_kinds, rules_of, told_if, told_of};
 ghost use Rattle.aa_profile_data.specs.declared.profile.FileRule.{FileRule as SeenFileRule};
 ghost use Rattle.aa_profile_data.specs.declared.profile.Rule.TheVariants.{File};
 
-use crate::change::Change;
+use crate::change::{Answers, Change};
 use crate::kinds::Kind;
-use crate::letters::LetterChanges;
+use crate::letters::{Places, answers_at};
 use crate::lone::LoneRule;
+use crate::sides::Sides;
 use aa_profile_access::Perms;
 use aa_profile_data::FileRule;
 use std::alloc::{AllocError, Global};
@@ -31,6 +32,8 @@ pub struct FileChange {
     pub change: Change,
     /// The letters that the rule covers and whose answers change so.
     pub letters: Perms,
+    /// What both sides answer to these letters together.
+    pub answers: Answers,
 }
 
 /// A rule that one side alone has, and what it changes.
@@ -56,48 +59,62 @@ fn is_matched(is_old: bool, number: usize, kind: &Kind) -> bool
     }
 }
 
-// What is told of a path, whose answers to letters change so, of a file of the task's user or of another.
+// What both sides answer to letters of a file with the path of a kind.
+fn answers_on(sides: Sides<'_>, kind: &Kind, owned: bool, letters: Perms) -> Answers
+    requires { IsKind (seen_sides sides) kind.now }
+    ensures { result ≡ answers_at (seen_sides sides.entry) kind.now.path.items owned letters.0 }
+{
+    let places = Places {
+        path: &kind.path,
+        old: &kind.old,
+        new: &kind.new,
+    };
+    answers_at(sides, places, owned, letters)
+}
+
+// What is told of the path of a kind, whose answers to letters change so, of a file of the task's user or of another.
 fn told_for(
     alloc: Global,
+    sides: Sides<'_>,
     rule: &FileRule,
     matched: bool,
-    path: &[u8],
+    kind: &Kind,
     owned: bool,
-    letters: &LetterChanges,
 ) -> Result<FileChange, AllocError>
-    ensures { IfOk result (λ told. (sides : SeenSides)
-        → letter_list letters.now ≡ changes_of sides path.now owned
-        → matched ≡ is_matched_by rule.now path.now
-        → seen_change told ≡ told_for sides rule.now path.now owned) }
+    requires kind { IsKind (seen_sides sides) kind.now }
+    requires matched { matched ≡ is_matched_by rule.now kind.now.path.items }
+    ensures { IfOk result (λ told. seen_change told ≡ told_for (seen_sides sides.entry) rule.now kind.now.path.items owned) }
 {
-    let change = letters.change_told(rule, matched, owned);
+    let changes = kind.changes_for(owned);
+    let change = changes.change_told(rule, matched, owned);
+    let letters = changes.changed_by(change, rule, matched, owned);
+    let answers = answers_on(sides, kind, owned, letters);
     Ok(FileChange {
-        path: Vec::from_slice(alloc, path)?,
+        path: Vec::from_slice(alloc, &kind.path)?,
         owned,
         change,
-        letters: letters.changed_by(change, rule, matched, owned),
+        letters,
+        answers,
     })
 }
 
 // What is told of the path of a kind, if answers change on it that a rule takes part in, whose pattern matches it or not.
 fn change_at(
     alloc: Global,
+    sides: Sides<'_>,
     rule: &FileRule,
     matched: bool,
     kind: &Kind,
 ) -> Result<Option<FileChange>, AllocError>
-    ensures { IfOk result (λ found. (sides : SeenSides)
-        → IsKind sides kind.now
-        → matched ≡ is_matched_by rule.now kind.now.path.items
-        → option_map seen_change found ≡ told_if sides rule.now kind.now.path.items) }
+    requires kind { IsKind (seen_sides sides) kind.now }
+    requires matched { matched ≡ is_matched_by rule.now kind.now.path.items }
+    ensures { IfOk result (λ found. option_map seen_change found ≡ told_if (seen_sides sides.entry) rule.now kind.now.path.items) }
 {
     if kind.others.changes_by(rule, matched, false) {
-        let told = told_for(alloc, rule, matched, &kind.path, false, &kind.others)?;
-        return Ok(Some(told));
+        return Ok(Some(told_for(alloc, sides, rule, matched, kind, false)?));
     }
     if kind.owned.changes_by(rule, matched, true) {
-        let told = told_for(alloc, rule, matched, &kind.path, true, &kind.owned)?;
-        return Ok(Some(told));
+        return Ok(Some(told_for(alloc, sides, rule, matched, kind, true)?));
     }
     Ok(None)
 }
@@ -105,19 +122,20 @@ fn change_at(
 // What is told of a rule by these kinds.
 fn first_change(
     alloc: Global,
+    sides: Sides<'_>,
     is_old: bool,
     lone: LoneRule<'_>,
     kinds: &[Kind],
 ) -> Result<Option<FileChange>, AllocError>
-    ensures { IfOk result (λ found. (sides : SeenSides)
-        → All (IsKind sides) kinds.now
-        → IsLoneOf sides is_old (seen_lone lone.entry)
-        → option_map seen_change found ≡ first_told sides lone.entry.rule.now (paths_of_kinds kinds.now)) }
+    requires kinds { All (IsKind (seen_sides sides)) kinds.now }
+    requires lone { IsLoneOf (seen_sides sides) is_old (seen_lone lone) }
+    ensures { IfOk result (λ found. option_map seen_change found
+        ≡ first_told (seen_sides sides.entry) lone.entry.rule.now (paths_of_kinds kinds.now)) }
 {
     let mut rest = kinds;
     while let [kind, behind @ ..] = rest {
         let matched = is_matched(is_old, lone.number, kind);
-        match change_at(alloc, lone.rule, matched, kind)? {
+        match change_at(alloc, sides, lone.rule, matched, kind)? {
             Some(change) => return Ok(Some(change)),
             None => {}
         }
@@ -133,21 +151,22 @@ fn first_change(
 /// Where memory runs out.
 pub fn rule_changes<'a>(
     alloc: Global,
+    sides: Sides<'_>,
     is_old: bool,
     lone: &[LoneRule<'a>],
     kinds: &[Kind],
 ) -> Result<Vec<RuleChange<'a>>, AllocError>
-    ensures { IfOk result (λ told. (sides : SeenSides)
-        → All (IsKind sides) kinds.now
-        → AreLoneOf sides is_old (map seen_lone lone.now)
-        → map seen_rule_change told.items ≡ map (told_of sides (paths_of_kinds kinds.now)) (map seen_lone lone.now)) }
+    requires kinds { All (IsKind (seen_sides sides)) kinds.now }
+    requires lone { AreLoneOf (seen_sides sides) is_old (map seen_lone lone.now) }
+    ensures { IfOk result (λ told. map seen_rule_change told.items
+        ≡ map (told_of (seen_sides sides.entry) (paths_of_kinds kinds.now)) (map seen_lone lone.now)) }
 {
     let mut told = Vec::with_capacity(alloc, lone.len())?;
     let mut rest = lone;
     while let [one, behind @ ..] = rest {
         told.push(RuleChange {
             lone: *one,
-            change: first_change(alloc, is_old, *one, kinds)?,
+            change: first_change(alloc, sides, is_old, *one, kinds)?,
         })?;
         rest = behind;
     }

@@ -1,5 +1,5 @@
 -- What a comparison of two folders comes to, by how they are loaded, and by their paths.
-use Rattle.std.proofs.Common.{◌≡◌, ℕ, Bool, List, Option, subst}
+use Rattle.std.proofs.Common.{◌≡◌, ℕ, Bool, List, subst}
 use Rattle.aa_profile_parsing.specs.declared.language.Language.{Language}
 use Rattle.aaset_start.specs.Gathering.{names_of}
 use Rattle.aaset_start.specs.Known.{Known}

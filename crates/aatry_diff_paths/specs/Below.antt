@@ -46,7 +46,7 @@ seen_loaded loaded = record {
 
 -- what is told of all that is found, and what sums up
 abbrev pub compared_text : Form → How → List LeftOutHead → FolderParts → FolderParts → List Found → List ℕ
-compared_text form how heads old new found = all_text form how.stat how.quiet heads old new found ++ summary_text form (kinds_of found)
+compared_text form how heads old new found = all_text form how.stat heads old new found ++ summary_text form (kinds_of found)
 
 -- What is found of those who are compared is right, and is told behind a text; and it is known whether something differs of somebody, and whether nothing is
 -- known of the paths of somebody.

@@ -8,13 +8,12 @@ use Rattle.aa_decide_audit.specs.declared.verdict.Verdict.{Verdict}
 use Rattle.aa_explain_changes.specs.Changes.{change_between}
 use Rattle.aa_explain_changes.specs.FileChanges.{RuleChange, seen_rule_change}
 use Rattle.aa_explain_changes.specs.Rules.{FileChange}
-use Rattle.aa_explain_changes.specs.Sides.{Sides}
 use Rattle.aa_explain_changes.specs.declared.asking.FileChanges.{FileChanges}
+use Rattle.aa_explain_changes.specs.declared.change.Answers.{Answers}
 use Rattle.aa_explain_changes.specs.declared.change.Change.{Change}
 use Rattle.aa_explain_changes.specs.declared.change.Change.TheVariants.{Gained, Lost, Otherwise, Same}
 use Rattle.aa_explain_diff.specs.Features.{OfRule, same_state}
 use Rattle.aa_profile_access.specs.Access.{common, letters_of}
-use Rattle.aa_profile_access.specs.Request.{ForFile}
 use Rattle.aa_profile_data.specs.declared.profile.Mode.{Mode}
 use Rattle.aa_profile_data.specs.declared.profile.Rule.{Rule}
 use Rattle.aa_profile_tables.specs.Capabilities.{capability_name}
@@ -33,12 +32,10 @@ use Rattle.aatry_shared.specs.PartFeatures.{state_text}
 use Rattle.aatry_shared.specs.declared.side.Side.{Side}
 use Rattle.aatry_shared.specs.declared.side.Side.TheVariants.{New, Old}
 use Rattle.aatry_uncertain.specs.LeftOutHeads.{LeftOutHead}
-use Rattle.aatry_path_changes.specs.Finding.{Both, Finding, Found, OfAbsent, OfBoth, OfGone, OfNew, sides_of}
+use Rattle.aatry_path_changes.specs.Finding.{Both, Finding, Found, OfAbsent, OfBoth, OfGone, OfNew}
 use Rattle.aatry_path_changes.specs.Kinds.{is_same, kind_of_both}
-use Rattle.aatry_path_changes.specs.Others.{answers_of}
 use Rattle.aatry_path_changes.specs.declared.kinds.Kind.{Kind}
 use Rattle.aatry_path_changes.specs.declared.kinds.Kind.TheVariants as kind
-use Rattle.aatry_path_changes.specs.declared.others.Answers.{Answers}
 use Rattle.aatry_path_changes.specs.declared.others.Other.{Other}
 use Rattle.aatry_path_changes.specs.declared.others.Other.TheVariants.{Capability, Sockets}
 use Rattle.aatry_path_changes.specs.declared.others.OtherChange.{OtherChange}
@@ -73,28 +70,24 @@ unfoldable pub with_answers : Answers → Members → Members
 with_answers answers members =
     with_text (codes "after") (answer_text (tells_logs answers) answers.new) (with_text (codes "before") (answer_text (tells_logs answers) answers.old) members)
 
--- what both sides answer to the letters that are told of a path
-abbrev pub file_answers : Sides → FileChange → Answers
-file_answers sides change = answers_of sides (ForFile change.letters change.owned change.path)
-
 -- whose file it is, where it is the task's user's
 abbrev pub owner_note : Bool → List ℕ
 owner_note owned = if owned then codes ", of the owner" else []
 
 -- a path on which answers change that a rule takes part in
-unfoldable pub path_line : FileChange → Answers → List ℕ
-path_line change answers =
-    codes "      " ++ letters_of change.letters ++ codes " of " ++ shown change.path ++ owner_note change.owned ++ answers_text answers
+unfoldable pub path_line : FileChange → List ℕ
+path_line change =
+    codes "      " ++ letters_of change.letters ++ codes " of " ++ shown change.path ++ owner_note change.owned ++ answers_text change.answers
 
-unfoldable pub path_record : List ℕ → FileChange → Answers → Members
-path_record name change answers =
-    with_answers answers
+unfoldable pub path_record : List ℕ → FileChange → Members
+path_record name change =
+    with_answers change.answers
     (with_text (codes "owned") (owner_word change.owned)
     (with_text (codes "letters") (letters_of change.letters) (with_text (codes "path") change.path (headed_record (codes "path") name))))
 
-abbrev pub path_text : Form → List ℕ → FileChange → Answers → List ℕ
-path_text Lines name change answers = path_line change answers
-path_text Records name change answers = record_line (path_record name change answers)
+abbrev pub path_text : Form → List ℕ → FileChange → List ℕ
+path_text Lines name change = path_line change
+path_text Records name change = record_line (path_record name change)
 
 -- there is none
 abbrev pub nothing_text : Form → List ℕ → List ℕ
@@ -102,9 +95,9 @@ nothing_text Lines name = codes "      changes nothing\n"
 nothing_text Records name = record_line (headed_record (codes "nothing") name)
 
 -- what is told below a rule
-abbrev pub change_text : Form → List ℕ → Sides → Option FileChange → List ℕ
-change_text form name sides None = nothing_text form name
-change_text form name sides (Some change) = path_text form name change (file_answers sides change)
+abbrev pub change_text : Form → List ℕ → Option FileChange → List ℕ
+change_text form name None = nothing_text form name
+change_text form name (Some change) = path_text form name change
 
 -- the rule of a number, as `diff` tells it, where there is one
 abbrev pub rule_line : Form → FolderParts → Part → Side → ℕ → Option Rule → List ℕ
@@ -112,19 +105,19 @@ rule_line form folder part side number None = []
 rule_line form folder part side number (Some rule) = told_lines form folder part (codes "  ") side (OfRule rule number ∷ [])
 
 -- a rule that one side alone has, and what it changes
-abbrev pub rule_text : Form → FolderParts → Part → Side → Sides → RuleChange → List ℕ
-rule_text form folder part side sides change =
-    rule_line form folder part side change.lone.number (slice_get part.section.rules change.lone.number) ++ change_text form part.name sides change.told
+abbrev pub rule_text : Form → FolderParts → Part → Side → RuleChange → List ℕ
+rule_text form folder part side change =
+    rule_line form folder part side change.lone.number (slice_get part.section.rules change.lone.number) ++ change_text form part.name change.told
 
 -- the same of some
-abbrev pub rules_text : Form → FolderParts → Part → Side → Sides → List RuleChange → List ℕ
-rules_text form folder part side sides changes = flat_map (rule_text form folder part side sides) changes
+abbrev pub rules_text : Form → FolderParts → Part → Side → List RuleChange → List ℕ
+rules_text form folder part side changes = flat_map (rule_text form folder part side) changes
 
 -- what changes of files: the rules that the old side alone has, and then those of the new one
-abbrev pub files_text : Form → FolderParts → FolderParts → Part → Part → Sides → Option FileChanges → List ℕ
-files_text form old new part other sides None = []
-files_text form old new part other sides (Some files) =
-    rules_text form old part Old sides (map seen_rule_change files.old.items) ++ rules_text form new other New sides (map seen_rule_change files.new.items)
+abbrev pub files_text : Form → FolderParts → FolderParts → Part → Part → Option FileChanges → List ℕ
+files_text form old new part other None = []
+files_text form old new part other (Some files) =
+    rules_text form old part Old (map seen_rule_change files.old.items) ++ rules_text form new other New (map seen_rule_change files.new.items)
 
 -- a name, if there is one
 abbrev pub name_or : Option (List ℕ) → List ℕ
@@ -166,10 +159,10 @@ abbrev pub mode_text : Form → List ℕ → Option Mode → Option Mode → Lis
 mode_text form name old new = if same_state old new then [] else modes_text form name old new
 
 -- what is told below the line of parts that both folders have
-unfoldable pub below_text : Form → Bool → FolderParts → FolderParts → Both → List ℕ
-below_text form quiet old new both =
+unfoldable pub below_text : Form → FolderParts → FolderParts → Both → List ℕ
+below_text form old new both =
     mode_text form both.part.name both.part.section.mode both.other.section.mode
-    ++ files_text form old new both.part both.other (sides_of quiet both.part both.other) both.files
+    ++ files_text form old new both.part both.other both.files
     ++ others_text form both.part.name both.others
 
 -- the word of what is found; in records it is a kind
@@ -189,12 +182,12 @@ kind_word form kind.TooMany = many_word form
 kind_word form kind.Absent = codes "absent"
 
 -- what is told of parts that both folders have: nothing, where nothing is answered otherwise
-abbrev pub both_by : Form → (stat quiet : Bool) → FolderParts → FolderParts → Both → Kind → List ℕ
-both_by form stat quiet old new both word =
-    if is_same word then [] else headed form (kind_word form word) both.part.name ++ (if stat then [] else below_text form quiet old new both)
+abbrev pub both_by : Form → (stat : Bool) → FolderParts → FolderParts → Both → Kind → List ℕ
+both_by form stat old new both word =
+    if is_same word then [] else headed form (kind_word form word) both.part.name ++ (if stat then [] else below_text form old new both)
 
-abbrev pub both_text : Form → (stat quiet : Bool) → FolderParts → FolderParts → Both → List ℕ
-both_text form stat quiet old new both = both_by form stat quiet old new both (kind_of_both both)
+abbrev pub both_text : Form → (stat : Bool) → FolderParts → FolderParts → Both → List ℕ
+both_text form stat old new both = both_by form stat old new both (kind_of_both both)
 
 -- nobody has a name
 abbrev pub absent_text : Form → List ℕ → List ℕ
@@ -202,15 +195,15 @@ absent_text Lines name = codes "absent: nobody has the name " ++ shown name ++ l
 absent_text Records name = record_line (headed_record (codes "absent") name)
 
 -- what is told of a name
-abbrev pub finding_text : Form → (stat quiet : Bool) → List LeftOutHead → FolderParts → FolderParts → List ℕ → Finding → List ℕ
-finding_text form stat quiet heads old new name OfAbsent = absent_text form name
-finding_text form stat quiet heads old new name (OfGone part) = gone_text form heads part
-finding_text form stat quiet heads old new name (OfNew part) = headed form (codes "new") part.name
-finding_text form stat quiet heads old new name (OfBoth both) = both_text form stat quiet old new both
+abbrev pub finding_text : Form → (stat : Bool) → List LeftOutHead → FolderParts → FolderParts → List ℕ → Finding → List ℕ
+finding_text form stat heads old new name OfAbsent = absent_text form name
+finding_text form stat heads old new name (OfGone part) = gone_text form heads part
+finding_text form stat heads old new name (OfNew part) = headed form (codes "new") part.name
+finding_text form stat heads old new name (OfBoth both) = both_text form stat old new both
 
-abbrev pub found_text : Form → (stat quiet : Bool) → List LeftOutHead → FolderParts → FolderParts → Found → List ℕ
-found_text form stat quiet heads old new found = finding_text form stat quiet heads old new found.name found.finding
+abbrev pub found_text : Form → (stat : Bool) → List LeftOutHead → FolderParts → FolderParts → Found → List ℕ
+found_text form stat heads old new found = finding_text form stat heads old new found.name found.finding
 
 -- the same of all
-abbrev pub all_text : Form → (stat quiet : Bool) → List LeftOutHead → FolderParts → FolderParts → List Found → List ℕ
-all_text form stat quiet heads old new found = flat_map (found_text form stat quiet heads old new) found
+abbrev pub all_text : Form → (stat : Bool) → List LeftOutHead → FolderParts → FolderParts → List Found → List ℕ
+all_text form stat heads old new found = flat_map (found_text form stat heads old new) found

@@ -5,9 +5,8 @@ ghost use Rattle.aatry_diff_paths.specs.Telling.{answer_text, answers_text, is_o
 ghost use Rattle.aatry_report.specs.SeenRecord.{seen_record};
 
 use aa_decide_audit::{Tag, Verdict};
-use aa_explain_changes::{Change, change_between};
+use aa_explain_changes::{Answers, Change, change_between};
 use aa_profile_access::Perms;
-use aatry_path_changes::Answers;
 use aatry_report::Record;
 use bitflags::Flags;
 use std::alloc::{AllocError, Global};

@@ -1,7 +1,6 @@
 //! What is told of profiles, children and hats of which something is answered otherwise.
 
 ghost use Rattle.std.specs.Prelude.{◌≡◌, ◌++◌, OnOk, Some, map};
-ghost use Rattle.aa_explain_changes.specs.Sides.{seen_sides};
 ghost use Rattle.aatry_path_changes.specs.Finding.{seen_both, seen_found};
 ghost use Rattle.aatry_diff_paths.specs.Telling.{absent_text, all_text, below_text, both_by, both_text, files_text, found_text, kind_word, many_word};
 ghost use Rattle.aatry_policy.specs.FolderParts.{seen_folder};
@@ -11,9 +10,9 @@ ghost use Rattle.aatry_uncertain.specs.SeenHeads.{all_left_out};
 
 use crate::told_changes::push_rules;
 use crate::told_others::{push_mode, push_others};
-use aa_explain_changes::{FileChanges, Sides};
+use aa_explain_changes::FileChanges;
 use aatry_changes::{Compared, headed_record, push_gone, push_headed};
-use aatry_path_changes::{BothFound, Finding, Found, Kind, is_same, kind_of_both, sides_of};
+use aatry_path_changes::{BothFound, Finding, Found, Kind, is_same, kind_of_both};
 use aatry_report::{Form, Teller, push_shown};
 use aatry_shared::{Finders, PartPair, Side, SidePart, finders_in};
 use std::alloc::AllocError;
@@ -32,13 +31,12 @@ fn push_both_rules(
     finders: &mut Finders<'_>,
     teller: Teller,
     pair: &PartPair<'_>,
-    sides: Sides<'_>,
     files: &FileChanges<'_>,
     out: &mut Vec<u8>,
 ) -> Result<(), AllocError>
     requires { FindIn (seen_folder pair.now.old.now) (seen_folder pair.now.new.now) finders.old }
     ensures told { OnOk result (out.new.items ≡ out.old.items ++ files_text teller.form (seen_folder pair.now.old.now) (seen_folder pair.now.new.now)
-        (seen_part pair.now.part.now) (seen_part pair.now.other.now) (seen_sides sides.entry) (Some files.now)) }
+        (seen_part pair.now.part.now) (seen_part pair.now.other.now) (Some files.now)) }
     ensures same { finders.new ≡ finders.old }
 {
     let old = SidePart {
@@ -51,8 +49,8 @@ fn push_both_rules(
         part: pair.other,
         side: Side::New,
     };
-    push_rules(&mut finders.of_old, teller, &old, sides, &files.old, out)?;
-    push_rules(&mut finders.of_new, teller, &new, sides, &files.new, out)
+    push_rules(&mut finders.of_old, teller, &old, &files.old, out)?;
+    push_rules(&mut finders.of_new, teller, &new, &files.new, out)
 }
 
 // The same, where paths aren't too many.
@@ -60,18 +58,17 @@ fn push_files(
     finders: &mut Finders<'_>,
     teller: Teller,
     pair: &PartPair<'_>,
-    sides: Sides<'_>,
     files: &Option<FileChanges<'_>>,
     out: &mut Vec<u8>,
 ) -> Result<(), AllocError>
     requires { FindIn (seen_folder pair.now.old.now) (seen_folder pair.now.new.now) finders.old }
     ensures told { OnOk result (out.new.items ≡ out.old.items ++ files_text teller.form (seen_folder pair.now.old.now) (seen_folder pair.now.new.now)
-        (seen_part pair.now.part.now) (seen_part pair.now.other.now) (seen_sides sides.entry) files.now) }
+        (seen_part pair.now.part.now) (seen_part pair.now.other.now) files.now) }
     ensures same { finders.new ≡ finders.old }
 {
     match files {
         None => Ok(()),
-        Some(files) => push_both_rules(finders, teller, pair, sides, files, out),
+        Some(files) => push_both_rules(finders, teller, pair, files, out),
     }
 }
 
@@ -80,13 +77,12 @@ fn push_files(
 fn push_below(
     finders: &mut Finders<'_>,
     teller: Teller,
-    quiet: bool,
     compared: &Compared<'_>,
     both: &BothFound<'_>,
     out: &mut Vec<u8>,
 ) -> Result<(), AllocError>
     requires { FindIn (seen_folder compared.now.old.now) (seen_folder compared.now.new.now) finders.old }
-    ensures told { OnOk result (out.new.items ≡ out.old.items ++ below_text teller.form quiet (seen_folder compared.now.old.now) (seen_folder compared.now.new.now) (seen_both both.now)) }
+    ensures told { OnOk result (out.new.items ≡ out.old.items ++ below_text teller.form (seen_folder compared.now.old.now) (seen_folder compared.now.new.now) (seen_both both.now)) }
     ensures same { finders.new ≡ finders.old }
 {
     let pair = PartPair {
@@ -96,7 +92,6 @@ fn push_below(
         other: both.other,
     };
     let name = both.part.name.as_slice();
-    let sides = sides_of(quiet, both.part, both.other);
     push_mode(
         teller,
         name,
@@ -104,7 +99,7 @@ fn push_below(
         both.other.section.mode,
         out,
     )?;
-    push_files(finders, teller, &pair, sides, &both.files, out)?;
+    push_files(finders, teller, &pair, &both.files, out)?;
     push_others(teller, name, &both.others, out)
 }
 
@@ -146,7 +141,7 @@ fn push_both_by(
     out: &mut Vec<u8>,
 ) -> Result<(), AllocError>
     requires { FindIn (seen_folder compared.now.old.now) (seen_folder compared.now.new.now) finders.old }
-    ensures told { OnOk result (out.new.items ≡ out.old.items ++ both_by teller.form how.stat how.quiet (seen_folder compared.now.old.now) (seen_folder compared.now.new.now) (seen_both both.now) kind) }
+    ensures told { OnOk result (out.new.items ≡ out.old.items ++ both_by teller.form how.stat (seen_folder compared.now.old.now) (seen_folder compared.now.new.now) (seen_both both.now) kind) }
     ensures same { finders.new ≡ finders.old }
 {
     if is_same(kind) {
@@ -161,7 +156,7 @@ fn push_both_by(
     if how.stat {
         return Ok(());
     }
-    push_below(finders, teller, how.quiet, compared, both, out)
+    push_below(finders, teller, compared, both, out)
 }
 
 // Appends what is told of a name that nobody has to a text.
@@ -189,7 +184,7 @@ fn push_found(
     out: &mut Vec<u8>,
 ) -> Result<(), AllocError>
     requires { FindIn (seen_folder compared.now.old.now) (seen_folder compared.now.new.now) finders.old }
-    ensures told { OnOk result (out.new.items ≡ out.old.items ++ found_text teller.form how.stat how.quiet (all_left_out compared.now.left_out.now.heads.items)
+    ensures told { OnOk result (out.new.items ≡ out.old.items ++ found_text teller.form how.stat (all_left_out compared.now.left_out.now.heads.items)
         (seen_folder compared.now.old.now) (seen_folder compared.now.new.now) (seen_found found.now)) }
     ensures same { finders.new ≡ finders.old }
 {
@@ -214,7 +209,7 @@ fn push_each(
     out: &mut Vec<u8>,
 ) -> Result<(), AllocError>
     requires { FindIn (seen_folder compared.now.old.now) (seen_folder compared.now.new.now) finders.old }
-    ensures told { OnOk result (out.new.items ≡ out.old.items ++ all_text teller.form how.stat how.quiet (all_left_out compared.now.left_out.now.heads.items)
+    ensures told { OnOk result (out.new.items ≡ out.old.items ++ all_text teller.form how.stat (all_left_out compared.now.left_out.now.heads.items)
         (seen_folder compared.now.old.now) (seen_folder compared.now.new.now) (map seen_found found.now)) }
     ensures same { finders.new ≡ finders.old }
 {
@@ -244,7 +239,7 @@ pub fn push_all(
     found: &[Found<'_>],
     out: &mut Vec<u8>,
 ) -> Result<(), AllocError>
-    ensures { OnOk result (out.new.items ≡ out.old.items ++ all_text teller.form how.stat how.quiet (all_left_out compared.now.left_out.now.heads.items)
+    ensures { OnOk result (out.new.items ≡ out.old.items ++ all_text teller.form how.stat (all_left_out compared.now.left_out.now.heads.items)
         (seen_folder compared.now.old.now) (seen_folder compared.now.new.now) (map seen_found found.now)) }
 {
     let mut finders = finders_in(teller.alloc, compared.old, compared.new);

@@ -28,7 +28,7 @@ use Rattle.aatry_path_changes.specs.Finding.{Both, sides_of}
 use Rattle.aatry_path_changes.specs.Kinds.{differs_beside, differs_in_files, gained_beside, is_same, kind_by, kind_of_files, lost_beside, some_told}
 use Rattle.aatry_path_changes.specs.Laws.{AnswerAlike, SameAnswerAlike, SayTheSame}
 use Rattle.aatry_path_changes.specs.Others.{answers_of, capability_changes, change_of, changed_by, changed_if, other_change, other_changes, request_of, socket_changes, type_changes}
-use Rattle.aatry_path_changes.specs.declared.others.Answers.{Answers}
+use Rattle.aa_explain_changes.specs.declared.change.Answers.{Answers}
 use Rattle.aatry_path_changes.specs.declared.others.Other.{Other}
 use Rattle.aatry_path_changes.specs.declared.others.Other.TheVariants.{Capability, Sockets}
 use Rattle.aatry_path_changes.specs.declared.others.OtherChange.{OtherChange}

@@ -8,7 +8,7 @@ use Rattle.aa_explain_changes.specs.Sides.{Sides}
 use Rattle.aa_explain_changes.specs.declared.change.Change.{Change}
 use Rattle.aa_explain_changes.specs.declared.change.Change.TheVariants.{Gained, Lost, Otherwise, Same}
 use Rattle.aa_profile_access.specs.Request.{ForCapability, ForSockets, Request}
-use Rattle.aatry_path_changes.specs.declared.others.Answers.{Answers}
+use Rattle.aa_explain_changes.specs.declared.change.Answers.{Answers}
 use Rattle.aatry_path_changes.specs.declared.others.Other.{Other}
 use Rattle.aatry_path_changes.specs.declared.others.Other.TheVariants.{Capability, Sockets}
 use Rattle.aatry_path_changes.specs.declared.others.OtherChange.{OtherChange}

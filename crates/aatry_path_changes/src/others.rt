@@ -5,9 +5,8 @@ ghost use Rattle.aa_explain_changes.specs.Sides.{seen_sides};
 ghost use Rattle.aa_profile_access.specs.SeenRequests.{request_of as seen_request};
 ghost use Rattle.aatry_path_changes.specs.Others.{answers_of, capability_changes, change_of, changed_by, changed_if, has_gained, has_lost, is_gained, is_lost, other_changes, request_of, socket_changes, type_changes};
 
-use aa_decide_audit::Verdict;
 use aa_decide_rules::{Mediation, rules_verdict};
-use aa_explain_changes::{Change, Sides, change_between};
+use aa_explain_changes::{Answers, Change, Sides, change_between};
 use aa_profile_access::Request;
 use std::alloc::{AllocError, Global};
 
@@ -18,15 +17,6 @@ pub enum Other {
     Capability(u8),
     /// Sockets of the domain of a number, and of the type of another.
     Sockets(u8, u8),
-}
-
-/// What both sides of a change of rules answer to a request.
-#[derive(Clone, Copy)]
-pub struct Answers {
-    /// What was answered before.
-    pub old: Verdict,
-    /// What is now.
-    pub new: Verdict,
 }
 
 /// What is answered otherwise of what is no file.
@@ -50,8 +40,8 @@ fn request_of(other: Other) -> Request<'static>
     }
 }
 
-/// What both sides answer to a request, each by its rules in enforce mode. It takes no memory.
-pub fn answers_to(sides: Sides<'_>, request: &Request<'_>) -> Answers
+// What both sides answer to a request, each by its rules in enforce mode.
+fn answers_to(sides: Sides<'_>, request: &Request<'_>) -> Answers
     ensures { result ≡ answers_of (seen_sides sides.entry) (seen_request request.entry.now) }
 {
     Answers {

@@ -39,8 +39,8 @@ pub record ArePlacesOf (sides : Sides) (places : Places) : Type 0 where
 
 -- a kind is one of two sides
 pub record IsKind (sides : Sides) (kind : Kind) : Type 0 where
-  pub old : AreMatchingRules sides.old.rules kind.path.items kind.old.items
-  pub new : AreMatchingRules sides.new.rules kind.path.items kind.new.items
+  pub old : AreSidePlaces sides.old.rules kind.path.items kind.old.items
+  pub new : AreSidePlaces sides.new.rules kind.path.items kind.new.items
   pub others : letter_list kind.others ≡ changes_of sides kind.path.items false
   pub owned : letter_list kind.owned ≡ changes_of sides kind.path.items true
 

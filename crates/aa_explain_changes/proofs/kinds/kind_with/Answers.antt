@@ -16,8 +16,8 @@ letter_changes-owned-requires c =
 
 pub returns-clause-kind : goal.returns-clause-kind
 returns-clause-kind c = record {
-  old = c.requires.old.found;
-  new = c.requires.new.found;
+  old = c.requires.old;
+  new = c.requires.new;
   others = c.letter_changes-others.ensures ∙ ap (λ p. changes_of (seen_sides c.args.sides) p false) c.deref.ensures.value;
   owned = c.letter_changes-owned.ensures ∙ ap (λ p. changes_of (seen_sides c.args.sides) p true) c.deref.ensures.value;
 }

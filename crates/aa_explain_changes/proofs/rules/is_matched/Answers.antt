@@ -11,11 +11,11 @@ returns-then-is_old c = λ sides rule is at.
     let kind = c.args.kind.now in
     let own = subst (λ b. slice_get (rules_of sides b) c.args.number ≡ Some (File rule)) c.if-is_old.true at in
     c.contains.ensures.value ∙ ap (list_any (λ y. nat_eq y c.args.number)) c.deref.ensures.value
-    ∙ matched-place sides.old.rules kind.path.items kind.old.items c.args.number rule is.old own
+    ∙ matched-place sides.old.rules kind.path.items kind.old.items c.args.number rule is.old.found own
 
 pub returns-else-is_old : goal.returns-else-is_old
 returns-else-is_old c = λ sides rule is at.
     let kind = c.args.kind.now in
     let own = subst (λ b. slice_get (rules_of sides b) c.args.number ≡ Some (File rule)) c.if-is_old.false at in
     c.contains-else-is_old.ensures.value ∙ ap (list_any (λ y. nat_eq y c.args.number)) c.deref-else-is_old.ensures.value
-    ∙ matched-place sides.new.rules kind.path.items kind.new.items c.args.number rule is.new own
+    ∙ matched-place sides.new.rules kind.path.items kind.new.items c.args.number rule is.new.found own

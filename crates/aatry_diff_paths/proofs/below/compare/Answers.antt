@@ -1,4 +1,4 @@
-use Rattle.std.proofs.Common.{◌≡◌, ◌∙◌, ◌++◌, ℕ, List, Bor, ap, map, string_bytes}
+use Rattle.std.proofs.Common.{◌≡◌, ◌∙◌, ◌++◌, ℕ, List, Bor, ap, map}
 use Rattle.aatry_folder.specs.Loadings.{file_names, seen_top}
 use Rattle.aatry_policy.specs.FolderParts.{by_parts}
 use Rattle.aatry_policy.specs.Folders.{below, left_out_in, left_out_note, seen_folder}

@@ -8,7 +8,7 @@ use Rattle.aatry_diff_paths.proofs.telling.push_each.Given as goal
 -- what was told so far, with what is told of those that are left, is all; and places are found as before
 abbrev pub invariant-loop-rest : goal.invariant-loop-rest
 invariant-loop-rest l =
-    let text = all_text l.teller.form l.how.stat l.how.quiet (all_left_out l.compared.left_out.now.heads.items) (seen_folder l.compared.old.now) (seen_folder l.compared.new.now) in
+    let text = all_text l.teller.form l.how.stat (all_left_out l.compared.left_out.now.heads.items) (seen_folder l.compared.old.now) (seen_folder l.compared.new.now) in
     record {
       told : l.out.items ++ text (map seen_found l.rest) ≡ l.initial.out.items ++ text (map seen_found l.found);
       same : l.finders ≡ l.initial.finders;
