@@ -119,19 +119,6 @@ made-part part whole within one made = by (is_file one.rule) one.written made
     by true None made = made
     by true (Some number) made = there-among whole number (within number (among-there part number made))
 
--- what is made of a written rule has its number
-pub made-named : (number : ℕ) (one : Numbered) → is_made_of (number ∷ []) one ≡ true → one.written ≡ Some number
-made-named number one made = by (is_file one.rule) one.written made
-  where
-    by : (b : Bool) (written : Option ℕ) → (b && is_among (number ∷ []) written) ≡ true → written ≡ Some number
-    by false written made = absurd cc
-    by true None made = absurd cc
-    by true (Some own) made = of (nat_eq number own) refl made
-      where
-        of : (b : Bool) → nat_eq number own ≡ b → (b || false) ≡ true → Some own ≡ Some number
-        of true is some = ap Some (sym (eqb-true number own is))
-        of false is some = absurd cc
-
 -- what is left of some rules is of them
 pub left-there : (gone : List ℕ) (rules : List Numbered) (rule : Rule) → Contains (left_of gone rules) rule → Contains (rules_among rules) rule
 left-there gone [] rule at = at

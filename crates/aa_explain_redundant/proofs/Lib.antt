@@ -3,6 +3,5 @@ pub mod ExampleLemmas
 pub mod KindLemmas
 pub mod LeftLemmas
 pub mod PathLemmas
-pub mod ReasonLemmas
 pub mod SameLemmas
 pub mod StandLemmas

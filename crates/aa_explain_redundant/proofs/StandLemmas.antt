@@ -2,7 +2,7 @@
 use Rattle.std.proofs.Common.{◌≡◌, ℕ, Bool, true, false, not, ◌&&◌, if◌then◌else◌, List, [], ◌∷◌, ◌++◌, fold, refl, sym, ◌∙◌, ap, subst, inl, inr, arith, true≢false}
 use Rattle.std.proofs.lemmas.Bool.{and_parts}
 use Rattle.std.proofs.lemmas.List.Elements.{All-contains}
-use Rattle.std.specs.List.{filter}
+use Rattle.std.specs.List.{All, filter}
 use Rattle.std.specs.Prelude.{Contains}
 use Rattle.aa_decide_rules.specs.declared.verdict.Mediation.TheVariants.{Enforcing}
 use Rattle.aa_explain_changes.proofs.LoneLemmas.{exists}
@@ -14,7 +14,7 @@ use Rattle.aa_explain_paths.specs.Meant.{is_matched, may_be_asked, unasked_patte
 use Rattle.aa_glob_nfa.proofs.ListLemmas.{Contains-cons_cases, Contains-first, Contains-later, Contains-map, Contains-map_cases}
 use Rattle.aa_glob_nfa.specs.Graphs.{AreBytes}
 use Rattle.aa_glob_paths.specs.AllPaths.{IsOutcome, TellAllPaths}
-use Rattle.aa_glob_paths.specs.Laws.{AreMatchedAlike, StandForAllPaths, paths_of}
+use Rattle.aa_glob_paths.specs.Laws.{AreMatchedAlike, OutcomesStandForAll, StandForAllPaths, paths_of}
 use Rattle.aa_glob_paths.specs.declared.outcome.Outcome.{Outcome}
 use Rattle.aa_profile_data.specs.FileRules.{file_patterns}
 use Rattle.aa_profile_data.specs.Matching.{is_matching}
@@ -27,7 +27,7 @@ use Rattle.aa_explain_redundant.specs.Left.{Numbered, WrittenRules, can_be_told,
 use Rattle.aa_explain_redundant.specs.Redundant.{AnswersChange, AnswersStay, AreToldBehind, AreToldOf, IsNotToldNext, IsToldNext, SayTheSame, side_left, whole_side}
 use Rattle.aa_explain_redundant.specs.Trying.{tried_patterns, trying_patterns}
 use Rattle.aa_explain_redundant.specs.code.Comparing.{answers_change}
-use Rattle.aa_explain_redundant.specs.code.Kinds.{changes_on, side_of, some_change, told_by, told_unless, told_with, trying_classes}
+use Rattle.aa_explain_redundant.specs.code.Kinds.{IsOutcomeOf, changes_on, side_of, some_change, told_by, told_unless, told_with, trying_classes}
 
 not-true : (b : Bool) → not b ≡ true → b ≡ false
 not-true false h = refl
@@ -97,16 +97,6 @@ module _ (rules : WrittenRules) (tried : List ℕ) where
     rule-alike own among (Net rule) at = refl
     rule-alike own among (Other rule) at = refl
 
-    -- the same rules match both
-    pub matching-alike : (own : List Numbered) → ((one : Numbered) → Contains own one → Contains each one) → matching path own ≡ matching other own
-    matching-alike [] within = refl
-    matching-alike (one ∷ own) within =
-        let here : is_matching path one.rule ≡ is_matching other one.rule =
-        rule-alike (rules_among each) (subst (λ l. HavePatternsAmong l all) (sym all-rules) all-among) one.rule
-        (Contains-map (λ (n : Numbered). n.rule) each one (within one (Contains-first one own))) in
-        let later = matching-alike own (λ r at. within r (Contains-later one own r at)) in
-        λ i. if here i then one ∷ later i else later i
-
     -- what is left says the same of both as all rules, if it does so of one
     same-alike : (gone : List ℕ) → SayTheSame whole (side_left rules gone) other → SayTheSame whole (side_left rules gone) path
     same-alike gone same = record {
@@ -141,7 +131,7 @@ module _ (rules : WrittenRules) (tried : List ℕ) where
       ∙ change-there other path ∙ same-none whole (side_left rules other) path same)
 
   -- a pattern that is wanted matches the path of a rule that is tried
-  pub made-wanted : (path : List ℕ) (one : Numbered) → Contains each one → is_made_of tried one ≡ true → is_matching path one.rule ≡ true → is_matched wanted path ≡ true
+  made-wanted : (path : List ℕ) (one : Numbered) → Contains each one → is_made_of tried one ≡ true → is_matching path one.rule ≡ true → is_matched wanted path ≡ true
   made-wanted path one at made matched = by one.rule refl
     where
       there : Contains (rules_among (filter (is_made_of tried) each)) one.rule
@@ -168,15 +158,15 @@ module _ (rules : WrittenRules) (tried : List ℕ) where
           absurd (true≢false (sym (made-wanted path one both.0 (made-part gone tried within one is) both.1) ∙ none))
 
   module _ (outcomes : List Outcome) (told : TellAllPaths all classes outcomes) (stand : StandForAllPaths all classes (paths_of outcomes)) where
-    pub outcome-bytes : (o : Outcome) → Contains outcomes o → AreBytes o.path.items
+    outcome-bytes : (o : Outcome) → Contains outcomes o → AreBytes o.path.items
     outcome-bytes o at = (All-contains (IsOutcome all classes) outcomes o told.each_outcome at).bytes
 
-    pub outcome-may : (o : Outcome) → Contains outcomes o → may_be_asked o.path.items ≡ true
+    outcome-may : (o : Outcome) → Contains outcomes o → may_be_asked o.path.items ≡ true
     outcome-may o at =
         ap not (outcome-asked (file_patterns rules.rules) wanted unasked_patterns o (All-contains (IsOutcome all classes) outcomes o told.each_outcome at))
 
     -- a path that the kernel may ask about and that such a pattern matches has an outcome that stands for it
-    pub standing : (path : List ℕ) → AreBytes path → may_be_asked path ≡ true → is_matched wanted path ≡ true
+    standing : (path : List ℕ) → AreBytes path → may_be_asked path ≡ true → is_matched wanted path ≡ true
         → (o : Outcome) × Contains outcomes o × AreMatchedAlike all path o.path.items
     standing path bytes asked is =
         let found = stand path bytes (matched-told (file_patterns rules.rules) wanted unasked_patterns path is (not-true (is_matched unasked_patterns path) asked)) in
@@ -250,10 +240,9 @@ module _ (rules : WrittenRules) (tried : List ℕ) where
     pub record IsToldRight (gone more found : List ℕ) : Type 0 where
       pub behind : AreToldBehind rules gone more found
       pub stay : AnswersStay rules found
-      pub within : Within found tried
 
     told-behind : (gone more : List ℕ) → Within gone tried → Within more tried → AnswersStay rules gone → IsToldRight gone more (fold step gone more)
-    told-behind gone [] before within stay = record { behind = refl; stay = stay; within = before }
+    told-behind gone [] before within stay = record { behind = refl; stay = stay }
     told-behind gone (number ∷ more) before within stay =
         by (can_be_told each gone number) (some gone number) refl refl
         (told-behind gone more before (within-behind number more tried within) stay)
@@ -268,13 +257,13 @@ module _ (rules : WrittenRules) (tried : List ℕ) where
         without_it : IsNotToldNext rules gone number → step gone number ≡ gone → Rest gone → IsToldRight gone (number ∷ more) (fold step gone (number ∷ more))
         without_it none here rest =
             subst (λ (l : List ℕ). IsToldRight gone (number ∷ more) (fold step l more)) (sym here)
-            (record { behind = inr (none, rest.behind); stay = rest.stay; within = rest.within })
+            (record { behind = inr (none, rest.behind); stay = rest.stay })
 
         with_it : IsToldNext rules gone number → step gone number ≡ gone ++ number ∷ [] → Rest (gone ++ number ∷ [])
             → IsToldRight gone (number ∷ more) (fold step gone (number ∷ more))
         with_it told here rest =
             subst (λ (l : List ℕ). IsToldRight gone (number ∷ more) (fold step l more)) (sym here)
-            (record { behind = inl (told, rest.behind); stay = rest.stay; within = rest.within })
+            (record { behind = inl (told, rest.behind); stay = rest.stay })
 
         by : (can change : Bool) → can_be_told each gone number ≡ can → some gone number ≡ change → Rest gone
             → (AnswersStay rules (gone ++ number ∷ []) → Rest (gone ++ number ∷ []))
@@ -285,8 +274,25 @@ module _ (rules : WrittenRules) (tried : List ℕ) where
             let stays = next-stays gone number next stay is in
             with_it (record { can = can; stay = stays }) (step-stays gone number can is) (told stays)
 
-    pub told-right : AreToldOf rules tried (told_by rules.audit each (paths_of outcomes) tried) × Within (told_by rules.audit each (paths_of outcomes) tried) tried
+    told-right : AreToldOf rules tried (told_by rules.audit each (paths_of outcomes) tried)
     told-right =
         let none : Within [] tried = λ number at. absurd (omega (arith, at.1)) in
         let found = told-behind [] tried none (λ number at. at) (λ path bytes asked. same-both whole whole (side_left rules []) path (same-self whole path) (sym none-left)) in
-        (record { sound = found.stay; exact = found.behind }, found.within)
+        record { sound = found.stay; exact = found.behind }
+
+-- what is told by the paths of outcomes is right
+pub told-standing : OutcomesStandForAll → (rules : WrittenRules) (tried : List ℕ) (outcomes : List Outcome)
+    → TellAllPaths (trying_patterns rules tried) (trying_classes rules tried) outcomes
+    → AreToldOf rules tried (told_by rules.audit (numbered rules) (paths_of outcomes) tried)
+told-standing law rules tried outcomes tells =
+    told-right rules tried outcomes tells (law (trying_patterns rules tried) (trying_classes rules tried) outcomes tells)
+
+-- outcomes of the patterns by which paths are told apart are of the rules' patterns, and others behind them
+pub outcomes-of : (rules : WrittenRules) (tried : List ℕ) (outcomes : List Outcome)
+    → TellAllPaths (trying_patterns rules tried) (trying_classes rules tried) outcomes → All (IsOutcomeOf rules.rules) outcomes
+outcomes-of rules tried outcomes told = λ k d within. record {
+  patterns = tried_patterns tried (numbered rules);
+  unasked = unasked_patterns;
+  classes = trying_classes rules tried;
+  outcome = told.each_outcome k d within;
+}

@@ -7,9 +7,8 @@ use Rattle.aa_explain_paths.specs.Meant.{may_be_asked}
 use Rattle.aa_glob_nfa.specs.Graphs.{AreBytes}
 use Rattle.aa_profile_access.specs.Access.{all_letters}
 use Rattle.aa_profile_access.specs.Request.{ForFile}
-use Rattle.aa_explain_redundant.specs.Answers.{AreRedundantOf}
 use Rattle.aa_explain_redundant.specs.Left.{WrittenRules, left}
-use Rattle.aa_explain_redundant.specs.Reasons.{Told, numbers_of}
+use Rattle.aa_explain_redundant.specs.Redundant.{AreToldOf}
 
 -- any letters of a path are answered alike by all rules and by those that are left, in whatever mode, and so is its start
 pub record IsSaidAlike (rules : WrittenRules) (told path : List ℕ) : Type 0 where
@@ -19,5 +18,5 @@ pub record IsSaidAlike (rules : WrittenRules) (told path : List ℕ) : Type 0 wh
 
 abbrev pub RedundantRulesDecideNothing : Type 0
 RedundantRulesDecideNothing =
-    (rules : WrittenRules) (tried : List ℕ) (told : List Told) → AreRedundantOf rules tried told
-    → (path : List ℕ) → AreBytes path → may_be_asked path ≡ true → IsSaidAlike rules (numbers_of told) path
+    (rules : WrittenRules) (tried told : List ℕ) → AreToldOf rules tried told
+    → (path : List ℕ) → AreBytes path → may_be_asked path ≡ true → IsSaidAlike rules told path

@@ -2,7 +2,6 @@ pub mod Answers
 pub mod Examples
 pub mod Laws
 pub mod Left
-pub mod Reasons
 pub mod Redundant
 pub mod Seen
 pub mod Trying

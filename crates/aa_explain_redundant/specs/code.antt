@@ -3,4 +3,3 @@ pub mod Comparing
 pub mod Copies
 pub mod Examples
 pub mod Kinds
-pub mod Telling

@@ -1,18 +1,15 @@
 //! Which written rules decide nothing, of all paths.
 
 ghost use Rattle.std.specs.Prelude.{◌≡◌, ◌++◌, ◌∷◌, [], IfOk, IfSome, None, OnOk, map};
-ghost use Rattle.std.specs.List.{All};
 ghost use Rattle.aa_glob_paths.specs.AllPaths.{TellAllPaths};
 ghost use Rattle.aa_glob_paths.specs.TooMany.{AreMoreTextsThan};
 ghost use Rattle.aa_explain_redundant.specs.Left.{numbered};
-ghost use Rattle.aa_explain_redundant.specs.Seen.{seen_numbered, seen_redundant, seen_written};
+ghost use Rattle.aa_explain_redundant.specs.Seen.{seen_numbered, seen_written};
 ghost use Rattle.aa_explain_redundant.specs.Answers.{IsAnswerOf};
 ghost use Rattle.aa_explain_redundant.specs.Trying.{tried_patterns, trying_patterns};
-ghost use Rattle.aa_explain_redundant.specs.code.Kinds.{IsKind, paths_of_kinds, told_by, trying_classes};
-ghost use Rattle.aa_explain_redundant.specs.code.Telling.{reasons_by};
+ghost use Rattle.aa_explain_redundant.specs.code.Kinds.{trying_classes};
 
-use crate::kinds::{Kind, kinds_of};
-use crate::reasons::{Redundant, reasons_by};
+use crate::kinds::kinds_of;
 use crate::trying::told_by;
 use crate::written::{NumberedRule, WrittenRules, is_made_of, numbered};
 use aa_decide_ready::{file_places, with_files};
@@ -87,30 +84,16 @@ fn trying_outcomes(
     )
 }
 
-// What is told of the written rules that are tried, by these kinds.
-fn told_with_reasons(
-    alloc: Global,
-    audit: bool,
-    tried: &[usize],
-    rules: &[NumberedRule<'_>],
-    kinds: &[Kind<'_>],
-) -> Result<Vec<Redundant>, AllocError>
-    requires { All (IsKind (map seen_numbered rules.now)) kinds.now }
-    ensures { IfOk result (λ found. map seen_redundant found.items
-        ≡ reasons_by (told_by audit (map seen_numbered rules.now) (paths_of_kinds kinds.now) tried.now) (map seen_numbered rules.now) kinds.now) }
-{
-    let told = told_by(alloc, audit, tried, rules, kinds)?;
-    reasons_by(alloc, &told, rules, kinds)
-}
-
-/// Those of some written rules that decide nothing, in the order in which they are tried, and why: without them, all together, the same is said of each path
-/// of any bytes that the kernel may ask about. That is: each letter of its file is answered the same in enforce mode, and logged the same, of the task's user
-/// and of others; and the start of its program is denied or leads where it did. So any letters together are answered the same, in whatever mode
-/// (`without_redundant_rules`). Of a written rule its rules on files are tried, all together: those on capabilities and sockets stay, and a written rule
-/// without any on files isn't told.
+/// The numbers of those of some written rules that decide nothing, in the order in which they are tried: without them,
+/// all together, the same is said of each path of any bytes that the kernel may ask about. That is: each letter of its
+/// file is answered the same in enforce mode, and logged the same, of the task's user and of others; and the start of
+/// its program is denied or leads where it did. So any letters together are answered the same, in whatever mode
+/// (`without_redundant_rules`). Of a written rule its rules on files are tried, all together: those on capabilities and
+/// sockets stay, and a written rule without any on files isn't told. Why one decides nothing is told by `example_of`.
 ///
-/// They are tried one after another, in the order of `tried`, by the numbers of `rules.written`. One that is told is gone for those behind it: of two that are
-/// equal that one is told which is tried first. Where one isn't told, something else is said of some path without it and those that were told before it.
+/// They are tried one after another, in the order of `tried`, by the numbers of `rules.written`. One that is told is
+/// gone for those behind it: of two that are equal that one is told which is tried first. Where one isn't told,
+/// something else is said of some path without it and those that were told before it.
 ///
 /// None where paths are too many: more than `limit` sets of states of the patterns' automaton were to be looked at.
 ///
@@ -122,7 +105,7 @@ pub fn redundant_rules(
     rules: WrittenRules<'_>,
     tried: &[usize],
     limit: usize,
-) -> Result<Option<Vec<Redundant>>, AllocError>
+) -> Result<Option<Vec<usize>>, AllocError>
     ensures { IfOk result (IsAnswerOf (seen_written rules.entry) tried.now limit) }
 {
     outcomes_stand_for_all();
@@ -133,7 +116,7 @@ pub fn redundant_rules(
         Some(outcomes) => {
             let numbers = file_places(alloc, rules.rules)?;
             let kinds = kinds_of(alloc, &each, &numbers, outcomes)?;
-            Ok(Some(told_with_reasons(alloc, rules.audit, tried, &each, &kinds)?))
+            Ok(Some(told_by(alloc, rules.audit, tried, &each, &kinds)?))
         }
     }
 }

@@ -55,8 +55,8 @@ fn some_letter_changes(compared: Compared<'_>, owned: bool) -> bool
         || letter_changes(compared, Perms::EXEC, owned)
 }
 
-/// Whether two words are there both, or neither is. It takes no memory.
-pub fn same_flag(one: bool, other: bool) -> bool
+// Whether two words are there both, or neither is.
+fn same_flag(one: bool, other: bool) -> bool
     ensures { result ≡ same_flag one other }
 {
     one == other

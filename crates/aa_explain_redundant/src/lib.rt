@@ -7,12 +7,10 @@ mod copies;
 mod example;
 mod kinds;
 mod laws;
-mod reasons;
 mod trying;
 mod written;
 
 pub use asking::redundant_rules;
 pub use example::{Example, Overlap, example_of};
 pub use laws::without_redundant_rules;
-pub use reasons::{Reason, Redundant};
 pub use written::WrittenRules;

@@ -12,8 +12,8 @@ use crate::kinds::Kind;
 use crate::written::{NumberedRule, is_made_of, stays_named};
 use std::alloc::{AllocError, Global};
 
-/// Whether a rule of a written rule is among some. It takes no memory.
-pub fn speaks(number: usize, rules: &[NumberedRule<'_>]) -> bool
+// Whether a rule of a written rule is among some.
+fn speaks(number: usize, rules: &[NumberedRule<'_>]) -> bool
     ensures { result ≡ speaks number (map seen_numbered rules.now) }
 {
     let numbers = [number];

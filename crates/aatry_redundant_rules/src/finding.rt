@@ -2,8 +2,7 @@
 
 ghost use Rattle.std.specs.Prelude.{◌≡◌, ◌++◌, ◌∷◌, [], IfOk, OnOk, filter, map, option_map};
 ghost use Rattle.std.specs.List.{All, list_any};
-ghost use Rattle.aa_explain_redundant.specs.Reasons.{numbers_of};
-ghost use Rattle.aa_explain_redundant.specs.Seen.{seen_redundant, seen_written};
+ghost use Rattle.aa_explain_redundant.specs.Seen.{seen_written};
 ghost use Rattle.aatry_redundant_rules.specs.Finding.{AreFound, AreRedundantWithin, HasExample, IsFound, has_told, is_absent, is_asked, is_many, is_of_file, parts_asked, seen_found, some_many, some_told, told_numbers};
 ghost use Rattle.aatry_redundant_rules.specs.SeenWhich.{seen_which};
 ghost use Rattle.aatry_redundant_rules.specs.Written.{tried_of, written_of};
@@ -11,7 +10,7 @@ ghost use Rattle.aatry_policy.specs.SeenProfiles.{seen_part};
 
 use crate::numbers::{file_places, numbers_of};
 use crate::trying::{Which, tried_of};
-use aa_explain_redundant::{Example, Redundant, WrittenRules, example_of, redundant_rules};
+use aa_explain_redundant::{Example, WrittenRules, example_of, redundant_rules};
 use aatry_policy::Part;
 use std::alloc::{AllocError, Global};
 
@@ -81,19 +80,6 @@ fn with_examples(
     Ok(told)
 }
 
-// The numbers of written rules.
-fn numbers_told(alloc: Global, redundant: &[Redundant]) -> Result<Vec<usize>, AllocError>
-    ensures { IfOk result (λ numbers. numbers.items ≡ numbers_of (map seen_redundant redundant.now)) }
-{
-    let mut numbers = Vec::with_capacity(alloc, redundant.len())?;
-    let mut rest = redundant;
-    while let [one, behind @ ..] = rest {
-        numbers.push(one.number)?;
-        rest = behind;
-    }
-    Ok(numbers)
-}
-
 // Those of some written rules that decide nothing, with examples, in the order in which they stand.
 fn redundant_within(
     alloc: Global,
@@ -105,8 +91,8 @@ fn redundant_within(
 {
     match redundant_rules(alloc, rules, tried, limit)? {
         None => Ok(None),
-        Some(redundant) => {
-            let mut gone = numbers_told(alloc, &redundant)?;
+        Some(numbers) => {
+            let mut gone = numbers;
             gone.reverse();
             let told = with_examples(alloc, rules, &gone, limit)?;
             Ok(Some(told))
